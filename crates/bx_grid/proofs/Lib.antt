@@ -1,0 +1,9 @@
+pub mod Pieces
+pub mod Spoils
+pub mod Halves
+pub mod Pushed
+pub mod Puts
+pub mod Rows
+pub mod Plain
+pub mod Reading
+pub mod Grids

@@ -1,0 +1,48 @@
+-- One more column paste.
+use Rattle.std.proofs.Common.{◌≡◌, ℕ, ◌+◌, ◌<◌, ◌≤◌, Bool, List, [], ◌∷◌, ◌++◌, length, take, drop, set, replicate, get_or, ap, sym, ◌∙◌, append_assoc, length-append, arith}
+use Rattle.std.proofs.lemmas.List.{append-nil, set_at, drop_more, length-take-le, length_push, map-set, map_more, length-map, replicate_more, length-replicate, drop_all}
+use Rattle.bx_grid.specs.Columns.{Col, Glyph, paste, run_columns}
+use Rattle.bx_grid.specs.Seen.{seen, all_seen}
+use Rattle.bx_grid.specs.declared.column.Column.{Column}
+
+pub put_more : (columns : List Col) (k : ℕ) (news : List Col) (x : Col) → k + length news < length columns
+    → set (paste columns k news) (k + length news) x ≡ paste columns k (news ++ x ∷ [])
+put_more columns k news x h =
+    let front : length (take k columns ++ news) ≡ k + length news =
+    length-append (take k columns) news ∙ ap (λ n. n + length news) (length-take-le k columns (omega arith)) in
+    let rest : drop (k + length news) columns ≡ get_or columns (k + length news) x ∷ drop (k + length news + 1) columns = drop_more columns (k + length news) x h in
+    let count : k + length (news ++ x ∷ []) ≡ k + length news + 1 = omega (arith, length_push news x) in
+    rw (rest, set_at (take k columns ++ news) (get_or columns (k + length news) x) (drop (k + length news + 1) columns) x (k + length news) front, count)
+    (sym (append_assoc (take k columns ++ news) (x ∷ []) (drop (k + length news + 1) columns))
+    ∙ ap (λ xs. xs ++ drop (k + length news + 1) columns) (append_assoc (take k columns) news (x ∷ [])))
+
+pub run_more : (columns : List Column) (start : List Col) (k i : ℕ) (run : List ℕ) (negative : Bool) (x : Column)
+    → k + length run ≤ length start → i < length run → all_seen columns ≡ paste start k (run_columns negative (take i run))
+    → seen x ≡ Glyph (get_or run i 0 ∷ []) 1 0 negative
+    → all_seen (set columns (k + i) x) ≡ paste start k (run_columns negative (take (i + 1) run))
+run_more columns start k i run negative x fits low before is =
+    let glyph = λ (b : ℕ). Glyph (b ∷ []) 1 0 negative in
+    let count : length (run_columns negative (take i run)) ≡ i = length-map (take i run) glyph ∙ length-take-le i run (omega arith) in
+    map-set seen columns (k + i) x
+    ∙ ap (λ cs. set cs (k + i) (seen x)) before
+    ∙ ap (λ n. set (paste start k (run_columns negative (take i run))) (k + n) (seen x)) (sym count)
+    ∙ put_more start k (run_columns negative (take i run)) (seen x) (omega (arith, count))
+    ∙ ap (λ y. paste start k (run_columns negative (take i run) ++ y ∷ [])) is
+    ∙ ap (paste start k) (sym (map_more glyph run i 0 low))
+
+-- at place j, the next of these
+pub filled_more : (columns : List Column) (start : List Col) (k i j n : ℕ) (y : Col) (x : Column)
+    → j ≡ k + i → n ≡ i + 1 → j < length start → all_seen columns ≡ paste start k (replicate i y) → seen x ≡ y
+    → all_seen (set columns j x) ≡ paste start k (replicate n y)
+filled_more columns start k i j n y x at next fits before is =
+    map-set seen columns j x
+    ∙ ap (λ cs. set cs j (seen x)) before
+    ∙ ap (λ m. set (paste start k (replicate i y)) m (seen x)) (at ∙ ap (λ m. k + m) (sym (length-replicate i y)))
+    ∙ put_more start k (replicate i y) (seen x) (omega (arith, length-replicate i y))
+    ∙ ap (λ z. paste start k (replicate i y ++ z ∷ [])) is
+    ∙ ap (paste start k) (replicate_more i y)
+    ∙ ap (λ m. paste start k (replicate m y)) (sym next)
+
+pub put_all : (start : List Col) (n : ℕ) (y : Col) → length start ≡ n → paste start 0 (replicate n y) ≡ replicate n y
+put_all start n y e =
+    ap (λ xs. replicate n y ++ xs) (drop_all (0 + length (replicate n y)) start (omega (arith, length-replicate n y, e))) ∙ append-nil (replicate n y)

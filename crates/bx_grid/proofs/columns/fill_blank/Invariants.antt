@@ -1,0 +1,7 @@
+use Rattle.std.proofs.Common.{◌≡◌, replicate, ◌-◌}
+use Rattle.bx_grid.specs.Columns.{blank, paste}
+use Rattle.bx_grid.specs.Seen.{all_seen}
+use Rattle.bx_grid.proofs.columns.fill_blank.Given as goal
+
+abbrev pub invariant-loop-place : goal.invariant-loop-place
+invariant-loop-place l = all_seen l.columns ≡ paste (all_seen l.initial.columns) l.from (replicate (l.place - l.from) blank)

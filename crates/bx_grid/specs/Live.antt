@@ -1,0 +1,23 @@
+-- What the program's terminal stands for.
+use Rattle.std.specs.Prelude.{◌≡◌, ◌<◌, length, IfSome}
+use Rattle.bx_grid.specs.Seen.{all_seen}
+use Rattle.bx_grid.specs.Tokens.{fate}
+use Rattle.bx_grid.specs.Picture.{IsSized}
+use Rattle.bx_grid.specs.Terminal.{Terminal}
+use Rattle.bx_grid.specs.declared.token.Fate.TheVariants.{Waits}
+use Rattle.bx_grid.specs.declared.live.Live.TheInside.{Inside}
+
+abbrev pub terminal_of : Inside → Terminal
+terminal_of s = record {
+  height = s.height;
+  width = s.width;
+  columns = all_seen s.columns.items;
+  position = s.position;
+  negative = s.negative;
+  half = s.half.items;
+}
+
+pub record IsLive (s : Inside) : Type 0 where
+  pub sized : IsSized s.height s.width (length s.columns.items)
+  pub placed : IfSome s.position (λ p. (p.0 < s.height) × (p.1 < s.width))
+  pub waits : fate s.half.items ≡ Waits

@@ -1,0 +1,51 @@
+-- Pictures, and a terminal that shows one.
+use Rattle.std.specs.Prelude.{◌≡◌, ℕ, ◌*◌, ◌≤◌, Bool, true, false, ◌&&◌, nat_le, List, [], Some, length}
+use Rattle.std.specs.List.{list_all}
+use Rattle.bx_grid.specs.Columns.{Col, is_plain}
+use Rattle.bx_grid.specs.Terminal.{Terminal}
+
+-- what a grid shows, row by row
+pub record Cells : Type 0 where
+  pub height : ℕ
+  pub width : ℕ
+  pub columns : List Col
+
+-- a grid's columns, and the cursor's row and column from 0
+pub record Image : Type 0 where
+  pub height : ℕ
+  pub width : ℕ
+  pub columns : List Col
+  pub row : ℕ
+  pub column : ℕ
+
+-- the terminal shows the picture
+pub record Shows (t : Terminal) (p : Image) : Type 0 where
+  pub nothing_half_read : t.half ≡ []
+  pub same_height : t.height ≡ p.height
+  pub same_width : t.width ≡ p.width
+  pub same_columns : t.columns ≡ p.columns
+  pub normal : t.negative ≡ Some false
+  pub at_cursor : t.position ≡ Some (p.row, p.column)
+
+-- each side is from 1 to 500, and there is a column for each place
+pub record IsSized (height width columns : ℕ) : Type 0 where
+  pub low : 1 ≤ height
+  pub high : height ≤ 500
+  pub narrow : 1 ≤ width
+  pub wide : width ≤ 500
+  pub each : columns ≡ height * width
+
+-- a grid's columns are all known, and each is a glyph of one column that a run of characters from SPACE to TILDE puts
+pub record IsGrid (height width : ℕ) (columns : List Col) : Type 0 where
+  pub sized : IsSized height width (length columns)
+  pub plain : list_all is_plain columns ≡ true
+
+abbrev pub is_size : ℕ → ℕ → Bool
+is_size height width = (nat_le 1 height && nat_le height 500) && (nat_le 1 width && nat_le width 500)
+
+-- a cell, from line 1 and column 1, stands in a grid of this size
+pub record IsWithin (height width line column : ℕ) : Type 0 where
+  pub top : 1 ≤ line
+  pub bottom : line ≤ height
+  pub left : 1 ≤ column
+  pub right : column ≤ width

@@ -1,0 +1,97 @@
+-- The tokens that a list of bytes may begin.
+use Rattle.std.specs.Prelude.{ℕ, Bool, true, false, ◌&&◌, nat_le, ◌==◌, List, [], ◌∷◌, Option, Some, None, if◌then◌else◌}
+use Rattle.std.specs.List.{list_all}
+use Rattle.std.specs.Str.{all_ascii_digits}
+use Rattle.bx_grid.specs.declared.token.Fate.{Fate}
+use Rattle.bx_grid.specs.declared.token.Fate.TheVariants.{Waits, Ends, Breaks}
+use Rattle.bx_grid.specs.declared.token.Command.{Command}
+use Rattle.bx_grid.specs.declared.token.Command.TheVariants.{Move, Clear, Erase, Render, Other}
+use Rattle.std.specs.Str.Parse.{digits_value}
+
+abbrev pub is_printable : ℕ → Bool
+is_printable b = nat_le 0x20 b && nat_le b 0x7E
+
+abbrev pub is_param : ℕ → Bool
+is_param b = nat_le 0x30 b && nat_le b 0x3F
+
+abbrev pub is_intermediate : ℕ → Bool
+is_intermediate b = nat_le 0x20 b && nat_le b 0x2F
+
+abbrev pub is_final : ℕ → Bool
+is_final b = nat_le 0x40 b && nat_le b 0x7E
+
+-- the bytes before the first that is no parameter, and those from it on
+abbrev pub params : List ℕ → List ℕ
+params [] = []
+params (b ∷ rest) = if is_param b then b ∷ params rest else []
+
+abbrev pub after_params : List ℕ → List ℕ
+after_params [] = []
+after_params (b ∷ rest) = if is_param b then after_params rest else b ∷ rest
+
+abbrev pub after_intermediates : List ℕ → List ℕ
+after_intermediates [] = []
+after_intermediates (b ∷ rest) = if is_intermediate b then after_intermediates rest else b ∷ rest
+
+abbrev pub final_fate : List ℕ → Fate
+final_fate [] = Waits
+final_fate (b ∷ []) = if is_final b then Ends else Breaks
+final_fate (b ∷ c ∷ rest) = Breaks
+
+abbrev pub escape_fate : List ℕ → Fate
+escape_fate [] = Waits
+escape_fate (b ∷ body) = if b == 0x5B then final_fate (after_intermediates (after_params body)) else Breaks
+
+abbrev pub fate : List ℕ → Fate
+fate [] = Waits
+fate (b ∷ rest) =
+    if b == 0x1B then escape_fate rest
+    else if list_all is_printable (b ∷ rest) then Waits
+    else Breaks
+
+-- a number, 1 where it is absent
+abbrev pub number : List ℕ → Option ℕ
+number [] = Some 1
+number (d ∷ ds) = if all_ascii_digits (d ∷ ds) then Some (digits_value 10 (d ∷ ds)) else None
+
+abbrev pub before_semicolon : List ℕ → List ℕ
+before_semicolon [] = []
+before_semicolon (b ∷ bs) = if b == 0x3B then [] else b ∷ before_semicolon bs
+
+abbrev pub after_semicolon : List ℕ → List ℕ
+after_semicolon [] = []
+after_semicolon (b ∷ bs) = if b == 0x3B then bs else after_semicolon bs
+
+abbrev pub move_to : Option ℕ → Option ℕ → Command
+move_to (Some line) (Some column) = Move line column
+move_to (Some line) None = Other
+move_to None column = Other
+
+abbrev pub is_only : ℕ → List ℕ → Bool
+is_only b [] = false
+is_only b (c ∷ []) = b == c
+is_only b (c ∷ d ∷ rest) = false
+
+abbrev pub is_absent_or_zero : List ℕ → Bool
+is_absent_or_zero [] = true
+is_absent_or_zero (b ∷ bs) = is_only 0x30 (b ∷ bs)
+
+abbrev pub command_of : List ℕ → ℕ → Command
+command_of ps final =
+    if final == 0x48 then move_to (number (before_semicolon ps)) (number (after_semicolon ps))
+    else if final == 0x4A then (if is_only 0x32 ps then Clear else Other)
+    else if final == 0x4B then (if is_absent_or_zero ps then Erase else Other)
+    else if final == 0x6D then
+    (if is_absent_or_zero ps then Render false
+    else if is_only 0x37 ps then Render true
+    else Other)
+    else Other
+
+-- the command of what stands after 1B 5B
+abbrev pub command_at : List ℕ → List ℕ → Command
+command_at ps [] = Other
+command_at ps (b ∷ []) = command_of ps b
+command_at ps (b ∷ c ∷ rest) = Other
+
+abbrev pub command : List ℕ → Command
+command body = command_at (params body) (after_params body)

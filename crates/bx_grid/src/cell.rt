@@ -1,0 +1,8 @@
+/// A place in a grid.
+#[derive(Clone, Copy, PartialEq, Eq, Debug)]
+pub struct Cell {
+    /// The row, from 1 at the top.
+    pub line: u16,
+    /// The column, from 1 at the left.
+    pub column: u16,
+}

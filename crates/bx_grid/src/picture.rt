@@ -1,0 +1,52 @@
+//! A picture: a grid and a cursor in it.
+
+ghost use Rattle.std.specs.Prelude.{◌≡◌, ◌+◌, ◌-◌, ◌*◌, ◌≤◌, ◌<◌, length};
+ghost use Rattle.bx_grid.specs.Picture.{Cells, Image, IsWithin};
+
+use crate::cell::Cell;
+use crate::grid::Grid;
+use std::marker::Model;
+
+/// A grid and where the cursor stands in it.
+#[derive(Drop)]
+pub struct Picture {
+    grid: Grid,
+    cursor: Cell,
+}
+
+impl Model for Picture {
+    ghost use Rattle.std.specs.Prelude.{◌-◌, ◌≤◌};
+    ghost use Rattle.bx_grid.specs.Picture.{Image, IsWithin};
+
+    ghost Value = { Image };
+
+    ghost view = { λ p. record { height = p.grid.height; width = p.grid.width; columns = p.grid.columns; row = p.cursor.line - 1; column = p.cursor.column - 1 } };
+
+    ghost invariant = { λ p. IsWithin p.grid.height p.grid.width p.cursor.line p.cursor.column };
+}
+
+impl Picture {
+    /// The grid with the cursor at a cell inside.
+    pub fn new(grid: Grid, cursor: Cell) -> Picture
+        requires { IsWithin grid.height grid.width cursor.line cursor.column }
+        ensures { result ≡ record { height = grid.height; width = grid.width; columns = grid.columns; row = cursor.line - 1; column = cursor.column - 1 } }
+    {
+        Picture { grid, cursor }
+    }
+
+    /// What stands in each column.
+    pub fn grid(&self) -> &Grid
+        ensures { result.now ≡ record { height = self.now.height; width = self.now.width; columns = self.now.columns } }
+    {
+        &self.grid
+    }
+
+    /// Where the cursor stands.
+    pub fn cursor(&self) -> Cell
+        ensures line { result.line ≡ self.now.row + 1 }
+        ensures column { result.column ≡ self.now.column + 1 }
+        ensures inside { (self.now.row < self.now.height) × (self.now.column < self.now.width) }
+    {
+        self.cursor
+    }
+}

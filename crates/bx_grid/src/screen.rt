@@ -1,0 +1,101 @@
+//! The terminal, which may fail for want of memory.
+
+ghost use Rattle.std.specs.Prelude.{◌≡◌, ◌*◌, ◌↔◌, [], List, length, replicate, true, false, IsTrue, Some, None, option_map, IsSome, IfOk, OnOk, OnErr, IsErrOf};
+ghost use Rattle.bx_grid.specs.Columns as spec;
+ghost use Rattle.bx_grid.specs.Picture.{is_size};
+ghost use Rattle.bx_grid.specs.Terminal.{Terminal, reads, resized};
+ghost use Rattle.bx_grid.specs.Screens.{IfShown};
+
+use crate::columns::is_side;
+use crate::error::GridError;
+use crate::live::Live;
+use crate::picture::Picture;
+use std::alloc::Global;
+use std::marker::Model;
+
+/// A terminal. Once memory has run out in it, it has failed for good.
+#[derive(Drop)]
+pub struct Screen {
+    live: Live,
+    failed: bool,
+}
+
+impl Model for Screen {
+    ghost use Rattle.std.specs.Prelude.{Option};
+    ghost use Rattle.bx_grid.specs.Terminal.{Terminal};
+
+    ghost Value = { Option Terminal };
+
+    ghost use Rattle.bx_grid.specs.Screens.{terminal_if_live};
+
+    ghost view = { terminal_if_live };
+}
+
+impl Screen {
+    /// A terminal of this size, of which nothing is known.
+    pub fn new(alloc: Global, height: u16, width: u16) -> Result<Screen, GridError>
+        ensures ok { IfOk result (λ s. s ≡ Some (record { height = height; width = width; columns = replicate (height * width) spec.Unknown; position = None; negative = None; half = [] })) }
+        ensures sized { OnOk result (is_size height width ≡ true) }
+        ensures refused { IsErrOf result GridError.SizeOutOfRange ↔ (is_size height width ≡ false) }
+    {
+        if !is_side(height) || !is_side(width) {
+            return Err(GridError::SizeOutOfRange);
+        }
+        Ok(Screen {
+            live: Live::new(alloc, height, width)?,
+            failed: false,
+        })
+    }
+
+    /// Reads these bytes. An error is want of memory, now or at an earlier call, and the terminal has failed.
+    pub fn read(&mut self, bytes: &[u8]) -> Result<(), GridError>
+        ensures ok { OnOk result (self.new ≡ option_map (λ t. reads t bytes.now) self.old) }
+        ensures live { OnOk result (IsSome self.new) }
+        ensures err { OnErr result (self.new ≡ None) }
+        ensures memory { OnErr result (result ≡ Err GridError.OutOfMemory) }
+        ensures failed { self.old ≡ None → self.new ≡ None }
+    {
+        if self.failed {
+            return Err(GridError::OutOfMemory);
+        }
+        match self.live.read(bytes) {
+            Ok(()) => Ok(()),
+            Err(_) => {
+                self.failed = true;
+                Err(GridError::OutOfMemory)
+            }
+        }
+    }
+
+    /// The window's size changes. A size out of range changes nothing.
+    pub fn window(&mut self, height: u16, width: u16) -> Result<(), GridError>
+        ensures ok { OnOk result (self.new ≡ option_map (λ t. resized t height width) self.old) }
+        ensures live { OnOk result (IsSome self.new) }
+        ensures refused { IsErrOf result GridError.SizeOutOfRange → (is_size height width ≡ false) × (self.new ≡ self.old) }
+        ensures memory { IsErrOf result GridError.OutOfMemory → self.new ≡ None }
+        ensures failed { self.old ≡ None → IsErrOf result GridError.OutOfMemory }
+    {
+        if self.failed {
+            return Err(GridError::OutOfMemory);
+        }
+        if !is_side(height) || !is_side(width) {
+            return Err(GridError::SizeOutOfRange);
+        }
+        match self.live.resize(height, width) {
+            Ok(()) => Ok(()),
+            Err(_) => {
+                self.failed = true;
+                Err(GridError::OutOfMemory)
+            }
+        }
+    }
+
+    /// Whether the terminal shows the picture: nothing is half read, the sizes agree, each column is
+    /// the picture's, the rendition is normal, and the position is the cursor's. One that has failed
+    /// shows none.
+    pub fn shows(&self, picture: &Picture) -> bool
+        ensures { IsTrue result ↔ IfShown self.now picture.now }
+    {
+        !self.failed && self.live.shows(picture)
+    }
+}

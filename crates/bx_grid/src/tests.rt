@@ -1,0 +1,104 @@
+//! A screen that reads what a painter would send.
+
+use crate::{Cell, Column, Grid, GridError, Picture, Screen};
+use std::alloc::Global;
+use std::test::Fail;
+
+/// The row `ab` of five columns, with the cursor on its first.
+fn picture_of_ab(alloc: Global) -> Result<Picture, GridError> {
+    let mut grid = Grid::blank(alloc, 1, 5)?;
+    grid.put(Cell { line: 1, column: 1 }, "a", false)?;
+    grid.put(Cell { line: 1, column: 2 }, "b", false)?;
+    Ok(Picture::new(grid, Cell { line: 1, column: 1 }))
+}
+
+#[test]
+fn shows_what_was_painted(rt: HostRuntime) -> Result<(), Fail> {
+    let picture = picture_of_ab(rt.alloc())?;
+    let mut screen = Screen::new(rt.alloc(), 1, 5)?;
+    assert!(rt; !screen.shows(&picture));
+    screen.read(b"\x1b[0m\x1b[2J\x1b[1;1Hab\x1b[1;1H")?;
+    assert!(rt; screen.shows(&picture));
+    Ok(())
+}
+
+#[test]
+fn a_run_is_half_read_until_the_next_byte(rt: HostRuntime) -> Result<(), Fail> {
+    let picture = picture_of_ab(rt.alloc())?;
+    let mut screen = Screen::new(rt.alloc(), 1, 5)?;
+    screen.read(b"\x1b[0m\x1b[2J\x1b[1;1Hab")?;
+    assert!(rt; !screen.shows(&picture));
+    screen.read(b"\x1b[1;1H")?;
+    assert!(rt; screen.shows(&picture));
+    Ok(())
+}
+
+#[test]
+fn sequences_are_cut_anywhere(rt: HostRuntime) -> Result<(), Fail> {
+    let picture = picture_of_ab(rt.alloc())?;
+    let bytes = b"\x1b[0m\x1b[2J\x1b[1;1Hab\x1b[1;1H";
+    for cut in 0..bytes.len() {
+        let mut screen = Screen::new(rt.alloc(), 1, 5)?;
+        screen.read(&bytes[..cut])?;
+        assert!(rt; !screen.shows(&picture), "after {cut} bytes");
+        screen.read(&bytes[cut..])?;
+        assert!(rt; screen.shows(&picture), "cut at {cut}");
+    }
+    Ok(())
+}
+
+#[test]
+fn a_negative_rendition_shows_no_picture(rt: HostRuntime) -> Result<(), Fail> {
+    let picture = picture_of_ab(rt.alloc())?;
+    let mut screen = Screen::new(rt.alloc(), 1, 5)?;
+    screen.read(b"\x1b[0m\x1b[2J\x1b[1;1Hab\x1b[1;1H\x1b[7m")?;
+    assert!(rt; !screen.shows(&picture));
+    screen.read(b"\x1b[m")?;
+    assert!(rt; screen.shows(&picture));
+    Ok(())
+}
+
+#[test]
+fn nothing_is_known_after_a_window_change(rt: HostRuntime) -> Result<(), Fail> {
+    let picture = picture_of_ab(rt.alloc())?;
+    let mut screen = Screen::new(rt.alloc(), 1, 5)?;
+    screen.read(b"\x1b[0m\x1b[2J\x1b[1;1Hab\x1b[1;1H")?;
+    screen.window(1, 5)?;
+    assert!(rt; !screen.shows(&picture));
+    assert_eq!(rt; screen.window(0, 5), Err(GridError::SizeOutOfRange));
+    Ok(())
+}
+
+#[test]
+fn sizes_out_of_range(rt: HostRuntime) -> Result<(), Fail> {
+    for (height, width) in [(0, 5), (5, 0), (501, 5), (5, 501)] {
+        assert_eq!(rt;
+            Grid::blank(rt.alloc(), height, width).err(),
+            Some(GridError::SizeOutOfRange)
+        );
+        assert_eq!(rt;
+            Screen::new(rt.alloc(), height, width).err(),
+            Some(GridError::SizeOutOfRange)
+        );
+    }
+    Grid::blank(rt.alloc(), 500, 500)?;
+    Ok(())
+}
+
+#[test]
+fn a_blank_is_a_space_in_normal_rendition(rt: HostRuntime) -> Result<(), Fail> {
+    let grid = Grid::blank(rt.alloc(), 2, 3)?;
+    assert_eq!(rt; grid.columns().len(), 6);
+    for column in grid.columns() {
+        assert!(rt; column.is_blank());
+    }
+    let negative = Column::Glyph {
+        text: String::from_str(rt.alloc(), " ")?,
+        columns: 1,
+        offset: 0,
+        negative: true,
+    };
+    assert!(rt; !negative.is_blank());
+    assert!(rt; !Column::Unknown.is_blank());
+    Ok(())
+}

@@ -1,0 +1,203 @@
+//! Tokens: what a byte does to the bytes that are half read, and what a sequence asks for.
+
+ghost use Rattle.std.specs.Prelude.{◌≡◌, ℕ, ◌+◌, ◌*◌, ◌<◌, ◌≤◌, Bool, true, false, ◌&&◌, ◌∷◌, [], ◌++◌, length, min, nat_le, option_map, take, drop};
+ghost use Rattle.std.specs.List.{list_all};
+ghost use Rattle.bx_grid.specs.Tokens.{is_printable, is_param, is_intermediate, is_final, fate, escape_fate, final_fate, after_params, after_intermediates, number, command, params, is_absent_or_zero, is_only, before_semicolon, after_semicolon, command_of};
+ghost use Rattle.bx_grid.specs.Capped.{capped};
+
+pub const ESCAPE: u8 = 0x1B;
+
+/// What a list of bytes is: the beginning of a token that may go on, a whole token that can't, or neither.
+#[derive(Clone, Copy)]
+pub enum Fate {
+    Waits,
+    Ends,
+    Breaks,
+}
+
+/// What a sequence asks for.
+#[derive(Clone, Copy)]
+pub enum Command {
+    Move(u16, u16),
+    Clear,
+    Erase,
+    Render(bool),
+    Other,
+}
+
+pub fn printable(byte: u8) -> bool
+    ensures { result ≡ is_printable byte }
+{
+    0x20 <= byte && byte <= 0x7E
+}
+
+fn param(byte: u8) -> bool
+    ensures { result ≡ is_param byte }
+{
+    0x30 <= byte && byte <= 0x3F
+}
+
+fn intermediate(byte: u8) -> bool
+    ensures { result ≡ is_intermediate byte }
+{
+    0x20 <= byte && byte <= 0x2F
+}
+
+fn last(byte: u8) -> bool
+    ensures { result ≡ is_final byte }
+{
+    0x40 <= byte && byte <= 0x7E
+}
+
+fn all_params(body: &[u8]) -> bool
+    ensures { result ≡ list_all is_param body.now }
+{
+    body.iter().all(|b| param(*b))
+}
+
+/// After what stands between the start of a sequence and the byte.
+fn fate_in_sequence(body: &[u8], byte: u8) -> Fate
+    requires { after_intermediates (after_params body.now) ≡ [] }
+    ensures { result ≡ final_fate (after_intermediates (after_params (body.now ++ byte ∷ []))) }
+{
+    if last(byte) {
+        Fate::Ends
+    } else if intermediate(byte) {
+        Fate::Waits
+    } else if param(byte) && all_params(body) {
+        Fate::Waits
+    } else {
+        Fate::Breaks
+    }
+}
+
+/// What the byte makes of the bytes that are half read.
+pub fn fate_of(half: &[u8], byte: u8) -> Fate
+    requires { fate half.now ≡ Fate.Waits }
+    ensures { result ≡ fate (half.now ++ byte ∷ []) }
+{
+    match half {
+        [] => {
+            if byte == ESCAPE || printable(byte) {
+                Fate::Waits
+            } else {
+                Fate::Breaks
+            }
+        }
+        [first, rest @ ..] => {
+            if *first != ESCAPE {
+                if printable(byte) {
+                    Fate::Waits
+                } else {
+                    Fate::Breaks
+                }
+            } else {
+                fate_after_escape(rest, byte)
+            }
+        }
+    }
+}
+
+fn fate_after_escape(rest: &[u8], byte: u8) -> Fate
+    requires { escape_fate rest.now ≡ Fate.Waits }
+    ensures { result ≡ escape_fate (rest.now ++ byte ∷ []) }
+{
+    match rest {
+        [] => {
+            if byte == b'[' {
+                Fate::Waits
+            } else {
+                Fate::Breaks
+            }
+        }
+        [_, body @ ..] => fate_in_sequence(body, byte),
+    }
+}
+
+/// Where the parameters end.
+fn params_len(body: &[u8]) -> usize
+    ensures within { result ≤ length body.now }
+    ensures front { take result body.now ≡ params body.now }
+    ensures back { drop result body.now ≡ after_params body.now }
+{
+    let mut len = 0;
+    for byte in body {
+        if !param(*byte) {
+            return len;
+        }
+        len += 1;
+    }
+    len
+}
+
+fn semicolon(params: &[u8]) -> usize
+    ensures within { result ≤ length params.now }
+    ensures front { take result params.now ≡ before_semicolon params.now }
+    ensures back { drop (result + 1) params.now ≡ after_semicolon params.now }
+{
+    let mut len = 0;
+    for byte in params {
+        if *byte == b';' {
+            return len;
+        }
+        len += 1;
+    }
+    len
+}
+
+/// A number, 1 where it is absent; above 1000 it is 1000.
+fn number_of(digits: &[u8]) -> Option<u16>
+    ensures { result ≡ option_map (λ n. min 1000 n) (number digits.now) }
+{
+    if digits.is_empty() {
+        return Some(1);
+    }
+    let mut n = 0u16;
+    for digit in digits {
+        if !digit.is_ascii_digit() {
+            return None;
+        }
+        n = (n * 10 + u16::from(*digit - b'0')).min(1000);
+    }
+    Some(n)
+}
+
+fn place_of(params: &[u8]) -> Command
+    ensures { result ≡ capped (command_of params.now 0x48) }
+{
+    let len = semicolon(params);
+    let after = if len < params.len() {
+        &params[len + 1..]
+    } else {
+        &params[len..]
+    };
+    match (number_of(&params[..len]), number_of(after)) {
+        (Some(line), Some(column)) => Command::Move(line, column),
+        _ => Command::Other,
+    }
+}
+
+/// What the bytes after the start of a sequence ask for.
+pub fn command_in(body: &[u8]) -> Command
+    ensures { result ≡ capped (command body.now) }
+{
+    let len = params_len(body);
+    let (params, rest) = body.split_at(len);
+    match rest {
+        [b'H'] => place_of(params),
+        [b'J'] => match params {
+            [b'2'] => Command::Clear,
+            _ => Command::Other,
+        },
+        [b'K'] => match params {
+            [] | [b'0'] => Command::Erase,
+            _ => Command::Other,
+        },
+        [b'm'] => match params {
+            [] | [b'0'] => Command::Render(false),
+            [b'7'] => Command::Render(true),
+            _ => Command::Other,
+        },
+        _ => Command::Other,
+    }
+}

@@ -1,0 +1,42 @@
+use Rattle.std.proofs.Common.{◌++◌, [], sym, ◌∙◌}
+use Rattle.bx_session.proofs.Turns.{started, turned, prefixed}
+use Rattle.bx_session.proofs.running.run.Goals as goal
+
+pub returns-in_err-send-clause-runs : goal.returns-in_err-send-clause-runs
+returns-in_err-send-clause-runs g c =
+    let sent = c.send.ensures.sent in
+    ([], [], sent.0, c.args.session.now, started _ _ _ _ _ sent.0 sent.1)
+
+pub reads-init : goal.reads-init
+reads-init g c =
+    let sent = c.send.ensures.sent in
+    (([], [], sent.0, c.args.session.now, started _ _ _ _ _ sent.0 sent.1), c.in_ok-send.ensures.all)
+
+pub returns-in_err-send-2-clause-runs : goal.returns-in_err-send-2-clause-runs
+returns-in_err-send-2-clause-runs g c =
+    let run = c.reads.invariant.0 in
+    let fed = c.feed_all.ensures in
+    let sent = c.send-in-reads.ensures.sent in (
+      run.0 ++ fed.0,
+      fed.1,
+      run.2 ++ sent.0,
+      prefixed run.3.pending c.feed_all.new.session,
+      turned _ c.reads.session _ _ _ _ _ _ _ _ run.0 fed.0 run.1 fed.1 run.2 sent.0 _ run.3
+          run.4 c.reads.invariant.1 (sym c.ended.ensures ∙ c.if-ended.false) c.in-Ok.ensures.bytes.0 fed.2 sent.1,
+    )
+
+pub reads-preserved : goal.reads-preserved
+reads-preserved g c =
+    let run = c.reads.invariant.0 in
+    let fed = c.feed_all.ensures in
+    let sent = c.send-in-reads.ensures.sent in (
+      (
+        run.0 ++ fed.0,
+        fed.1,
+        run.2 ++ sent.0,
+        prefixed run.3.pending c.feed_all.new.session,
+        turned _ c.reads.session _ _ _ _ _ _ _ _ run.0 fed.0 run.1 fed.1 run.2 sent.0 _ run.3
+            run.4 c.reads.invariant.1 (sym c.ended.ensures ∙ c.if-ended.false) c.in-Ok.ensures.bytes.0 fed.2 sent.1,
+      ),
+      c.in_ok-send-2.ensures.all,
+    )

@@ -1,0 +1,10 @@
+use Rattle.std.proofs.Common.{ℕ, List, length}
+use Rattle.bx_session.specs.Running.{Sent}
+use Rattle.bx_session.proofs.running.send.Given as goal
+
+abbrev pub invariant-writes : goal.invariant-writes
+invariant-writes g l =
+    (written : List ℕ) × Sent l.initial.session l.session (g.W.Write.contents l.initial.writer) (g.W.Write.contents l.writer) written
+
+abbrev pub decreases-writes : goal.decreases-writes
+decreases-writes g l = length l.session.pending

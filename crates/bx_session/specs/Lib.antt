@@ -1,0 +1,5 @@
+pub mod Editor
+pub mod Rows
+pub mod Session
+pub mod Opening
+pub mod Running

@@ -1,0 +1,77 @@
+-- The session's state, and what a byte makes of it.
+use Rattle.std.specs.Prelude.{◌≡◌, ℕ, Bool, true, false, not, ◌&&◌, is_some, List, [], ◌++◌, Option, Some, None, Result, Ok, Err, if◌then◌else◌}
+use Rattle.bx_grid.specs.Picture.{Image, Shows}
+use Rattle.bx_grid.specs.Terminal.{Terminal, reads}
+use Rattle.bx_paint.specs.Painting.{whole_bytes}
+use Rattle.bx_session.specs.declared.key.Key.{Key}
+use Rattle.bx_session.specs.declared.status.Status.{Status}
+use Rattle.bx_session.specs.declared.status.Status.TheVariants.{Running, Ended}
+use Rattle.bx_session.specs.declared.error.Refused.{Refused}
+use Rattle.bx_session.specs.declared.error.Refused.TheVariants.{Edit, Paint}
+use Rattle.bx_session.specs.Editor.{EditorState, key_of, applied, is_insert}
+use Rattle.bx_session.specs.Rows.{followed, picture}
+
+pub record SessionState : Type 0 where
+  pub editor : EditorState
+  -- the top row
+  pub top : ℕ
+  -- a painting was refused, and none was queued since
+  pub owed : Bool
+  -- bytes for the terminal
+  pub pending : List ℕ
+
+abbrev pub shown_picture : SessionState → Image
+shown_picture s = picture s.editor s.top
+
+-- the top follows the cursor, and the picture is painted whole
+abbrev pub repainted : SessionState → SessionState
+repainted s =
+    let top = followed s.editor s.top in
+    record s { top = top; owed = false; pending = s.pending ++ whole_bytes (picture s.editor top) }
+
+-- the key that a byte is; after the end it is none
+abbrev pub key_of_byte : SessionState → ℕ → Option Key
+key_of_byte s b = if s.editor.ended then None else key_of b
+
+abbrev pub key_applied : SessionState → Option Key → SessionState
+key_applied s None = s
+key_applied s (Some key) = record s { editor = applied s.editor key }
+
+-- the byte's key is applied, and not yet painted
+abbrev pub byte_applied : SessionState → ℕ → SessionState
+byte_applied s b = key_applied s (key_of_byte s b)
+
+-- the byte is no key, and no painting is owed
+abbrev pub is_idle : SessionState → ℕ → Bool
+is_idle s b = not (is_some (key_of_byte s b)) && not s.owed
+
+-- after a byte that was not refused
+abbrev pub fed : SessionState → ℕ → SessionState
+fed s b = if is_idle s b then s else repainted (byte_applied s b)
+
+-- after a byte whose painting was refused
+abbrev pub fed_unpainted : SessionState → ℕ → SessionState
+fed_unpainted s b = record (byte_applied s b) { owed = true }
+
+abbrev pub status_of : SessionState → Status
+status_of s = if s.editor.ended then Ended else Running
+
+abbrev pub inserts : Option Key → Bool
+inserts None = false
+inserts (Some key) = is_insert key
+
+-- what a byte may be answered, and what it then leaves
+abbrev pub Feeds : SessionState → ℕ → Result Status Refused → SessionState → Type 0
+Feeds old b (Ok status) new = (new ≡ fed old b) × (status ≡ status_of new)
+Feeds old b (Err Edit) new = (new ≡ old) × (inserts (key_of_byte old b) ≡ true)
+Feeds old b (Err Paint) new = (new ≡ fed_unpainted old b) × (is_idle old b ≡ false)
+
+-- a terminal of the editor's size with nothing half read that reads these bytes shows the editor's picture, whatever else
+-- its state is
+abbrev pub Shown : List ℕ → EditorState → ℕ → Type 0
+Shown bytes e top =
+    (t : Terminal) → t.half ≡ [] → t.height ≡ e.height → t.width ≡ e.width → Shows (reads t bytes) (picture e top)
+
+-- what is pending has only grown, by bytes that show the session's picture
+abbrev pub PaintsWhole : List ℕ → SessionState → Type 0
+PaintsWhole before new = (appended : List ℕ) × (new.pending ≡ before ++ appended) × Shown appended new.editor new.top

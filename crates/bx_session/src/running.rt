@@ -1,0 +1,80 @@
+//! A session run over a reader and a writer.
+
+ghost use Rattle.std.specs.Prelude.{◌≡◌, ◌++◌, [], List, ℕ, OnOk, OnErr};
+ghost use Rattle.bx_session.specs.Running.{Answered, FedUntilEnd, Sent, Runs, EndsWith};
+
+use crate::end::{End, RunFault};
+use crate::session::Session;
+use std::io::{Read, Write};
+
+/// The most reads of a run.
+const READS: u32 = 1_000_000_000;
+
+/// Writes what is pending, and flushes. A write of no byte is a fault.
+fn send<W: Write>(writer: &mut W, session: &mut Session) -> Result<(), RunFault>
+    ensures sent { (written : List ℕ) × Sent session.old session.new (W.contents writer.old) (W.contents writer.new) written }
+    ensures all { OnOk result (session.new.pending ≡ []) }
+    ensures fault { OnErr result (result ≡ Err RunFault.WriteFault) }
+{
+    'writes: while !session.pending().is_empty() {
+        match writer.write(session.pending()) {
+            Ok(0) => return Err(RunFault::WriteFault),
+            Ok(count) => session.taken(count),
+            Err(_) => return Err(RunFault::WriteFault),
+        }
+    }
+    match writer.flush() {
+        Ok(()) => Ok(()),
+        Err(_) => Err(RunFault::WriteFault),
+    }
+}
+
+/// Feeds bytes until the session ends. A refused byte is spent like any other.
+fn feed_all(session: &mut Session, bytes: &[u8])
+    ensures { (answered : List Answered) × (dropped : List ℕ) × FedUntilEnd session.old bytes.now session.new answered dropped }
+{
+    for byte in bytes {
+        if session.ended() {
+            return;
+        }
+        let _ = session.feed(*byte);
+    }
+}
+
+/// Runs a session: writes what is pending and flushes; then, until the end, reads at most 256 bytes,
+/// feeds each until the session ends, writes what is pending and flushes. Bytes after the end are
+/// dropped, and a refused byte does not end the run.
+///
+/// Errors: `ReadFault`; `WriteFault`, where a prefix of the output went out and the rest is still
+/// pending; `ReadLimit` after 1,000,000,000 reads.
+pub fn run<R: Read, W: Write>(
+    reader: &mut R,
+    writer: &mut W,
+    session: &mut Session,
+) -> Result<End, RunFault>
+    ensures runs { Runs session.old session.new (R.remaining reader.old) (R.remaining reader.new) (W.contents writer.old) (W.contents writer.new) }
+    ensures ends { EndsWith result session.new (R.remaining reader.new) }
+{
+    send(writer, session)?;
+    let mut buffer = [0; 256];
+    'reads: for _ in 0..READS {
+        if session.ended() {
+            return Ok(End::Quit);
+        }
+        let count = match reader.read(&mut buffer) {
+            Ok(count) => count,
+            Err(_) => return Err(RunFault::ReadFault),
+        };
+        if count == 0 {
+            let changed = session.changed();
+            return Ok(End::InputEnded { changed });
+        }
+        feed_all(session, &buffer[..count]);
+        send(writer, session)?;
+    }
+    if session.ended() {
+        Ok(End::Quit)
+    } else {
+        Err(RunFault::ReadLimit)
+    }
+}

@@ -1,0 +1,7 @@
+/// Whether a session goes on.
+#[derive(Clone, Copy, PartialEq, Eq, Debug)]
+pub enum Status {
+    Running,
+    /// Quit has ended it: every further byte is spent without a key.
+    Ended,
+}
