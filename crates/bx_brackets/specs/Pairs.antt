@@ -1,0 +1,69 @@
+-- Bracket pairs, BD14 to BD16, over the characters and types of one sequence.
+use Rattle.std.specs.Prelude.{◌==◌, ℕ, ◌+◌, nat_lt, nat_le, ◌&&◌, not, Bool, true, false, List, [], ◌∷◌, Option, Some, None, length, filter, find, if◌then◌else◌}
+use Rattle.std.specs.List.{list_any}
+use Rattle.bx_ucd.specs.declared.class.Class.{Class}
+use Rattle.bx_ucd.specs.declared.class.Class.TheVariants.{ON}
+use Rattle.bx_ucd.specs.declared.data.Side.{Side}
+use Rattle.bx_ucd.specs.declared.data.Side.TheVariants.{Opener, Closer}
+
+abbrev pub is_on : Class → Bool
+is_on ON = true
+is_on _ = false
+
+-- U+2329 counts as U+3008 and U+232A as U+3009, as they are canonically equivalent
+abbrev pub canonical : ℕ → ℕ
+canonical c = if c == 0x2329 then 0x3008 else (if c == 0x232a then 0x3009 else c)
+
+-- a pair among pairs that are ordered by their openers
+abbrev pub insert_pair : ℕ × ℕ → List (ℕ × ℕ) → List (ℕ × ℕ)
+insert_pair p [] = p ∷ []
+insert_pair p (q ∷ qs) = elim (nat_lt p.0 q.0) [ true ↦ p ∷ q ∷ qs | false ↦ q ∷ insert_pair p qs ]
+
+-- the openers so far, the latest first, each its place and its closer; the pairs found so far, ordered by their openers;
+-- and whether the search has ended for want of room
+pub record Search : Type 0 where
+  pub openers : List (ℕ × ℕ)
+  pub pairs : List (ℕ × ℕ)
+  pub is_over : Bool
+
+-- an opener is open if no pair found has it inside, its own closer not counting
+abbrev pub is_open : List (ℕ × ℕ) → (ℕ × ℕ) → Bool
+is_open pairs o = not (list_any (λ p. nat_le p.0 o.0 && nat_lt o.0 p.1) pairs)
+
+abbrev pub open_openers : Search → List (ℕ × ℕ)
+open_openers s = filter (is_open s.pairs) s.openers
+
+-- BD16: an opener at place `j` is taken where fewer than 63 are open, and else ends the search
+abbrev pub meet_opener : Search → ℕ → ℕ → Search
+meet_opener s j closer = elim (nat_lt (length (open_openers s)) 63) [
+  | true ↦ record s { openers = (j, canonical closer) ∷ s.openers }
+  | false ↦ record s { is_over = true }
+]
+
+-- BD16: a closer at place `j` makes a pair with the nearest open opener that it matches
+abbrev pub meet_closer : Search → ℕ → ℕ → Search
+meet_closer s j c = elim (find (λ o. o.1 == canonical c) (open_openers s)) [
+  | None ↦ s
+  | Some o ↦ record s { pairs = insert_pair (o.0, j) s.pairs }
+]
+
+abbrev pub meet : Search → ℕ → ℕ → Option (Side × ℕ) → Search
+meet s j c None = s
+meet s j c (Some (Opener, m)) = meet_opener s j m
+meet s j c (Some (Closer, m)) = meet_closer s j c
+
+-- BD14, BD15: a character is a bracket only where its type is ON
+abbrev pub bracket_at : (ℕ → Option (Side × ℕ)) → ℕ → Class → Option (Side × ℕ)
+bracket_at bracket c t = elim (is_on t) [ true ↦ bracket c | false ↦ None ]
+
+abbrev pub search_from : (ℕ → Option (Side × ℕ)) → Search → ℕ → List ℕ → List Class → Search
+search_from bracket s j [] ts = s
+search_from bracket s j (c ∷ cs) [] = s
+search_from bracket s j (c ∷ cs) (t ∷ ts) = elim (s.is_over) [
+  | true ↦ s
+  | false ↦ search_from bracket (meet s j c (bracket_at bracket c t)) (j + 1) cs ts
+]
+
+-- the bracket pairs of a sequence, each the places of its opener and its closer
+abbrev pub pairs : (ℕ → Option (Side × ℕ)) → List ℕ → List Class → List (ℕ × ℕ)
+pairs bracket cs ts = (search_from bracket (record { openers = []; pairs = []; is_over = false }) 0 cs ts).pairs

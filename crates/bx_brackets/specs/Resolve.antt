@@ -1,0 +1,78 @@
+-- N0: the types of bracket pairs.
+use Rattle.std.specs.Prelude.{◌<◌, ℕ, ◌+◌, ◌-◌, ◌%◌, Bool, true, false, List, [], ◌∷◌, ◌++◌, Option, Some, None, take, drop, reverse}
+use Rattle.std.specs.List.{list_any}
+use Rattle.std.proofs.Common.{zero, suc}
+use Rattle.bx_ucd.specs.declared.class.Class.{Class}
+use Rattle.bx_ucd.specs.declared.class.Class.TheVariants.{L, R, EN, AN}
+
+abbrev pub direction : ℕ → Class
+direction level = elim (level % 2) [ zero ↦ L | suc n ↦ R ]
+
+abbrev pub opposite : Class → Class
+opposite L = R
+opposite _ = L
+
+abbrev pub is_left : Class → Bool
+is_left L = true
+is_left _ = false
+
+-- R, with EN and AN counted as R
+abbrev pub is_right : Class → Bool
+is_right R = true
+is_right EN = true
+is_right AN = true
+is_right _ = false
+
+-- a type counts as the direction, L or R
+abbrev pub counts_as : Class → Class → Bool
+counts_as d t = elim (is_left d) [ true ↦ is_left t | false ↦ is_right t ]
+
+-- the nearest direction in a list whose nearest element stands first, or `sos`
+abbrev pub nearest : Class → List Class → Class
+nearest sos [] = sos
+nearest sos (t ∷ ts) = elim (is_left t) [ true ↦ L | false ↦ elim (is_right t) [ true ↦ R | false ↦ nearest sos ts ] ]
+
+-- the direction that a pair takes, if any: the embedding direction, if a type inside counts as it; else, if one inside
+-- counts as the other direction, that of the context, the nearest direction before the opener
+abbrev pub pair_direction : Class → Class → List Class → Option Class
+pair_direction embedding context inside = elim (list_any (counts_as embedding) inside) [
+  | true ↦ Some embedding
+  | false ↦ elim (list_any (counts_as (opposite embedding)) inside) [
+    | true ↦ elim (counts_as embedding context) [ true ↦ Some embedding | false ↦ Some (opposite embedding) ]
+    | false ↦ None
+  ]
+]
+
+-- the types after a bracket: those that were NSM, one after another, change with it
+abbrev pub change_marks : Class → List Bool → List Class → List Class
+change_marks d [] ts = ts
+change_marks d (false ∷ was) ts = ts
+change_marks d (true ∷ was) [] = []
+change_marks d (true ∷ was) (t ∷ ts) = d ∷ change_marks d was ts
+
+abbrev pub change_bracket : Class → List Bool → List Class → ℕ → List Class
+change_bracket d was ts p = take p ts ++ d ∷ change_marks d (drop (p + 1) was) (drop (p + 1) ts)
+
+-- a pair in a context
+abbrev pub resolve_in : Class → Class → List Bool → ℕ × ℕ → List Class → List Class
+resolve_in embedding context was pq ts = elim (pair_direction embedding context (take (pq.1 - pq.0 - 1) (drop (pq.0 + 1) ts))) [
+  | None ↦ ts
+  | Some d ↦ change_bracket d was (change_bracket d was ts pq.0) pq.1
+]
+
+-- the context of a place
+abbrev pub context_of : Class → List Class → ℕ → Class
+context_of sos ts p = nearest sos (reverse (take p ts))
+
+abbrev pub resolve_pair : Class → Class → List Bool → ℕ × ℕ → List Class → List Class
+resolve_pair embedding sos was pq ts = resolve_in embedding (context_of sos ts pq.0) was pq ts
+
+-- N0, pair by pair: later pairs see what earlier ones changed
+abbrev pub resolve_pairs : Class → Class → List Bool → List (ℕ × ℕ) → List Class → List Class
+resolve_pairs embedding sos was [] ts = ts
+resolve_pairs embedding sos was (p ∷ ps) ts = resolve_pairs embedding sos was ps (resolve_pair embedding sos was p ts)
+
+-- a pair stands inside a list
+pub record IsPairWithin (n : ℕ) (pq : ℕ × ℕ) : Type 0 where
+  pub ordered : pq.0 < pq.1
+  pub ends : pq.1 < n

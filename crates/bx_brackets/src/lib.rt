@@ -1,0 +1,12 @@
+//! Bracket pairs and their types (UAX #9, 3.1.3 and 3.3.5).
+#![tactic(auto)]
+
+mod error;
+mod pairs_of;
+mod resolve;
+#[cfg(test)]
+mod tests;
+
+pub use error::BracketError;
+pub use pairs_of::pairs;
+pub use resolve::resolve_pairs;

@@ -1,0 +1,4 @@
+pub mod Fate
+pub mod Grammar
+pub mod Pattern
+pub mod Utf8

@@ -1,0 +1,39 @@
+-- Patterns of bytes: ranges, one after another.
+use Rattle.std.specs.Prelude.{ℕ, Bool, true, false, ◌&&◌, nat_le, List, [], ◌∷◌, if◌then◌else◌}
+use Rattle.std.specs.List.{list_any}
+
+-- one byte of a range, or as many as stand there
+pub data Piece : Type 0 where
+  One : (low high : ℕ) → Piece
+  Many : (low high : ℕ) → Piece
+
+abbrev pub is_within : ℕ → ℕ → ℕ → Bool
+is_within low high b = nat_le low b && nat_le b high
+
+-- the bytes from the first on that is outside the range
+abbrev pub past : ℕ → ℕ → List ℕ → List ℕ
+past low high [] = []
+past low high (b ∷ bs) = if is_within low high b then past low high bs else b ∷ bs
+
+-- the bytes are of the pattern
+abbrev pub matches : List Piece → List ℕ → Bool
+matches [] [] = true
+matches [] (b ∷ bs) = false
+matches (One low high ∷ ps) [] = false
+matches (One low high ∷ ps) (b ∷ bs) = is_within low high b && matches ps bs
+matches (Many low high ∷ ps) bs = matches ps (past low high bs)
+
+-- the bytes begin some bytes that are of the pattern, or are of it
+abbrev pub begins : List Piece → List ℕ → Bool
+begins [] [] = true
+begins [] (b ∷ bs) = false
+begins (One low high ∷ ps) [] = true
+begins (One low high ∷ ps) (b ∷ bs) = is_within low high b && begins ps bs
+begins (Many low high ∷ ps) bs = begins ps (past low high bs)
+
+-- the same of a grammar, a list of patterns
+abbrev pub matches_any : List (List Piece) → List ℕ → Bool
+matches_any patterns bs = list_any (λ p. matches p bs) patterns
+
+abbrev pub begins_any : List (List Piece) → List ℕ → Bool
+begins_any patterns bs = list_any (λ p. begins p bs) patterns

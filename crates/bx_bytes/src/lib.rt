@@ -1,0 +1,13 @@
+//! Grammars of bytes, and the well-formed byte sequences of UTF-8.
+//!
+//! A reader of a stream asks of each byte what it makes of the bytes before it: do they wait for more, end something
+//! whole, or break? [`Fate`] is the answer, and [`character_fate`] gives it for characters.
+#![tactic(auto)]
+
+mod fate;
+mod laws;
+mod utf8;
+
+pub use fate::Fate;
+pub use laws::{begins_by_more, characters_are_encodings, none_begins_longer};
+pub use utf8::{character, character_fate};

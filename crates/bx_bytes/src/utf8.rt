@@ -1,0 +1,166 @@
+//! Characters in UTF-8, byte by byte (the Unicode Standard, table 3-7).
+
+ghost use Rattle.std.specs.Prelude.{◌≡◌, ◌+◌, ◌-◌, ◌*◌, ◌^◌, ◌<◌, ◌∷◌, [], ◌++◌, true};
+ghost use Rattle.std.specs.Str.{chars};
+ghost use Rattle.bx_bytes.specs.Fate.{fate_in};
+ghost use Rattle.bx_bytes.specs.Pattern.{is_within};
+ghost use Rattle.bx_bytes.specs.Utf8.{characters};
+
+use crate::fate::Fate;
+
+/// What a byte makes of the beginning of a character, or of nothing.
+pub fn character_fate(read: &[u8], byte: u8) -> Fate
+    requires { fate_in characters read.now ≡ Fate.Waits }
+    ensures { result ≡ fate_in characters (read.now ++ byte ∷ []) }
+{
+    match read {
+        [] => fate_of_first(byte),
+        [lead] => fate_of_second(*lead, byte),
+        [lead, second] => fate_of_third(*lead, *second, byte),
+        _ => {
+            if is_trail(byte) {
+                Fate::Ends
+            } else {
+                Fate::Breaks
+            }
+        }
+    }
+}
+
+fn is_trail(byte: u8) -> bool
+    ensures { result ≡ is_within 0x80 0xBF byte }
+{
+    0x80 <= byte && byte <= 0xBF
+}
+
+fn fate_of_first(byte: u8) -> Fate
+    ensures { result ≡ fate_in characters (byte ∷ []) }
+{
+    match byte {
+        0x00..=0x7F => Fate::Ends,
+        0xC2..=0xF4 => Fate::Waits,
+        _ => Fate::Breaks,
+    }
+}
+
+/// No overlong form (after E0, F0), no surrogate (after ED), and at most U+10FFFF (after F4).
+fn fate_of_second(lead: u8, byte: u8) -> Fate
+    requires { fate_in characters (lead ∷ []) ≡ Fate.Waits }
+    ensures { result ≡ fate_in characters (lead ∷ byte ∷ []) }
+{
+    let fits = match lead {
+        0xE0 => 0xA0 <= byte && byte <= 0xBF,
+        0xED => 0x80 <= byte && byte <= 0x9F,
+        0xF0 => 0x90 <= byte && byte <= 0xBF,
+        0xF4 => 0x80 <= byte && byte <= 0x8F,
+        _ => is_trail(byte),
+    };
+    if !fits {
+        Fate::Breaks
+    } else if lead < 0xE0 {
+        Fate::Ends
+    } else {
+        Fate::Waits
+    }
+}
+
+fn fate_of_third(lead: u8, second: u8, byte: u8) -> Fate
+    requires { fate_in characters (lead ∷ second ∷ []) ≡ Fate.Waits }
+    ensures { result ≡ fate_in characters (lead ∷ second ∷ byte ∷ []) }
+{
+    if !is_trail(byte) {
+        Fate::Breaks
+    } else if lead < 0xF0 {
+        Fate::Ends
+    } else {
+        Fate::Waits
+    }
+}
+
+/// The character whose last byte this is, after the bytes before it.
+pub fn character(read: &[u8], byte: u8) -> char
+    requires { fate_in characters (read.now ++ byte ∷ []) ≡ Fate.Ends }
+    ensures { chars (read.now ++ byte ∷ []) ≡ result ∷ [] }
+{
+    match read {
+        [] => of_one(byte),
+        [lead] => of_two(*lead, byte),
+        [lead, second] => of_three(*lead, *second, byte),
+        [lead, second, third, ..] => of_four(*lead, *second, *third, byte),
+    }
+}
+
+#[tactic(auto, using(crate::proofs::Codes::chars_of_one))]
+fn of_one(byte: u8) -> char
+    requires { fate_in characters (byte ∷ []) ≡ Fate.Ends }
+    ensures { chars (byte ∷ []) ≡ result ∷ [] }
+{
+    char::from(byte)
+}
+
+#[tactic(auto, using(crate::proofs::Codes::chars_of_two))]
+fn of_two(lead: u8, last: u8) -> char
+    requires { fate_in characters (lead ∷ last ∷ []) ≡ Fate.Ends }
+    ensures { chars (lead ∷ last ∷ []) ≡ result ∷ [] }
+{
+    let code = u32::from(lead - 0xC0) * 64 + u32::from(last - 0x80);
+    char::from_u32(code).unwrap()
+}
+
+#[tactic(auto, using(crate::proofs::Codes::of_three))]
+fn of_three(lead: u8, second: u8, last: u8) -> char
+    requires { fate_in characters (lead ∷ second ∷ last ∷ []) ≡ Fate.Ends }
+    ensures { chars (lead ∷ second ∷ last ∷ []) ≡ result ∷ [] }
+{
+    let code = u32::from(lead - 0xE0) * 64 + u32::from(second - 0x80);
+    let code = code * 64 + u32::from(last - 0x80);
+    char::from_u32(code).unwrap()
+}
+
+#[tactic(auto, using(crate::proofs::Codes::of_four))]
+fn of_four(lead: u8, second: u8, third: u8, last: u8) -> char
+    requires { fate_in characters (lead ∷ second ∷ third ∷ last ∷ []) ≡ Fate.Ends }
+    ensures { chars (lead ∷ second ∷ third ∷ last ∷ []) ≡ result ∷ [] }
+{
+    let code = u32::from(lead - 0xF0) * 64 + u32::from(second - 0x80);
+    let code = code * 64 + u32::from(third - 0x80);
+    let code = code * 64 + u32::from(last - 0x80);
+    char::from_u32(code).unwrap()
+}
+
+#[cfg(test)]
+mod tests {
+    use super::*;
+
+    #[test]
+    fn the_first_byte_says_how_many_follow(rt: HostRuntime) {
+        assert_eq!(rt; character_fate(&[], b'a'), Fate::Ends);
+        assert_eq!(rt; character_fate(&[], 0xD7), Fate::Waits);
+        assert_eq!(rt; character_fate(&[0xD7], 0x90), Fate::Ends);
+        assert_eq!(rt; character_fate(&[0xE2], 0x82), Fate::Waits);
+        assert_eq!(rt; character_fate(&[0xE2, 0x82], 0xAC), Fate::Ends);
+        assert_eq!(rt; character_fate(&[0xF0, 0x9F, 0x98], 0x80), Fate::Ends);
+    }
+
+    #[test]
+    fn ill_formed_bytes_break(rt: HostRuntime) {
+        assert_eq!(rt; character_fate(&[], 0x80), Fate::Breaks);
+        assert_eq!(rt; character_fate(&[], 0xC0), Fate::Breaks);
+        assert_eq!(rt; character_fate(&[0xE0], 0x80), Fate::Breaks, "overlong");
+        assert_eq!(rt; character_fate(&[0xED], 0xA0), Fate::Breaks, "surrogate");
+        assert_eq!(rt;
+            character_fate(&[0xF4], 0x90),
+            Fate::Breaks,
+            "past U+10FFFF"
+        );
+        assert_eq!(rt; character_fate(&[0xF0, 0x9F], b'a'), Fate::Breaks);
+    }
+
+    #[test]
+    fn the_last_byte_makes_the_character(rt: HostRuntime) {
+        assert_eq!(rt; character(&[], b'a'), 'a');
+        assert_eq!(rt; character(&[0xD7], 0x90), '\u{5D0}');
+        assert_eq!(rt; character(&[0xE2, 0x82], 0xAC), '\u{20AC}');
+        assert_eq!(rt; character(&[0xF0, 0x9F, 0x98], 0x80), '\u{1F600}');
+    }
+}

@@ -1,0 +1,91 @@
+-- Level runs: what a turn of each loop does.
+use Rattle.std.proofs.Common.{◌≡◌, ◌<◌, ◌≤◌, ◌+◌, ◌-◌, ◌∙◌, ℕ, suc, List, [], ◌∷◌, ◌++◌, length, get_or, drop, take, set, reverse, refl, ap, sym, arith, Option, Some, None, is_some, subst, true, false}
+use Rattle.std.proofs.lemmas.List.{at_drop_more, drop_more, take_more, take_more_set, reverse-append}
+use Rattle.std.proofs.Math.Seq.{take-length}
+use Rattle.std.proofs.Math.ListN.{length-set}
+use Rattle.bx_explicit.specs.declared.entry.Kept.{Kept}
+use Rattle.bx_explicit.specs.declared.runs.Run.{Run}
+use Rattle.bx_explicit.specs.Runs.{run, join_run, runs_from, kept_places, IsRunWithin}
+use Rattle.std.specs.Prelude.{All, ◌==◌}
+use Rattle.std.proofs.lemmas.List.Elements.{All-cons, All-nil, All-head, All-tail}
+
+-- the last of a list is the first of its reverse
+take_whole : (rs : List Run) (n : ℕ) → length rs ≡ n → take n rs ≡ rs
+take_whole rs n e = subst (λ k. take k rs ≡ rs) e (take-length rs)
+
+pub reverse_last : (rs : List Run) (d : Run) → 0 < length rs → reverse rs ≡ get_or rs (length rs - 1) d ∷ reverse (take (length rs - 1) rs)
+reverse_last rs d h =
+    let a : take (length rs - 1 + 1) rs ≡ take (length rs - 1) rs ++ get_or rs (length rs - 1) d ∷ [] = take_more rs (length rs - 1) d (omega arith) in
+    let b : take (length rs - 1 + 1) rs ≡ rs = take_whole rs (length rs - 1 + 1) (omega arith) in
+    ap reverse (sym b ∙ a) ∙ reverse-append (take (length rs - 1) rs) (get_or rs (length rs - 1) d ∷ [])
+
+pub reverse_set : (rs : List Run) (r : Run) → 0 < length rs → reverse (set rs (length rs - 1) r) ≡ r ∷ reverse (take (length rs - 1) rs)
+reverse_set rs r h =
+    let a : take (length rs - 1 + 1) (set rs (length rs - 1) r) ≡ take (length rs - 1) rs ++ r ∷ [] = take_more_set rs (length rs - 1) r (omega arith) in
+    let l : length (set rs (length rs - 1) r) ≡ length rs = length-set rs (length rs - 1) r in
+    let b : take (length rs - 1 + 1) (set rs (length rs - 1) r) ≡ set rs (length rs - 1) r = take_whole (set rs (length rs - 1) r) (length rs - 1 + 1) (omega arith) in
+    ap reverse (sym b ∙ a) ∙ reverse-append (take (length rs - 1) rs) (r ∷ [])
+
+pub reverse_one : (rs : List Run) (r : Run) → reverse (rs ++ r ∷ []) ≡ r ∷ reverse rs
+reverse_one rs r = reverse-append rs (r ∷ [])
+
+runs_at_none : (k : ℕ) (o : Option Kept) (g : List (Option Kept)) → o ≡ None → runs_from k (o ∷ g) ≡ runs_from (k + 1) g
+runs_at_none k None g e = refl
+runs_at_none k (Some r) g e = absurd (cc)
+
+pub runs_none : (g : List (Option Kept)) (k : ℕ) → k < length g → get_or g k None ≡ None → runs_from k (drop k g) ≡ runs_from (k + 1) (drop (k + 1) g)
+runs_none g k h e = at_drop_more (runs_from k) g k None h ∙ runs_at_none k (get_or g k None) (drop (k + 1) g) e
+
+pub runs_some : (g : List (Option Kept)) (k : ℕ) (r : Kept) → k < length g → get_or g k None ≡ Some r → runs_from k (drop k g) ≡ join_run k r.level (runs_from (k + 1) (drop (k + 1) g))
+runs_some g k r h e = at_drop_more (runs_from k) g k None h ∙ ap (λ o. runs_from k (o ∷ drop (k + 1) g)) e
+
+kept_more : (g : List (Option Kept)) (k e : ℕ) → k < e → e ≤ length g → kept_places k (take (e - k) (drop k g)) ≡ kept_places k (get_or g k None ∷ take (e - (k + 1)) (drop (k + 1) g))
+kept_more g k e h l =
+    let a : drop k g ≡ get_or g k None ∷ drop (k + 1) g = drop_more g k None (omega arith) in
+    let b : e - k ≡ suc (e - (k + 1)) = omega arith in
+    ap (λ n. kept_places k (take n (drop k g))) b ∙ ap (λ xs. kept_places k (take (suc (e - (k + 1))) xs)) a
+
+kept_at_some : (k : ℕ) (o : Option Kept) (g : List (Option Kept)) → is_some o ≡ true → kept_places k (o ∷ g) ≡ k ∷ kept_places (k + 1) g
+kept_at_some k None g e = absurd (cc)
+kept_at_some k (Some r) g e = refl
+
+kept_at_none : (k : ℕ) (o : Option Kept) (g : List (Option Kept)) → is_some o ≡ false → kept_places k (o ∷ g) ≡ kept_places (k + 1) g
+kept_at_none k None g e = refl
+kept_at_none k (Some r) g e = absurd (cc)
+
+pub kept_some : (g : List (Option Kept)) (k e : ℕ) → k < e → e ≤ length g → is_some (get_or g k None) ≡ true → kept_places k (take (e - k) (drop k g)) ≡ k ∷ kept_places (k + 1) (take (e - (k + 1)) (drop (k + 1) g))
+kept_some g k e h l t = kept_more g k e h l ∙ kept_at_some k (get_or g k None) _ t
+
+pub kept_none : (g : List (Option Kept)) (k e : ℕ) → k < e → e ≤ length g → is_some (get_or g k None) ≡ false → kept_places k (take (e - k) (drop k g)) ≡ kept_places (k + 1) (take (e - (k + 1)) (drop (k + 1) g))
+kept_none g k e h l t = kept_more g k e h l ∙ kept_at_none k (get_or g k None) _ t
+
+pub kept_all : (g : List (Option Kept)) (k e : ℕ) → e ≤ k → kept_places k (take (e - k) (drop k g)) ≡ []
+kept_all g k e h = let z : e - k ≡ 0 = omega arith in ap (λ n. kept_places k (take n (drop k g))) z
+
+-- each run lies within the list
+widen : (k n : ℕ) (r : Run) → IsRunWithin (k + 1) n r → IsRunWithin k n r
+widen k n r w = record { starts = omega (arith, w.starts); ordered = w.ordered; ends = w.ends }
+
+widen_all : (k n : ℕ) (rs : List Run) → All (IsRunWithin (k + 1) n) rs → All (IsRunWithin k n) rs
+widen_all k n rs a = λ i d h. widen k n (get_or rs i d) (a i d h)
+
+within_join : (k n level : ℕ) (rs : List Run) → k < n → All (IsRunWithin (k + 1) n) rs → All (IsRunWithin k n) (join_run k level rs)
+within_join k n level [] h a = All-cons (IsRunWithin k n) (run level k k) [] (record { starts = omega arith; ordered = omega arith; ends = h }) (All-nil (IsRunWithin k n))
+within_join k n level (r ∷ rs) h a =
+    let w : IsRunWithin (k + 1) n r = All-head (IsRunWithin (k + 1) n) r rs a in
+    let b : All (IsRunWithin k n) rs = widen_all k n rs (All-tail (IsRunWithin (k + 1) n) r rs a) in
+    elim (r.level == level) as (λ v. All (IsRunWithin k n) (elim v as (λ x. List Run) [ true ↦ run level k r.last ∷ rs | false ↦ run level k k ∷ r ∷ rs ])) [
+      | true ↦ All-cons (IsRunWithin k n) (run level k r.last) rs (record { starts = omega arith; ordered = omega (arith, w.starts, w.ordered); ends = w.ends }) b
+      | false ↦ All-cons (IsRunWithin k n) (run level k k) (r ∷ rs) (record { starts = omega arith; ordered = omega arith; ends = h }) (widen_all k n (r ∷ rs) a)
+    ]
+
+within_eq : (k a b : ℕ) (rs : List Run) → a ≡ b → All (IsRunWithin k a) rs → All (IsRunWithin k b) rs
+within_eq k a b rs e h = subst (λ n. All (IsRunWithin k n) rs) e h
+
+runs_within : (k : ℕ) (g : List (Option Kept)) → All (IsRunWithin k (k + length g)) (runs_from k g)
+runs_within k [] = All-nil (IsRunWithin k (k + 0))
+runs_within k (None ∷ g) = within_eq k (k + 1 + length g) (k + suc (length g)) (runs_from (k + 1) g) (omega arith) (widen_all k (k + 1 + length g) (runs_from (k + 1) g) (runs_within (k + 1) g))
+runs_within k (Some r ∷ g) = within_eq k (k + 1 + length g) (k + suc (length g)) (join_run k r.level (runs_from (k + 1) g)) (omega arith) (within_join k (k + 1 + length g) r.level (runs_from (k + 1) g) (omega arith) (runs_within (k + 1) g))
+
+pub all_within : (g : List (Option Kept)) → All (IsRunWithin 0 (length g)) (runs_from 0 g)
+all_within g = within_eq 0 (0 + length g) (length g) (runs_from 0 g) (omega arith) (runs_within 0 g)

@@ -1,0 +1,33 @@
+-- The stack of rising levels, and what its list, last entry last, becomes.
+use Rattle.std.proofs.Common.{◌≡◌, ◌<◌, ◌≤◌, ◌+◌, ℕ, List, [], ◌∷◌, ◌++◌, length, reverse, arith, subst}
+use Rattle.std.proofs.lemmas.List.{reverse-append, length-reverse, reverse-reverse}
+use Rattle.bx_explicit.specs.declared.entry.Entry.{Entry}
+use Rattle.bx_explicit.specs.Stack.{IsRising, top_of, rest_of}
+
+pub rising_length : (es : List Entry) → IsRising es → length es ≤ (top_of es).level + 1
+rising_length [] r = omega arith
+rising_length (e ∷ []) r = omega arith
+rising_length (e ∷ f ∷ es) r = let h : length (f ∷ es) ≤ f.level + 1 = rising_length (f ∷ es) r.2 in let k : f.level < e.level = r.1 in let a : length (e ∷ f ∷ es) ≡ length (f ∷ es) + 1 = omega arith in omega arith
+
+pub rising_top : (es : List Entry) → IsRising es → (top_of es).level ≤ 125
+rising_top [] r = omega arith
+rising_top (e ∷ es) r = r.0
+
+pub rising_push : (es : List Entry) (e : Entry) → IsRising es → e.level ≤ 125 → (top_of es).level < e.level → IsRising (e ∷ es)
+rising_push [] e r h k = (h, tt, tt)
+rising_push (f ∷ es) e r h k = (h, k, r)
+
+pub rising_rest : (es : List Entry) → IsRising es → IsRising (rest_of es)
+rising_rest [] r = tt
+rising_rest (e ∷ es) r = r.2
+
+pub reverse_push : (xs : List Entry) (e : Entry) → reverse (xs ++ e ∷ []) ≡ e ∷ reverse xs
+reverse_push xs e = reverse-append xs (e ∷ [])
+
+-- a stack of rising levels has room for a higher one
+pub room : (xs : List Entry) (n : ℕ) → IsRising (reverse xs) → (top_of (reverse xs)).level < n → n ≤ 125 → length xs < 127
+room xs n r h k = let a : length (reverse xs) ≤ (top_of (reverse xs)).level + 1 = rising_length (reverse xs) r in let b : length (reverse xs) ≡ length xs = length-reverse xs in omega arith
+
+-- what is true of every stack is true of the list with its last entry last
+pub by_reverse : (P : List Entry → Type 0) → ((es : List Entry) → P (reverse es)) → (xs : List Entry) → P xs
+by_reverse P h xs = subst P (reverse-reverse xs) (h (reverse xs))

@@ -1,0 +1,144 @@
+-- One step of the explicit rules, within a list.
+use Rattle.std.proofs.Common.{◌≡◌, ◌<◌, ◌≤◌, ◌+◌, ◌∙◌, ℕ, zero, suc, List, [], ◌∷◌, length, get_or, drop, refl, ap, sym, arith, Bool, true, false}
+use Rattle.std.proofs.lemmas.List.{at_drop_more}
+use Rattle.std.proofs.Math.Seq.{drop-length}
+use Rattle.bx_ucd.specs.declared.class.Class.{Class}
+use Rattle.bx_ucd.specs.declared.class.Class.TheVariants.{L}
+use Rattle.bx_explicit.specs.declared.role.Role.{Role}
+use Rattle.bx_explicit.specs.declared.role.Role.TheVariants.{EmbedLeft, EmbedRight, OverrideLeft, OverrideRight, IsolateLeft, IsolateRight, IsolateFirst, EndIsolate, EndEmbedding, Boundary, Plain}
+use Rattle.bx_explicit.specs.Role.{role_of}
+use Rattle.bx_explicit.specs.declared.entry.Override.{Override}
+use Rattle.bx_explicit.specs.declared.entry.Override.TheVariants.{Neutral}
+use Rattle.bx_explicit.specs.declared.entry.Entry.{Entry}
+use Rattle.bx_explicit.specs.ParagraphLevel.{isolate_level}
+use Rattle.std.proofs.lemmas.Bool.Decides.{nat_tests}
+use Rattle.bx_explicit.specs.declared.state.State.{State}
+use Rattle.bx_explicit.specs.Stack.{IsRising, top_of, after_isolate, after_embedding, entry}
+use Rattle.bx_explicit.proofs.Rising.{rising_push, rising_top, rising_length}
+use Rattle.bx_explicit.specs.Explicit.{first_above, state_after, next_state, kept_by, explicit_from, embed, isolate, end_isolate, end_embedding, is_valid, start}
+
+abbrev pub total : State → ℕ
+total s = s.overflow_isolates + s.overflow_embeddings + s.valid_isolates
+
+total_embed : (s : State) (l : ℕ) (o : Override) → total (embed s l o) ≤ total s + 1
+total_embed s l o = grind arith
+
+total_isolate : (s : State) (l : ℕ) → total (isolate s l) ≤ total s + 1
+total_isolate s l = grind arith
+
+total_end_isolate : (s : State) → total (end_isolate s) ≤ total s + 1
+total_end_isolate s = grind arith
+
+total_end_embedding : (s : State) → total (end_embedding s) ≤ total s + 1
+total_end_embedding s = grind arith
+
+pub total_next : (r : Role) (first : ℕ) (s : State) → total (state_after r first s) ≤ total s + 1
+total_next EmbedLeft first s = total_embed s _ _
+total_next EmbedRight first s = total_embed s _ _
+total_next OverrideLeft first s = total_embed s _ _
+total_next OverrideRight first s = total_embed s _ _
+total_next IsolateLeft first s = total_isolate s _
+total_next IsolateRight first s = total_isolate s _
+total_next IsolateFirst first s = total_isolate s _
+total_next EndIsolate first s = total_end_isolate s
+total_next EndEmbedding first s = total_end_embedding s
+total_next Boundary first s = omega arith
+total_next Plain first s = omega arith
+
+-- the level of an isolate matters to an FSI alone
+pub state_next : (r : Role) (cs : List Class) (s : State) → state_after r (isolate_level cs) s ≡ next_state r cs s
+state_next EmbedLeft cs s = refl
+state_next EmbedRight cs s = refl
+state_next OverrideLeft cs s = refl
+state_next OverrideRight cs s = refl
+state_next IsolateLeft cs s = refl
+state_next IsolateRight cs s = refl
+state_next IsolateFirst cs s = refl
+state_next EndIsolate cs s = refl
+state_next EndEmbedding cs s = refl
+state_next Boundary cs s = refl
+state_next Plain cs s = refl
+
+-- what the character at `i` is given, and then the rest
+pub levels_more : (cs : List Class) (i : ℕ) (s : State) (first : ℕ) → i < length cs → first ≡ isolate_level (drop (i + 1) cs) → explicit_from s (drop i cs) ≡ kept_by (role_of (get_or cs i L)) (get_or cs i L) s (state_after (role_of (get_or cs i L)) first s) ∷ explicit_from (state_after (role_of (get_or cs i L)) first s) (drop (i + 1) cs)
+levels_more cs i s first h e =
+    let c : Class = get_or cs i L in
+    let same : next_state (role_of c) (drop (i + 1) cs) s ≡ state_after (role_of c) first s = sym (ap (λ n. state_after (role_of c) n s) e ∙ state_next (role_of c) (drop (i + 1) cs) s) in
+    at_drop_more (explicit_from s) cs i L h ∙ ap (λ t. kept_by (role_of c) c s t ∷ explicit_from t (drop (i + 1) cs)) same
+
+pub levels_length : (s : State) (cs : List Class) → length (explicit_from s cs) ≡ length cs
+levels_length s [] = refl
+levels_length s (c ∷ cs) = let h : length (explicit_from (next_state (role_of c) cs s) cs) ≡ length cs = levels_length (next_state (role_of c) cs s) cs in omega arith
+
+pub levels_all : (cs : List Class) (s : State) → explicit_from s (drop (length cs) cs) ≡ []
+levels_all cs s = rw drop-length
+
+-- the stack stays one of rising levels
+valid_low : (s : State) (l : ℕ) → is_valid s l ≡ true → l ≤ 125
+valid_low s l e = grind (arith, nat_tests)
+
+rising_valid : (s : State) (l : ℕ) (o : Override) (i b : Bool) → is_valid s l ≡ b → IsRising s.stack → (top_of s.stack).level < l → IsRising (elim b [ true ↦ entry l o i ∷ s.stack | false ↦ s.stack ])
+rising_valid s l o i true e r h = rising_push s.stack (entry l o i) r (valid_low s l e) h
+rising_valid s l o i false e r h = r
+
+embed_stack : (s : State) (l : ℕ) (o : Override) → (embed s l o).stack ≡ elim (is_valid s l) [ true ↦ entry l o false ∷ s.stack | false ↦ s.stack ]
+embed_stack s l o = elim (is_valid s l) as (λ b. (elim b as (λ x. State) [ true ↦ record s { stack = entry l o false ∷ s.stack } | false ↦ record s { overflow_embeddings = elim (s.overflow_isolates) [ zero ↦ s.overflow_embeddings + 1 | suc n ↦ s.overflow_embeddings ] } ]).stack ≡ elim b as (λ x. List Entry) [ true ↦ entry l o false ∷ s.stack | false ↦ s.stack ]) [ true ↦ refl | false ↦ refl ]
+
+rising_embed : (s : State) (l : ℕ) (o : Override) → IsRising s.stack → (top_of s.stack).level < l → IsRising (embed s l o).stack
+rising_embed s l o r h = rw (embed_stack s l o) (rising_valid s l o false (is_valid s l) refl r h)
+
+rising_isolate : (s : State) (l : ℕ) → IsRising s.stack → (top_of s.stack).level < l → IsRising (isolate s l).stack
+rising_isolate s l r h = elim (is_valid s l) as (λ b. is_valid s l ≡ b → IsRising (elim b as (λ x. State) [ true ↦ record s { stack = entry l Neutral true ∷ s.stack; valid_isolates = s.valid_isolates + 1 } | false ↦ record s { overflow_isolates = s.overflow_isolates + 1 } ]).stack) [ true ↦ λ e. rising_push s.stack (entry l Neutral true) r (valid_low s l e) h | false ↦ λ e. r ] refl
+
+rising_after : (es : List Entry) → IsRising es → IsRising (after_isolate es)
+rising_after [] r = tt
+rising_after (e ∷ es) r = let ih : IsRising (after_isolate es) = rising_after es r.2 in elim (e.isolate) as (λ b. IsRising (elim b as (λ x. List Entry) [ true ↦ es | false ↦ after_isolate es ])) [ true ↦ r.2 | false ↦ ih ]
+
+rising_after_embedding : (es : List Entry) → IsRising es → IsRising (after_embedding es)
+rising_after_embedding [] r = tt
+rising_after_embedding (e ∷ []) r = r
+rising_after_embedding (e ∷ f ∷ es) r = elim (e.isolate) as (λ b. IsRising (elim b as (λ x. List Entry) [ true ↦ e ∷ f ∷ es | false ↦ f ∷ es ])) [ true ↦ r | false ↦ r.2 ]
+
+rising_end_isolate : (s : State) → IsRising s.stack → IsRising (end_isolate s).stack
+rising_end_isolate s r = elim (s.overflow_isolates) as (λ n. IsRising (elim n as (λ x. State) [ suc n ↦ record s { overflow_isolates = n } | zero ↦ elim (s.valid_isolates) as (λ x. State) [ zero ↦ s | suc n ↦ record s { stack = after_isolate s.stack; overflow_embeddings = 0; valid_isolates = n } ] ]).stack) [
+  | suc n ↦ r
+  | zero ↦ elim (s.valid_isolates) as (λ n. IsRising (elim n as (λ x. State) [ zero ↦ s | suc n ↦ record s { stack = after_isolate s.stack; overflow_embeddings = 0; valid_isolates = n } ]).stack) [ zero ↦ r | suc n ↦ rising_after s.stack r ]
+]
+
+rising_end_embedding : (s : State) → IsRising s.stack → IsRising (end_embedding s).stack
+rising_end_embedding s r = elim (s.overflow_isolates) as (λ n. IsRising (elim n as (λ x. State) [ suc n ↦ s | zero ↦ elim (s.overflow_embeddings) as (λ x. State) [ suc n ↦ record s { overflow_embeddings = n } | zero ↦ record s { stack = after_embedding s.stack } ] ]).stack) [
+  | suc n ↦ r
+  | zero ↦ elim (s.overflow_embeddings) as (λ n. IsRising (elim n as (λ x. State) [ suc n ↦ record s { overflow_embeddings = n } | zero ↦ record s { stack = after_embedding s.stack } ]).stack) [ zero ↦ rising_after_embedding s.stack r | suc n ↦ r ]
+]
+
+first_higher : (first n : ℕ) → n < first_above first n
+first_higher zero n = omega arith
+first_higher (suc m) n = omega arith
+
+pub rising_next : (r : Role) (cs : List Class) (s : State) → IsRising s.stack → IsRising (next_state r cs s).stack
+rising_next EmbedLeft cs s h = rising_embed s _ _ h (omega arith)
+rising_next EmbedRight cs s h = rising_embed s _ _ h (omega arith)
+rising_next OverrideLeft cs s h = rising_embed s _ _ h (omega arith)
+rising_next OverrideRight cs s h = rising_embed s _ _ h (omega arith)
+rising_next IsolateLeft cs s h = rising_isolate s _ h (omega arith)
+rising_next IsolateRight cs s h = rising_isolate s _ h (omega arith)
+rising_next IsolateFirst cs s h = rising_isolate s _ h (first_higher (isolate_level cs) (top_of s.stack).level)
+rising_next EndIsolate cs s h = rising_end_isolate s h
+rising_next EndEmbedding cs s h = rising_end_embedding s h
+rising_next Boundary cs s h = h
+rising_next Plain cs s h = h
+
+-- the state after the first `k` characters
+abbrev pub state_at : ℕ → List Class → State → State
+state_at zero cs s = s
+state_at (suc k) [] s = s
+state_at (suc k) (c ∷ cs) s = state_at k cs (next_state (role_of c) cs s)
+
+rising_run : (k : ℕ) (cs : List Class) (s : State) → IsRising s.stack → IsRising (state_at k cs s).stack
+rising_run zero cs s h = h
+rising_run (suc k) [] s h = h
+rising_run (suc k) (c ∷ cs) s h = rising_run k cs (next_state (role_of c) cs s) (rising_next (role_of c) cs s h)
+
+-- the stack never holds more than 126 entries
+pub never_deep : (level k : ℕ) (cs : List Class) → level ≤ 125 → length (state_at k cs (start level)).stack ≤ 126
+never_deep level k cs h = let r : IsRising (state_at k cs (start level)).stack = rising_run k cs (start level) (h, tt, tt) in let a : length (state_at k cs (start level)).stack ≤ (top_of (state_at k cs (start level)).stack).level + 1 = rising_length (state_at k cs (start level)).stack r in let b : (top_of (state_at k cs (start level)).stack).level ≤ 125 = rising_top (state_at k cs (start level)).stack r in omega arith

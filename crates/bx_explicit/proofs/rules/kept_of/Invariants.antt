@@ -1,0 +1,8 @@
+-- What is given so far, and what the rest will be given.
+use Rattle.std.proofs.Common.{◌≡◌, ◌≤◌, ◌++◌, drop}
+use Rattle.bx_explicit.specs.Explicit.{explicit_levels, explicit_from}
+use Rattle.bx_explicit.proofs.Steps.{total}
+use Rattle.bx_explicit.proofs.rules.kept_of.Given as goal
+
+abbrev pub invariant-loop-i : goal.invariant-loop-i
+invariant-loop-i l = record { few : total l.state ≤ l.i; kept : explicit_levels l.fn.level l.classes ≡ l.kept.items ++ explicit_from l.state (drop l.i l.classes) }

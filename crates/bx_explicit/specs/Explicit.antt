@@ -1,0 +1,120 @@
+-- The explicit levels, X1 to X9, by the standard's own stack and counts: one rule for each character.
+use Rattle.std.specs.Prelude.{ℕ, ◌+◌, ◌-◌, ◌%◌, nat_le, ◌&&◌, Bool, true, false, List, [], ◌∷◌, Option, Some, None}
+use Rattle.std.proofs.Common.{zero, suc}
+use Rattle.bx_ucd.specs.declared.class.Class.{Class}
+use Rattle.bx_ucd.specs.declared.class.Class.TheVariants.{L, R}
+use Rattle.bx_explicit.specs.declared.role.Role.{Role}
+use Rattle.bx_explicit.specs.declared.role.Role.TheVariants.{EmbedLeft, EmbedRight, OverrideLeft, OverrideRight, IsolateLeft, IsolateRight, IsolateFirst, EndIsolate, EndEmbedding, Boundary, Plain}
+use Rattle.bx_explicit.specs.Role.{role_of}
+use Rattle.bx_explicit.specs.declared.entry.Entry.{Entry}
+use Rattle.bx_explicit.specs.declared.state.State.{State}
+use Rattle.bx_explicit.specs.declared.entry.Kept.{Kept}
+use Rattle.bx_explicit.specs.declared.entry.Override.{Override}
+use Rattle.bx_explicit.specs.declared.entry.Override.TheVariants.{Neutral, Left, Right}
+use Rattle.bx_explicit.specs.Stack.{entry, top_of, after_isolate, after_embedding}
+use Rattle.bx_explicit.specs.ParagraphLevel.{isolate_level}
+
+-- X1: the stack begins with the paragraph level, and the counts at 0
+abbrev pub start : ℕ → State
+start level = record { stack = entry level Neutral false ∷ []; overflow_isolates = 0; overflow_embeddings = 0; valid_isolates = 0 }
+
+-- the last entry
+abbrev pub top : State → Entry
+top s = top_of s.stack
+
+-- the least odd level above a level, and the least even one
+abbrev pub odd_above : ℕ → ℕ
+odd_above n = n + 1 + n % 2
+
+abbrev pub even_above : ℕ → ℕ
+even_above n = n + 2 - n % 2
+
+-- a new level is valid if it is at most 125 and nothing has overflowed
+abbrev pub is_valid : State → ℕ → Bool
+is_valid s level = nat_le level 125 && nat_le s.overflow_isolates 0 && nat_le s.overflow_embeddings 0
+
+-- X2 to X5, an embedding or an override: pushed if it is valid, and else counted outside of overflow isolates
+abbrev pub embed : State → ℕ → Override → State
+embed s level o = elim (is_valid s level) [
+  | true ↦ record s { stack = entry level o false ∷ s.stack }
+  | false ↦ record s { overflow_embeddings = elim (s.overflow_isolates) [ zero ↦ s.overflow_embeddings + 1 | suc n ↦ s.overflow_embeddings ] }
+]
+
+-- X5a to X5c, an initiator: pushed if it is valid, and else counted
+abbrev pub isolate : State → ℕ → State
+isolate s level = elim (is_valid s level) [
+  | true ↦ record s { stack = entry level Neutral true ∷ s.stack; valid_isolates = s.valid_isolates + 1 }
+  | false ↦ record s { overflow_isolates = s.overflow_isolates + 1 }
+]
+
+-- X6a, a PDI: ends an overflow isolate, or the last valid one with the embeddings in it
+abbrev pub end_isolate : State → State
+end_isolate s = elim (s.overflow_isolates) [
+  | suc n ↦ record s { overflow_isolates = n }
+  | zero ↦ elim (s.valid_isolates) [
+    | zero ↦ s
+    | suc n ↦ record s { stack = after_isolate s.stack; overflow_embeddings = 0; valid_isolates = n }
+  ]
+]
+
+-- X7, a PDF: ends an overflow embedding, or the last entry
+abbrev pub end_embedding : State → State
+end_embedding s = elim (s.overflow_isolates) [
+  | suc n ↦ s
+  | zero ↦ elim (s.overflow_embeddings) [
+    | suc n ↦ record s { overflow_embeddings = n }
+    | zero ↦ record s { stack = after_embedding s.stack }
+  ]
+]
+
+-- what an entry gives a character: its level, and under an override the override's type
+abbrev pub forced_class : Override → Class → Class
+forced_class Neutral c = c
+forced_class Left c = L
+forced_class Right c = R
+
+abbrev pub kept_under : Entry → Class → Option Kept
+kept_under e c = Some (record { level = e.level; class = forced_class e.forced c })
+
+-- X5c: the level of an isolate whose text has the paragraph level `first`
+abbrev pub first_above : ℕ → ℕ → ℕ
+first_above first n = elim first [ zero ↦ even_above n | suc m ↦ odd_above n ]
+
+-- the state after a character of a role; after an FSI the text of its isolate has the paragraph level `first`
+abbrev pub state_after : Role → ℕ → State → State
+state_after EmbedLeft first s = embed s (even_above (top s).level) Neutral
+state_after EmbedRight first s = embed s (odd_above (top s).level) Neutral
+state_after OverrideLeft first s = embed s (even_above (top s).level) Left
+state_after OverrideRight first s = embed s (odd_above (top s).level) Right
+state_after IsolateLeft first s = isolate s (even_above (top s).level)
+state_after IsolateRight first s = isolate s (odd_above (top s).level)
+state_after IsolateFirst first s = isolate s (first_above first (top s).level)
+state_after EndIsolate first s = end_isolate s
+state_after EndEmbedding first s = end_embedding s
+state_after Boundary first s = s
+state_after Plain first s = s
+
+-- the same before the text `cs`
+abbrev pub next_state : Role → List Class → State → State
+next_state IsolateFirst cs s = state_after IsolateFirst (isolate_level cs) s
+next_state role cs s = state_after role 0 s
+
+-- what a character of a role is given, from the states before and after it: a PDI by the state after it (X6a), the
+-- other kept ones by the state before (X5a to X5c, X6), and nothing for those that X9 removes
+abbrev pub kept_by : Role → Class → State → State → Option Kept
+kept_by EmbedLeft c s t = None
+kept_by EmbedRight c s t = None
+kept_by OverrideLeft c s t = None
+kept_by OverrideRight c s t = None
+kept_by EndEmbedding c s t = None
+kept_by Boundary c s t = None
+kept_by EndIsolate c s t = kept_under (top t) c
+kept_by _ c s t = kept_under (top s) c
+
+abbrev pub explicit_from : State → List Class → List (Option Kept)
+explicit_from s [] = []
+explicit_from s (c ∷ cs) = let t = next_state (role_of c) cs s in kept_by (role_of c) c s t ∷ explicit_from t cs
+
+-- each character of a paragraph of a level: its level and its type after overrides, or nothing where it is removed
+abbrev pub explicit_levels : ℕ → List Class → List (Option Kept)
+explicit_levels level cs = explicit_from (start level) cs

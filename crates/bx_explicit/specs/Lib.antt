@@ -1,0 +1,9 @@
+pub mod Role
+pub mod Matching
+pub mod ParagraphLevel
+pub mod Stack
+pub mod Explicit
+pub mod Kept
+pub mod Runs
+pub mod Sequences
+pub mod Links

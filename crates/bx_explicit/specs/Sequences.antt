@@ -1,0 +1,91 @@
+-- Isolating run sequences and the types at their ends, BD13 and X10.
+use Rattle.std.specs.Prelude.{◌==◌, ℕ, ◌+◌, ◌%◌, Bool, true, false, List, [], ◌∷◌, ◌++◌, Option, Some, None, take, drop, reverse, max}
+use Rattle.std.specs.List.{list_any}
+use Rattle.std.proofs.Common.{zero, suc}
+use Rattle.bx_ucd.specs.declared.class.Class.{Class}
+use Rattle.bx_ucd.specs.declared.class.Class.TheVariants.{L, R}
+use Rattle.bx_ucd.specs.Class.{is_initiator}
+use Rattle.bx_explicit.specs.declared.entry.Kept.{Kept}
+use Rattle.bx_explicit.specs.declared.runs.Run.{Run}
+use Rattle.bx_explicit.specs.Matching.{match_of}
+use Rattle.bx_explicit.specs.Runs.{runs_from, places_of}
+
+-- an isolating run sequence: the places of its characters, their level, and the types before its first (sos) and after
+-- its last character (eos)
+pub record RunSequence : Type 0 where
+  pub places : List ℕ
+  pub level : ℕ
+  pub sos : Class
+  pub eos : Class
+
+-- the run `r` ends in an initiator whose matching PDI begins the run `q`
+abbrev pub is_joined : List Class → Run → Run → Bool
+is_joined cs r q = elim (match_of cs r.last) [ None ↦ false | Some p ↦ p == q.first ]
+
+-- a run is joined to one of those before it
+abbrev pub follows : List Class → List Run → Run → Bool
+follows cs before r = list_any (λ q. is_joined cs q r) before
+
+-- the runs that follow `r` in its chain, one joined to the next, where `qs` are the runs after it
+abbrev pub followers : List Class → Run → List Run → List Run
+followers cs r [] = []
+followers cs r (q ∷ qs) = elim (is_joined cs r q) [ true ↦ q ∷ followers cs q qs | false ↦ followers cs r qs ]
+
+-- the places of all runs of a chain
+abbrev pub chain_places : List (Option Kept) → List Run → List ℕ
+chain_places kept [] = []
+chain_places kept (r ∷ rs) = places_of kept r ++ chain_places kept rs
+
+-- the last run of a chain that begins with `r`
+abbrev pub last_run : Run → List Run → Run
+last_run r [] = r
+last_run r (q ∷ qs) = last_run q qs
+
+-- the direction of a level
+abbrev pub direction : ℕ → Class
+direction level = elim (level % 2) [ zero ↦ L | suc n ↦ R ]
+
+-- the level of the first kept character of a list, or the paragraph level
+abbrev pub level_of_first : ℕ → List (Option Kept) → ℕ
+level_of_first paragraph [] = paragraph
+level_of_first paragraph (None ∷ cs) = level_of_first paragraph cs
+level_of_first paragraph (Some c ∷ cs) = c.level
+
+-- sos: the direction of the higher of two levels, the first character's and that of the kept character before it
+abbrev pub start_class : ℕ → List (Option Kept) → Run → Class
+start_class paragraph kept r = direction (max r.level (level_of_first paragraph (reverse (take r.first kept))))
+
+abbrev pub starts_with_initiator : List Class → Bool
+starts_with_initiator [] = false
+starts_with_initiator (c ∷ cs) = is_initiator c
+
+-- the level of the kept character after the place `p`, or the paragraph level, also where `p` holds an initiator
+abbrev pub level_after : ℕ → List Class → List (Option Kept) → ℕ → ℕ
+level_after paragraph cs kept p = elim (starts_with_initiator (drop p cs)) [
+  | true ↦ paragraph
+  | false ↦ level_of_first paragraph (drop (p + 1) kept)
+]
+
+-- eos: likewise the last character's and that of the kept character after it
+abbrev pub end_class : ℕ → List Class → List (Option Kept) → Run → Class
+end_class paragraph cs kept r = direction (max r.level (level_after paragraph cs kept r.last))
+
+-- the sequence of the chain of a run and its followers
+abbrev pub sequence_of : ℕ → List Class → List (Option Kept) → Run → List Run → RunSequence
+sequence_of paragraph cs kept r rs = record {
+  places = chain_places kept (r ∷ rs);
+  level = r.level;
+  sos = start_class paragraph kept r;
+  eos = end_class paragraph cs kept (last_run r rs);
+}
+
+-- the sequences that begin with a run to which no run before it is joined
+abbrev pub sequences_from : ℕ → List Class → List (Option Kept) → List Run → List Run → List RunSequence
+sequences_from paragraph cs kept before [] = []
+sequences_from paragraph cs kept before (r ∷ rs) = elim (follows cs before r) [
+  | true ↦ sequences_from paragraph cs kept (before ++ r ∷ []) rs
+  | false ↦ sequence_of paragraph cs kept r (followers cs r rs) ∷ sequences_from paragraph cs kept (before ++ r ∷ []) rs
+]
+
+abbrev pub sequences : ℕ → List Class → List (Option Kept) → List RunSequence
+sequences paragraph cs kept = sequences_from paragraph cs kept [] (runs_from 0 kept)

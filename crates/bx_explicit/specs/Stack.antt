@@ -1,0 +1,41 @@
+-- The stack of the rules for explicit levels (X1), its last entry first.
+use Rattle.std.specs.Prelude.{ℕ, ◌<◌, ◌≤◌, Bool, true, false, List, [], ◌∷◌, Option, Some, None}
+use Rattle.bx_explicit.specs.declared.entry.Entry.{Entry}
+use Rattle.bx_explicit.specs.declared.entry.Override.{Override}
+use Rattle.bx_explicit.specs.declared.entry.Override.TheVariants.{Neutral}
+
+abbrev pub entry : ℕ → Override → Bool → Entry
+entry l o i = record { level = l; forced = o; isolate = i }
+
+-- the last entry
+abbrev pub top_of : List Entry → Entry
+top_of [] = entry 0 Neutral false
+top_of (e ∷ es) = e
+
+abbrev pub first_of : List Entry → Option Entry
+first_of [] = None
+first_of (e ∷ es) = Some e
+
+abbrev pub rest_of : List Entry → List Entry
+rest_of [] = []
+rest_of (e ∷ es) = es
+
+-- each entry is above the one before it, and none is above 125
+abbrev pub IsAbove : Entry → List Entry → Type 0
+IsAbove e [] = Unit {0}
+IsAbove e (f ∷ es) = f.level < e.level
+
+abbrev pub IsRising : List Entry → Type 0
+IsRising [] = Unit {0}
+IsRising (e ∷ es) = (e.level ≤ 125) × IsAbove e es × IsRising es
+
+-- the stack without its entries down to the last isolate, and without that
+abbrev pub after_isolate : List Entry → List Entry
+after_isolate [] = []
+after_isolate (e ∷ es) = elim (e.isolate) [ true ↦ es | false ↦ after_isolate es ]
+
+-- the stack without its last entry, if that is no isolate and not the only one
+abbrev pub after_embedding : List Entry → List Entry
+after_embedding [] = []
+after_embedding (e ∷ []) = e ∷ []
+after_embedding (e ∷ f ∷ es) = elim (e.isolate) [ true ↦ e ∷ f ∷ es | false ↦ f ∷ es ]

@@ -1,0 +1,44 @@
+//! What the rules for explicit levels keep and give.
+ghost use Rattle.std.specs.Prelude.{◌≡◌, ◌≤◌, All, length};
+ghost use Rattle.bx_explicit.specs.Kept.{level_or_0};
+
+use bx_ucd::Class;
+
+/// What an override does to the types of the characters in it.
+#[derive(Clone, Copy, PartialEq, Eq, Debug, Default)]
+pub enum Override {
+    #[default]
+    Neutral,
+    Left,
+    Right,
+}
+
+/// An entry of the stack of explicit levels (X1).
+#[derive(Clone, Copy, PartialEq, Eq, Debug, Default)]
+pub struct Entry {
+    pub level: u8,
+    pub forced: Override,
+    pub isolate: bool,
+}
+
+/// What the explicit rules give a character that X9 keeps.
+#[derive(Clone, Copy, PartialEq, Eq, Debug)]
+pub struct Kept {
+    /// Its explicit level, at most 125.
+    pub level: u8,
+    /// Its type after overrides.
+    pub class: Class,
+}
+
+/// The characters of a paragraph body after the explicit rules.
+#[derive(Drop)]
+pub struct Explicit {
+    /// The original class of each character.
+    pub classes: Vec<Class>,
+    /// What the rules give each character: `None` where X9 removes it.
+    pub kept: Vec<Option<Kept>>,
+    /// The paragraph level.
+    pub level: u8,
+    pub ghost as_long: { length kept.items ≡ length classes.items },
+    pub ghost low: { All (λ k. level_or_0 k ≤ 125) kept.items },
+}

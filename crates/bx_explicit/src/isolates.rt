@@ -1,0 +1,74 @@
+//! The directions of isolates that take theirs from their text (X5c), all in one scan from the end.
+ghost use Rattle.std.specs.Prelude.{◌≡◌, ℕ, ◌+◌, ◌<◌, List, [], ◌∷◌, IfOk, OnOk, reverse, length, drop, slice_index_or};
+ghost use Rattle.bx_explicit.specs.ParagraphLevel.{isolate_level};
+ghost use Rattle.bx_explicit.specs.Links.{levels_before, first_level};
+
+use bx_ucd::Class;
+use std::alloc::{AllocError, Global};
+use std::marker::Model;
+
+/// The levels of the texts between the PDIs that match no initiator in the text read so far.
+#[derive(Drop)]
+struct TextLevels {
+    first: u8,
+    later: Vec<u8>,
+}
+
+// Clauses see the levels in the order of the texts.
+impl Model for TextLevels {
+    ghost Value = { List ℕ };
+
+    ghost view = { λ s. s.first ∷ reverse s.later.items };
+}
+
+impl TextLevels {
+    /// No text yet: one empty one.
+    fn new(alloc: Global) -> Self
+        ensures { result ≡ 0 ∷ [] }
+    {
+        TextLevels {
+            first: 0,
+            later: Vec::new(alloc),
+        }
+    }
+
+    /// The level of the text up to the first PDI.
+    fn first(&self) -> u8
+        ensures { result ≡ first_level self.now }
+    {
+        self.first
+    }
+
+    /// Takes one character more, before the text.
+    fn put_before(&mut self, class: Class) -> Result<(), AllocError>
+        ensures { OnOk result (self.new ≡ levels_before class self.old) }
+    {
+        match class {
+            Class::PDI => {
+                self.later.push(self.first)?;
+                self.first = 0;
+            }
+            Class::LRI | Class::RLI | Class::FSI => self.first = self.later.pop().unwrap_or(0),
+            Class::L => self.first = 0,
+            Class::R | Class::AL => self.first = 1,
+            _ => {}
+        }
+        Ok(())
+    }
+}
+
+/// For each place the paragraph level of the isolate that an initiator there would begin.
+pub fn isolate_levels(alloc: Global, classes: &[Class]) -> Result<Vec<u8>, AllocError>
+    ensures as_long { IfOk result (λ v. length v.items ≡ length classes.now) }
+    ensures levels { IfOk result (λ v. (i : ℕ) → i < length classes.now → slice_index_or v.items i 0 ≡ isolate_level (drop (i + 1) classes.now)) }
+{
+    let mut levels = vec![in alloc; 0; classes.len()]?;
+    let mut texts = TextLevels::new(alloc);
+    let mut i = classes.len();
+    while i > 0 {
+        i -= 1;
+        levels[i] = texts.first();
+        texts.put_before(classes[i])?;
+    }
+    Ok(levels)
+}

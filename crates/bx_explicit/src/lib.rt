@@ -1,0 +1,24 @@
+//! The paragraph level, the explicit levels and the isolating run sequences of a paragraph body (UAX #9, 3.3.1 to 3.3.3).
+#![tactic(auto)]
+
+mod base;
+mod entry;
+mod error;
+mod isolates;
+mod isolating;
+mod matching;
+mod paragraph;
+mod role;
+mod rules;
+mod runs;
+mod stack;
+mod state;
+#[cfg(test)]
+mod tests;
+
+pub use base::Base;
+pub use entry::{Explicit, Kept};
+pub use error::ExplicitError;
+pub use isolating::{Sequence, direction, sequences};
+pub use paragraph::{base_level, paragraph_level};
+pub use rules::explicit;

@@ -1,0 +1,58 @@
+//! The paragraph level (P2, P3, HL1).
+ghost use Rattle.std.specs.Prelude.{◌≡◌, ◌<◌, ◌≤◌};
+ghost use Rattle.bx_explicit.specs.Matching.{count_after};
+ghost use Rattle.bx_explicit.specs.ParagraphLevel.{paragraph_level, base_level, level_of_strong};
+
+use crate::base::Base;
+use bx_ucd::Class;
+
+/// How many isolates are open after a character.
+fn count_after(isolates: usize, class: Class) -> usize
+    requires { isolates < usize.MAX }
+    ensures { result ≡ count_after isolates class }
+{
+    match class {
+        Class::LRI | Class::RLI | Class::FSI => isolates + 1,
+        Class::PDI => isolates.saturating_sub(1),
+        _ => isolates,
+    }
+}
+
+/// The level of a paragraph whose first strong class is `class`.
+fn level_of_strong(class: Class) -> u8
+    ensures value { result ≡ level_of_strong class }
+    ensures low { result ≤ 1 }
+{
+    match class {
+        Class::R | Class::AL => 1,
+        _ => 0,
+    }
+}
+
+/// The paragraph level, 0 or 1, by the first strong class that stands in no isolate (P2, P3).
+#[tactic(auto, using(crate::proofs::Scan::scan_more, crate::proofs::Scan::scan_here, crate::proofs::Scan::scan_all, crate::proofs::Scan::count_after_le))]
+pub fn paragraph_level(classes: &[Class]) -> u8
+    ensures value { result ≡ paragraph_level classes.now }
+    ensures low { result ≤ 1 }
+{
+    let mut isolates: usize = 0;
+    for class in classes {
+        if isolates == 0 && bx_ucd::class::is_strong(*class) {
+            return level_of_strong(*class);
+        }
+        isolates = count_after(isolates, *class);
+    }
+    0
+}
+
+/// The paragraph level under a base: found from the text, or given (HL1).
+pub fn base_level(classes: &[Class], base: Base) -> u8
+    ensures value { result ≡ base_level base classes.now }
+    ensures low { result ≤ 1 }
+{
+    match base {
+        Base::Auto => paragraph_level(classes),
+        Base::Ltr => 0,
+        Base::Rtl => 1,
+    }
+}

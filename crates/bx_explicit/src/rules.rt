@@ -1,0 +1,42 @@
+//! The explicit levels (X1 to X9).
+ghost use Rattle.std.specs.Prelude.{◌≡◌, ◌≤◌, IfOk};
+ghost use Rattle.bx_explicit.specs.Explicit.{explicit_levels};
+
+use crate::entry::{Explicit, Kept};
+use crate::error::ExplicitError;
+use crate::isolates::isolate_levels;
+use crate::state::State;
+use bx_ucd::Class;
+use std::alloc::{AllocError, Global};
+
+/// What each character is given: `None` where it is removed.
+#[tactic(auto, using(crate::proofs::Steps::levels_more, crate::proofs::Steps::levels_all, crate::proofs::Steps::total_next))]
+fn kept_of(alloc: Global, classes: &[Class], level: u8) -> Result<Vec<Option<Kept>>, AllocError>
+    requires { level ≤ 1 }
+    ensures { IfOk result (λ v. v.items ≡ explicit_levels level classes.now) }
+{
+    let firsts = isolate_levels(alloc, classes)?;
+    let mut state = State::new(level);
+    let mut kept = Vec::with_capacity(alloc, classes.len())?;
+    for (i, class) in classes.iter().enumerate() {
+        kept.push(state.step(*class, firsts[i]))?;
+    }
+    Ok(kept)
+}
+
+/// The explicit levels of a paragraph body of a level (X1 to X9). It takes memory, and is refused only where there is none.
+#[tactic(auto, using(crate::proofs::Steps::levels_length, crate::proofs::Bounds::levels_low))]
+pub fn explicit(alloc: Global, classes: &[Class], level: u8) -> Result<Explicit, ExplicitError>
+    requires { level ≤ 1 }
+    ensures classes { IfOk result (λ e. e.classes.items ≡ classes.now) }
+    ensures kept { IfOk result (λ e. e.kept.items ≡ explicit_levels level classes.now) }
+    ensures level { IfOk result (λ e. e.level ≡ level) }
+{
+    let kept = kept_of(alloc, classes, level)?;
+    let classes = classes.to_vec(alloc)?;
+    Ok(Explicit {
+        classes,
+        kept,
+        level,
+    })
+}

@@ -1,0 +1,190 @@
+//! The state of the rules for explicit levels (X1), one method a rule.
+ghost use Rattle.std.specs.Prelude.{◌≡◌, ◌<◌, ◌≤◌};
+ghost use Rattle.bx_explicit.specs.Role.{role_of};
+ghost use Rattle.bx_explicit.specs.Explicit.{start, top, odd_above, even_above, is_valid, embed, isolate, end_isolate, end_embedding, forced_class, kept_under, first_above, state_after, kept_by};
+
+use crate::entry::{Entry, Kept, Override};
+use crate::role::{Role, role_of};
+use crate::stack::EntryStack;
+use bx_ucd::Class;
+
+/// The stack of entries and the three counts (X1).
+#[derive(Drop)]
+pub struct State {
+    pub stack: EntryStack,
+    pub overflow_isolates: usize,
+    pub overflow_embeddings: usize,
+    pub valid_isolates: usize,
+}
+
+/// The least odd level above a level.
+pub fn odd_above(level: u8) -> u8
+    requires { level ≤ 125 }
+    ensures { result ≡ odd_above level }
+{
+    level + 1 + level % 2
+}
+
+/// The least even level above a level.
+pub fn even_above(level: u8) -> u8
+    requires { level ≤ 125 }
+    ensures { result ≡ even_above level }
+{
+    level + 2 - level % 2
+}
+
+/// The type of a character under an override.
+pub fn forced_class(forced: Override, class: Class) -> Class
+    ensures { result ≡ forced_class forced class }
+{
+    match forced {
+        Override::Neutral => class,
+        Override::Left => Class::L,
+        Override::Right => Class::R,
+    }
+}
+
+/// The level of an isolate whose text has the paragraph level `first` (X5c).
+pub fn first_above(first: u8, level: u8) -> u8
+    requires { level ≤ 125 }
+    ensures { result ≡ first_above first level }
+{
+    if first == 0 {
+        even_above(level)
+    } else {
+        odd_above(level)
+    }
+}
+
+impl State {
+    /// The state before the first character (X1).
+    pub fn new(level: u8) -> Self
+        requires { level ≤ 125 }
+        ensures { result ≡ start level }
+    {
+        State {
+            stack: EntryStack::new(level),
+            overflow_isolates: 0,
+            overflow_embeddings: 0,
+            valid_isolates: 0,
+        }
+    }
+
+    /// Whether an entry of this level may be pushed.
+    pub fn is_valid(&self, level: u8) -> bool
+        ensures { result ≡ is_valid self.now level }
+    {
+        level <= 125 && self.overflow_isolates == 0 && self.overflow_embeddings == 0
+    }
+
+    /// An embedding or an override (X2 to X5).
+    pub fn embed(&mut self, level: u8, forced: Override)
+        requires above { (top self.old).level < level }
+        requires fits { self.old.overflow_embeddings < usize.MAX }
+        ensures { self.new ≡ embed self.old level forced }
+    {
+        if self.is_valid(level) {
+            self.stack.push(Entry {
+                level,
+                forced,
+                isolate: false,
+            });
+        } else if self.overflow_isolates == 0 {
+            self.overflow_embeddings += 1;
+        }
+    }
+
+    /// An isolate initiator (X5a to X5c).
+    pub fn isolate(&mut self, level: u8)
+        requires above { (top self.old).level < level }
+        requires isolates_fit { self.old.overflow_isolates < usize.MAX }
+        requires valid_fit { self.old.valid_isolates < usize.MAX }
+        ensures { self.new ≡ isolate self.old level }
+    {
+        if self.is_valid(level) {
+            self.stack.push(Entry {
+                level,
+                forced: Override::Neutral,
+                isolate: true,
+            });
+            self.valid_isolates += 1;
+        } else {
+            self.overflow_isolates += 1;
+        }
+    }
+
+    /// A PDI (X6a).
+    pub fn end_isolate(&mut self)
+        ensures { self.new ≡ end_isolate self.old }
+    {
+        if self.overflow_isolates > 0 {
+            self.overflow_isolates -= 1;
+        } else if self.valid_isolates > 0 {
+            self.overflow_embeddings = 0;
+            self.stack.end_isolate();
+            self.valid_isolates -= 1;
+        }
+    }
+
+    /// A PDF (X7).
+    pub fn end_embedding(&mut self)
+        ensures { self.new ≡ end_embedding self.old }
+    {
+        if self.overflow_isolates == 0 {
+            if self.overflow_embeddings > 0 {
+                self.overflow_embeddings -= 1;
+            } else {
+                self.stack.end_embedding();
+            }
+        }
+    }
+
+    /// What the last entry gives a character (X6).
+    pub fn kept_under(&self, class: Class) -> Option<Kept>
+        ensures { result ≡ kept_under (top self.now) class }
+    {
+        let top = self.stack.top();
+        Some(Kept {
+            level: top.level,
+            class: forced_class(top.forced, class),
+        })
+    }
+
+    /// Takes a character: what it is given. After an FSI the text of its isolate has the paragraph level `first`.
+    pub fn step(&mut self, class: Class, first: u8) -> Option<Kept>
+        requires isolates_fit { self.old.overflow_isolates < usize.MAX }
+        requires embeddings_fit { self.old.overflow_embeddings < usize.MAX }
+        requires valid_fit { self.old.valid_isolates < usize.MAX }
+        ensures next { self.new ≡ state_after (role_of class) first self.old }
+        ensures kept { result ≡ kept_by (role_of class) class self.old self.new }
+    {
+        let kept = self.kept_under(class);
+        let level = self.stack.top().level;
+        match role_of(class) {
+            Role::EmbedLeft => self.embed(even_above(level), Override::Neutral),
+            Role::EmbedRight => self.embed(odd_above(level), Override::Neutral),
+            Role::OverrideLeft => self.embed(even_above(level), Override::Left),
+            Role::OverrideRight => self.embed(odd_above(level), Override::Right),
+            Role::IsolateLeft => {
+                self.isolate(even_above(level));
+                return kept;
+            }
+            Role::IsolateRight => {
+                self.isolate(odd_above(level));
+                return kept;
+            }
+            Role::IsolateFirst => {
+                self.isolate(first_above(first, level));
+                return kept;
+            }
+            Role::EndIsolate => {
+                self.end_isolate();
+                return self.kept_under(class);
+            }
+            Role::EndEmbedding => self.end_embedding(),
+            Role::Boundary => {}
+            Role::Plain => return kept,
+        }
+        None
+    }
+}

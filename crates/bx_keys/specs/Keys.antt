@@ -1,0 +1,113 @@
+-- The key of each item, and the keys of input.
+use Rattle.std.specs.Prelude.{ℕ, zero, suc, ◌-◌, ◌≤◌, max, Bool, ◌&&◌, nat_le, ◌==◌, List, [], ◌∷◌, ◌++◌, length, slice_index, take, drop, Option, Some, None, find, option_map, option_to_list, codes, if◌then◌else◌}
+use Rattle.std.specs.List.{slice_split}
+use Rattle.std.specs.Str.{chars, bytes_eq, all_ascii_digits}
+use Rattle.std.specs.Str.Parse.{digits_value}
+use Rattle.bx_bytes.specs.Utf8.{is_ascii_printable}
+use Rattle.bx_keys.specs.Items.{is_item, begins_item}
+use Rattle.bx_keys.specs.declared.key.Key.{Key}
+use Rattle.bx_keys.specs.declared.key.Key.TheVariants.{Insert, Erase, Delete, Back, Forward, Up, Down, Right, Left, RowHome, RowEnd, PageUp, PageDown, Save, Quit, Undo, Redo, Repaint, Direction, Size}
+
+-- ---- the key of an item
+
+abbrev pub control_keys : List (ℕ × Key)
+control_keys =
+    (0x02, Back) ∷ (0x06, Forward) ∷ (0x08, Erase) ∷ (0x7F, Erase) ∷ (0x09, Insert 0x09) ∷ (0x0A, Insert 0x0A)
+    ∷ (0x0D, Insert 0x0A) ∷ (0x0C, Repaint) ∷ (0x11, Quit) ∷ (0x13, Save) ∷ (0x19, Redo) ∷ (0x1A, Undo) ∷ []
+
+abbrev pub single_key : ℕ → Option Key
+single_key b = if is_ascii_printable b then Some (Insert b) else option_map (λ k. k.1) (find (λ k. k.0 == b) control_keys)
+
+-- what stands after CSI
+abbrev pub sequence_keys : List (List ℕ × Key)
+sequence_keys =
+    (codes "A", Up) ∷ (codes "B", Down) ∷ (codes "C", Right) ∷ (codes "D", Left) ∷ (codes "H", RowHome) ∷ (codes "F", RowEnd)
+    ∷ (codes "1~", RowHome) ∷ (codes "4~", RowEnd) ∷ (codes "3~", Delete) ∷ (codes "5~", PageUp) ∷ (codes "6~", PageDown)
+    ∷ (codes "9~", Direction) ∷ []
+
+-- a side of a window, in one to three digits
+abbrev pub is_side : List ℕ → Bool
+is_side ds = (nat_le 1 (length ds) && nat_le (length ds) 3) && (all_ascii_digits ds && (nat_le 1 (digits_value 10 ds) && nat_le (digits_value 10 ds) 500))
+
+-- 8 ; rows ; columns
+abbrev pub size_key : List (List ℕ) → Option Key
+size_key (kind ∷ h ∷ w ∷ []) =
+    if bytes_eq kind (codes "8") && (is_side h && is_side w) then Some (Size (digits_value 10 h) (digits_value 10 w)) else None
+size_key _ = None
+
+abbrev pub final_byte : List ℕ → ℕ
+final_byte body = slice_index body (length body - 1)
+
+abbrev pub before_final : List ℕ → List ℕ
+before_final body = take (length body - 1) body
+
+-- of what stands after CSI
+abbrev pub sequence_key : List ℕ → Option Key
+sequence_key body =
+    if final_byte body == 0x74 then size_key (slice_split (λ b. b == 0x3B) (before_final body))
+    else option_map (λ k. k.1) (find (λ k. bytes_eq k.0 body) sequence_keys)
+
+abbrev pub character_key : List ℕ → Option Key
+character_key [] = None
+character_key (c ∷ cs) = Some (Insert c)
+
+-- the key of an item, if it has one
+abbrev pub key_of : List ℕ → Option Key
+key_of [] = None
+key_of (b ∷ []) = single_key b
+key_of (b ∷ c ∷ rest) =
+    if b == 0x1B then (if c == 0x5B then sequence_key rest else None)
+    else character_key (chars (b ∷ c ∷ rest))
+
+-- a size that a window may have
+abbrev pub HasSides : Key → Type 0
+HasSides (Size h w) = ((1 ≤ h) × (h ≤ 500)) × ((1 ≤ w) × (w ≤ 500))
+HasSides _ = Unit {0}
+
+-- ---- the keys of input
+
+-- the greatest number up to n of first bytes that begin an item
+abbrev pub beginning_up_to : ℕ → List ℕ → ℕ
+beginning_up_to zero bs = 0
+beginning_up_to (suc n) bs = if begins_item (take (suc n) bs) then suc n else beginning_up_to n bs
+
+-- how many first bytes are the longest that begin an item
+abbrev pub beginning : List ℕ → ℕ
+beginning bs = beginning_up_to (length bs) bs
+
+-- keys, and the bytes that wait for more
+pub record Decoded : Type 0 where
+  pub keys : List Key
+  pub rest : List ℕ
+
+abbrev pub with_key : Option Key → Decoded → Decoded
+with_key key d = record { keys = option_to_list key ++ d.keys; rest = d.rest }
+
+-- the keys of bytes, in at most n cuts
+abbrev pub decoded_within : ℕ → List ℕ → Decoded
+decoded_within zero bs = record { keys = []; rest = bs }
+decoded_within (suc n) [] = record { keys = []; rest = [] }
+decoded_within (suc n) (b ∷ bs) =
+    let long = beginning (b ∷ bs) in
+    if is_item (take long (b ∷ bs)) then with_key (key_of (take long (b ∷ bs))) (decoded_within n (drop long (b ∷ bs)))
+    else if long == length (b ∷ bs) then record { keys = []; rest = b ∷ bs }
+    else decoded_within n (drop (max 1 long) (b ∷ bs))
+
+-- The longest front that begins an item gives its key if it is an item, waits if no byte follows it, and is
+-- else dropped, at least one byte. Each cut takes a byte or more.
+abbrev pub decoded : List ℕ → Decoded
+decoded bs = decoded_within (length bs) bs
+
+-- ---- one byte more
+
+abbrev pub first_key : List Key → Option Key
+first_key [] = None
+first_key (key ∷ keys) = Some key
+
+-- the key that a byte ends after bytes that wait; no byte ends two
+abbrev pub key_fed : List ℕ → ℕ → Option Key
+key_fed rest b = first_key (decoded (rest ++ b ∷ [])).keys
+
+-- the bytes that wait then
+abbrev pub rest_fed : List ℕ → ℕ → List ℕ
+rest_fed rest b = (decoded (rest ++ b ∷ [])).rest

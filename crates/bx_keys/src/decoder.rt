@@ -1,0 +1,157 @@
+//! A decoder of keys, byte by byte.
+
+ghost use Rattle.std.specs.Prelude.{◌≡◌, ◌≤◌, ℕ, List, [], ◌∷◌, ◌++◌, length, option_to_list, IfOk, IfSome, OnOk, OnErr};
+ghost use Rattle.bx_keys.specs.Keys as spec;
+ghost use Rattle.bx_keys.specs.Keys.{HasSides, decoded, key_fed, rest_fed};
+ghost use Rattle.bx_keys.specs.Waiting.{fate, kept, StandsFor};
+
+use crate::key::Key;
+use crate::meaning::key_of;
+use crate::sequence::fate_after;
+use bx_bytes::Fate;
+use std::alloc::{AllocError, Global};
+use std::marker::Model;
+
+/// How many bytes that wait are kept: one more than wait before the last byte of the longest sequence with a key.
+const KEPT: usize = 12;
+
+/// The bytes that wait for more, as far as a key can still come of them.
+#[derive(Clone, Copy, PartialEq, Eq, Debug)]
+pub struct Decoder {
+    bytes: [u8; KEPT],
+    len: usize,
+}
+
+impl Model for Decoder {
+    ghost use Rattle.std.specs.Prelude.{ℕ, List};
+
+    ghost Value = { List ℕ };
+
+    ghost use Rattle.bx_keys.specs.Decoder.{bytes_kept, IsDecoder, decoder_of, decoder_of-bytes_kept};
+
+    ghost view = { bytes_kept };
+
+    ghost invariant = { IsDecoder };
+
+    ghost inverse = { decoder_of };
+
+    ghost inverse_ok = { decoder_of-bytes_kept };
+}
+
+impl Default for Decoder {
+    ghost is_default = { λ decoder. StandsFor decoder [] };
+
+    fn default() -> Decoder {
+        Decoder::new()
+    }
+}
+
+impl Decoder {
+    /// A decoder with no byte waiting.
+    pub fn new() -> Decoder
+        ensures { StandsFor result [] }
+    {
+        Decoder {
+            bytes: [0; KEPT],
+            len: 0,
+        }
+    }
+
+    /// Takes the next byte, and gives the key that it ends.
+    pub fn feed(&mut self, byte: u8) -> Option<Key>
+        ensures own { StandsFor self.old self.old }
+        ensures key { (rest : List ℕ) → StandsFor self.old rest → result ≡ key_fed rest byte }
+        ensures rest { (rest : List ℕ) → StandsFor self.old rest → StandsFor self.new (rest_fed rest byte) }
+        ensures sides { IfSome result HasSides }
+    {
+        match fate_after(self.waiting(), byte) {
+            Fate::Waits => {
+                self.keep(byte);
+                None
+            }
+            Fate::Ends => {
+                let key = key_of(self.waiting(), byte);
+                self.forget();
+                key
+            }
+            Fate::Breaks => {
+                self.forget();
+                self.begin(byte)
+            }
+        }
+    }
+
+    /// Takes all these bytes, and gives the keys that they end, in order. An error is want of memory, and leaves the
+    /// decoder as it was.
+    pub fn feed_all(&mut self, alloc: Global, bytes: &[u8]) -> Result<Vec<Key>, AllocError>
+        ensures keys { IfOk result (λ keys. (rest : List ℕ) → StandsFor self.old rest → keys.items ≡ (decoded (rest ++ bytes.now)).keys) }
+        ensures rest { OnOk result ((rest : List ℕ) → StandsFor self.old rest → StandsFor self.new (decoded (rest ++ bytes.now)).rest) }
+        ensures err { OnErr result (self.new ≡ self.old) }
+    {
+        let mut decoder = *self;
+        let mut keys = Vec::new(alloc);
+        for byte in bytes {
+            push_key(&mut keys, decoder.feed(*byte))?;
+        }
+        *self = decoder;
+        Ok(keys)
+    }
+
+    /// A byte where none waits.
+    fn begin(&mut self, byte: u8) -> Option<Key>
+        requires { self.old ≡ [] }
+        ensures key { result ≡ key_fed [] byte }
+        ensures rest { self.new ≡ rest_fed [] byte }
+        ensures sides { IfSome result HasSides }
+    {
+        match fate_after(&[], byte) {
+            Fate::Waits => {
+                self.keep(byte);
+                None
+            }
+            Fate::Ends => key_of(&[], byte),
+            Fate::Breaks => None,
+        }
+    }
+
+    fn waiting(&self) -> &[u8]
+        ensures value { result.now ≡ self.now }
+        ensures waits { fate self.now ≡ Fate.Waits }
+        ensures short { length self.now ≤ 12 }
+    {
+        &self.bytes[..self.len]
+    }
+
+    fn keep(&mut self, byte: u8)
+        requires { fate (self.old ++ byte ∷ []) ≡ Fate.Waits }
+        ensures { self.new ≡ kept (self.old ++ byte ∷ []) }
+    {
+        if self.len < KEPT {
+            self.bytes[self.len] = byte;
+            self.len += 1;
+        }
+    }
+
+    fn forget(&mut self)
+        ensures { self.new ≡ [] }
+    {
+        *self = Decoder::new();
+    }
+}
+
+fn push_key(keys: &mut Vec<Key>, key: Option<Key>) -> Result<(), AllocError>
+    ensures { OnOk result (keys.new.items ≡ keys.old.items ++ option_to_list key) }
+{
+    match key {
+        Some(key) => {
+            keys.push(key)?;
+            Ok(())
+        }
+        None => Ok(()),
+    }
+}
+
+#[cfg(test)]
+mod tests;
+#[cfg(test)]
+mod vectors;

@@ -1,0 +1,152 @@
+//! The keys of whole items.
+
+ghost use Rattle.std.specs.Prelude.{◌≡◌, ℕ, ◌<◌, ◌≤◌, ◌-◌, ◌==◌, ◌∷◌, [], ◌++◌, IfSome, SomeIff, codes, position, true, if◌then◌else◌};
+ghost use Rattle.std.specs.List.{slice_split};
+ghost use Rattle.std.specs.Char.{is_ascii_digit};
+ghost use Rattle.std.specs.Str.Parse.{digits_value};
+ghost use Rattle.bx_keys.specs.Keys as spec;
+ghost use Rattle.bx_keys.specs.Keys.{HasSides, is_side};
+ghost use Rattle.bx_keys.specs.Waiting.{fate};
+
+use crate::key::Key;
+use crate::sequence::ESC;
+use bx_bytes::{Fate, character};
+
+/// The key of the item whose last byte this is.
+pub fn key_of(waiting: &[u8], byte: u8) -> Option<Key>
+    requires { fate (waiting.now ++ byte ∷ []) ≡ Fate.Ends }
+    ensures value { result ≡ spec.key_of (waiting.now ++ byte ∷ []) }
+    ensures sides { IfSome result HasSides }
+{
+    match waiting {
+        [] => single_key(byte),
+        [ESC, sequence @ ..] => sequence_key(sequence, byte),
+        _ => Some(Key::Insert(character(waiting, byte))),
+    }
+}
+
+fn single_key(byte: u8) -> Option<Key>
+    requires { byte < 0x80 }
+    ensures value { result ≡ spec.single_key byte }
+    ensures sides { IfSome result HasSides }
+{
+    match byte {
+        0x02 => Some(Key::Back),
+        0x06 => Some(Key::Forward),
+        0x08 | 0x7F => Some(Key::Erase),
+        0x09 => Some(Key::Insert('\t')),
+        0x0A | 0x0D => Some(Key::Insert('\n')),
+        0x0C => Some(Key::Repaint),
+        0x11 => Some(Key::Quit),
+        0x13 => Some(Key::Save),
+        0x19 => Some(Key::Redo),
+        0x1A => Some(Key::Undo),
+        0x20..=0x7E => Some(Key::Insert(char::from(byte))),
+        _ => None,
+    }
+}
+
+/// After ESC. Only control sequences have keys.
+fn sequence_key(sequence: &[u8], byte: u8) -> Option<Key>
+    ensures value { result ≡ spec.key_of (0x1B ∷ (sequence.now ++ byte ∷ [])) }
+    ensures sides { IfSome result HasSides }
+{
+    match sequence {
+        [b'[', between @ ..] => control_sequence_key(between, byte),
+        _ => None,
+    }
+}
+
+fn control_sequence_key(between: &[u8], last: u8) -> Option<Key>
+    ensures value { result ≡ spec.sequence_key (between.now ++ last ∷ []) }
+    ensures sides { IfSome result HasSides }
+{
+    match between {
+        _ if last == b't' => size_key(between),
+        [] => plain_key(last),
+        [number] if last == b'~' => numbered_key(*number),
+        _ => None,
+    }
+}
+
+fn plain_key(last: u8) -> Option<Key>
+    ensures value { result ≡ spec.sequence_key (last ∷ []) }
+    ensures sides { IfSome result HasSides }
+{
+    match last {
+        b'A' => Some(Key::Up),
+        b'B' => Some(Key::Down),
+        b'C' => Some(Key::Right),
+        b'D' => Some(Key::Left),
+        b'H' => Some(Key::RowHome),
+        b'F' => Some(Key::RowEnd),
+        _ => None,
+    }
+}
+
+fn numbered_key(number: u8) -> Option<Key>
+    ensures value { result ≡ spec.sequence_key (number ∷ 0x7E ∷ []) }
+    ensures sides { IfSome result HasSides }
+{
+    match number {
+        b'1' => Some(Key::RowHome),
+        b'3' => Some(Key::Delete),
+        b'4' => Some(Key::RowEnd),
+        b'5' => Some(Key::PageUp),
+        b'6' => Some(Key::PageDown),
+        b'9' => Some(Key::Direction),
+        _ => None,
+    }
+}
+
+fn size_key(between: &[u8]) -> Option<Key>
+    ensures value { result ≡ spec.size_key (slice_split (λ b. b == 0x3B) between.now) }
+    ensures sides { IfSome result HasSides }
+{
+    match between {
+        [b'8', b';', sides @ ..] => sides_key(sides),
+        _ => None,
+    }
+}
+
+fn sides_key(sides: &[u8]) -> Option<Key>
+    ensures value { result ≡ spec.size_key (codes "8" ∷ slice_split (λ b. b == 0x3B) sides.now) }
+    ensures sides { IfSome result HasSides }
+{
+    let rows = first_semicolon(sides)?;
+    Some(Key::Size(side(&sides[..rows])?, side(&sides[rows + 1..])?))
+}
+
+fn first_semicolon(bytes: &[u8]) -> Option<usize>
+    ensures { result ≡ position (λ b. b == 0x3B) bytes.now }
+{
+    bytes.iter().position(|b| *b == b';')
+}
+
+/// A window's side, from 1 to 500, in one to three digits.
+fn side(digits: &[u8]) -> Option<u16>
+    ensures value { result ≡ (if is_side digits.now then Some (digits_value 10 digits.now) else None) }
+    ensures fits { IfSome result (λ side. (1 ≤ side) × (side ≤ 500)) }
+{
+    let side = match digits {
+        [a] => digit(*a)?,
+        [a, b] => digit(*a)? * 10 + digit(*b)?,
+        [a, b, c] => (digit(*a)? * 10 + digit(*b)?) * 10 + digit(*c)?,
+        _ => return None,
+    };
+    if 1 <= side && side <= 500 {
+        Some(side)
+    } else {
+        None
+    }
+}
+
+fn digit(byte: u8) -> Option<u16>
+    ensures value { SomeIff result (is_ascii_digit byte ≡ true) (byte - 0x30) }
+    ensures small { (n : ℕ) → result ≡ Some n → n < 10 }
+{
+    match byte {
+        b'0'..=b'9' => Some(u16::from(byte - b'0')),
+        _ => None,
+    }
+}

@@ -1,0 +1,74 @@
+//! What a byte makes of the bytes that wait: characters and escape sequences (ECMA-35, ECMA-48).
+
+ghost use Rattle.std.specs.Prelude.{◌≡◌, ◌∷◌, [], ◌++◌};
+ghost use Rattle.bx_keys.specs.Waiting.{fate};
+
+use bx_bytes::{Fate, character_fate};
+
+pub const ESC: u8 = 0x1B;
+
+/// What the byte makes of the bytes that wait.
+pub fn fate_after(waiting: &[u8], byte: u8) -> Fate
+    requires { fate waiting.now ≡ Fate.Waits }
+    ensures { result ≡ fate (waiting.now ++ byte ∷ []) }
+{
+    match waiting {
+        [] if byte == ESC => Fate::Waits,
+        [ESC, sequence @ ..] => fate_in_sequence(sequence, byte),
+        _ => character_fate(waiting, byte),
+    }
+}
+
+/// After ESC and these bytes.
+fn fate_in_sequence(sequence: &[u8], byte: u8) -> Fate
+    requires { fate (0x1B ∷ sequence.now) ≡ Fate.Waits }
+    ensures { result ≡ fate (0x1B ∷ (sequence.now ++ byte ∷ [])) }
+{
+    match sequence {
+        [] => fate_after_escape(byte),
+        [b'[', ..] => fate_after_csi(byte),
+        [b'O', ..] => fate_after_ss3(byte),
+        _ => fate_after_intermediate(byte),
+    }
+}
+
+fn fate_after_escape(byte: u8) -> Fate
+    ensures { result ≡ fate (0x1B ∷ byte ∷ []) }
+{
+    match byte {
+        b'[' | b'O' | 0x20..=0x2F => Fate::Waits,
+        0x30..=0x7E => Fate::Ends,
+        _ => Fate::Breaks,
+    }
+}
+
+/// Right after CSI, and after parameter and intermediate bytes.
+fn fate_after_csi(byte: u8) -> Fate
+    ensures { result ≡ fate (0x1B ∷ 0x5B ∷ byte ∷ []) }
+{
+    match byte {
+        0x20..=0x3F => Fate::Waits,
+        0x40..=0x7E => Fate::Ends,
+        _ => Fate::Breaks,
+    }
+}
+
+fn fate_after_ss3(byte: u8) -> Fate
+    ensures { result ≡ fate (0x1B ∷ 0x4F ∷ byte ∷ []) }
+{
+    match byte {
+        0x20..=0x7E => Fate::Ends,
+        _ => Fate::Breaks,
+    }
+}
+
+/// After ESC and any intermediate bytes.
+fn fate_after_intermediate(byte: u8) -> Fate
+    ensures { result ≡ fate (0x1B ∷ 0x20 ∷ byte ∷ []) }
+{
+    match byte {
+        0x20..=0x2F => Fate::Waits,
+        0x30..=0x7E => Fate::Ends,
+        _ => Fate::Breaks,
+    }
+}

@@ -1,0 +1,49 @@
+-- Sequences of pieces, cut at offsets in bytes.
+use Rattle.std.specs.Prelude.{◌^◌, ◌<◌, ℕ, ◌+◌, ◌-◌, nat_le, ◌==◌, List, [], ◌∷◌, Option, Some, None, if◌then◌else◌}
+use Rattle.bx_pieces.specs.declared.piece.Piece.{Piece}
+
+-- how many bytes the pieces have
+abbrev pub total : List Piece → ℕ
+total [] = 0
+total (p ∷ ps) = p.len + total ps
+
+-- the pieces that stand whole in the first k bytes
+abbrev pub before : List Piece → ℕ → List Piece
+before [] k = []
+before (p ∷ ps) k = if nat_le p.len k then p ∷ before ps (k - p.len) else []
+
+-- the piece, if any, that has bytes on both sides of offset k
+abbrev pub across : List Piece → ℕ → List Piece
+across [] k = []
+across (p ∷ ps) k = if nat_le p.len k then across ps (k - p.len) else if k == 0 then [] else p ∷ []
+
+-- the pieces after it
+abbrev pub after : List Piece → ℕ → List Piece
+after [] k = []
+after (p ∷ ps) k = if nat_le p.len k then after ps (k - p.len) else if k == 0 then p ∷ ps else ps
+
+-- the piece that the byte at offset k stands in, and how many bytes of it stand before that one
+abbrev pub holding : List Piece → ℕ → Option (Piece × ℕ)
+holding [] k = None
+holding (p ∷ ps) k = if nat_le p.len k then holding ps (k - p.len) else Some (p, k)
+
+-- the first bytes of a piece, and those after them
+abbrev pub first_of : Piece → ℕ → Piece
+first_of p k = record p { len = k }
+
+abbrev pub rest_of : Piece → ℕ → Piece
+rest_of p k = record p { start = p.start + k; len = p.len - k }
+
+-- the pieces of the first k bytes, and those of the bytes after them: a piece that has bytes on both sides is cut in two
+abbrev pub front : List Piece → ℕ → List Piece
+front [] k = []
+front (p ∷ ps) k = if nat_le p.len k then p ∷ front ps (k - p.len) else if k == 0 then [] else first_of p k ∷ []
+
+abbrev pub back : List Piece → ℕ → List Piece
+back [] k = []
+back (p ∷ ps) k = if nat_le p.len k then back ps (k - p.len) else if k == 0 then p ∷ ps else rest_of p k ∷ ps
+
+-- each piece ends at an offset that a machine can count
+abbrev pub IsAddressable : List Piece → Type 0
+IsAddressable [] = Unit {0}
+IsAddressable (p ∷ ps) = (p.start + p.len < 2 ^ 64) × IsAddressable ps

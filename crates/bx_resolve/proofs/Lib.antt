@@ -1,0 +1,9 @@
+mod Rows
+pub mod Run
+pub mod Written
+pub mod PlainRuns
+pub mod PlainPairs
+pub mod PlainLengths
+pub mod PlainTypes
+pub mod PlainLevels
+pub mod TestRows

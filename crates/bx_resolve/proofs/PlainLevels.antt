@@ -1,0 +1,119 @@
+-- The levels of a text with no formatting characters, and of a plain one.
+use Rattle.std.proofs.Common.{◌≡◌, ◌<◌, ◌+◌, ◌∙◌, ℕ, zero, suc, List, [], ◌∷◌, ◌++◌, length, get_or, set, drop, map, replicate, refl, ap, sym, arith, Bool, true, false, Option, Some, None}
+use Rattle.std.proofs.lemmas.List.{at_drop_more, length-map}
+use Rattle.std.proofs.Math.Seq.{drop-length}
+use Rattle.bx_ucd.specs.declared.class.Class.{Class}
+use Rattle.bx_ucd.specs.declared.class.Class.TheVariants.{L, EN, ES, ET, CS, NSM, B, S, WS, ON}
+use Rattle.bx_ucd.specs.declared.data.Side.{Side}
+use Rattle.bx_explicit.specs.declared.entry.Kept.{Kept}
+use Rattle.bx_explicit.specs.Sequences.{sequences, direction}
+use Rattle.bx_resolve.specs.Levels.{with_levels, with_sequences, levels_in, sequence_levels, paragraph_levels, types_at}
+use Rattle.bx_resolve.specs.Plain.{is_plain, is_unformatted, all_pass}
+use Rattle.bx_resolve.proofs.PlainRuns.{Each, kept_as, explicit_plain, sequences_plain, whole, places_from, chars_whole, types_whole}
+use Rattle.bx_resolve.proofs.PlainLengths.{levels_length}
+use Rattle.bx_resolve.proofs.PlainTypes.{plain_sequence}
+
+-- a level that is found
+abbrev pub found : ℕ → Option ℕ
+found l = Some l
+
+set_seam : (xs : List (Option ℕ)) (y z : Option ℕ) (ys : List (Option ℕ)) (n : ℕ) → length xs ≡ n → set (xs ++ y ∷ ys) n z ≡ xs ++ z ∷ ys
+set_seam [] y z ys zero e = refl
+set_seam [] y z ys (suc n) e = absurd (omega arith)
+set_seam (x ∷ xs) y z ys zero e = absurd (omega arith)
+set_seam (x ∷ xs) y z ys (suc n) e = ap (λ ws. x ∷ ws) (set_seam xs y z ys n (omega arith))
+
+append_one : (xs : List (Option ℕ)) (y : Option ℕ) (ys : List (Option ℕ)) → xs ++ y ∷ ys ≡ (xs ++ y ∷ []) ++ ys
+append_one [] y ys = refl
+append_one (x ∷ xs) y ys = ap (λ ws. x ∷ ws) (append_one xs y ys)
+
+one_longer : (xs : List (Option ℕ)) (y : Option ℕ) (n : ℕ) → length xs ≡ n → length (xs ++ y ∷ []) ≡ n + 1
+one_longer [] y n e = omega arith
+one_longer (x ∷ xs) y zero e = absurd (omega arith)
+one_longer (x ∷ xs) y (suc n) e = let h : length (xs ++ y ∷ []) ≡ n + 1 = one_longer xs y n (omega arith) in omega arith
+
+-- levels written from place `k` on, after those before it
+write_all : (ls : List ℕ) (ys : List (Option ℕ)) (k : ℕ) → length ys ≡ k → with_levels (places_from k (length ls)) ls (ys ++ replicate (length ls) None) ≡ ys ++ map found ls
+write_all [] ys k e = refl
+write_all (l ∷ ls) ys k e =
+    let rest : List (Option ℕ) = replicate (length ls) None in
+    ap (with_levels (places_from (k + 1) (length ls)) ls) (set_seam ys None (found l) rest k e ∙ append_one ys (found l) rest) ∙ write_all ls (ys ++ found l ∷ []) (k + 1) (one_longer ys (found l) k e) ∙ sym (append_one ys (found l) (map found ls))
+
+levels_whole : (bracket : ℕ → Option (Side × ℕ)) (p : ℕ) (chars : List ℕ) (cs : List Class) (n : ℕ) → length chars ≡ n → length cs ≡ n → levels_in bracket chars (map (kept_as p) cs) (whole p n) ≡ sequence_levels bracket p (direction p) (direction p) chars cs
+levels_whole bracket p chars cs n e f = ap (λ xs. sequence_levels bracket p (direction p) (direction p) xs (types_at (map (kept_as p) cs) (places_from 0 n))) (chars_whole chars n e) ∙ ap (sequence_levels bracket p (direction p) (direction p) chars) (types_whole p cs n f)
+
+written : (n : ℕ) (ls : List ℕ) → length ls ≡ n → with_levels (places_from 0 n) ls (replicate n None) ≡ map found ls
+written n ls e = ap (λ k. with_levels (places_from 0 k) ls (replicate k None)) (sym e) ∙ write_all ls [] 0 refl
+
+by_classes : (bracket : ℕ → Option (Side × ℕ)) (p : ℕ) (chars : List ℕ) (cs : List Class) (n : ℕ) → length chars ≡ n → length cs ≡ n → with_sequences bracket chars (map (kept_as p) cs) (sequences p cs (map (kept_as p) cs)) (replicate n None) ≡ map found (sequence_levels bracket p (direction p) (direction p) chars cs)
+by_classes bracket p [] [] zero e f = refl
+by_classes bracket p (c ∷ chars) [] zero e f = absurd (omega arith)
+by_classes bracket p chars [] (suc n) e f = absurd (omega arith)
+by_classes bracket p chars (c ∷ cs) n e f =
+    let kept : List (Option Kept) = map (kept_as p) (c ∷ cs) in
+    let levels : List ℕ = sequence_levels bracket p (direction p) (direction p) chars (c ∷ cs) in
+    let s : sequences p (c ∷ cs) kept ≡ whole p n ∷ [] = sequences_plain p c cs ∙ ap (λ k. whole p k ∷ []) f in
+    ap (λ ss. with_sequences bracket chars kept ss (replicate n None)) s ∙ ap (λ ls. with_levels (places_from 0 n) ls (replicate n None)) (levels_whole bracket p chars (c ∷ cs) n e f) ∙ written n levels (levels_length bracket p (direction p) (direction p) chars (c ∷ cs) ∙ f)
+
+each_pass : (p : Class → Bool) (cs : List Class) → all_pass p cs ≡ true → Each p cs
+each_pass p [] e = tt
+each_pass p (c ∷ cs) e = (elim (p c) as (λ b. p c ≡ b → elim b as (λ x. Bool) [ true ↦ all_pass p cs | false ↦ false ] ≡ true → (p c ≡ true) × Each p cs) [
+  | true ↦ λ q k. (q, each_pass p cs k)
+  | false ↦ λ q k. absurd (cc)
+]) refl e
+
+pass_at : (p : Class → Bool) (c : Class) (cs : List Class) (b : Bool) → p c ≡ b → all_pass p (c ∷ cs) ≡ elim b [ true ↦ all_pass p cs | false ↦ false ]
+pass_at p c cs true e = rw (e, all_pass)
+pass_at p c cs false e = rw (e, all_pass)
+
+-- with no formatting characters the paragraph is one sequence
+pub unformatted_levels : (class : ℕ → Class) (bracket : ℕ → Option (Side × ℕ)) (paragraph : ℕ) (chars : List ℕ) → all_pass is_unformatted (map class chars) ≡ true → paragraph_levels class bracket paragraph chars ≡ map found (sequence_levels bracket paragraph (direction paragraph) (direction paragraph) chars (map class chars))
+unformatted_levels class bracket paragraph chars e =
+    let cs : List Class = map class chars in
+    let h : Each is_unformatted cs = each_pass is_unformatted cs e in
+    let l : length cs ≡ length chars = length-map chars class in
+    ap (λ ks. with_sequences bracket chars ks (sequences paragraph cs ks) (replicate (length chars) None)) (explicit_plain paragraph cs h) ∙ by_classes bracket paragraph chars cs (length chars) refl l
+
+pub unformatted_from : (class : ℕ → Class) (bracket : ℕ → Option (Side × ℕ)) (paragraph : ℕ) (chars : List ℕ) (cs : List Class) (side : Class) (ls : List ℕ) (each : List (Option ℕ)) → cs ≡ map class chars → all_pass is_unformatted cs ≡ true → side ≡ direction paragraph → ls ≡ sequence_levels bracket paragraph side side chars cs → each ≡ map found ls → each ≡ paragraph_levels class bracket paragraph chars
+unformatted_from class bracket paragraph chars cs side ls each c e s l m =
+    let p : all_pass is_unformatted (map class chars) ≡ true = ap (all_pass is_unformatted) (sym c) ∙ e in
+    m ∙ ap (map found) (l ∙ ap (λ d. sequence_levels bracket paragraph d d chars cs) s ∙ ap (sequence_levels bracket paragraph (direction paragraph) (direction paragraph) chars) c) ∙ sym (unformatted_levels class bracket paragraph chars p)
+
+plain_passes : (c : Class) → is_plain c ≡ true → is_unformatted c ≡ true
+plain_passes L e = refl
+plain_passes EN e = refl
+plain_passes ES e = refl
+plain_passes ET e = refl
+plain_passes CS e = refl
+plain_passes NSM e = refl
+plain_passes B e = refl
+plain_passes S e = refl
+plain_passes WS e = refl
+plain_passes ON e = refl
+plain_passes _ e = absurd (cc)
+
+all_unformatted : (cs : List Class) → Each is_plain cs → all_pass is_unformatted cs ≡ true
+all_unformatted [] h = refl
+all_unformatted (c ∷ cs) h = pass_at is_unformatted c cs true (plain_passes c h.0) ∙ all_unformatted cs h.1
+
+map_zeros : (n : ℕ) → map found (replicate n 0) ≡ replicate n (found 0)
+map_zeros zero = refl
+map_zeros (suc n) = ap (λ ws. found 0 ∷ ws) (map_zeros n)
+
+-- the levels of a paragraph of level 0 whose classes are plain
+pub plain_levels : (class : ℕ → Class) (bracket : ℕ → Option (Side × ℕ)) (paragraph : ℕ) (chars : List ℕ) → paragraph ≡ 0 → all_pass is_plain (map class chars) ≡ true → paragraph_levels class bracket paragraph chars ≡ replicate (length chars) (Some 0)
+plain_levels class bracket paragraph chars z e =
+    let cs : List Class = map class chars in
+    let h : Each is_plain cs = each_pass is_plain cs e in
+    let l : length cs ≡ length chars = length-map chars class in
+    ap (λ p. paragraph_levels class bracket p chars) z ∙ unformatted_levels class bracket 0 chars (all_unformatted cs h) ∙ ap (map found) (plain_sequence bracket chars cs h) ∙ map_zeros (length cs) ∙ ap (λ n. replicate n (found 0)) l
+
+module _ (p : Class → Bool) where
+  pub pass_more : (cs : List Class) (i : ℕ) → i < length cs → p (get_or cs i L) ≡ true → all_pass p (drop i cs) ≡ all_pass p (drop (i + 1) cs)
+  pass_more cs i h e = at_drop_more (all_pass p) cs i L h ∙ pass_at p (get_or cs i L) (drop (i + 1) cs) true e
+
+  pub pass_stop : (cs : List Class) (i : ℕ) → i < length cs → p (get_or cs i L) ≡ false → all_pass p (drop i cs) ≡ false
+  pass_stop cs i h e = at_drop_more (all_pass p) cs i L h ∙ pass_at p (get_or cs i L) (drop (i + 1) cs) false e
+
+  pub pass_all : (cs : List Class) → all_pass p (drop (length cs) cs) ≡ true
+  pass_all cs = rw drop-length

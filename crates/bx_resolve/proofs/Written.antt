@@ -1,0 +1,39 @@
+-- Levels written at their places, one after another.
+use Rattle.std.proofs.Common.{◌≡◌, ◌<◌, ◌≤◌, ◌+◌, ◌∙◌, ℕ, zero, suc, List, [], ◌∷◌, length, get_or, set, drop, min, refl, ap, arith, ◌⊎◌, inl, inr, Option, Some}
+use Rattle.std.proofs.lemmas.List.{at_drop_more, drop_all}
+use Rattle.std.proofs.Math.ListN.{length-set}
+use Rattle.bx_ucd.specs.declared.data.Side.{Side}
+use Rattle.bx_explicit.specs.declared.entry.Kept.{Kept}
+use Rattle.bx_explicit.specs.Sequences.{RunSequence}
+use Rattle.bx_resolve.specs.Levels.{with_levels, with_sequences, levels_in}
+
+pub levels_more : (ps ls : List ℕ) (each : List (Option ℕ)) (i : ℕ) → i < length ps → i < length ls → with_levels (drop i ps) (drop i ls) each ≡ with_levels (drop (i + 1) ps) (drop (i + 1) ls) (set each (get_or ps i 0) (Some (get_or ls i 0)))
+levels_more ps ls each i h k = at_drop_more (λ xs. with_levels xs (drop i ls) each) ps i 0 h ∙ at_drop_more (λ xs. with_levels (get_or ps i 0 ∷ drop (i + 1) ps) xs each) ls i 0 k
+
+no_levels : (ps : List ℕ) (each : List (Option ℕ)) → with_levels ps [] each ≡ each
+no_levels [] each = refl
+no_levels (p ∷ ps) each = refl
+
+min_cases : (a b n : ℕ) → min a b ≤ n → (a ≤ n) ⊎ (b ≤ n)
+min_cases zero b n h = inl (omega arith)
+min_cases (suc a) zero n h = inr (omega arith)
+min_cases (suc a) (suc b) zero h = absurd (omega arith)
+min_cases (suc a) (suc b) (suc n) h = elim (min_cases a b n (omega arith)) [ inl k ↦ inl (omega arith) | inr k ↦ inr (omega arith) ]
+
+pub levels_all : (ps ls : List ℕ) (each : List (Option ℕ)) (n : ℕ) → min (length ps) (length ls) ≤ n → with_levels (drop n ps) (drop n ls) each ≡ each
+levels_all ps ls each n h = elim (min_cases (length ps) (length ls) n h) [
+  | inl k ↦ ap (λ xs. with_levels xs (drop n ls) each) (drop_all n ps k)
+  | inr k ↦ ap (λ xs. with_levels (drop n ps) xs each) (drop_all n ls k) ∙ no_levels (drop n ps) each
+]
+
+pub levels_length : (ps ls : List ℕ) (each : List (Option ℕ)) → length (with_levels ps ls each) ≡ length each
+levels_length [] ls each = refl
+levels_length (p ∷ ps) [] each = refl
+levels_length (p ∷ ps) (l ∷ ls) each = levels_length ps ls (set each p (Some l)) ∙ length-set each p (Some l)
+
+module _ (bracket : ℕ → Option (Side × ℕ)) (chars : List ℕ) (kept : List (Option Kept)) where
+  pub sequences_more : (ss : List RunSequence) (each : List (Option ℕ)) (i : ℕ) (d : RunSequence) → i < length ss → with_sequences bracket chars kept (drop i ss) each ≡ with_sequences bracket chars kept (drop (i + 1) ss) (with_levels (get_or ss i d).places (levels_in bracket chars kept (get_or ss i d)) each)
+  sequences_more ss each i d h = at_drop_more (λ xs. with_sequences bracket chars kept xs each) ss i d h
+
+  pub sequences_all : (ss : List RunSequence) (each : List (Option ℕ)) (i : ℕ) → length ss ≤ i → with_sequences bracket chars kept (drop i ss) each ≡ each
+  sequences_all ss each i h = ap (λ xs. with_sequences bracket chars kept xs each) (drop_all i ss h)

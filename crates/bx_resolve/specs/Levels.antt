@@ -1,0 +1,62 @@
+-- The levels of a paragraph: all rules, one after another.
+use Rattle.std.specs.Prelude.{ℕ, List, [], ◌∷◌, Option, Some, None, length, map, replicate, slice_index_or, slice_set}
+use Rattle.bx_ucd.specs.declared.class.Class.{Class}
+use Rattle.bx_ucd.specs.declared.class.Class.TheVariants.{ON}
+use Rattle.bx_ucd.specs.declared.data.Side.{Side}
+use Rattle.bx_explicit.specs.declared.entry.Kept.{Kept}
+use Rattle.bx_explicit.specs.declared.base.Base.{Base}
+use Rattle.bx_explicit.specs.ParagraphLevel.{base_level}
+use Rattle.bx_explicit.specs.Explicit.{explicit_levels}
+use Rattle.bx_explicit.specs.Sequences.{RunSequence, sequences, direction}
+use Rattle.bx_brackets.specs.Pairs.{pairs}
+use Rattle.bx_brackets.specs.Resolve.{resolve_pairs}
+use Rattle.bx_resolve.specs.Weak.{weak, is_nsm}
+use Rattle.bx_resolve.specs.Neutral.{n1, n2, implicit}
+
+abbrev pub type_of : Option Kept → Class
+type_of None = ON
+type_of (Some k) = k.class
+
+-- the characters at places, and their types after overrides
+abbrev pub chars_at : List ℕ → List ℕ → List ℕ
+chars_at chars ps = map (λ p. slice_index_or chars p 0) ps
+
+abbrev pub types_at : List (Option Kept) → List ℕ → List Class
+types_at kept ps = map (λ p. type_of (slice_index_or kept p None)) ps
+
+-- the levels of a sequence, from its characters and types: W1 to W7, N0, N1, N2, and I1 and I2
+abbrev pub sequence_levels : (ℕ → Option (Side × ℕ)) → ℕ → Class → Class → List ℕ → List Class → List ℕ
+sequence_levels bracket level sos eos chars ts =
+    let embedding = direction level in
+    let weak_types = weak sos ts in
+    let paired = resolve_pairs embedding sos (map is_nsm ts) (pairs bracket chars weak_types) weak_types in
+    implicit level (n2 embedding (n1 sos eos paired))
+
+-- the same of a sequence of a paragraph
+abbrev pub levels_in : (ℕ → Option (Side × ℕ)) → List ℕ → List (Option Kept) → RunSequence → List ℕ
+levels_in bracket chars kept s = sequence_levels bracket s.level s.sos s.eos (chars_at chars s.places) (types_at kept s.places)
+
+-- levels written at their places
+abbrev pub with_levels : List ℕ → List ℕ → List (Option ℕ) → List (Option ℕ)
+with_levels [] ls each = each
+with_levels (p ∷ ps) [] each = each
+with_levels (p ∷ ps) (l ∷ ls) each = with_levels ps ls (slice_set each p (Some l))
+
+-- those of all sequences
+abbrev pub with_sequences : (ℕ → Option (Side × ℕ)) → List ℕ → List (Option Kept) → List RunSequence → List (Option ℕ) → List (Option ℕ)
+with_sequences bracket chars kept [] each = each
+with_sequences bracket chars kept (s ∷ ss) each = with_sequences bracket chars kept ss (with_levels s.places (levels_in bracket chars kept s) each)
+
+-- each character's level, or nothing where X9 removes it, in a paragraph of a level
+abbrev pub paragraph_levels : (ℕ → Class) → (ℕ → Option (Side × ℕ)) → ℕ → List ℕ → List (Option ℕ)
+paragraph_levels class bracket paragraph chars =
+    let cs = map class chars in
+    let kept = explicit_levels paragraph cs in
+    with_sequences bracket chars kept (sequences paragraph cs kept) (replicate (length chars) None)
+
+-- the paragraph level under a base, and each character's level
+abbrev pub paragraph_level_under : (ℕ → Class) → Base → List ℕ → ℕ
+paragraph_level_under class base chars = base_level base (map class chars)
+
+abbrev pub levels_under : (ℕ → Class) → (ℕ → Option (Side × ℕ)) → Base → List ℕ → List (Option ℕ)
+levels_under class bracket base chars = paragraph_levels class bracket (paragraph_level_under class base chars) chars

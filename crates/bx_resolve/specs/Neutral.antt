@@ -1,0 +1,57 @@
+-- N1, N2, I1 and I2.
+use Rattle.std.specs.Prelude.{ℕ, ◌+◌, ◌%◌, true, false, List, [], ◌∷◌, map}
+use Rattle.std.proofs.Common.{zero, suc}
+use Rattle.bx_ucd.specs.declared.class.Class.{Class}
+use Rattle.bx_ucd.specs.declared.class.Class.TheVariants.{L, R, EN, AN}
+use Rattle.bx_ucd.specs.Class.{is_neutral}
+use Rattle.bx_resolve.specs.Places.{places}
+
+-- the direction that a type counts as beside neutrals: EN and AN are R
+abbrev pub side_of : Class → Class
+side_of L = L
+side_of _ = R
+
+-- the nearest side of a run of neutrals, or the sequence's end
+abbrev pub side : Class → List Class → Class
+side end [] = end
+side end (t ∷ ts) = elim (is_neutral t) [ true ↦ side end ts | false ↦ side_of t ]
+
+-- the direction of both sides, if it is one
+abbrev pub agreed : Class → Class → Class → Class
+agreed t L L = L
+agreed t R R = R
+agreed t _ _ = t
+
+-- N1: a neutral takes the direction of both sides of its run
+abbrev pub n1_at : Class → Class → List Class → Class → List Class → Class
+n1_at sos eos before t after = elim (is_neutral t) [ true ↦ agreed t (side sos before) (side eos after) | false ↦ t ]
+
+abbrev pub n1 : Class → Class → List Class → List Class
+n1 sos eos ts = places (n1_at sos eos) [] ts
+
+-- N2: the others take the embedding direction
+abbrev pub n2_at : Class → Class → Class
+n2_at embedding t = elim (is_neutral t) [ true ↦ embedding | false ↦ t ]
+
+abbrev pub n2 : Class → List Class → List Class
+n2 embedding ts = map (n2_at embedding) ts
+
+-- I1: at an even level
+abbrev pub rise_even : Class → ℕ
+rise_even R = 1
+rise_even AN = 2
+rise_even EN = 2
+rise_even _ = 0
+
+-- I2: at an odd level
+abbrev pub rise_odd : Class → ℕ
+rise_odd L = 1
+rise_odd EN = 1
+rise_odd AN = 1
+rise_odd _ = 0
+
+abbrev pub implicit_at : ℕ → Class → ℕ
+implicit_at level t = elim (level % 2) [ zero ↦ level + rise_even t | suc n ↦ level + rise_odd t ]
+
+abbrev pub implicit : ℕ → List Class → List ℕ
+implicit level ts = map (implicit_at level) ts

@@ -1,0 +1,40 @@
+-- Texts in which some rules have nothing to do.
+use Rattle.std.specs.Prelude.{Bool, true, false, List, [], ◌∷◌}
+use Rattle.bx_ucd.specs.declared.class.Class.{Class}
+use Rattle.bx_ucd.specs.declared.class.Class.TheVariants.{L, R, AL, EN, ES, ET, AN, CS, NSM, B, S, WS, ON}
+
+-- the explicit rules have nothing to do with it: all but the formatting classes and BN
+abbrev pub is_unformatted : Class → Bool
+is_unformatted L = true
+is_unformatted R = true
+is_unformatted AL = true
+is_unformatted EN = true
+is_unformatted ES = true
+is_unformatted ET = true
+is_unformatted AN = true
+is_unformatted CS = true
+is_unformatted NSM = true
+is_unformatted B = true
+is_unformatted S = true
+is_unformatted WS = true
+is_unformatted ON = true
+is_unformatted _ = false
+
+-- of those, the ones that leave a text from left to right as it is: all but R, AL and AN
+abbrev pub is_plain : Class → Bool
+is_plain L = true
+is_plain EN = true
+is_plain ES = true
+is_plain ET = true
+is_plain CS = true
+is_plain NSM = true
+is_plain B = true
+is_plain S = true
+is_plain WS = true
+is_plain ON = true
+is_plain _ = false
+
+-- each class passes a test
+abbrev pub all_pass : (Class → Bool) → List Class → Bool
+all_pass p [] = true
+all_pass p (c ∷ cs) = elim (p c) [ true ↦ all_pass p cs | false ↦ false ]

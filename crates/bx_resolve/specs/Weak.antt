@@ -1,0 +1,130 @@
+-- W1 to W7: each from the types of a sequence to its types.
+use Rattle.std.specs.Prelude.{◌&&◌, Bool, true, false, List, [], ◌∷◌, map}
+use Rattle.bx_ucd.specs.declared.class.Class.{Class}
+use Rattle.bx_ucd.specs.declared.class.Class.TheVariants.{L, R, AL, EN, ES, ET, AN, CS, NSM, ON, LRI, RLI, FSI, PDI}
+use Rattle.bx_ucd.specs.Class.{is_strong}
+use Rattle.bx_resolve.specs.Places.{places}
+
+abbrev pub is_nsm : Class → Bool
+is_nsm NSM = true
+is_nsm _ = false
+
+abbrev pub is_en : Class → Bool
+is_en EN = true
+is_en _ = false
+
+abbrev pub is_an : Class → Bool
+is_an AN = true
+is_an _ = false
+
+abbrev pub is_et : Class → Bool
+is_et ET = true
+is_et _ = false
+
+abbrev pub is_left_or_right : Class → Bool
+is_left_or_right L = true
+is_left_or_right R = true
+is_left_or_right _ = false
+
+-- the nearest type that passes, or `sos`
+abbrev pub nearest_that : (Class → Bool) → Class → List Class → Class
+nearest_that p sos [] = sos
+nearest_that p sos (t ∷ ts) = elim (p t) [ true ↦ t | false ↦ nearest_that p sos ts ]
+
+-- W1: what an NSM becomes after a character
+abbrev pub mark_after : Class → Class
+mark_after LRI = ON
+mark_after RLI = ON
+mark_after FSI = ON
+mark_after PDI = ON
+mark_after t = t
+
+-- what an NSM becomes: by the nearest character before it that is none
+abbrev pub mark_class : Class → List Class → Class
+mark_class sos [] = sos
+mark_class sos (t ∷ before) = elim (is_nsm t) [ true ↦ mark_class sos before | false ↦ mark_after t ]
+
+abbrev pub w1_at : Class → List Class → Class → List Class → Class
+w1_at sos before t after = elim (is_nsm t) [ true ↦ mark_class sos before | false ↦ t ]
+
+-- W2: EN is AN where the nearest strong type before it is AL
+abbrev pub number_after : Class → Class
+number_after AL = AN
+number_after _ = EN
+
+abbrev pub w2_at : Class → List Class → Class → List Class → Class
+w2_at sos before t after = elim (is_en t) [ true ↦ number_after (nearest_that is_strong sos before) | false ↦ t ]
+
+-- W3
+abbrev pub w3_at : Class → Class
+w3_at AL = R
+w3_at t = t
+
+-- the type beside a place, or ON at the sequence's end
+abbrev pub beside : List Class → Class
+beside [] = ON
+beside (t ∷ ts) = t
+
+-- W4: one separator between two numbers of a kind: ES between two EN, CS between two EN or two AN
+abbrev pub separator : Class → Class → Class → Class
+separator b ES a = elim (is_en b && is_en a) [ true ↦ EN | false ↦ ES ]
+separator b CS a = elim (is_en b && is_en a) [ true ↦ EN | false ↦ elim (is_an b && is_an a) [ true ↦ AN | false ↦ CS ] ]
+separator b t a = t
+
+abbrev pub w4_at : List Class → Class → List Class → Class
+w4_at before t after = separator (beside before) t (beside after)
+
+-- the nearest type that is no ET is EN
+abbrev pub is_en_past : List Class → Bool
+is_en_past [] = false
+is_en_past (t ∷ ts) = elim (is_et t) [ true ↦ is_en_past ts | false ↦ is_en t ]
+
+-- W5: an ET of a run that is next to an EN
+abbrev pub terminator_of : Bool → Bool → Class
+terminator_of true _ = EN
+terminator_of false true = EN
+terminator_of false false = ET
+
+abbrev pub w5_at : List Class → Class → List Class → Class
+w5_at before t after = elim (is_et t) [ true ↦ terminator_of (is_en_past before) (is_en_past after) | false ↦ t ]
+
+-- W6: the separators and terminators that are left
+abbrev pub w6_at : Class → Class
+w6_at ES = ON
+w6_at ET = ON
+w6_at CS = ON
+w6_at t = t
+
+-- W7: EN is L where the nearest strong type before it is L
+abbrev pub left_number : Class → Class
+left_number L = L
+left_number _ = EN
+
+abbrev pub w7_at : Class → List Class → Class → List Class → Class
+w7_at sos before t after = elim (is_en t) [ true ↦ left_number (nearest_that is_left_or_right sos before) | false ↦ t ]
+
+-- each rule over the whole list
+abbrev pub w1 : Class → List Class → List Class
+w1 sos ts = places (w1_at sos) [] ts
+
+abbrev pub w2 : Class → List Class → List Class
+w2 sos ts = places (w2_at sos) [] ts
+
+abbrev pub w3 : List Class → List Class
+w3 ts = map w3_at ts
+
+abbrev pub w4 : List Class → List Class
+w4 ts = places w4_at [] ts
+
+abbrev pub w5 : List Class → List Class
+w5 ts = places w5_at [] ts
+
+abbrev pub w6 : List Class → List Class
+w6 ts = map w6_at ts
+
+abbrev pub w7 : Class → List Class → List Class
+w7 sos ts = places (w7_at sos) [] ts
+
+-- each to the list after the one before
+abbrev pub weak : Class → List Class → List Class
+weak sos ts = w7 sos (w6 (w5 (w4 (w3 (w2 sos (w1 sos ts))))))

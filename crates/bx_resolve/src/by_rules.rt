@@ -1,0 +1,196 @@
+//! The levels of a paragraph, by the rules one list after another.
+ghost use Rattle.std.specs.Prelude.{◌≡◌, ◌≤◌, ◌<◌, IfOk, All, None, length, map, replicate, slice_index_or};
+ghost use Rattle.bx_explicit.specs.Sequences.{sequences};
+ghost use Rattle.bx_resolve.specs.Weak.{is_nsm};
+ghost use Rattle.bx_resolve.specs.Neutral.{implicit};
+ghost use Rattle.bx_resolve.specs.Levels.{type_of, chars_at, types_at, sequence_levels, levels_in, with_levels, with_sequences, paragraph_levels, paragraph_level_under, levels_under};
+
+use crate::answer::Levels;
+use crate::error::ResolveError;
+use crate::neutral::{implicit_at, n1, n2};
+use crate::weak::weak;
+use bx_brackets::{pairs, resolve_pairs};
+use bx_explicit::{Base, Explicit, Kept, Sequence, base_level, direction, explicit, sequences};
+use bx_ucd::{BidiData, Class};
+use std::alloc::{AllocError, Global};
+
+/// The classes of characters.
+pub fn classes_of<D: BidiData>(
+    alloc: Global,
+    chars: &[char],
+    source: &D,
+) -> Result<Vec<Class>, AllocError>
+    ensures { IfOk result (λ v. v.items ≡ map (D.class_of source.now) chars.now) }
+{
+    chars.iter().map(|c| source.class(*c)).collect(alloc)
+}
+
+/// The type of the character at a place, after overrides.
+fn type_at(kept: &[Option<Kept>], place: usize) -> Class
+    requires { place < length kept.now }
+    ensures { result ≡ type_of (slice_index_or kept.now place None) }
+{
+    match kept[place] {
+        Some(k) => k.class,
+        None => Class::ON,
+    }
+}
+
+/// The types of the characters at places, after overrides.
+fn types_at(
+    alloc: Global,
+    kept: &[Option<Kept>],
+    places: &[usize],
+) -> Result<Vec<Class>, AllocError>
+    requires { All (λ p. p < length kept.now) places.now }
+    ensures { IfOk result (λ v. v.items ≡ types_at kept.now places.now) }
+{
+    let mut types = Vec::with_capacity(alloc, places.len())?;
+    for p in places {
+        types.push(type_at(kept, *p))?;
+    }
+    Ok(types)
+}
+
+/// The characters at places.
+fn chars_at(alloc: Global, chars: &[char], places: &[usize]) -> Result<Vec<char>, AllocError>
+    requires { All (λ p. p < length chars.now) places.now }
+    ensures { IfOk result (λ v. v.items ≡ chars_at chars.now places.now) }
+{
+    let mut found = Vec::with_capacity(alloc, places.len())?;
+    for p in places {
+        found.push(chars[*p])?;
+    }
+    Ok(found)
+}
+
+/// Which types are NSM.
+fn marks(alloc: Global, types: &[Class]) -> Result<Vec<bool>, AllocError>
+    ensures { IfOk result (λ v. v.items ≡ map is_nsm types.now) }
+{
+    types
+        .iter()
+        .map(|t| matches!(*t, Class::NSM))
+        .collect(alloc)
+}
+
+/// The levels of resolved types in a sequence of a level.
+fn implicit(alloc: Global, types: &[Class], level: u8) -> Result<Vec<u8>, AllocError>
+    requires { level ≤ 125 }
+    ensures { IfOk result (λ v. v.items ≡ implicit level types.now) }
+{
+    types.iter().map(|t| implicit_at(level, *t)).collect(alloc)
+}
+
+/// Gives the types of a sequence those after N2, rule by rule.
+pub fn resolve<D: BidiData>(
+    alloc: Global,
+    source: &D,
+    chars: &[char],
+    types: &mut [Class],
+    level: u8,
+    sos: Class,
+    eos: Class,
+) -> Result<Vec<u8>, ResolveError>
+    requires low { level ≤ 125 }
+    requires as_long { length chars.now ≡ length types.old }
+    ensures { IfOk result (λ v. v.items ≡ sequence_levels (D.bracket_of source.now) level sos eos chars.now types.old) }
+{
+    let was_nsm = marks(alloc, types)?;
+    weak(types, sos);
+    let found = pairs(alloc, chars, types, source)?;
+    resolve_pairs(types, &was_nsm, &found, level, sos);
+    n1(types, sos, eos);
+    n2(types, direction(level));
+    Ok(implicit(alloc, types, level)?)
+}
+
+/// The levels of a sequence's characters.
+fn levels_in<D: BidiData>(
+    alloc: Global,
+    source: &D,
+    chars: &[char],
+    kept: &[Option<Kept>],
+    sequence: &Sequence,
+) -> Result<Vec<u8>, ResolveError>
+    requires low { sequence.now.level ≤ 125 }
+    requires within { All (λ p. p < length kept.now) sequence.now.places }
+    requires as_long { length chars.now ≡ length kept.now }
+    ensures { IfOk result (λ v. v.items ≡ levels_in (D.bracket_of source.now) chars.now kept.now sequence.now) }
+{
+    let found = chars_at(alloc, chars, sequence.places())?;
+    let mut types = types_at(alloc, kept, sequence.places())?;
+    resolve(
+        alloc,
+        source,
+        &found,
+        &mut types,
+        sequence.level(),
+        sequence.sos(),
+        sequence.eos(),
+    )
+}
+
+/// Writes levels at their places.
+fn write_levels(each: &mut Vec<Option<u8>>, places: &[usize], levels: &[u8])
+    requires { All (λ p. p < length each.old.items) places.now }
+    ensures { each.new.items ≡ with_levels places.now levels.now each.old.items }
+{
+    let count = places.len().min(levels.len());
+    for i in 0..count {
+        each[places[i]] = Some(levels[i]);
+    }
+}
+
+/// The levels of all sequences' characters, each at its place.
+fn each_level<D: BidiData>(
+    alloc: Global,
+    chars: &[char],
+    source: &D,
+    explicit: &Explicit,
+) -> Result<Vec<Option<u8>>, ResolveError>
+    requires { length chars.now ≡ length explicit.now.classes.items }
+    ensures { IfOk result (λ v. v.items ≡ with_sequences (D.bracket_of source.now) chars.now explicit.now.kept.items (sequences explicit.now.level explicit.now.classes.items explicit.now.kept.items) (replicate (length chars.now) None)) }
+{
+    let found = sequences(alloc, explicit)?;
+    let mut each = vec![in alloc; None; chars.len()]?;
+    for sequence in &found {
+        let levels = levels_in(alloc, source, chars, &explicit.kept, sequence)?;
+        write_levels(&mut each, sequence.places(), &levels);
+    }
+    Ok(each)
+}
+
+/// The levels of a paragraph body of a level, from its characters' classes.
+pub fn levels_from<D: BidiData>(
+    alloc: Global,
+    chars: &[char],
+    source: &D,
+    classes: &[Class],
+    paragraph: u8,
+) -> Result<Levels, ResolveError>
+    requires classes { classes.now ≡ map (D.class_of source.now) chars.now }
+    requires low { paragraph ≤ 1 }
+    ensures paragraph { IfOk result (λ v. v.paragraph ≡ paragraph) }
+    ensures each { IfOk result (λ v. v.each.items ≡ paragraph_levels (D.class_of source.now) (D.bracket_of source.now) paragraph chars.now) }
+{
+    let explicit = explicit(alloc, classes, paragraph)?;
+    let each = each_level(alloc, chars, source, &explicit)?;
+    Ok(Levels { paragraph, each })
+}
+
+/// The levels of a paragraph body under a base, by the rules one list after another. It takes memory, and is refused
+/// only where there is none.
+pub fn levels_by_rules<D: BidiData>(
+    alloc: Global,
+    chars: &[char],
+    source: &D,
+    base: Base,
+) -> Result<Levels, ResolveError>
+    ensures paragraph { IfOk result (λ v. v.paragraph ≡ paragraph_level_under (D.class_of source.now) base chars.now) }
+    ensures each { IfOk result (λ v. v.each.items ≡ levels_under (D.class_of source.now) (D.bracket_of source.now) base chars.now) }
+{
+    let classes = classes_of(alloc, chars, source)?;
+    let paragraph = base_level(&classes, base);
+    levels_from(alloc, chars, source, &classes, paragraph)
+}

@@ -1,0 +1,17 @@
+//! The levels of the characters of a paragraph body (UAX #9, 3.3).
+#![tactic(auto)]
+
+mod answer;
+mod by_rules;
+mod error;
+mod neutral;
+mod plain;
+mod resolve;
+#[cfg(test)]
+mod tests;
+mod weak;
+
+pub use answer::Levels;
+pub use by_rules::levels_by_rules;
+pub use error::ResolveError;
+pub use resolve::levels;

@@ -1,0 +1,92 @@
+//! The rules for neutral types and the implicit levels.
+ghost use Rattle.std.specs.Prelude.{◌≡◌, ◌≤◌, ◌+◌};
+ghost use Rattle.bx_resolve.specs.Neutral.{side_of, side, agreed, n1, n2, implicit_at};
+
+use bx_ucd::Class;
+use bx_ucd::class::is_neutral;
+
+/// The direction that a class counts as, beside neutrals.
+fn side_of(t: Class) -> Class
+    ensures { result ≡ side_of t }
+{
+    match t {
+        Class::L => Class::L,
+        _ => Class::R,
+    }
+}
+
+/// The direction of the first class that is not neutral, or of the end.
+fn side(end: Class, types: &[Class]) -> Class
+    ensures { result ≡ side end types.now }
+{
+    for t in types {
+        if !is_neutral(*t) {
+            return side_of(*t);
+        }
+    }
+    end
+}
+
+/// What a neutral becomes between two directions.
+fn agreed(t: Class, before: Class, after: Class) -> Class
+    ensures { result ≡ agreed t before after }
+{
+    match (before, after) {
+        (Class::L, Class::L) => Class::L,
+        (Class::R, Class::R) => Class::R,
+        _ => t,
+    }
+}
+
+/// N1: neutrals between two of one direction.
+#[tactic(auto, using(crate::proofs::Run::run_write, crate::proofs::Run::run_keep, crate::proofs::Run::n1_run, crate::proofs::Run::side_more))]
+pub fn n1(types: &mut [Class], sos: Class, eos: Class)
+    ensures { types.new ≡ n1 sos eos types.old }
+{
+    let mut before = sos;
+    let mut known: Option<Class> = None;
+    for i in 0..types.len() {
+        let t = types[i];
+        if is_neutral(t) {
+            let after = match known {
+                Some(after) => after,
+                None => side(eos, &types[i + 1..]),
+            };
+            known = Some(after);
+            types[i] = agreed(t, before, after);
+        } else {
+            before = side_of(t);
+            known = None;
+        }
+    }
+}
+
+/// N2: the neutrals that are left.
+pub fn n2(types: &mut [Class], embedding: Class)
+    ensures { types.new ≡ n2 embedding types.old }
+{
+    for t in types.iter_mut() {
+        if is_neutral(*t) {
+            *t = embedding;
+        }
+    }
+}
+
+/// I1 and I2: the level of a character.
+pub fn implicit_at(level: u8, t: Class) -> u8
+    requires { level ≤ 125 }
+    ensures { result ≡ implicit_at level t }
+{
+    if level % 2 == 0 {
+        match t {
+            Class::R => level + 1,
+            Class::AN | Class::EN => level + 2,
+            _ => level,
+        }
+    } else {
+        match t {
+            Class::L | Class::EN | Class::AN => level + 1,
+            _ => level,
+        }
+    }
+}

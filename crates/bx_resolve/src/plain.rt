@@ -1,0 +1,49 @@
+//! Texts in which some rules have nothing to do.
+ghost use Rattle.std.specs.Prelude.{◌≡◌};
+ghost use Rattle.bx_resolve.specs.Plain.{is_plain, is_unformatted, all_pass};
+
+use bx_ucd::Class;
+
+/// Whether a class leaves a text from left to right as it is.
+fn is_plain(class: Class) -> bool
+    ensures { result ≡ is_plain class }
+{
+    match class {
+        Class::L | Class::EN | Class::ES | Class::ET | Class::CS => true,
+        Class::NSM | Class::B | Class::S | Class::WS | Class::ON => true,
+        _ => false,
+    }
+}
+
+/// Whether the explicit rules have nothing to do with a class.
+fn is_unformatted(class: Class) -> bool
+    ensures { result ≡ is_unformatted class }
+{
+    is_plain(class) || matches!(class, Class::R | Class::AL | Class::AN)
+}
+
+/// Whether all classes leave a text from left to right as it is.
+#[tactic(auto, using(crate::proofs::PlainLevels::pass_more, crate::proofs::PlainLevels::pass_stop, crate::proofs::PlainLevels::pass_all))]
+pub fn are_plain(classes: &[Class]) -> bool
+    ensures { result ≡ all_pass is_plain classes.now }
+{
+    for class in classes {
+        if !is_plain(*class) {
+            return false;
+        }
+    }
+    true
+}
+
+/// Whether the explicit rules have nothing to do with any of the classes.
+#[tactic(auto, using(crate::proofs::PlainLevels::pass_more, crate::proofs::PlainLevels::pass_stop, crate::proofs::PlainLevels::pass_all))]
+pub fn are_unformatted(classes: &[Class]) -> bool
+    ensures { result ≡ all_pass is_unformatted classes.now }
+{
+    for class in classes {
+        if !is_unformatted(*class) {
+            return false;
+        }
+    }
+    true
+}

@@ -1,0 +1,63 @@
+//! The levels of a paragraph.
+ghost use Rattle.std.specs.Prelude.{◌≡◌, ◌≤◌, IfOk, Some, map, true};
+ghost use Rattle.bx_resolve.specs.Levels.{paragraph_levels, paragraph_level_under, levels_under};
+ghost use Rattle.bx_resolve.specs.Plain.{is_unformatted, all_pass};
+
+use crate::answer::Levels;
+use crate::by_rules::{classes_of, levels_from, resolve};
+use crate::error::ResolveError;
+use crate::plain::{are_plain, are_unformatted};
+use bx_explicit::{Base, base_level, direction};
+use bx_ucd::{BidiData, Class};
+use std::alloc::{AllocError, Global};
+
+/// The levels, each found.
+fn found_levels(alloc: Global, levels: &[u8]) -> Result<Vec<Option<u8>>, AllocError>
+    ensures { IfOk result (λ v. v.items ≡ map (λ l. Some l) levels.now) }
+{
+    levels.iter().map(|level| Some(*level)).collect(alloc)
+}
+
+/// The levels of a paragraph body of a level that has no formatting characters, and so is one sequence.
+fn unformatted_levels<D: BidiData>(
+    alloc: Global,
+    chars: &[char],
+    source: &D,
+    classes: &mut [Class],
+    paragraph: u8,
+) -> Result<Levels, ResolveError>
+    requires classes { classes.old ≡ map (D.class_of source.now) chars.now }
+    requires low { paragraph ≤ 1 }
+    requires unformatted { all_pass is_unformatted classes.old ≡ true }
+    ensures paragraph { IfOk result (λ v. v.paragraph ≡ paragraph) }
+    ensures each { IfOk result (λ v. v.each.items ≡ paragraph_levels (D.class_of source.now) (D.bracket_of source.now) paragraph chars.now) }
+{
+    let side = direction(paragraph);
+    let found = resolve(alloc, source, chars, classes, paragraph, side, side)?;
+    let each = found_levels(alloc, &found)?;
+    Ok(Levels { paragraph, each })
+}
+
+/// The levels of a paragraph body under a base (UAX #9, 3.3). A text from left to right in which no class needs a rule
+/// pays for none, and one with no formatting characters pays for no explicit rule. It takes memory, and is refused only where there is none.
+#[tactic(auto, using(crate::proofs::PlainLevels::plain_levels))]
+pub fn levels<D: BidiData>(
+    alloc: Global,
+    chars: &[char],
+    source: &D,
+    base: Base,
+) -> Result<Levels, ResolveError>
+    ensures paragraph { IfOk result (λ v. v.paragraph ≡ paragraph_level_under (D.class_of source.now) base chars.now) }
+    ensures each { IfOk result (λ v. v.each.items ≡ levels_under (D.class_of source.now) (D.bracket_of source.now) base chars.now) }
+{
+    let mut classes = classes_of(alloc, chars, source)?;
+    let paragraph = base_level(&classes, base);
+    if paragraph == 0 && are_plain(&classes) {
+        let each = vec![in alloc; Some(0); chars.len()]?;
+        return Ok(Levels { paragraph, each });
+    }
+    if are_unformatted(&classes) {
+        return unformatted_levels(alloc, chars, source, &mut classes, paragraph);
+    }
+    levels_from(alloc, chars, source, &classes, paragraph)
+}

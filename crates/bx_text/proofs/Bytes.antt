@@ -1,0 +1,145 @@
+-- The bytes of pieces that are cut and put together.
+use Rattle.std.proofs.Common.{◌≡◌, ℕ, ◌+◌, ◌-◌, ◌<◌, ◌≤◌, ◌^◌, Bool, true, false, nat_le, ◌==◌, List, [], ◌∷◌, ◌++◌, length, take, drop, zero, suc, refl, ap, sym, ◌∙◌, append_assoc, length-append, if◌then◌else◌, arith}
+use Rattle.std.proofs.lemmas.Bool.Decides.{nat_tests}
+use Rattle.std.proofs.lemmas.List.{append-nil, length-take-le, length-drop, take-take, drop-drop, drop-take, take-append-le, drop-append-le}
+use Rattle.std.proofs.Math.Seq.{take-append-add, drop-append-add, take-add}
+use Rattle.bx_pieces.specs.declared.piece.Buffer.{Buffer}
+use Rattle.bx_pieces.specs.declared.piece.Buffer.TheVariants.{Opened, Added}
+use Rattle.bx_pieces.specs.declared.piece.Piece.{Piece}
+use Rattle.bx_pieces.specs.Pieces.{total, front, back, first_of, rest_of, IsAddressable}
+use Rattle.bx_text.specs.Buffers.{Buffers, buffer_bytes, piece_bytes, bytes_of, ArePlaced}
+
+-- ---- one piece
+
+pub length-piece_bytes : (b : Buffers) (p : Piece) → p.start + p.len ≤ length (buffer_bytes b p.buffer) → length (piece_bytes b p) ≡ p.len
+length-piece_bytes b p h =
+    length-take-le p.len (drop p.start (buffer_bytes b p.buffer)) (omega (arith, length-drop p.start (buffer_bytes b p.buffer)))
+
+first_bytes : (b : Buffers) (p : Piece) (k : ℕ) → k ≤ p.len → piece_bytes b (first_of p k) ≡ take k (piece_bytes b p)
+first_bytes b p k h = sym (take-take k p.len (drop p.start (buffer_bytes b p.buffer)) h)
+
+rest_bytes : (b : Buffers) (p : Piece) (k : ℕ) → k ≤ p.len → piece_bytes b (rest_of p k) ≡ drop k (piece_bytes b p)
+rest_bytes b p k h =
+    let text = buffer_bytes b p.buffer in
+    let e : p.len ≡ k + (p.len - k) = omega arith in
+    sym (ap (λ n. drop k (take n (drop p.start text))) e
+    ∙ drop-take k (p.len - k) (drop p.start text)
+    ∙ ap (take (p.len - k)) (drop-drop k p.start text))
+
+-- ---- totals
+
+total_cut_at : (fits none : Bool) (x : Piece) (xs : List Piece) (k : ℕ) → nat_le x.len k ≡ fits → (k == 0) ≡ none
+    → total (front xs (k - x.len)) + total (back xs (k - x.len)) ≡ total xs → total (front (x ∷ xs) k) + total (back (x ∷ xs) k) ≡ total (x ∷ xs)
+total_cut_at true none x xs k e f more = rw e (omega (arith, more))
+total_cut_at false true x xs k e f more = rw (e, f) (omega arith)
+total_cut_at false false x xs k e f more = let short : k ≤ x.len = grind (arith, nat_tests) in rw (e, f) (omega arith)
+
+pub total_cut : (ps : List Piece) (k : ℕ) → total (front ps k) + total (back ps k) ≡ total ps
+total_cut [] k = refl
+total_cut (x ∷ xs) k = total_cut_at (nat_le x.len k) (k == 0) x xs k refl refl (total_cut xs (k - x.len))
+
+addressable_back_at : (fits none : Bool) (x : Piece) (xs : List Piece) (k : ℕ) → nat_le x.len k ≡ fits → (k == 0) ≡ none
+    → (IsAddressable xs → IsAddressable (back xs (k - x.len))) → IsAddressable (x ∷ xs) → IsAddressable (back (x ∷ xs) k)
+addressable_back_at true none x xs k e f more h = rw e (more h.1)
+addressable_back_at false true x xs k e f more h = rw (e, f) h
+addressable_back_at false false x xs k e f more h = let short : k ≤ x.len = grind (arith, nat_tests) in rw (e, f) (omega (arith, h.0), h.1)
+
+pub IsAddressable-back : (ps : List Piece) (k : ℕ) → IsAddressable ps → IsAddressable (back ps k)
+IsAddressable-back [] k h = h
+IsAddressable-back (x ∷ xs) k h = addressable_back_at (nat_le x.len k) (k == 0) x xs k refl refl (IsAddressable-back xs (k - x.len)) h
+
+short_buffer : (b : Buffers) (which : Buffer) → length b.opened < 2 ^ 64 → length b.added < 2 ^ 64 → length (buffer_bytes b which) < 2 ^ 64
+short_buffer b Opened o a = o
+short_buffer b Added o a = a
+
+in_memory : (b : Buffers) (p : Piece) → length b.opened < 2 ^ 64 → length b.added < 2 ^ 64 → p.start + p.len ≤ length (buffer_bytes b p.buffer) → p.start + p.len < 2 ^ 64
+in_memory b p o a h = omega (arith, short_buffer b p.buffer o a)
+
+pub IsAddressable-placed : (b : Buffers) (ps : List Piece) → length b.opened < 2 ^ 64 → length b.added < 2 ^ 64 → ArePlaced b ps → IsAddressable ps
+IsAddressable-placed b [] o a h = h
+IsAddressable-placed b (p ∷ ps) o a h = (in_memory b p o a h.0, IsAddressable-placed b ps o a h.1)
+
+-- ---- bytes
+
+pub length-bytes_of : (b : Buffers) (ps : List Piece) → ArePlaced b ps → length (bytes_of b ps) ≡ total ps
+length-bytes_of b [] h = refl
+length-bytes_of b (p ∷ ps) h = omega (arith, length-append (piece_bytes b p) (bytes_of b ps), length-piece_bytes b p h.0, length-bytes_of b ps h.1)
+
+pub bytes_of-append : (b : Buffers) (ps qs : List Piece) → bytes_of b (ps ++ qs) ≡ bytes_of b ps ++ bytes_of b qs
+bytes_of-append b [] qs = refl
+bytes_of-append b (p ∷ ps) qs = ap (λ xs. piece_bytes b p ++ xs) (bytes_of-append b ps qs) ∙ sym (append_assoc (piece_bytes b p) (bytes_of b ps) (bytes_of b qs))
+
+pub ArePlaced-append : (b : Buffers) (ps qs : List Piece) → ArePlaced b ps → ArePlaced b qs → ArePlaced b (ps ++ qs)
+ArePlaced-append b [] qs h k = k
+ArePlaced-append b (p ∷ ps) qs h k = (h.0, ArePlaced-append b ps qs h.1 k)
+
+-- the front and the back of a list of n and more
+take_past : (xs ys : List ℕ) (n k : ℕ) → length xs ≡ n → n ≤ k → take k (xs ++ ys) ≡ xs ++ take (k - n) ys
+take_past xs ys n k e h =
+    let f : k ≡ length xs + (k - n) = omega (arith, e) in
+    ap (λ m. take m (xs ++ ys)) f ∙ take-append-add xs ys (k - n)
+
+drop_past : (xs ys : List ℕ) (n k : ℕ) → length xs ≡ n → n ≤ k → drop k (xs ++ ys) ≡ drop (k - n) ys
+drop_past xs ys n k e h =
+    let f : k ≡ length xs + (k - n) = omega (arith, e) in
+    ap (λ m. drop m (xs ++ ys)) f ∙ drop-append-add xs ys (k - n)
+
+front_bytes_at : (b : Buffers) (fits none : Bool) (x : Piece) (xs : List Piece) (k : ℕ) → nat_le x.len k ≡ fits → (k == 0) ≡ none
+    → x.start + x.len ≤ length (buffer_bytes b x.buffer) → bytes_of b (front xs (k - x.len)) ≡ take (k - x.len) (bytes_of b xs)
+    → bytes_of b (front (x ∷ xs) k) ≡ take k (bytes_of b (x ∷ xs))
+front_bytes_at b true none x xs k e f placed more =
+    rw e (ap (λ ys. piece_bytes b x ++ ys) more ∙ sym (take_past (piece_bytes b x) (bytes_of b xs) x.len k (length-piece_bytes b x placed) (grind (arith, nat_tests))))
+front_bytes_at b false true x xs k e f placed more = let z : k ≡ 0 = grind (arith, nat_tests) in rw (e, f) (rw z refl)
+front_bytes_at b false false x xs k e f placed more =
+    let short : k ≤ x.len = grind (arith, nat_tests) in
+    rw (e, f)
+    (append-nil (piece_bytes b (first_of x k)) ∙ first_bytes b x k short
+    ∙ sym (take-append-le k (piece_bytes b x) (bytes_of b xs) (omega (arith, length-piece_bytes b x placed))))
+
+pub bytes_of-front : (b : Buffers) (ps : List Piece) (k : ℕ) → ArePlaced b ps → bytes_of b (front ps k) ≡ take k (bytes_of b ps)
+bytes_of-front b [] zero h = refl
+bytes_of-front b [] (suc k) h = refl
+bytes_of-front b (x ∷ xs) k h = front_bytes_at b (nat_le x.len k) (k == 0) x xs k refl refl h.0 (bytes_of-front b xs (k - x.len) h.1)
+
+back_bytes_at : (b : Buffers) (fits none : Bool) (x : Piece) (xs : List Piece) (k : ℕ) → nat_le x.len k ≡ fits → (k == 0) ≡ none
+    → x.start + x.len ≤ length (buffer_bytes b x.buffer) → bytes_of b (back xs (k - x.len)) ≡ drop (k - x.len) (bytes_of b xs)
+    → bytes_of b (back (x ∷ xs) k) ≡ drop k (bytes_of b (x ∷ xs))
+back_bytes_at b true none x xs k e f placed more =
+    rw e (more ∙ sym (drop_past (piece_bytes b x) (bytes_of b xs) x.len k (length-piece_bytes b x placed) (grind (arith, nat_tests))))
+back_bytes_at b false true x xs k e f placed more = let z : k ≡ 0 = grind (arith, nat_tests) in rw (e, f) (rw z refl)
+back_bytes_at b false false x xs k e f placed more =
+    let short : k ≤ x.len = grind (arith, nat_tests) in
+    rw (e, f)
+    (ap (λ ys. ys ++ bytes_of b xs) (rest_bytes b x k short)
+    ∙ sym (drop-append-le k (piece_bytes b x) (bytes_of b xs) (omega (arith, length-piece_bytes b x placed))))
+
+pub bytes_of-back : (b : Buffers) (ps : List Piece) (k : ℕ) → ArePlaced b ps → bytes_of b (back ps k) ≡ drop k (bytes_of b ps)
+bytes_of-back b [] zero h = refl
+bytes_of-back b [] (suc k) h = refl
+bytes_of-back b (x ∷ xs) k h = back_bytes_at b (nat_le x.len k) (k == 0) x xs k refl refl h.0 (bytes_of-back b xs (k - x.len) h.1)
+
+front_placed_at : (b : Buffers) (fits none : Bool) (x : Piece) (xs : List Piece) (k : ℕ) → nat_le x.len k ≡ fits → (k == 0) ≡ none
+    → ArePlaced b (x ∷ xs) → (ArePlaced b xs → ArePlaced b (front xs (k - x.len))) → ArePlaced b (front (x ∷ xs) k)
+front_placed_at b true none x xs k e f h more = rw e (h.0, more h.1)
+front_placed_at b false true x xs k e f h more = rw (e, f) tt
+front_placed_at b false false x xs k e f h more =
+    let short : k ≤ x.len = grind (arith, nat_tests) in
+    let placed : x.start + x.len ≤ length (buffer_bytes b x.buffer) = h.0 in
+    rw (e, f) (omega arith, tt)
+
+pub ArePlaced-front : (b : Buffers) (ps : List Piece) (k : ℕ) → ArePlaced b ps → ArePlaced b (front ps k)
+ArePlaced-front b [] k h = h
+ArePlaced-front b (x ∷ xs) k h = front_placed_at b (nat_le x.len k) (k == 0) x xs k refl refl h (ArePlaced-front b xs (k - x.len))
+
+back_placed_at : (b : Buffers) (fits none : Bool) (x : Piece) (xs : List Piece) (k : ℕ) → nat_le x.len k ≡ fits → (k == 0) ≡ none
+    → ArePlaced b (x ∷ xs) → (ArePlaced b xs → ArePlaced b (back xs (k - x.len))) → ArePlaced b (back (x ∷ xs) k)
+back_placed_at b true none x xs k e f h more = rw e (more h.1)
+back_placed_at b false true x xs k e f h more = rw (e, f) h
+back_placed_at b false false x xs k e f h more =
+    let short : k ≤ x.len = grind (arith, nat_tests) in
+    let placed : x.start + x.len ≤ length (buffer_bytes b x.buffer) = h.0 in
+    rw (e, f) (omega arith, h.1)
+
+pub ArePlaced-back : (b : Buffers) (ps : List Piece) (k : ℕ) → ArePlaced b ps → ArePlaced b (back ps k)
+ArePlaced-back b [] k h = h
+ArePlaced-back b (x ∷ xs) k h = back_placed_at b (nat_le x.len k) (k == 0) x xs k refl refl h (ArePlaced-back b xs (k - x.len))

@@ -1,0 +1,134 @@
+-- A step taken back or made again: the text after it, and the step that undoes it.
+use Rattle.std.proofs.Common.{◌≡◌, ℕ, ◌+◌, ◌-◌, ◌<◌, ◌≤◌, List, [], ◌∷◌, ◌++◌, length, take, drop, reverse, ◌^◌, refl, ap, sym, subst, ◌∙◌, arith}
+use Rattle.std.proofs.lemmas.List.{length-take-le, length-drop, reverse-append}
+use Rattle.bx_pieces.specs.declared.piece.Piece.{Piece}
+use Rattle.bx_pieces.specs.Pieces.{total, front, back}
+use Rattle.bx_text.specs.declared.step.Step.{Step}
+use Rattle.bx_text.specs.Buffers.{Buffers, bytes_of, ArePlaced}
+use Rattle.bx_text.specs.Edits.{Edit, Edited, spliced, undone, redone, largest}
+use Rattle.bx_text.specs.Steps.{swapped, past_of, future_of, AreSteps, turned_pieces, turned_step, Turns}
+use Rattle.bx_text.proofs.Bytes.{length-bytes_of}
+use Rattle.bx_text.proofs.Versions.{swapped_bytes, swapped_placed, old_bytes, old_placed, length-spliced, spliced_back}
+
+module _ (b : Buffers) (ps : List Piece) (s : Step) (placed : ArePlaced b ps) (inside : s.start + s.len ≤ length (bytes_of b ps)) (span_placed : ArePlaced b s.span) where
+  pub turned_bytes : bytes_of b (turned_pieces ps s) ≡ swapped b (bytes_of b ps) s
+  turned_bytes = swapped_bytes b ps s.span s.start s.len placed
+
+  pub turned_placed : ArePlaced b (turned_pieces ps s)
+  turned_placed = swapped_placed b ps s.span s.start s.len placed span_placed
+
+  pub turned_total : total (front (back ps s.start) s.len) ≡ s.len
+  turned_total =
+      sym (length-bytes_of b (front (back ps s.start) s.len) (old_placed b ps s.start s.len placed))
+      ∙ ap length (old_bytes b ps s.start s.len placed)
+      ∙ length-take-le s.len (drop s.start (bytes_of b ps)) (omega (arith, length-drop s.start (bytes_of b ps)))
+
+  pub turned_back : swapped b (bytes_of b (turned_pieces ps s)) (turned_step ps s) ≡ bytes_of b ps
+  turned_back =
+      ap (λ (t : List ℕ). spliced t s.start (s.start + total s.span) (bytes_of b (front (back ps s.start) s.len))) turned_bytes
+      ∙ ap (spliced (swapped b (bytes_of b ps) s) s.start (s.start + total s.span)) (old_bytes b ps s.start s.len placed)
+      ∙ ap (λ n. spliced (swapped b (bytes_of b ps) s) s.start (s.start + n) (take s.len (drop s.start (bytes_of b ps)))) (sym (length-bytes_of b s.span span_placed))
+      ∙ spliced_back (bytes_of b ps) (bytes_of b s.span) s.start s.len inside
+
+  pub turned_steps : (steps others : List Step) → length (bytes_of b ps) ≤ largest → AreSteps b (bytes_of b ps) others
+      → AreSteps b (bytes_of b (turned_pieces ps s)) (turned_step ps s ∷ others)
+  turned_steps steps others short h =
+      let count : length (bytes_of b (turned_pieces ps s)) + s.len ≡ length (bytes_of b ps) + total s.span =
+      ap (λ (t : List ℕ). length t + s.len) turned_bytes ∙ length-spliced (bytes_of b ps) (bytes_of b s.span) s.start s.len inside
+      ∙ ap (λ n. length (bytes_of b ps) + n) (length-bytes_of b s.span span_placed) in
+      (omega (arith, count), old_placed b ps s.start s.len placed, rw turned_back short, rw turned_back h)
+
+  pub turned_future : (others : List Step)
+      → future_of b (bytes_of b (turned_pieces ps s)) (turned_step ps s ∷ others)
+      ≡ record {
+        before = record { text = swapped b (bytes_of b ps) s; place = s.before };
+        after = record { text = bytes_of b ps; place = s.after };
+        start = s.start;
+        removed = total s.span;
+        added = s.len;
+      } ∷ future_of b (bytes_of b ps) others
+  turned_future others = rw (turned_back, turned_total, turned_bytes) refl
+
+  pub turned_past : (others : List Step)
+      → past_of b (bytes_of b (turned_pieces ps s)) (turned_step ps s ∷ others)
+      ≡ record {
+        before = record { text = bytes_of b ps; place = s.before };
+        after = record { text = swapped b (bytes_of b ps) s; place = s.after };
+        start = s.start;
+        removed = s.len;
+        added = total s.span;
+      } ∷ past_of b (bytes_of b ps) others
+  turned_past others = rw (turned_back, turned_total, turned_bytes) refl
+
+  -- the latest edit is taken back
+  pub undone_is : (ss fs : List Step)
+      → record {
+        text = bytes_of b (turned_pieces ps s);
+        past = past_of b (bytes_of b (turned_pieces ps s)) ss;
+        future = future_of b (bytes_of b (turned_pieces ps s)) (turned_step ps s ∷ fs);
+      } ≡ undone (record { text = bytes_of b ps; past = past_of b (bytes_of b ps) (s ∷ ss); future = future_of b (bytes_of b ps) fs })
+  undone_is ss fs = rw (turned_future fs, turned_bytes) refl
+
+  -- the next edit is made again
+  pub redone_is : (ss fs : List Step)
+      → record {
+        text = bytes_of b (turned_pieces ps s);
+        past = past_of b (bytes_of b (turned_pieces ps s)) (turned_step ps s ∷ ss);
+        future = future_of b (bytes_of b (turned_pieces ps s)) fs;
+      } ≡ redone (record { text = bytes_of b ps; past = past_of b (bytes_of b ps) ss; future = future_of b (bytes_of b ps) (s ∷ fs) })
+  redone_is ss fs = rw (turned_past ss, turned_bytes) refl
+
+-- ---- the lists of steps, the last of which is the next
+
+reverse_last : (rest items : List Step) (s : Step) → items ≡ rest ++ s ∷ [] → reverse items ≡ s ∷ reverse rest
+reverse_last rest items s e = ap reverse e ∙ reverse-append rest (s ∷ [])
+
+-- what a step puts in fits beside the text
+pub span_short : (b : Buffers) (ps : List Piece) (items rest : List Step) (s : Step) → ArePlaced b ps → length (bytes_of b ps) ≤ largest
+    → AreSteps b (bytes_of b ps) (reverse items) → items ≡ rest ++ s ∷ [] → total ps + total s.span < 2 ^ 64
+span_short b ps items rest s placed short steps e =
+    let h : AreSteps b (bytes_of b ps) (s ∷ reverse rest) = subst (AreSteps b (bytes_of b ps)) (reverse_last rest items s e) steps in
+    let inside : s.start + s.len ≤ length (bytes_of b ps) = h.0 in
+    let after : length (swapped b (bytes_of b ps) s) ≤ largest = h.2 in
+    omega (arith, length-spliced (bytes_of b ps) (bytes_of b s.span) s.start s.len inside, length-bytes_of b s.span h.1, length-bytes_of b ps placed)
+
+pub record IsTurned (b : Buffers) (P : List Piece) (from to : List Step) : Type 0 where
+  pub placed : ArePlaced b P
+  pub short : length (bytes_of b P) ≤ largest
+  pub from_steps : AreSteps b (bytes_of b P) (reverse from)
+  pub to_steps : AreSteps b (bytes_of b P) (reverse to)
+
+pub turned_sound : (b : Buffers) (ps : List Piece) (from to : List Step) (P : List Piece) (from' to' : List Step) → ArePlaced b ps → length (bytes_of b ps) ≤ largest
+    → AreSteps b (bytes_of b ps) (reverse from) → AreSteps b (bytes_of b ps) (reverse to) → Turns ps from to P from' to' → IsTurned b P from' to'
+turned_sound b ps from to P from' to' placed short from_steps to_steps t =
+    let s = t.0 in
+    let h : AreSteps b (bytes_of b ps) (s ∷ reverse from') = subst (AreSteps b (bytes_of b ps)) (reverse_last from' from s t.1) from_steps in
+    let bytes = turned_bytes b ps s placed h.0 h.1 in
+    let back : reverse to' ≡ turned_step ps s ∷ reverse to = reverse_last to to' (turned_step ps s) t.3 in
+    rw t.2
+    (record {
+      placed = turned_placed b ps s placed h.0 h.1;
+      short = rw bytes h.2;
+      from_steps = rw bytes h.3;
+      to_steps = rw back (turned_steps b ps s placed h.0 h.1 [] (reverse to) short to_steps);
+    })
+
+pub undone_view : (b : Buffers) (ps : List Piece) (from to : List Step) (P : List Piece) (from' to' : List Step) → ArePlaced b ps
+    → AreSteps b (bytes_of b ps) (reverse from) → Turns ps from to P from' to'
+    → record { text = bytes_of b P; past = past_of b (bytes_of b P) (reverse from'); future = future_of b (bytes_of b P) (reverse to') }
+    ≡ undone (record { text = bytes_of b ps; past = past_of b (bytes_of b ps) (reverse from); future = future_of b (bytes_of b ps) (reverse to) })
+undone_view b ps from to P from' to' placed from_steps t =
+    let s = t.0 in
+    let next = reverse_last from' from s t.1 in
+    let h : AreSteps b (bytes_of b ps) (s ∷ reverse from') = subst (AreSteps b (bytes_of b ps)) next from_steps in
+    rw (t.2, reverse_last to to' (turned_step ps s) t.3, next) (undone_is b ps s placed h.0 h.1 (reverse from') (reverse to))
+
+pub redone_view : (b : Buffers) (ps : List Piece) (from to : List Step) (P : List Piece) (from' to' : List Step) → ArePlaced b ps
+    → AreSteps b (bytes_of b ps) (reverse from) → Turns ps from to P from' to'
+    → record { text = bytes_of b P; past = past_of b (bytes_of b P) (reverse to'); future = future_of b (bytes_of b P) (reverse from') }
+    ≡ redone (record { text = bytes_of b ps; past = past_of b (bytes_of b ps) (reverse to); future = future_of b (bytes_of b ps) (reverse from) })
+redone_view b ps from to P from' to' placed from_steps t =
+    let s = t.0 in
+    let next = reverse_last from' from s t.1 in
+    let h : AreSteps b (bytes_of b ps) (s ∷ reverse from') = subst (AreSteps b (bytes_of b ps)) next from_steps in
+    rw (t.2, reverse_last to to' (turned_step ps s) t.3, next) (redone_is b ps s placed h.0 h.1 (reverse to) (reverse from'))

@@ -1,0 +1,37 @@
+use Rattle.std.proofs.Common.{◌≡◌, ◌∙◌, ◌^◌, ◌<◌, List, length, reverse, sym, ap, arith}
+use Rattle.std.specs.Prelude.{string_len}
+use Rattle.bx_text.specs.Text.{TextState, buffers_of}
+use Rattle.bx_text.specs.Edits.{undone, redone}
+use Rattle.bx_text.proofs.Bytes.{IsAddressable-placed}
+use Rattle.bx_text.proofs.Turned.{span_short, turned_sound, redone_view}
+use Rattle.bx_text.proofs.text.Text.redo.Goals as goal
+
+pub turn-requires-clause-fits : goal.turn-requires-clause-fits
+turn-requires-clause-fits c =
+    IsAddressable-placed (buffers_of c.self.inside) c.self.inside.pieces
+    (omega (arith, c.self.inside.opened.bytes.small, c.self.inside.opened.bytes.ok)) (omega (arith, c.self.inside.added.bytes.small, c.self.inside.added.bytes.ok))
+    c.self.invariant.placed
+
+pub turn-requires-clause-small : goal.turn-requires-clause-small
+turn-requires-clause-small c s rest e =
+    span_short (buffers_of c.self.inside) c.self.inside.pieces c.self.inside.future.items rest s c.self.invariant.placed c.self.invariant.short c.self.invariant.future_steps e
+
+pub invariant_of-self-2 : goal.invariant_of-self-2
+invariant_of-self-2 c =
+    let t = c.self.inside in
+    let sound = turned_sound (buffers_of t) t.pieces t.future.items t.past.items c.turn.new.pieces c.turn.new.from.items c.turn.new.to.items
+    c.self.invariant.placed c.self.invariant.short c.self.invariant.future_steps c.self.invariant.past_steps c.in_ok-turn.ensures.ok in
+    record {
+      placed = sound.placed;
+      short = sound.short;
+      past_steps = sound.to_steps;
+      future_steps = sound.from_steps;
+      has_room = tt;
+    }
+
+pub returns-clause-ok : goal.returns-clause-ok
+returns-clause-ok c =
+    let t = c.self.inside in
+    redone_view (buffers_of t) t.pieces t.future.items t.past.items c.turn.new.pieces c.turn.new.from.items c.turn.new.to.items
+    c.self.invariant.placed c.self.invariant.future_steps c.in_ok-turn.ensures.ok
+    ∙ ap (λ (x : TextState). redone x.edited) c.self.view_is

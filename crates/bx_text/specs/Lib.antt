@@ -1,0 +1,4 @@
+pub mod Edits
+pub mod Buffers
+pub mod Steps
+pub mod Text

@@ -1,0 +1,45 @@
+-- What a text is seen as: its bytes with past and future, and the room that was made for the next edit.
+use Rattle.std.specs.Prelude.{◌≡◌, ℕ, ◌+◌, ◌≤◌, List, length, reverse, Option, None, Some, IfSome, string_bytes, string_len, string_capacity, vec_len, vec_capacity}
+use Rattle.bx_text.specs.declared.text.Text.TheInside.{Inside}
+use Rattle.bx_text.specs.Buffers.{Buffers, bytes_of, ArePlaced}
+use Rattle.bx_text.specs.Edits.{Edited, largest}
+use Rattle.bx_text.specs.Steps.{past_of, future_of, AreSteps}
+
+pub record TextState : Type 0 where
+  pub edited : Edited
+  -- where it is Some of a number, the next edit that inserts at most so many bytes takes no memory
+  pub room : Option ℕ
+
+abbrev pub buffers_of : Inside → Buffers
+buffers_of t = record { opened = string_bytes t.opened; added = string_bytes t.added }
+
+abbrev pub bytes_in : Inside → List ℕ
+bytes_in t = bytes_of (buffers_of t) t.pieces
+
+abbrev pub text_of : Inside → TextState
+text_of t = record {
+  edited = record {
+    text = bytes_in t;
+    past = past_of (buffers_of t) (bytes_in t) (reverse t.past.items);
+    future = future_of (buffers_of t) (bytes_in t) (reverse t.future.items);
+  };
+  room = t.room;
+}
+
+-- there is room for so many bytes more, for one step more, and for the trees of one edit
+pub record HasRoom (t : Inside) (bytes : ℕ) : Type 0 where
+  pub bytes_fit : string_len t.added + bytes ≤ string_capacity t.added
+  pub step_fits : vec_len t.past + 1 ≤ vec_capacity t.past
+  pub trees : 3 ≤ t.spares
+
+pub record IsText (t : Inside) : Type 0 where
+  pub placed : ArePlaced (buffers_of t) t.pieces
+  pub short : length (bytes_in t) ≤ largest
+  pub past_steps : AreSteps (buffers_of t) (bytes_in t) (reverse t.past.items)
+  pub future_steps : AreSteps (buffers_of t) (bytes_in t) (reverse t.future.items)
+  pub has_room : IfSome t.room (HasRoom t)
+
+-- room was made for so many bytes
+abbrev pub HasRoomFor : Option ℕ → ℕ → Type 0
+HasRoomFor None bytes = ⊥
+HasRoomFor (Some room) bytes = bytes ≤ room

@@ -1,0 +1,89 @@
+//! Pieces in the place of others.
+
+ghost use Rattle.std.specs.Prelude.{◌≡◌, ◌++◌, ◌+◌, ◌<◌, ◌≤◌, ◌^◌, OnOk, OnErr, length, vec_len, vec_capacity, string_len, string_capacity, string_bytes};
+ghost use Rattle.bx_text.specs.Buffers.{pieces_added};
+ghost use Rattle.bx_text.specs.Steps.{IsShort, Turns};
+ghost use Rattle.bx_pieces.specs.Pieces.{total, front, back, IsAddressable};
+
+use crate::error::TextError;
+use crate::step::Step;
+use bx_pieces::{Buffer, Piece, Pieces, Spares};
+use std::mem;
+
+/// Puts a span in the place of so many bytes, and gives what stood there. No memory.
+pub fn swap(
+    pieces: &mut Pieces,
+    start: usize,
+    len: usize,
+    span: Pieces,
+    spares: &mut Spares,
+) -> Pieces
+    requires spare { 2 ≤ spares.old }
+    requires fits { IsAddressable pieces.old }
+    requires small { total pieces.old + total span < 2 ^ 64 }
+    ensures pieces { pieces.new ≡ front pieces.old start ++ (span ++ back (back pieces.old start) len) }
+    ensures span { result ≡ front (back pieces.old start) len }
+    ensures spares { spares.old ≤ spares.new + 2 }
+{
+    let (first, rest) = mem::replace(pieces, Pieces::new()).cut(start, spares);
+    let (old, last) = rest.cut(len, spares);
+    *pieces = first.join(span.join(last));
+    old
+}
+
+/// Appends text to the buffer of what was added, and gives the piece that it is; none where it is empty.
+/// No memory.
+pub fn added_pieces(added: &mut String, text: &str, spares: &mut Spares) -> Pieces
+    requires room { string_len added.old + length text.now ≤ string_capacity added.old }
+    requires spare { 1 ≤ spares.old }
+    ensures buffer { string_bytes added.new ≡ string_bytes added.old ++ text.now }
+    ensures pieces { result ≡ pieces_added (string_len added.old) (length text.now) }
+    ensures spares { spares.old ≤ spares.new + 1 }
+{
+    let start = added.len();
+    added.push_str(text).unwrap();
+    if text.is_empty() {
+        return Pieces::new();
+    }
+    let piece = Piece {
+        buffer: Buffer::Added,
+        start,
+        len: text.len(),
+    };
+    Pieces::of(piece, spares)
+}
+
+/// Makes the last of some steps, and adds the step that takes it back to others. Where memory runs out
+/// nothing has changed.
+pub fn turn(
+    pieces: &mut Pieces,
+    from: &mut Vec<Step>,
+    to: &mut Vec<Step>,
+    spares: &mut Spares,
+) -> Result<(), TextError>
+    requires some { 0 < length from.old.items }
+    requires fits { IsAddressable pieces.old }
+    requires small { IsShort pieces.old from.old.items }
+    ensures ok { OnOk result (Turns pieces.old from.old.items to.old.items pieces.new from.new.items to.new.items) }
+    ensures pieces { OnErr result (pieces.new ≡ pieces.old) }
+    ensures from { OnErr result (from.new ≡ from.old) }
+    ensures to { OnErr result (to.new.items ≡ to.old.items) }
+    ensures to_room { OnErr result ((vec_len to.new ≡ vec_len to.old) × (vec_capacity to.old ≤ vec_capacity to.new)) }
+    ensures spares { OnErr result (spares.old ≤ spares.new) }
+    ensures memory { OnErr result (result ≡ Err TextError.OutOfMemory) }
+{
+    spares.fill(2)?;
+    to.reserve(1)?;
+    let step = from.pop().unwrap();
+    let added = step.span.len();
+    let span = swap(pieces, step.start, step.len, step.span, spares);
+    let back = Step {
+        start: step.start,
+        span,
+        len: added,
+        before: step.before,
+        after: step.after,
+    };
+    to.push(back).unwrap();
+    Ok(())
+}

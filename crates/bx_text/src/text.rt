@@ -1,0 +1,329 @@
+//! The text.
+
+ghost use Rattle.std.specs.Prelude.{◌≡◌, ◌+◌, ◌-◌, IsSome, ◌<◌, ◌≤◌, ◌^◌, ◌↔◌, [], None, Some, true, false, MatchOption, slice_index, length, IsOk, string_bytes, IsTrue, IsCharBoundary, IfOk, OnOk, OnErr, IsErrOf};
+ghost use Rattle.bx_text.specs.Edits.{opened, largest, next_undo, next_redo, replaced, inserted, removed, undone, redone, fits, IsRange};
+ghost use Rattle.bx_text.specs.Text.{TextState, HasRoomFor};
+
+use crate::byte::byte_in;
+use crate::change::Change;
+use crate::error::TextError;
+use crate::step::Step;
+use crate::swap::{added_pieces, swap, turn};
+use bx_pieces::{Buffer, Piece, Pieces, Spares};
+use std::alloc::{AllocError, Global};
+use std::marker::Model;
+
+/// The most bytes of a text.
+const LONGEST: usize = 16_777_216;
+
+/// A text under edits, with its past and its future.
+#[derive(Drop)]
+pub struct Text {
+    // what was opened, which never changes
+    opened: String,
+    // all that was put in since
+    added: String,
+    pieces: Pieces,
+    // the latest last
+    past: Vec<Step>,
+    // the next last
+    future: Vec<Step>,
+    spares: Spares,
+    room: Option<usize>,
+}
+
+impl Model for Text {
+    ghost use Rattle.bx_text.specs.Text.{TextState};
+
+    ghost Value = { TextState };
+
+    ghost use Rattle.bx_text.specs.Text.{text_of, IsText};
+
+    ghost view = { text_of };
+
+    ghost invariant = { IsText };
+}
+
+impl Text {
+    /// A text that has no past and no future. A refusal drops the string.
+    ///
+    /// Errors: `TooLong` above 16,777,216 bytes; `OutOfMemory`.
+    pub fn open(alloc: Global, text: String) -> Result<Text, TextError>
+        ensures ok { IfOk result (λ t. t ≡ record { edited = opened (string_bytes text); room = None }) }
+        ensures short { OnOk result (length (string_bytes text) ≤ largest) }
+        ensures too_long { IsErrOf result TextError.TooLong ↔ (largest < length (string_bytes text)) }
+    {
+        let len = text.len();
+        if len > LONGEST {
+            return Err(TextError::TooLong);
+        }
+        let mut spares = Spares::new(alloc);
+        let pieces = if len == 0 {
+            Pieces::new()
+        } else {
+            spares.fill(1)?;
+            let piece = Piece {
+                buffer: Buffer::Opened,
+                start: 0,
+                len,
+            };
+            Pieces::of(piece, &mut spares)
+        };
+        Ok(Text {
+            opened: text,
+            added: String::new(alloc),
+            pieces,
+            past: Vec::new(alloc),
+            future: Vec::new(alloc),
+            spares,
+            room: None,
+        })
+    }
+
+    /// How many bytes the text has. No memory.
+    pub fn len(&self) -> usize
+        ensures len { result ≡ length self.now.edited.text }
+        ensures short { length self.now.edited.text ≤ largest }
+    {
+        let _opened = &self.opened;
+        self.pieces.len()
+    }
+
+    /// What `undo` would do next; none where there is nothing to take back. No memory.
+    pub fn next_undo(&self) -> Option<Change>
+        ensures { result ≡ next_undo self.now.edited }
+    {
+        let step = self.past.last()?;
+        Some(Change {
+            start: step.start,
+            removed: step.len,
+            added: step.span.len(),
+            place: step.before,
+        })
+    }
+
+    /// What `redo` would do next; none where there is nothing to make again. No memory.
+    pub fn next_redo(&self) -> Option<Change>
+        ensures { result ≡ next_redo self.now.edited }
+    {
+        let step = self.future.last()?;
+        Some(Change {
+            start: step.start,
+            removed: step.len,
+            added: step.span.len(),
+            place: step.after,
+        })
+    }
+
+    /// Makes the growths of an edit that inserts so many bytes. Nothing of the text changes.
+    fn grow(&mut self, bytes: usize) -> Result<(), AllocError>
+        ensures edited { self.new.edited ≡ self.old.edited }
+        ensures ok { OnOk result (self.new.room ≡ Some bytes) }
+        ensures err { OnErr result (self.new.room ≡ self.old.room) }
+    {
+        self.added.reserve(bytes)?;
+        self.past.reserve(1)?;
+        self.spares.fill(3)?;
+        self.room = Some(bytes);
+        Ok(())
+    }
+
+    /// Makes room: after Ok the next edit that inserts at most so many bytes takes no memory.
+    ///
+    /// Errors: `OutOfMemory`, and the text and the room made before are unchanged.
+    pub fn ready(&mut self, bytes: usize) -> Result<(), TextError>
+        ensures edited { self.new.edited ≡ self.old.edited }
+        ensures ok { OnOk result (self.new.room ≡ Some bytes) }
+        ensures err { OnErr result ((self.new ≡ self.old) × (result ≡ Err TextError.OutOfMemory)) }
+    {
+        match self.grow(bytes) {
+            Ok(()) => Ok(()),
+            Err(_) => Err(TextError::OutOfMemory),
+        }
+    }
+
+    /// Whether room was made for so many bytes.
+    fn has_room_for(&self, bytes: usize) -> bool
+        ensures { IsTrue result ↔ HasRoomFor self.now.room bytes }
+    {
+        match self.room {
+            None => false,
+            Some(room) => bytes <= room,
+        }
+    }
+
+    /// Puts text in the place of so many bytes: one edit. No memory.
+    fn replace(
+        &mut self,
+        start: usize,
+        len: usize,
+        text: &str,
+        before: usize,
+        after: usize,
+    ) -> Change
+        requires room { HasRoomFor self.old.room (length text.now) }
+        requires inside { start + len ≤ length self.old.edited.text }
+        requires short { length self.old.edited.text + length text.now ≤ largest + len }
+        ensures text { self.new ≡ record { edited = replaced self.old.edited start (start + len) text.now before after; room = None } }
+        ensures change { result ≡ record { start = start; removed = len; added = length text.now; place = after } }
+    {
+        let span = added_pieces(&mut self.added, text, &mut self.spares);
+        let old = swap(&mut self.pieces, start, len, span, &mut self.spares);
+        let step = Step {
+            start,
+            span: old,
+            len: text.len(),
+            before,
+            after,
+        };
+        self.past.push(step).unwrap();
+        self.future.clear();
+        self.room = None;
+        Change {
+            start,
+            removed: len,
+            added: text.len(),
+            place: after,
+        }
+    }
+
+    /// The byte at an offset; none at or past the end. No memory.
+    pub(crate) fn byte_at(&self, at: usize) -> Option<u8>
+        ensures { MatchOption result (length self.now.edited.text ≤ at) (λ byte. (at < length self.now.edited.text) × (byte ≡ slice_index self.now.edited.text at)) }
+    {
+        byte_in(self.opened.as_str(), self.added.as_str(), &self.pieces, at)
+    }
+
+    /// Whether an offset is the text's end or the first byte of a character. No memory.
+    fn is_boundary(&self, at: usize) -> bool
+        ensures { IsTrue result ↔ IsCharBoundary self.now.edited.text at }
+    {
+        match self.byte_at(at) {
+            None => at == self.len(),
+            Some(byte) => byte < 128 || 192 <= byte,
+        }
+    }
+
+    /// Room for so many bytes, unless it was made before.
+    fn make_room(&mut self, bytes: usize) -> Result<(), TextError>
+        ensures ok { OnOk result ((self.new.edited ≡ self.old.edited) × HasRoomFor self.new.room bytes) }
+        ensures err { OnErr result ((self.new ≡ self.old) × (result ≡ Err TextError.OutOfMemory)) }
+        ensures made { HasRoomFor self.old.room bytes → IsOk result }
+    {
+        if self.has_room_for(bytes) {
+            return Ok(());
+        }
+        self.ready(bytes)
+    }
+
+    /// Puts text in at an offset, between two characters: one edit, also of no bytes. It empties the
+    /// future. `before` and `after` are the places that stand before and after it.
+    ///
+    /// Errors, in this order, each leaving all unchanged: `NotABoundary`; `TooLong` where the text would
+    /// pass 16,777,216 bytes; `OutOfMemory`, which does not come where `ready` made room.
+    pub fn insert(
+        &mut self,
+        pos: usize,
+        text: &str,
+        before: usize,
+        after: usize,
+    ) -> Result<Change, TextError>
+        ensures ok { OnOk result (self.new ≡ record { edited = inserted self.old.edited pos text.now before after; room = None }) }
+        ensures change { IfOk result (λ c. c ≡ record { start = pos; removed = 0; added = length text.now; place = after }) }
+        ensures err { OnErr result (self.new ≡ self.old) }
+
+        // Which refusal comes, and that no other cause refuses.
+        ensures not_a_boundary { IsErrOf result TextError.NotABoundary → ¬ (IsCharBoundary self.old.edited.text pos) }
+        ensures boundary { ¬ (IsCharBoundary self.old.edited.text pos) → IsErrOf result TextError.NotABoundary }
+        ensures too_long { IsErrOf result TextError.TooLong → fits self.old.edited.text pos pos text.now ≡ false }
+        ensures short { IsCharBoundary self.old.edited.text pos → fits self.old.edited.text pos pos text.now ≡ false → IsErrOf result TextError.TooLong }
+        ensures memory { HasRoomFor self.old.room (length text.now) → IsErrOf result TextError.OutOfMemory → ⊥ }
+    {
+        if !self.is_boundary(pos) {
+            return Err(TextError::NotABoundary);
+        }
+        if text.len() > LONGEST - self.len() {
+            return Err(TextError::TooLong);
+        }
+        self.make_room(text.len())?;
+        Ok(self.replace(pos, 0, text, before, after))
+    }
+
+    /// Takes out what stands from one offset to another, both between two characters: one edit, also of no
+    /// bytes. It empties the future. `before` and `after` are the places that stand before and after it.
+    ///
+    /// Errors, each leaving all unchanged: `NotABoundary`, also where `start > stop`; `OutOfMemory`,
+    /// which does not come where `ready` made room.
+    pub fn remove(
+        &mut self,
+        start: usize,
+        stop: usize,
+        before: usize,
+        after: usize,
+    ) -> Result<Change, TextError>
+        ensures ok { OnOk result (self.new ≡ record { edited = removed self.old.edited start stop before after; room = None }) }
+        ensures change { IfOk result (λ c. c ≡ record { start = start; removed = stop - start; added = 0; place = after }) }
+        ensures err { OnErr result (self.new ≡ self.old) }
+
+        // Which refusal comes, and that no other cause refuses.
+        ensures range { OnOk result (IsRange self.old.edited.text start stop) }
+        ensures not_a_boundary { IsErrOf result TextError.NotABoundary → ¬ (IsRange self.old.edited.text start stop) }
+        ensures boundary { ¬ (IsRange self.old.edited.text start stop) → IsErrOf result TextError.NotABoundary }
+        ensures never_too_long { IsErrOf result TextError.TooLong → ⊥ }
+        ensures memory { IsSome self.old.room → IsErrOf result TextError.OutOfMemory → ⊥ }
+    {
+        if start > stop
+            || stop > self.len()
+            || !self.is_boundary(start)
+            || !self.is_boundary(stop)
+        {
+            return Err(TextError::NotABoundary);
+        }
+        self.make_room(0)?;
+        Ok(self.replace(start, stop - start, "", before, after))
+    }
+
+    /// Takes back the latest edit, with its place; none where there is nothing to take back.
+    ///
+    /// Errors: `OutOfMemory`, leaving all unchanged.
+    pub fn undo(&mut self) -> Result<Option<Change>, TextError>
+        ensures ok { OnOk result (self.new.edited ≡ undone self.old.edited) }
+        ensures change { IfOk result (λ c. c ≡ next_undo self.old.edited) }
+        ensures err { OnErr result ((self.new ≡ self.old) × (result ≡ Err TextError.OutOfMemory)) }
+    {
+        let change = self.next_undo();
+        if change.is_none() {
+            return Ok(change);
+        }
+        turn(
+            &mut self.pieces,
+            &mut self.past,
+            &mut self.future,
+            &mut self.spares,
+        )?;
+        self.room = None;
+        Ok(change)
+    }
+
+    /// Makes the next edit again, with its place; none where there is nothing to make again.
+    ///
+    /// Errors: `OutOfMemory`, leaving all unchanged.
+    pub fn redo(&mut self) -> Result<Option<Change>, TextError>
+        ensures ok { OnOk result (self.new.edited ≡ redone self.old.edited) }
+        ensures change { IfOk result (λ c. c ≡ next_redo self.old.edited) }
+        ensures err { OnErr result ((self.new ≡ self.old) × (result ≡ Err TextError.OutOfMemory)) }
+    {
+        let change = self.next_redo();
+        if change.is_none() {
+            return Ok(change);
+        }
+        turn(
+            &mut self.pieces,
+            &mut self.future,
+            &mut self.past,
+            &mut self.spares,
+        )?;
+        self.room = None;
+        Ok(change)
+    }
+}

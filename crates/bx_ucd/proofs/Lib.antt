@@ -1,0 +1,10 @@
+pub mod LineLemmas
+pub mod HexLemmas
+pub mod ClassLemmas
+pub mod PaintLemmas
+pub mod AnswerLemmas
+pub mod MapLemmas
+pub mod LawLemmas
+pub mod BoundLemmas
+pub mod SmallTables
+mod Rows

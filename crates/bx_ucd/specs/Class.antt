@@ -1,0 +1,30 @@
+-- The groups of bidirectional classes that the rules name.
+use Rattle.std.specs.Prelude.{Bool, true, false}
+use Rattle.bx_ucd.specs.declared.class.Class.{Class}
+use Rattle.bx_ucd.specs.declared.class.Class.TheVariants.{L, R, AL, B, S, WS, ON, LRI, RLI, FSI, PDI}
+
+-- an isolate initiator
+abbrev pub is_initiator : Class → Bool
+is_initiator LRI = true
+is_initiator RLI = true
+is_initiator FSI = true
+is_initiator _ = false
+
+-- a strong class
+abbrev pub is_strong : Class → Bool
+is_strong L = true
+is_strong R = true
+is_strong AL = true
+is_strong _ = false
+
+-- a neutral or isolate formatting class, "NI"
+abbrev pub is_neutral : Class → Bool
+is_neutral B = true
+is_neutral S = true
+is_neutral WS = true
+is_neutral ON = true
+is_neutral FSI = true
+is_neutral LRI = true
+is_neutral RLI = true
+is_neutral PDI = true
+is_neutral _ = false

@@ -1,0 +1,12 @@
+pub mod Class
+pub mod Control
+pub mod Lines
+pub mod Parts
+pub mod Codes
+pub mod ClassFile
+pub mod BracketFile
+pub mod MirroringFile
+pub mod Blocks
+pub mod ClassTable
+pub mod Answers
+pub mod Reading

@@ -1,0 +1,11 @@
+-- A text cut at a separator, as code gives it.
+use Rattle.std.specs.Prelude.{◌≡◌, ℕ, ◌<◌, List, [], ◌∷◌, length}
+use Rattle.bx_ucd.specs.declared.parts.Parts.{Parts}
+use Rattle.bx_ucd.specs.declared.parts.Parts.TheVariants.{One, Two, Three, More}
+
+-- these are the parts
+abbrev pub IsCut : Parts → List (List ℕ) → Type 0
+IsCut (One a) parts = parts ≡ a.now ∷ []
+IsCut (Two a b) parts = parts ≡ a.now ∷ b.now ∷ []
+IsCut (Three a b c) parts = parts ≡ a.now ∷ b.now ∷ c.now ∷ []
+IsCut More parts = 3 < length parts

@@ -1,0 +1,28 @@
+-- The three files read in their order.
+use Rattle.std.specs.Prelude.{ℕ, List, Option}
+use Rattle.std.specs.Option.{option_or}
+use Rattle.bx_ucd.specs.Lines.{entries, first_refusal}
+use Rattle.bx_ucd.specs.ClassFile.{class_lines}
+use Rattle.bx_ucd.specs.BracketFile.{bracket_lines}
+use Rattle.bx_ucd.specs.MirroringFile.{mirror_lines}
+use Rattle.bx_ucd.specs.Answers.{class_by_lines, bracket_by_lines, mirror_by_lines}
+use Rattle.bx_ucd.specs.declared.class.Class.{Class}
+use Rattle.bx_ucd.specs.declared.data.Side.{Side}
+use Rattle.bx_ucd.specs.declared.error.UcdFile.TheVariants.{Classes, Brackets, Mirroring}
+use Rattle.bx_ucd.specs.declared.error.UcdError.{UcdError}
+
+-- the first refused line of the first file that has one
+abbrev pub refusal : List ℕ → List ℕ → List ℕ → Option UcdError
+refusal classes brackets mirroring =
+    option_or (first_refusal Classes (class_lines classes))
+    (option_or (first_refusal Brackets (bracket_lines brackets)) (first_refusal Mirroring (mirror_lines mirroring)))
+
+-- what the file's lines say of a code
+abbrev pub class_in_file : List ℕ → ℕ → Class
+class_in_file bytes code = class_by_lines (entries (class_lines bytes)) code
+
+abbrev pub bracket_in_file : List ℕ → ℕ → Option (Side × ℕ)
+bracket_in_file bytes code = bracket_by_lines (entries (bracket_lines bytes)) code
+
+abbrev pub mirror_in_file : List ℕ → ℕ → Option ℕ
+mirror_in_file bytes code = mirror_by_lines (entries (mirror_lines bytes)) code

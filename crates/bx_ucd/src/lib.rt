@@ -1,0 +1,21 @@
+//! Unicode's data for the bidirectional algorithm: the class, the bracket and the mirror of each character.
+#![tactic(auto)]
+
+mod blocks;
+mod bracket_file;
+pub mod class;
+mod class_file;
+mod class_table;
+mod codes;
+pub mod data;
+pub mod error;
+mod file;
+mod lines;
+mod mirroring_file;
+mod parts;
+mod tables;
+
+pub use class::Class;
+pub use data::{BidiData, Side};
+pub use error::{Cause, UcdError, UcdFile};
+pub use tables::Tables;

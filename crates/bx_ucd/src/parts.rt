@@ -1,0 +1,44 @@
+//! A text cut at a separator.
+
+ghost use Rattle.std.specs.Prelude.{◌≡◌, ◌==◌, [], ◌∷◌, MatchOption};
+ghost use Rattle.std.specs.List.{slice_split};
+ghost use Rattle.bx_ucd.specs.Parts.{IsCut};
+
+use crate::lines::position_or_len;
+
+/// The parts of a text between separators, in order, as far as three.
+#[derive(Clone, Copy)]
+pub enum Parts<'a> {
+    One(&'a [u8]),
+    Two(&'a [u8], &'a [u8]),
+    Three(&'a [u8], &'a [u8], &'a [u8]),
+    More,
+}
+
+/// What stands before the first separator and after it, if there is one.
+fn split_once(text: &[u8], separator: u8) -> Option<(&[u8], &[u8])>
+    ensures { MatchOption result (slice_split (λ b. b == separator) text.now ≡ text.now ∷ []) (λ p. slice_split (λ b. b == separator) text.now ≡ p.0.now ∷ slice_split (λ b. b == separator) p.1.now) }
+{
+    let end = position_or_len(text, separator);
+    if end == text.len() {
+        None
+    } else {
+        Some((&text[..end], &text[end + 1..]))
+    }
+}
+
+/// The text cut at each separator.
+pub fn cut(text: &[u8], separator: u8) -> Parts<'_>
+    ensures { IsCut result (slice_split (λ b. b == separator) text.now) }
+{
+    let Some((first, rest)) = split_once(text, separator) else {
+        return Parts::One(text);
+    };
+    let Some((second, rest)) = split_once(rest, separator) else {
+        return Parts::Two(first, rest);
+    };
+    match split_once(rest, separator) {
+        None => Parts::Three(first, second, rest),
+        Some(_) => Parts::More,
+    }
+}

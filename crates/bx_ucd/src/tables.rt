@@ -1,0 +1,155 @@
+//! The tables that Unicode's three files make.
+
+ghost use Rattle.std.specs.Prelude.{◌≡◌, ℕ, ◌<◌, false, None, IfOk, IfErr};
+ghost use Rattle.std.specs.Option.{ForSome};
+ghost use Rattle.std.specs.Ordering.{nat_cmp};
+ghost use Rattle.std.specs.BTreeMap.{get};
+ghost use Rattle.bx_ucd.specs.Answers.{class_by_lines, bracket_by_lines, mirror_by_lines};
+ghost use Rattle.bx_ucd.specs.ClassFile.{class_lines};
+ghost use Rattle.bx_ucd.specs.ClassTable.{class_in_table};
+ghost use Rattle.bx_ucd.specs.BracketFile.{bracket_lines};
+ghost use Rattle.bx_ucd.specs.Control.{is_control, no_control_if_some};
+ghost use Rattle.bx_ucd.specs.Lines.{first_refusal, TellsRefusal};
+ghost use Rattle.bx_ucd.specs.MirroringFile.{mirror_lines};
+ghost use Rattle.bx_ucd.specs.Reading.{refusal, class_in_file, bracket_in_file, mirror_in_file};
+
+use crate::blocks::painted_blocks;
+use crate::bracket_file::BracketEntry;
+use crate::class::Class;
+use crate::class_file::ClassEntry;
+use crate::class_table::ClassTable;
+use crate::data::{BidiData, Side};
+use crate::error::{UcdError, UcdFile};
+use crate::file::read_entries;
+use crate::mirroring_file::MirrorEntry;
+use std::alloc::{AllocError, Global};
+use std::collections::BTreeMap;
+
+/// Unicode's data as its files give it. The look-ups take no memory.
+#[derive(Drop)]
+pub struct Tables {
+    classes: ClassTable,
+    brackets: BTreeMap<char, (Side, char)>,
+    mirrors: BTreeMap<char, char>,
+    ghost no_control: { (code : ℕ) → ForSome (get nat_cmp mirrors code) (λ m. is_control m ≡ false) },
+}
+
+/// The table of the classes that the entries give.
+fn class_table(alloc: Global, entries: &[ClassEntry]) -> Result<ClassTable, AllocError>
+    ensures { IfOk result (λ t. (code : ℕ) → code < 0x110000 → class_in_table t code ≡ class_by_lines entries.now code) }
+{
+    let blocks = painted_blocks(alloc, entries)?;
+    ClassTable::new(alloc, &blocks)
+}
+
+/// The brackets with their sides and pairs. The last entry for a bracket counts.
+fn bracket_map(
+    alloc: Global,
+    entries: &[BracketEntry],
+) -> Result<BTreeMap<char, (Side, char)>, AllocError>
+    ensures { IfOk result (λ m. (code : ℕ) → get nat_cmp m code ≡ bracket_by_lines entries.now code) }
+{
+    let mut brackets = BTreeMap::new(alloc);
+    for entry in entries {
+        brackets.insert(entry.bracket, (entry.side, entry.paired))?;
+    }
+    Ok(brackets)
+}
+
+/// The mirrored characters. The last entry for a character counts.
+fn mirror_map(alloc: Global, entries: &[MirrorEntry]) -> Result<BTreeMap<char, char>, AllocError>
+    ensures { IfOk result (λ m. (code : ℕ) → get nat_cmp m code ≡ mirror_by_lines entries.now code) }
+{
+    let mut mirrors = BTreeMap::new(alloc);
+    for entry in entries {
+        mirrors.insert(entry.character, entry.mirror)?;
+    }
+    Ok(mirrors)
+}
+
+/// The classes of the file, or its first refused line.
+fn read_classes(alloc: Global, bytes: &[u8]) -> Result<ClassTable, UcdError>
+    ensures accepted { IfOk result (λ _. first_refusal UcdFile.Classes (class_lines bytes.now) ≡ None) }
+    ensures answers { IfOk result (λ t. (code : ℕ) → class_in_table t code ≡ class_in_file bytes.now code) }
+    ensures refused { IfErr result (λ e. TellsRefusal e (first_refusal UcdFile.Classes (class_lines bytes.now))) }
+{
+    let entries = read_entries::<ClassEntry>(alloc, UcdFile::Classes, bytes)?;
+    match class_table(alloc, &entries) {
+        Ok(table) => Ok(table),
+        Err(_) => Err(UcdError::out_of_memory(UcdFile::Classes)),
+    }
+}
+
+/// The brackets of the file, or its first refused line.
+fn read_brackets(alloc: Global, bytes: &[u8]) -> Result<BTreeMap<char, (Side, char)>, UcdError>
+    ensures accepted { IfOk result (λ _. first_refusal UcdFile.Brackets (bracket_lines bytes.now) ≡ None) }
+    ensures answers { IfOk result (λ m. (code : ℕ) → get nat_cmp m code ≡ bracket_in_file bytes.now code) }
+    ensures refused { IfErr result (λ e. TellsRefusal e (first_refusal UcdFile.Brackets (bracket_lines bytes.now))) }
+{
+    let entries = read_entries::<BracketEntry>(alloc, UcdFile::Brackets, bytes)?;
+    match bracket_map(alloc, &entries) {
+        Ok(brackets) => Ok(brackets),
+        Err(_) => Err(UcdError::out_of_memory(UcdFile::Brackets)),
+    }
+}
+
+/// The mirrored characters of the file, or its first refused line.
+fn read_mirrors(alloc: Global, bytes: &[u8]) -> Result<BTreeMap<char, char>, UcdError>
+    ensures accepted { IfOk result (λ _. first_refusal UcdFile.Mirroring (mirror_lines bytes.now) ≡ None) }
+    ensures answers { IfOk result (λ m. (code : ℕ) → get nat_cmp m code ≡ mirror_in_file bytes.now code) }
+    ensures refused { IfErr result (λ e. TellsRefusal e (first_refusal UcdFile.Mirroring (mirror_lines bytes.now))) }
+{
+    let entries = read_entries::<MirrorEntry>(alloc, UcdFile::Mirroring, bytes)?;
+    match mirror_map(alloc, &entries) {
+        Ok(mirrors) => Ok(mirrors),
+        Err(_) => Err(UcdError::out_of_memory(UcdFile::Mirroring)),
+    }
+}
+
+impl Tables {
+    /// Reads the bytes of DerivedBidiClass.txt, BidiBrackets.txt and BidiMirroring.txt, in this order. The first line that
+    /// does not read well is refused. Want of memory may be told before a later such line is seen.
+    pub fn read(
+        alloc: Global,
+        classes: &[u8],
+        brackets: &[u8],
+        mirroring: &[u8],
+    ) -> Result<Tables, UcdError>
+        ensures accepted { IfOk result (λ _. refusal classes.now brackets.now mirroring.now ≡ None) }
+        ensures classes { IfOk result (λ t. (code : ℕ) → ⟦<Tables as BidiData>⟧.class_of t code ≡ class_in_file classes.now code) }
+        ensures brackets { IfOk result (λ t. (code : ℕ) → ⟦<Tables as BidiData>⟧.bracket_of t code ≡ bracket_in_file brackets.now code) }
+        ensures mirrors { IfOk result (λ t. (code : ℕ) → ⟦<Tables as BidiData>⟧.mirror_of t code ≡ mirror_in_file mirroring.now code) }
+        ensures refused { IfErr result (λ e. TellsRefusal e (refusal classes.now brackets.now mirroring.now)) }
+    {
+        Ok(Tables {
+            classes: read_classes(alloc, classes)?,
+            brackets: read_brackets(alloc, brackets)?,
+            mirrors: read_mirrors(alloc, mirroring)?,
+        })
+    }
+}
+
+impl BidiData for Tables {
+    ghost class_of = { λ t code. class_in_table t.classes code };
+
+    ghost bracket_of = { λ t code. get nat_cmp t.brackets code };
+
+    ghost mirror_of = { λ t code. get nat_cmp t.mirrors code };
+
+    ghost no_mirror_is_control = { λ t code. no_control_if_some (get nat_cmp t.mirrors code) (t.no_control code) };
+
+    fn class(&self, c: char) -> Class {
+        self.classes.class(c)
+    }
+
+    fn bracket(&self, c: char) -> Option<(Side, char)> {
+        self.brackets.get(&c).copied()
+    }
+
+    fn mirror(&self, c: char) -> Option<char> {
+        self.mirrors.get(&c).copied()
+    }
+}
+
+#[cfg(test)]
+mod tests;

@@ -1,0 +1,28 @@
+#!/bin/sh
+# Reads Unicode's own three files, as Debian's package unicode-data installs them, and compares what ucd_lookup answers for
+# characters from each kind of line with what it must answer for the excerpt. Says so and ends well where the package is not
+# installed. `--time` after it also tells the processor time of one reading.
+set -eu
+
+folder=/usr/share/unicode
+classes=$folder/extracted/DerivedBidiClass.txt
+brackets=$folder/BidiBrackets.txt
+mirroring=$folder/BidiMirroring.txt
+for file in "$classes" "$brackets" "$mirroring"; do
+    if [ ! -r "$file" ]; then
+        echo "skipped: $file is not there (apt-get install unicode-data)"
+        exit 0
+    fi
+done
+
+cd "$(dirname "$0")/../crates/ucd_lookup"
+rt run -- "$classes" "$brackets" "$mirroring" 0041 >/dev/null
+answers=$(mktemp)
+trap 'rm -f "$answers"' EXIT
+tail -n +4 args | xargs out/ucd_lookup "$classes" "$brackets" "$mirroring" >"$answers"
+diff stdout "$answers"
+echo "unicode-data: the answers agree"
+if [ "${1:-}" = --time ]; then
+    out/ucd_lookup --time 200 "$classes" "$brackets" "$mirroring"
+    out/ucd_lookup --time 200 "$classes" /dev/null /dev/null
+fi
