@@ -35,7 +35,7 @@ marks_length d (false ∷ was) ts = refl
 marks_length d (true ∷ was) [] = refl
 marks_length d (true ∷ was) (t ∷ ts) = let h : length (change_marks d was ts) ≡ length ts = marks_length d was ts in omega arith
 
-change_length : (d : Class) (was : List Bool) (ts : List Class) (p : ℕ) → p < length ts → length (change_bracket d was ts p) ≡ length ts
+pub change_length : (d : Class) (was : List Bool) (ts : List Class) (p : ℕ) → p < length ts → length (change_bracket d was ts p) ≡ length ts
 change_length d was ts p h =
     let a : length (take p ts) ≡ p = length-take-le p ts (omega arith) in
     let b : length (change_marks d (drop (p + 1) was) (drop (p + 1) ts)) ≡ length (drop (p + 1) ts) = marks_length d (drop (p + 1) was) (drop (p + 1) ts) in

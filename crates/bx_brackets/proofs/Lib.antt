@@ -1,6 +1,7 @@
 mod Rows
 pub mod Stack
 pub mod Close
-pub mod Turn
+pub mod Slots
 pub mod Marks
 pub mod Context
+pub mod ClearRanges

@@ -3,7 +3,7 @@ use Rattle.std.proofs.Common.{◌≡◌, ◌<◌, ◌≤◌, ◌+◌, ◌∙◌,
 use Rattle.std.proofs.lemmas.Bool.Decides.{nat_tests}
 use Rattle.std.specs.Prelude.{filter, find, not, nat_le, nat_lt, ◌&&◌, ◌==◌, ◌||◌}
 use Rattle.std.specs.List.{list_any}
-use Rattle.bx_brackets.specs.Search.{below_first, is_for, IsFalling}
+use Rattle.bx_brackets.specs.Search.{below_first, is_for, IsFalling, pairs_from}
 use Rattle.bx_brackets.specs.Pairs.{Search, insert_pair, pairs, is_open, open_openers, meet, meet_opener, meet_closer, canonical, bracket_at, search_from}
 use Rattle.bx_ucd.specs.declared.class.Class.{Class}
 use Rattle.bx_ucd.specs.declared.data.Side.{Side}
@@ -192,6 +192,9 @@ search_is_stack : (bracket : ℕ → Option (Side × ℕ)) (j : ℕ) (cs : List 
 search_is_stack bracket j [] ts s o f e = refl
 search_is_stack bracket j (c ∷ cs) [] s o f e = refl
 search_is_stack bracket j (c ∷ cs) (t ∷ ts) s o f e = rw (o, search_from) (turn_agrees bracket j cs ts c (search_is_stack bracket (j + 1) cs ts) (bracket_at bracket c t) s o f e)
+
+pub rest_by_stack : (bracket : ℕ → Option (Side × ℕ)) (j : ℕ) (cs : List ℕ) (ts : List Class) → pairs_from bracket j cs ts ≡ stack_run bracket [] [] j cs ts
+rest_by_stack bracket j cs ts = search_is_stack bracket j cs ts (record { openers = []; pairs = []; is_over = false }) refl tt tt
 
 pub pairs_by_stack : (bracket : ℕ → Option (Side × ℕ)) (cs : List ℕ) (ts : List Class) → pairs bracket cs ts ≡ stack_run bracket [] [] 0 cs ts
 pairs_by_stack bracket cs ts = search_is_stack bracket 0 cs ts (record { openers = []; pairs = []; is_over = false }) refl tt tt

@@ -1,3 +1,4 @@
 pub mod Pairs
 pub mod Search
 pub mod Resolve
+pub mod Clear

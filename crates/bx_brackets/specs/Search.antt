@@ -1,8 +1,9 @@
--- What the search does with a stack of the openers that are open, the last one first, and a table of the closers found.
-use Rattle.std.specs.Prelude.{ℕ, ◌+◌, ◌==◌, ◌<◌, ◌≡◌, nat_lt, not, find, Bool, true, false, List, [], ◌∷◌, Option, Some, None, IfSome, length, slice_set, slice_index_or}
+-- What the search does with a slot for each opener met and a stack of the slots that are open, the last one first.
+use Rattle.std.specs.Prelude.{ℕ, ◌==◌, ◌<◌, ◌≤◌, nat_lt, not, find, Bool, true, false, List, [], ◌∷◌, ◌++◌, Option, Some, None, length, slice_set, slice_index_or}
 use Rattle.bx_ucd.specs.declared.data.Side.{Side}
 use Rattle.bx_ucd.specs.declared.data.Side.TheVariants.{Opener, Closer}
-use Rattle.bx_brackets.specs.Pairs.{canonical}
+use Rattle.bx_ucd.specs.declared.class.Class.{Class}
+use Rattle.bx_brackets.specs.Pairs.{canonical, search_from}
 
 abbrev pub first_of : List (ℕ × ℕ) → Option (ℕ × ℕ)
 first_of [] = None
@@ -25,6 +26,11 @@ abbrev pub place_of : Option (ℕ × ℕ) → Option ℕ
 place_of None = None
 place_of (Some o) = Some o.0
 
+abbrev pub is_opener : Option (Side × ℕ) → Bool
+is_opener None = false
+is_opener (Some (Opener, m)) = true
+is_opener (Some (Closer, m)) = false
+
 -- the openers that a closer leaves
 abbrev pub left_by : Option (ℕ × ℕ) → ℕ → List (ℕ × ℕ) → List (ℕ × ℕ)
 left_by None c os = os
@@ -41,32 +47,32 @@ open_after j c None os = os
 open_after j c (Some (Opener, m)) os = elim (nat_lt (length os) 63) [ true ↦ (j, canonical m) ∷ os | false ↦ os ]
 open_after j c (Some (Closer, m)) os = left_by (find (is_for (canonical c)) os) (canonical c) os
 
--- the closer of each opener
-abbrev pub with_closer : Option ℕ → ℕ → List (Option ℕ) → List (Option ℕ)
-with_closer None j xs = xs
-with_closer (Some o) j xs = slice_set xs o (Some j)
+-- the slot of an opener has its place and that of its closer, or its own place twice while it has none
+abbrev pub is_closed : ℕ × ℕ → Bool
+is_closed s = nat_lt s.0 s.1
 
-abbrev pub closers_after : ℕ → ℕ → Option (Side × ℕ) → List (ℕ × ℕ) → List (Option ℕ) → List (Option ℕ)
-closers_after j c None os xs = xs
-closers_after j c (Some (Opener, m)) os xs = xs
-closers_after j c (Some (Closer, m)) os xs = with_closer (place_of (find (is_for (canonical c)) os)) j xs
+abbrev pub slot : List (ℕ × ℕ) → ℕ → ℕ × ℕ
+slot ss k = slice_index_or ss k (0, 0)
 
--- the pairs of a table whose first place is `k`
-abbrev pub pairs_in : ℕ → List (Option ℕ) → List (ℕ × ℕ)
-pairs_in k [] = []
-pairs_in k (None ∷ xs) = pairs_in (k + 1) xs
-pairs_in k (Some j ∷ xs) = (k, j) ∷ pairs_in (k + 1) xs
+abbrev pub with_closer : Option ℕ → ℕ → List (ℕ × ℕ) → List (ℕ × ℕ)
+with_closer None j ss = ss
+with_closer (Some k) j ss = slice_set ss k ((slot ss k).0, j)
+
+abbrev pub slots_after : ℕ → ℕ → Option (Side × ℕ) → List (ℕ × ℕ) → List (ℕ × ℕ) → List (ℕ × ℕ)
+slots_after j c None os ss = ss
+slots_after j c (Some (Opener, m)) os ss = elim (nat_lt (length os) 63) [ true ↦ ss ++ (j, j) ∷ [] | false ↦ ss ]
+slots_after j c (Some (Closer, m)) os ss = with_closer (place_of (find (is_for (canonical c)) os)) j ss
 
 -- each opener stands before `j`, and before those above it
 abbrev pub IsFalling : ℕ → List (ℕ × ℕ) → Type 0
 IsFalling j [] = Unit {0}
 IsFalling j (o ∷ os) = (o.0 < j) × IsFalling o.0 os
 
--- no opener has a closer yet
-abbrev pub AreFree : List (Option ℕ) → List (ℕ × ℕ) → Type 0
-AreFree xs [] = Unit {0}
-AreFree xs (o ∷ os) = (slice_index_or xs o.0 None ≡ None) × AreFree xs os
+-- a slot lies inside a list
+pub record IsSlotWithin (n : ℕ) (s : ℕ × ℕ) : Type 0 where
+  pub ordered : s.0 ≤ s.1
+  pub ends : s.1 < n
 
--- each closer stands after its opener and before `n`
-abbrev pub AreWithin : ℕ → List (Option ℕ) → Type 0
-AreWithin n xs = (o : ℕ) → IfSome (slice_index_or xs o None) (λ c. (o < c) × (c < n))
+-- the pairs that a search finds from place `j` on, where none is open before it
+abbrev pub pairs_from : (ℕ → Option (Side × ℕ)) → ℕ → List ℕ → List Class → List (ℕ × ℕ)
+pairs_from bracket j cs ts = (search_from bracket (record { openers = []; pairs = []; is_over = false }) j cs ts).pairs

@@ -8,5 +8,5 @@ mod resolve;
 mod tests;
 
 pub use error::BracketError;
-pub use pairs_of::pairs;
+pub use pairs_of::{PairSearch, pairs};
 pub use resolve::resolve_pairs;

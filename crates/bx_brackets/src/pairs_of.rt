@@ -1,7 +1,8 @@
 //! Bracket pairs (BD14 to BD16).
-ghost use Rattle.std.specs.Prelude.{◌≡◌, ℕ, ◌+◌, ◌<◌, ◌≤◌, All, IfOk, IfSome, length, List, [], ◌∷◌, reverse, not, nat_lt, find};
-ghost use Rattle.bx_brackets.specs.Search.{first_of, rest_of, is_for, place_of, left_by, ends_search, open_after, with_closer, closers_after, pairs_in, IsFalling, AreWithin};
+ghost use Rattle.std.specs.Prelude.{◌≡◌, ℕ, ◌<◌, ◌≤◌, drop, All, IfOk, OnOk, IfSome, length, List, [], ◌∷◌, reverse, not, nat_lt, find, filter};
+ghost use Rattle.bx_brackets.specs.Search.{first_of, rest_of, is_for, place_of, left_by, ends_search, open_after, with_closer, slots_after, is_closed, is_opener, pairs_from, IsFalling};
 ghost use Rattle.bx_brackets.specs.Resolve.{IsPairWithin};
+ghost use Rattle.bx_brackets.specs.Search.{IsSlotWithin};
 ghost use Rattle.bx_brackets.specs.Pairs.{canonical, bracket_at, pairs};
 
 use crate::error::BracketError;
@@ -31,6 +32,13 @@ fn bracket_at<D: BidiData>(source: &D, c: char, t: Class) -> Option<(Side, char)
     }
 }
 
+/// Whether a bracket opens.
+fn is_opener(bracket: Option<(Side, char)>) -> bool
+    ensures { result ≡ is_opener bracket }
+{
+    matches!(bracket, Some((Side::Opener, _)))
+}
+
 /// The openers that are open, at most 63.
 #[derive(Drop)]
 struct OpenStack {
@@ -52,6 +60,13 @@ impl OpenStack {
         OpenStack {
             openers: ArrayVec::new(),
         }
+    }
+
+    /// Takes all openers off.
+    fn clear(&mut self)
+        ensures { self.new ≡ [] }
+    {
+        self.openers.clear();
     }
 
     /// Whether there is no room.
@@ -96,13 +111,13 @@ impl OpenStack {
     }
 }
 
-/// Writes the closer of an opener, if there is an opener.
-fn note_closer(closers: &mut Vec<Option<usize>>, opener: Option<usize>, closer: usize)
-    requires { IfSome opener (λ o. o < length closers.old.items) }
-    ensures { closers.new.items ≡ with_closer opener closer closers.old.items }
+/// Writes the closer of an opener into its slot, if there is an opener.
+fn note_closer(slots: &mut Vec<(usize, usize)>, slot: Option<usize>, closer: usize)
+    requires { IfSome slot (λ k. k < length slots.old.items) }
+    ensures { slots.new.items ≡ with_closer slot closer slots.old.items }
 {
-    if let Some(o) = opener {
-        closers[o] = Some(closer);
+    if let Some(k) = slot {
+        slots[k].1 = closer;
     }
 }
 
@@ -110,60 +125,147 @@ fn note_closer(closers: &mut Vec<Option<usize>>, opener: Option<usize>, closer: 
 #[tactic(auto, using(crate::proofs::Close::found_within))]
 fn meet(
     open: &mut OpenStack,
-    closers: &mut Vec<Option<usize>>,
+    slots: &mut Vec<(usize, usize)>,
     place: usize,
     c: char,
     bracket: Option<(Side, char)>,
-) -> bool
-    requires within { IsFalling (length closers.old.items) «open».old }
-    ensures over { result ≡ ends_search bracket «open».old }
-    ensures left { «open».new ≡ open_after place c bracket «open».old }
-    ensures closers { closers.new.items ≡ closers_after place c bracket «open».old closers.old.items }
+) -> Result<bool, AllocError>
+    requires within { IsFalling (length slots.old.items) «open».old }
+    ensures over { IfOk result (λ r. r ≡ ends_search bracket «open».old) }
+    ensures left { OnOk result («open».new ≡ open_after (length slots.old.items) c bracket «open».old) }
+    ensures slots { OnOk result (slots.new.items ≡ slots_after place c bracket «open».old slots.old.items) }
 {
     match bracket {
-        None => false,
+        None => Ok(false),
         Some((Side::Opener, closer)) => {
             if open.is_full() {
-                return true;
+                return Ok(true);
             }
-            open.push(place, canonical(closer));
-            false
+            let slot = slots.len();
+            slots.push((place, place))?;
+            open.push(slot, canonical(closer));
+            Ok(false)
         }
         Some((Side::Closer, _)) => {
-            let opener = open.close(canonical(c));
-            note_closer(closers, opener, place);
-            false
+            let slot = open.close(canonical(c));
+            note_closer(slots, slot, place);
+            Ok(false)
         }
     }
 }
 
-/// The closer of each opener that has one, by the opener's place.
-#[tactic(auto, using(crate::proofs::Turn::within_all))]
-fn closers<D: BidiData>(
-    alloc: Global,
+/// The first opener, or the sequence's end. Closers before it have nothing to close.
+#[tactic(auto, using(crate::proofs::Slots::skip_more))]
+fn first_opener<D: BidiData>(chars: &[char], types: &[Class], source: &D) -> usize
+    requires { length chars.now ≡ length types.now }
+    ensures within { result ≤ length chars.now }
+    ensures rest { pairs (D.bracket_of source.now) chars.now types.now ≡ pairs_from (D.bracket_of source.now) result (drop result chars.now) (drop result types.now) }
+{
+    let mut i = 0;
+    while i < chars.len() && !is_opener(bracket_at(source, chars[i], types[i])) {
+        i += 1;
+    }
+    i
+}
+
+/// Makes a slot for each opener from place `start` on, with its closer if it has one.
+fn search<D: BidiData>(
+    open: &mut OpenStack,
+    slots: &mut Vec<(usize, usize)>,
     chars: &[char],
     types: &[Class],
     source: &D,
-) -> Result<Vec<Option<usize>>, AllocError>
-    requires { length chars.now ≡ length types.now }
-    ensures found { IfOk result (λ v. pairs_in 0 v.items ≡ pairs (D.bracket_of source.now) chars.now types.now) }
-    ensures within { IfOk result (λ v. AreWithin (length types.now) v.items) }
+    start: usize,
+) -> Result<(), AllocError>
+    requires none_open { «open».old ≡ [] }
+    requires empty { slots.old.items ≡ [] }
+    requires as_long { length chars.now ≡ length types.now }
+    requires within { start ≤ length chars.now }
+    requires rest { pairs (D.bracket_of source.now) chars.now types.now ≡ pairs_from (D.bracket_of source.now) start (drop start chars.now) (drop start types.now) }
+    ensures found { OnOk result (filter is_closed slots.new.items ≡ pairs (D.bracket_of source.now) chars.now types.now) }
+    ensures within { OnOk result (All (IsSlotWithin (length types.now)) slots.new.items) }
 {
-    let mut open = OpenStack::new();
-    let mut closers = vec![in alloc; None; chars.len()]?;
-    for i in 0..chars.len() {
+    for i in start..chars.len() {
         let c = chars[i];
         let bracket = bracket_at(source, c, types[i]);
-        if meet(&mut open, &mut closers, i, c, bracket) {
-            return Ok(closers);
+        if meet(open, slots, i, c, bracket)? {
+            return Ok(());
         }
     }
-    Ok(closers)
+    Ok(())
+}
+
+/// Leaves the slots that have a closer.
+fn keep_closed(slots: &mut Vec<(usize, usize)>)
+    ensures { slots.new.items ≡ filter is_closed slots.old.items }
+{
+    slots.retain(|s| s.0 < s.1);
+}
+
+/// What searches for pairs work in, one after another, and the pairs that the last one found.
+#[derive(Drop)]
+pub struct PairSearch {
+    open: OpenStack,
+    found: Vec<(usize, usize)>,
+}
+
+// Clauses see the pairs.
+impl Model for PairSearch {
+    ghost Value = { List (ℕ × ℕ) };
+
+    ghost view = { λ s. s.found.items };
+}
+
+impl PairSearch {
+    /// No pairs.
+    pub fn new(alloc: Global) -> Self
+        ensures { result ≡ [] }
+    {
+        PairSearch {
+            open: OpenStack::new(),
+            found: Vec::new(alloc),
+        }
+    }
+
+    /// The pairs found last: the places of the opener and the closer in the sequence, ordered by openers.
+    pub fn pairs(&self) -> &[(usize, usize)]
+        ensures { result.now ≡ self.now }
+    {
+        &self.found
+    }
+
+    /// Finds the bracket pairs of a sequence (BD14 to BD16) from its characters and their current types. Memory is taken
+    /// where there are more openers than in the searches before, and want of it is the only refusal.
+    pub fn find<D: BidiData>(
+        &mut self,
+        chars: &[char],
+        types: &[Class],
+        source: &D,
+    ) -> Result<(), BracketError>
+        requires { length chars.now ≡ length types.now }
+        ensures pairs { OnOk result (self.new ≡ pairs (D.bracket_of source.now) chars.now types.now) }
+        ensures within { OnOk result (All (IsPairWithin (length types.now)) self.new) }
+    {
+        self.found.clear();
+        let start = first_opener(chars, types, source);
+        if start < chars.len() {
+            self.open.clear();
+            search(&mut self.open, &mut self.found, chars, types, source, start)?;
+            keep_closed(&mut self.found);
+        }
+        Ok(())
+    }
+
+    /// The pairs alone.
+    fn into_pairs(self) -> Vec<(usize, usize)>
+        ensures { result.items ≡ self }
+    {
+        self.found
+    }
 }
 
 /// The bracket pairs of a sequence (BD14 to BD16) from its characters and their current types: the places of the opener
 /// and the closer in the sequence, ordered by openers. It takes memory, and is refused only where there is none.
-#[tactic(auto, using(crate::proofs::Turn::pairs_within))]
 pub fn pairs<D: BidiData>(
     alloc: Global,
     chars: &[char],
@@ -174,12 +276,7 @@ pub fn pairs<D: BidiData>(
     ensures pairs { IfOk result (λ v. v.items ≡ pairs (D.bracket_of source.now) chars.now types.now) }
     ensures within { IfOk result (λ v. All (IsPairWithin (length types.now)) v.items) }
 {
-    let closers = closers(alloc, chars, types, source)?;
-    let mut pairs = Vec::new(alloc);
-    for (opener, closer) in closers.iter().enumerate() {
-        if let Some(closer) = *closer {
-            pairs.push((opener, closer))?;
-        }
-    }
-    Ok(pairs)
+    let mut search = PairSearch::new(alloc);
+    search.find(chars, types, source)?;
+    Ok(search.into_pairs())
 }

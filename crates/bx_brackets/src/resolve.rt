@@ -1,6 +1,7 @@
 //! The types of bracket pairs (N0).
 ghost use Rattle.std.specs.Prelude.{◌≡◌, ◌+◌, ◌-◌, ◌<◌, ◌≤◌, length, reverse, take, drop, All};
 ghost use Rattle.std.specs.List.{list_any};
+ghost use Rattle.bx_brackets.specs.Clear.{IsClear, AreClear, AreSameFrom, between, clear_after};
 ghost use Rattle.bx_brackets.specs.Resolve.{direction, opposite, is_left, is_right, counts_as, nearest, pair_direction, change_bracket, resolve_in, context_of, resolve_pairs, IsPairWithin};
 
 use bx_ucd::Class;
@@ -39,11 +40,46 @@ fn counts_as(d: Class, t: Class) -> bool
     }
 }
 
-/// Whether a type of the list counts as the direction.
-fn has(d: Class, types: &[Class]) -> bool
-    ensures { result ≡ list_any (counts_as d) types.now }
+/// A range of places that is known to have no type of a direction.
+#[derive(Clone, Copy, PartialEq, Eq, Debug)]
+struct Clear {
+    from: usize,
+    to: usize,
+}
+
+/// The ranges known to have no type of the embedding direction, and none of the other.
+#[derive(Clone, Copy, PartialEq, Eq, Debug)]
+struct Clears {
+    embedding: Clear,
+    other: Clear,
+}
+
+/// Whether a type in a range counts as the direction, and what is then known to be clear of it. Places that are known
+/// to be clear are not looked at again.
+fn has(d: Class, clear: Clear, types: &[Class], from: usize, to: usize) -> (bool, Clear)
+    requires within { to ≤ length types.now }
+    requires known { IsClear d types.now clear }
+    ensures found { result.0 ≡ list_any (counts_as d) (take (to - from) (drop from types.now)) }
+    ensures clear { IsClear d types.now result.1 }
 {
-    types.iter().any(|t| counts_as(d, *t))
+    let mut k = from;
+    if clear.from <= from && from <= clear.to {
+        k = clear.to;
+    }
+    while k < to && !counts_as(d, types[k]) {
+        k += 1;
+    }
+    (k < to, Clear { from, to: k })
+}
+
+/// What is left of a clear range between two changes, the first of which ends at `from` and the second begins at `to`.
+fn between(clear: Clear, from: usize, to: usize) -> Clear
+    ensures { result ≡ between clear from to }
+{
+    Clear {
+        from: clear.from.max(from),
+        to: clear.to.min(to),
+    }
 }
 
 /// The nearest direction before the list's end.
@@ -79,57 +115,103 @@ fn context(sos: Class, known: (usize, Class), types: &[Class], place: usize) -> 
     }
 }
 
-/// The direction that a pair takes in a context, if any.
-fn pair_direction(embedding: Class, context: Class, inside: &[Class]) -> Option<Class>
-    ensures { result ≡ pair_direction embedding context inside.now }
+/// The direction that a pair takes in a context, if any, and what is then known to be clear.
+fn pair_direction(
+    embedding: Class,
+    context: Class,
+    clears: Clears,
+    types: &[Class],
+    pair: (usize, usize),
+) -> (Option<Class>, Clears)
+    requires within { IsPairWithin (length types.now) pair }
+    requires known { AreClear embedding types.now clears }
+    ensures direction { result.0 ≡ pair_direction embedding context (take (pair.1 - pair.0 - 1) (drop (pair.0 + 1) types.now)) }
+    ensures clear { AreClear embedding types.now result.1 }
 {
-    if has(embedding, inside) {
-        return Some(embedding);
+    let (open, close) = pair;
+    let (found, clear) = has(embedding, clears.embedding, types, open + 1, close);
+    let clears = Clears {
+        embedding: clear,
+        ..clears
+    };
+    if found {
+        return (Some(embedding), clears);
     }
-    if !has(opposite(embedding), inside) {
-        return None;
+    let (found, clear) = has(opposite(embedding), clears.other, types, open + 1, close);
+    let clears = Clears {
+        other: clear,
+        ..clears
+    };
+    if !found {
+        return (None, clears);
     }
     if counts_as(embedding, context) {
-        Some(embedding)
+        (Some(embedding), clears)
     } else {
-        Some(opposite(embedding))
+        (Some(opposite(embedding)), clears)
     }
 }
 
-/// Changes a bracket, with the marks after it.
+/// Changes a bracket, with the marks after it. The end of what is changed.
 #[tactic(auto, using(crate::proofs::Marks::marks_more, crate::proofs::Marks::marks_stop, crate::proofs::Marks::marks_all, crate::proofs::Marks::marks_start))]
-fn change_bracket(types: &mut [Class], was_nsm: &[bool], d: Class, p: usize)
+fn change_bracket(types: &mut [Class], was_nsm: &[bool], d: Class, p: usize) -> usize
     requires within { p < length types.old }
     requires as_long { length was_nsm.now ≡ length types.old }
-    ensures { types.new ≡ change_bracket d was_nsm.now types.old p }
+    ensures value { types.new ≡ change_bracket d was_nsm.now types.old p }
+    ensures rest { AreSameFrom result types.old types.new }
 {
     types[p] = d;
     for k in p + 1..types.len() {
         if !was_nsm[k] {
-            return;
+            return k;
         }
         types[k] = d;
     }
+    types.len()
 }
 
-/// Gives a pair its direction in a context.
+/// What is clear after the brackets of a pair took a direction.
+fn clear_after(embedding: Class, d: Class, clears: Clears, from: usize, to: usize) -> Clears
+    ensures { result ≡ clear_after embedding d clears from to }
+{
+    if counts_as(embedding, d) {
+        Clears {
+            embedding: between(clears.embedding, from, to),
+            ..clears
+        }
+    } else {
+        Clears {
+            other: between(clears.other, from, to),
+            ..clears
+        }
+    }
+}
+
+/// Gives a pair its direction in a context. What is then known to be clear.
 fn resolve_in(
     types: &mut [Class],
     was_nsm: &[bool],
     embedding: Class,
     context: Class,
+    clears: Clears,
     pair: (usize, usize),
-)
+) -> Clears
     requires within { IsPairWithin (length types.old) pair }
     requires as_long { length was_nsm.now ≡ length types.old }
-    ensures { types.new ≡ resolve_in embedding context was_nsm.now pair types.old }
+    requires known { AreClear embedding types.old clears }
+    ensures types { types.new ≡ resolve_in embedding context was_nsm.now pair types.old }
+    ensures clear { AreClear embedding types.new result }
 {
     let (open, close) = pair;
     let whole: &[Class] = &types[..];
-    let taken = pair_direction(embedding, context, &whole[open + 1..close]);
-    if let Some(d) = taken {
-        change_bracket(types, was_nsm, d, open);
-        change_bracket(types, was_nsm, d, close);
+    let (taken, clears) = pair_direction(embedding, context, clears, whole, pair);
+    match taken {
+        None => clears,
+        Some(d) => {
+            let end = change_bracket(types, was_nsm, d, open);
+            change_bracket(types, was_nsm, d, close);
+            clear_after(embedding, d, clears, end, close)
+        }
     }
 }
 
@@ -148,11 +230,16 @@ pub fn resolve_pairs(
     ensures { types.new ≡ resolve_pairs (direction level) sos was_nsm.now pairs.now types.old }
 {
     let embedding = direction(level);
+    let nothing = Clear { from: 0, to: 0 };
+    let mut clears = Clears {
+        embedding: nothing,
+        other: nothing,
+    };
     let mut known = (0, sos);
     for pair in pairs {
         let whole: &[Class] = &types[..];
         let before = context(sos, known, whole, pair.0);
         known = (pair.0, before);
-        resolve_in(types, was_nsm, embedding, before, *pair);
+        clears = resolve_in(types, was_nsm, embedding, before, clears, *pair);
     }
 }

@@ -1,7 +1,7 @@
 //! Each call once with ample memory.
 ghost use Rattle.std.specs.Prelude.{◌==◌, ℕ, None, Some, if◌then◌else◌};
 
-use crate::{pairs, resolve_pairs};
+use crate::{PairSearch, pairs, resolve_pairs};
 use bx_ucd::{BidiData, Class, Side};
 use std::test::Fail;
 
@@ -46,6 +46,11 @@ fn pairs_and_their_types(rt: HostRuntime) -> Result<(), Fail> {
     let mut types = [Class::R, Class::ON, Class::R, Class::ON];
     let found = pairs(rt.alloc(), &['B', '(', 'G', ')'], &types, &Parentheses)?;
     assert_eq!(rt; found.as_slice(), [(1, 3)].as_slice());
+    let mut search = PairSearch::new(rt.alloc());
+    search.find(&['(', '(', ')'], &[Class::ON; 3], &Parentheses)?;
+    assert_eq!(rt; search.pairs(), [(1, 2)].as_slice());
+    search.find(&['(', ')'], &[Class::ON; 2], &Parentheses)?;
+    assert_eq!(rt; search.pairs(), [(0, 1)].as_slice());
     resolve_pairs(&mut types, &[false; 4], &[(1, 3)], 0, Class::L);
     assert_eq!(rt; types.as_slice(), [Class::R; 4].as_slice());
     Ok(())

@@ -3,9 +3,8 @@ use Rattle.std.proofs.Common.{◌≡◌, ◌≢◌, ◌<◌, ◌≤◌, ◌+◌,
 use Rattle.std.proofs.lemmas.List.{get_or-set_same, get_or-set_other}
 use Rattle.bx_ucd.specs.declared.class.Class.{Class}
 use Rattle.bx_ucd.specs.declared.class.Class.TheVariants.{L}
-use Rattle.bx_explicit.specs.Links.{levels_before, waiting_before}
+use Rattle.bx_explicit.specs.Links.{levels_before}
 use Rattle.bx_explicit.proofs.Texts.{texts, texts-more}
-use Rattle.bx_explicit.proofs.Waiting.{waiting_in, waiting-more}
 
 here_or_later : (j k : ℕ) → j ≤ k → (k ≡ j) ⊎ (j + 1 ≤ k)
 here_or_later zero zero h = inl refl
@@ -23,6 +22,3 @@ done_more {A} want xs i j n x d e h m w done k low high =
 
 pub texts_back : (cs : List Class) (i j : ℕ) (t u : List ℕ) → j + 1 ≡ i → i ≤ length cs → t ≡ texts (drop i cs) → u ≡ levels_before (get_or cs j L) t → u ≡ texts (drop j cs)
 texts_back cs i j t u e h a b = b ∙ ap (levels_before (get_or cs j L)) (a ∙ ap (λ k. texts (drop k cs)) (sym e)) ∙ sym (texts-more cs j (omega arith))
-
-pub waiting_back : (cs : List Class) (i j : ℕ) (t u : List ℕ) → j + 1 ≡ i → i ≤ length cs → t ≡ waiting_in i (drop i cs) → u ≡ waiting_before j (get_or cs j L) t → u ≡ waiting_in j (drop j cs)
-waiting_back cs i j t u e h a b = b ∙ ap (waiting_before j (get_or cs j L)) (a ∙ ap (λ k. waiting_in k (drop k cs)) (sym e)) ∙ sym (waiting-more cs j (omega arith))

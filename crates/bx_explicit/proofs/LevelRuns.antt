@@ -5,7 +5,7 @@ use Rattle.std.proofs.Math.Seq.{take-length}
 use Rattle.std.proofs.Math.ListN.{length-set}
 use Rattle.bx_explicit.specs.declared.entry.Kept.{Kept}
 use Rattle.bx_explicit.specs.declared.runs.Run.{Run}
-use Rattle.bx_explicit.specs.Runs.{run, join_run, runs_from, kept_places, IsRunWithin}
+use Rattle.bx_explicit.specs.Runs.{run, join_run, runs_from, kept_places, IsRunWithin, AreRising}
 use Rattle.std.specs.Prelude.{All, ◌==◌}
 use Rattle.std.proofs.lemmas.List.Elements.{All-cons, All-nil, All-head, All-tail}
 
@@ -89,3 +89,24 @@ runs_within k (Some r ∷ g) = within_eq k (k + 1 + length g) (k + suc (length g
 
 pub all_within : (g : List (Option Kept)) → All (IsRunWithin 0 (length g)) (runs_from 0 g)
 all_within g = within_eq 0 (0 + length g) (length g) (runs_from 0 g) (omega arith) (runs_within 0 g)
+
+-- each run stands before those after it
+after_all : (k n : ℕ) (rs : List Run) → All (IsRunWithin (k + 1) n) rs → All (λ q. k < q.first) rs
+after_all k n rs a = λ i d h. let w : IsRunWithin (k + 1) n (get_or rs i d) = a i d h in omega (arith, w.starts)
+
+rising_join : (k n level : ℕ) (rs : List Run) → All (IsRunWithin (k + 1) n) rs → AreRising rs → AreRising (join_run k level rs)
+rising_join k n level [] a h = (omega arith, All-nil (λ (q : Run). k < q.first), tt)
+rising_join k n level (r ∷ rs) a h =
+    let w : IsRunWithin (k + 1) n r = All-head (IsRunWithin (k + 1) n) r rs a in
+    elim (r.level == level) as (λ v. AreRising (elim v as (λ x. List Run) [ true ↦ run level k r.last ∷ rs | false ↦ run level k k ∷ r ∷ rs ])) [
+      | true ↦ (omega (arith, w.starts, w.ordered), h.1, h.2)
+      | false ↦ (omega arith, after_all k n (r ∷ rs) a, h)
+    ]
+
+runs_rising : (k : ℕ) (g : List (Option Kept)) → AreRising (runs_from k g)
+runs_rising k [] = tt
+runs_rising k (None ∷ g) = runs_rising (k + 1) g
+runs_rising k (Some r ∷ g) = rising_join k (k + 1 + length g) r.level (runs_from (k + 1) g) (runs_within (k + 1) g) (runs_rising (k + 1) g)
+
+pub all_rising : (g : List (Option Kept)) → AreRising (runs_from 0 g)
+all_rising g = runs_rising 0 g

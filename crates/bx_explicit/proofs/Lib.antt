@@ -6,6 +6,9 @@ pub mod LevelRuns
 pub mod Texts
 pub mod Waiting
 pub mod Backward
-pub mod Chains
-pub mod Ends
+pub mod RunOrder
+pub mod Linked
+pub mod Joined
+pub mod Nearest
+pub mod PlacesLeft
 pub mod Bounds

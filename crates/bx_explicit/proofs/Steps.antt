@@ -15,6 +15,8 @@ use Rattle.std.proofs.lemmas.Bool.Decides.{nat_tests}
 use Rattle.bx_explicit.specs.declared.state.State.{State}
 use Rattle.bx_explicit.specs.Stack.{IsRising, top_of, after_isolate, after_embedding, entry}
 use Rattle.bx_explicit.proofs.Rising.{rising_push, rising_top, rising_length}
+use Rattle.bx_ucd.specs.declared.class.Class.TheVariants.{FSI}
+use Rattle.bx_explicit.specs.Links.{is_fsi}
 use Rattle.bx_explicit.specs.Explicit.{first_above, state_after, next_state, kept_by, explicit_from, embed, isolate, end_isolate, end_embedding, is_valid, start}
 
 abbrev pub total : State → ℕ
@@ -142,3 +144,15 @@ rising_run (suc k) (c ∷ cs) s h = rising_run k cs (next_state (role_of c) cs s
 -- the stack never holds more than 126 entries
 pub never_deep : (level k : ℕ) (cs : List Class) → level ≤ 125 → length (state_at k cs (start level)).stack ≤ 126
 never_deep level k cs h = let r : IsRising (state_at k cs (start level)).stack = rising_run k cs (start level) (h, tt, tt) in let a : length (state_at k cs (start level)).stack ≤ (top_of (state_at k cs (start level)).stack).level + 1 = rising_length (state_at k cs (start level)).stack r in let b : (top_of (state_at k cs (start level)).stack).level ≤ 125 = rising_top (state_at k cs (start level)).stack r in omega arith
+
+-- so the levels at other places do not matter
+for_fsi : (c : Class) (first n : ℕ) (s : State) → (is_fsi c ≡ true → first ≡ n) → state_after (role_of c) first s ≡ state_after (role_of c) n s
+for_fsi FSI first n s h = ap (λ m. state_after (role_of FSI) m s) (h refl)
+for_fsi _ first n s h = refl
+
+pub levels_for : (cs : List Class) (i : ℕ) (s : State) (first : ℕ) → i < length cs → (is_fsi (get_or cs i L) ≡ true → first ≡ isolate_level (drop (i + 1) cs)) → explicit_from s (drop i cs) ≡ kept_by (role_of (get_or cs i L)) (get_or cs i L) s (state_after (role_of (get_or cs i L)) first s) ∷ explicit_from (state_after (role_of (get_or cs i L)) first s) (drop (i + 1) cs)
+levels_for cs i s first h e =
+    let c : Class = get_or cs i L in
+    let n : ℕ = isolate_level (drop (i + 1) cs) in
+    let same : state_after (role_of c) n s ≡ state_after (role_of c) first s = sym (for_fsi c first n s e) in
+    levels_more cs i s n h refl ∙ ap (λ t. kept_by (role_of c) c s t ∷ explicit_from t (drop (i + 1) cs)) same

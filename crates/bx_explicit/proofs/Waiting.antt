@@ -1,11 +1,10 @@
 -- The PDIs that match no initiator, from the end of a text.
-use Rattle.std.proofs.Common.{◌≡◌, ◌<◌, ◌+◌, ◌-◌, ◌∙◌, ℕ, zero, suc, List, [], ◌∷◌, length, get_or, drop, refl, ap, sym, arith, true, false, Option, Some, None, subst, length-drop}
-use Rattle.std.specs.Prelude.{IfSome}
+use Rattle.std.proofs.Common.{◌≡◌, ◌<◌, ◌+◌, ◌∙◌, ℕ, zero, suc, List, [], ◌∷◌, length, get_or, drop, refl, ap, sym, arith, true, false, Option, Some, None}
 use Rattle.std.proofs.lemmas.List.{at_drop_more}
 use Rattle.bx_ucd.specs.declared.class.Class.{Class}
 use Rattle.bx_ucd.specs.declared.class.Class.TheVariants.{L, PDI, LRI, RLI, FSI}
 use Rattle.bx_ucd.specs.Class.{is_initiator}
-use Rattle.bx_explicit.specs.Matching.{count_after, before_pdi, one_more, match_after, match_of}
+use Rattle.bx_explicit.specs.Matching.{before_pdi, match_after, match_of}
 use Rattle.bx_explicit.specs.Links.{waiting_before, rest_places, first_place, match_by}
 use Rattle.bx_explicit.proofs.Scan.{further, further_more}
 
@@ -54,31 +53,3 @@ match_of-more cs i h = match_by-first i (get_or cs i L) (drop (i + 1) cs) ∙ sy
 
 pub waiting-more : (cs : List Class) (i : ℕ) → i < length cs → waiting_in i (drop i cs) ≡ waiting_before i (get_or cs i L) (waiting_in (i + 1) (drop (i + 1) cs))
 waiting-more cs i h = at_drop_more (waiting_in i) cs i L h
-
--- a matching PDI stands in the text
-one_more_lt : (b : Option ℕ) (m : ℕ) → IfSome b (λ k. k < m) → IfSome (one_more b) (λ k. k < suc m)
-one_more_lt None m h = tt
-one_more_lt (Some k) m h = omega arith
-
-before_lt : (n : ℕ) (cs : List Class) → IfSome (before_pdi n cs) (λ k. k < length cs)
-before_lt n [] = tt
-before_lt n (c ∷ cs) = elim (count_after n c) as (λ m. IfSome (elim m as (λ x. Option ℕ) [ zero ↦ Some 0 | suc p ↦ one_more (before_pdi (suc p) cs) ]) (λ k. k < suc (length cs))) [
-  | zero ↦ omega arith
-  | suc p ↦ one_more_lt (before_pdi (suc p) cs) (length cs) (before_lt (suc p) cs)
-]
-
-after_lt : (i n : ℕ) (b : Option ℕ) (m : ℕ) → i + 1 + m ≡ n → IfSome b (λ k. k < m) → IfSome (elim b as (λ x. Option ℕ) [ None ↦ None | Some k ↦ Some (i + 1 + k) ]) (λ p. p < n)
-after_lt i n None m e h = tt
-after_lt i n (Some k) m e h = omega arith
-
-match_after_lt : (i n : ℕ) (c : Class) (cs : List Class) → i + 1 + length cs ≡ n → IfSome (match_after i (c ∷ cs)) (λ p. p < n)
-match_after_lt i n c cs e = elim (is_initiator c) as (λ b. IfSome (elim b as (λ x. Option ℕ) [ false ↦ None | true ↦ elim (before_pdi 1 cs) as (λ x. Option ℕ) [ None ↦ None | Some k ↦ Some (i + 1 + k) ] ]) (λ p. p < n)) [
-  | false ↦ tt
-  | true ↦ after_lt i n (before_pdi 1 cs) (length cs) e (before_lt 1 cs)
-]
-
-pub match_of-within : (cs : List Class) (i : ℕ) → i < length cs → IfSome (match_of cs i) (λ p. p < length cs)
-match_of-within cs i h =
-    let n : length (drop (i + 1) cs) ≡ length cs - (i + 1) = length-drop (i + 1) cs in
-    let e : match_of cs i ≡ match_after i (get_or cs i L ∷ drop (i + 1) cs) = at_drop_more (match_after i) cs i L h in
-    subst (λ m. IfSome m (λ p. p < length cs)) (sym e) (match_after_lt i (length cs) (get_or cs i L) (drop (i + 1) cs) (omega arith))

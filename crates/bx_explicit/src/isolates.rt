@@ -1,7 +1,10 @@
 //! The directions of isolates that take theirs from their text (X5c), all in one scan from the end.
 ghost use Rattle.std.specs.Prelude.{◌≡◌, ℕ, ◌+◌, ◌<◌, List, [], ◌∷◌, IfOk, OnOk, reverse, length, drop, slice_index_or};
 ghost use Rattle.bx_explicit.specs.ParagraphLevel.{isolate_level};
-ghost use Rattle.bx_explicit.specs.Links.{levels_before, first_level};
+ghost use Rattle.std.specs.Prelude.{true};
+ghost use Rattle.std.specs.List.{list_any};
+ghost use Rattle.bx_ucd.specs.declared.class.Class.TheVariants.{L};
+ghost use Rattle.bx_explicit.specs.Links.{levels_before, first_level, is_fsi};
 
 use bx_ucd::Class;
 use std::alloc::{AllocError, Global};
@@ -57,12 +60,22 @@ impl TextLevels {
     }
 }
 
-/// For each place the paragraph level of the isolate that an initiator there would begin.
+/// Whether an isolate takes its direction from its text.
+fn has_fsi(classes: &[Class]) -> bool
+    ensures { result ≡ list_any is_fsi classes.now }
+{
+    classes.iter().any(|class| matches!(*class, Class::FSI))
+}
+
+/// For each FSI the paragraph level of its isolate.
 pub fn isolate_levels(alloc: Global, classes: &[Class]) -> Result<Vec<u8>, AllocError>
     ensures as_long { IfOk result (λ v. length v.items ≡ length classes.now) }
-    ensures levels { IfOk result (λ v. (i : ℕ) → i < length classes.now → slice_index_or v.items i 0 ≡ isolate_level (drop (i + 1) classes.now)) }
+    ensures levels { IfOk result (λ v. (i : ℕ) → i < length classes.now → is_fsi (slice_index_or classes.now i L) ≡ true → slice_index_or v.items i 0 ≡ isolate_level (drop (i + 1) classes.now)) }
 {
     let mut levels = vec![in alloc; 0; classes.len()]?;
+    if !has_fsi(classes) {
+        return Ok(levels);
+    }
     let mut texts = TextLevels::new(alloc);
     let mut i = classes.len();
     while i > 0 {

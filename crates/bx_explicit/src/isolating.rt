@@ -1,15 +1,13 @@
-//! Isolating run sequences and the types at their ends (BD13, X10).
-ghost use Rattle.std.specs.Prelude.{◌≡◌, ◌+◌, ◌<◌, ◌≤◌, IfOk, IfSome, All, length, reverse, drop, take, slice_index_or};
-ghost use Rattle.bx_explicit.specs.Runs.{run, IsRunWithin};
-ghost use Rattle.bx_explicit.specs.Sequences.{RunSequence, direction, level_of_first, start_class, level_after, end_class, followers, sequence_of, sequences};
-ghost use Rattle.bx_explicit.specs.Links.{AreMatches, AreNext, next_of, joined_index, with_mark};
+//! Isolating run sequences, each with its places (BD13, X10).
+ghost use Rattle.std.specs.Prelude.{◌≡◌, ◌<◌, ◌≤◌, ◌+◌, IfOk, All, length};
+ghost use Rattle.bx_explicit.specs.Runs.{runs_from};
+ghost use Rattle.bx_explicit.specs.Sequences.{RunSequence, sequence_at, sequences};
 
-use crate::entry::{Explicit, Kept};
+use crate::chaining::Chains;
+use crate::entry::Explicit;
 use crate::error::ExplicitError;
-use crate::matching::matches;
-use crate::runs::{Places, Run, add_places, runs};
+use crate::runs::Places;
 use bx_ucd::Class;
-use bx_ucd::class::is_initiator;
 use smallvec::SmallVec;
 use std::alloc::{AllocError, Global};
 use std::marker::Model;
@@ -59,162 +57,38 @@ impl Sequence {
     }
 }
 
-/// The direction of a level: L or R.
-pub fn direction(level: u8) -> Class
-    ensures { result ≡ direction level }
+/// The sequence that begins with run `i`.
+fn sequence_from(alloc: Global, chains: &Chains<'_>, i: usize) -> Result<Sequence, AllocError>
+    requires { i < length (runs_from 0 chains.now.kept.items) }
+    ensures { IfOk result (λ s. s ≡ sequence_at chains.now.level chains.now.classes.items chains.now.kept.items i) }
 {
-    if level % 2 == 0 { Class::L } else { Class::R }
-}
-
-/// The level of the last kept character, or the paragraph level.
-#[tactic(auto, using(crate::proofs::Ends::before_more, crate::proofs::Ends::before_here))]
-fn level_before(paragraph: u8, kept: &[Option<Kept>]) -> u8
-    ensures { result ≡ level_of_first paragraph (reverse kept.now) }
-{
-    let mut k = kept.len();
-    while k > 0 {
-        k -= 1;
-        if let Some(c) = kept[k] {
-            return c.level;
-        }
-    }
-    paragraph
-}
-
-/// The level of the first kept character, or the paragraph level.
-#[tactic(auto, using(crate::proofs::Ends::first_more, crate::proofs::Ends::first_here, crate::proofs::Ends::first_none))]
-fn level_of_first(paragraph: u8, kept: &[Option<Kept>]) -> u8
-    ensures { result ≡ level_of_first paragraph kept.now }
-{
-    for c in kept {
-        if let Some(c) = *c {
-            return c.level;
-        }
-    }
-    paragraph
-}
-
-/// The type before the first character of a run (X10).
-fn start_class(explicit: &Explicit, run: Run) -> Class
-    requires { run.first ≤ length explicit.now.kept.items }
-    ensures { result ≡ start_class explicit.now.level explicit.now.kept.items run }
-{
-    let before = level_before(explicit.level, &explicit.kept[..run.first]);
-    direction(run.level.max(before))
-}
-
-/// The level after the last character of a run (X10).
-fn level_after(explicit: &Explicit, last: usize) -> u8
-    requires { last < length explicit.now.kept.items }
-    ensures { result ≡ level_after explicit.now.level explicit.now.classes.items explicit.now.kept.items last }
-{
-    if is_initiator(explicit.classes[last]) {
-        explicit.level
-    } else {
-        level_of_first(explicit.level, &explicit.kept[last + 1..])
-    }
-}
-
-/// The type after the last character of a run (X10).
-fn end_class(explicit: &Explicit, run: Run) -> Class
-    requires { run.last < length explicit.now.kept.items }
-    ensures { result ≡ end_class explicit.now.level explicit.now.classes.items explicit.now.kept.items run }
-{
-    direction(run.level.max(level_after(explicit, run.last)))
-}
-
-/// The run that begins at a place, if there is a place.
-fn run_at(begun: &[Option<usize>], place: Option<usize>) -> Option<usize>
-    requires { IfSome place (λ p. p < length begun.now) }
-    ensures none { place ≡ None → result ≡ None }
-    ensures some { IfSome place (λ p. result ≡ slice_index_or begun.now p None) }
-{
-    match place {
-        Some(p) => begun[p],
-        None => None,
-    }
-}
-
-/// For each run the one that it is joined to.
-fn next_runs(
-    alloc: Global,
-    classes: &[Class],
-    matches: &[Option<usize>],
-    runs: &[Run],
-) -> Result<Vec<Option<usize>>, AllocError>
-    requires found { AreMatches classes.now matches.now }
-    requires within { All (IsRunWithin 0 (length classes.now)) runs.now }
-    ensures { IfOk result (λ v. AreNext classes.now runs.now v.items) }
-{
-    let mut begun = vec![in alloc; None; classes.len()]?;
-    let mut next = vec![in alloc; None; runs.len()]?;
-    let mut i = runs.len();
-    while i > 0 {
-        i -= 1;
-        let run = runs[i];
-        next[i] = run_at(&begun, matches[run.last]);
-        begun[run.first] = Some(i);
-    }
-    Ok(next)
-}
-
-/// The sequence of the chain that begins with run `i`.
-fn chain_sequence(
-    alloc: Global,
-    explicit: &Explicit,
-    runs: &[Run],
-    next: &[Option<usize>],
-    i: usize,
-) -> Result<Sequence, AllocError>
-    requires run { i < length runs.now }
-    requires within { All (IsRunWithin 0 (length explicit.now.kept.items)) runs.now }
-    requires linked { AreNext explicit.now.classes.items runs.now next.now }
-    ensures { IfOk result (λ s. s ≡ sequence_of explicit.now.level explicit.now.classes.items explicit.now.kept.items (slice_index_or runs.now i (run 0 0 0)) (followers explicit.now.classes.items (slice_index_or runs.now i (run 0 0 0)) (drop (i + 1) runs.now))) }
-{
-    let first = runs[i];
     let mut places = SmallVec::new(alloc);
-    add_places(&mut places, &explicit.kept, first)?;
-    let mut at = i;
-    while let Some(k) = next[at] {
-        add_places(&mut places, &explicit.kept, runs[k])?;
-        at = k;
+    let mut left = chains.places(i);
+    while let Some(place) = left.take_first() {
+        places.push(place)?;
     }
     Ok(Sequence {
         places,
-        level: first.level,
-        sos: start_class(explicit, first),
-        eos: end_class(explicit, runs[at]),
+        level: chains.level(i),
+        sos: chains.sos(i),
+        eos: chains.eos(i),
     })
-}
-
-/// Marks a place, if there is one.
-fn mark(marks: &mut Vec<bool>, place: Option<usize>)
-    requires { IfSome place (λ p. p < length marks.old.items) }
-    ensures { marks.new.items ≡ with_mark place marks.old.items }
-{
-    if let Some(p) = place {
-        marks[p] = true;
-    }
 }
 
 /// The isolating run sequences of a paragraph body, ordered by their first places, with the types at their ends (BD13,
 /// X10). It takes memory, and is refused only where there is none.
-#[tactic(auto, using(crate::proofs::Chains::sequences_all, crate::proofs::Bounds::sequences_low, crate::proofs::Bounds::sequences_below))]
+#[tactic(auto, using(crate::proofs::Joined::sequences_all, crate::proofs::Bounds::sequences_low, crate::proofs::Bounds::sequences_below))]
 pub fn sequences(alloc: Global, explicit: &Explicit) -> Result<Vec<Sequence>, ExplicitError>
     ensures sequences { IfOk result (λ v. v.items ≡ sequences explicit.now.level explicit.now.classes.items explicit.now.kept.items) }
     ensures low { IfOk result (λ v. All (λ s. s.level ≤ 125) v.items) }
     ensures within { IfOk result (λ v. All (λ s. All (λ p. p < length explicit.now.kept.items) s.places) v.items) }
 {
-    let runs = runs(alloc, &explicit.kept)?;
-    let matches = matches(alloc, &explicit.classes)?;
-    let next = next_runs(alloc, &explicit.classes, &matches, &runs)?;
-    let mut follows = vec![in alloc; false; explicit.classes.len()]?;
+    let chains = Chains::new(alloc, explicit)?;
     let mut all = Vec::new(alloc);
-    for (i, run) in runs.iter().enumerate() {
-        if !follows[run.first] {
-            all.push(chain_sequence(alloc, explicit, &runs, &next, i)?)?;
+    for i in 0..chains.len() {
+        if chains.begins(i) {
+            all.push(sequence_from(alloc, &chains, i)?)?;
         }
-        mark(&mut follows, matches[run.last]);
     }
     Ok(all)
 }

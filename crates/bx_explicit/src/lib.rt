@@ -2,11 +2,13 @@
 #![tactic(auto)]
 
 mod base;
+mod chaining;
+mod ends;
 mod entry;
 mod error;
 mod isolates;
 mod isolating;
-mod matching;
+mod linking;
 mod paragraph;
 mod role;
 mod rules;
@@ -17,8 +19,10 @@ mod state;
 mod tests;
 
 pub use base::Base;
+pub use chaining::{ChainPlaces, Chains};
+pub use ends::direction;
 pub use entry::{Explicit, Kept};
 pub use error::ExplicitError;
-pub use isolating::{Sequence, direction, sequences};
+pub use isolating::{Sequence, sequences};
 pub use paragraph::{base_level, paragraph_level};
-pub use rules::explicit;
+pub use rules::{explicit, explicit_from};

@@ -1,6 +1,6 @@
 //! Level runs (BD7).
-ghost use Rattle.std.specs.Prelude.{◌≡◌, ◌≤◌, ◌<◌, ◌++◌, IfOk, OnOk, All, length, reverse};
-ghost use Rattle.bx_explicit.specs.Runs.{join_run, runs_from, places_of, IsRunWithin};
+ghost use Rattle.std.specs.Prelude.{◌≡◌, IfOk, OnOk, All, length, reverse};
+ghost use Rattle.bx_explicit.specs.Runs.{join_run, runs_from, IsRunWithin, AreRising};
 
 use crate::entry::Kept;
 use smallvec::SmallVec;
@@ -41,10 +41,11 @@ fn join_run(runs: &mut Vec<Run>, k: usize, level: u8) -> Result<(), AllocError>
 }
 
 /// The level runs, in order.
-#[tactic(auto, using(crate::proofs::LevelRuns::runs_none, crate::proofs::LevelRuns::runs_some, crate::proofs::LevelRuns::all_within))]
+#[tactic(auto, using(crate::proofs::LevelRuns::runs_none, crate::proofs::LevelRuns::runs_some, crate::proofs::LevelRuns::all_within, crate::proofs::LevelRuns::all_rising))]
 pub fn runs(alloc: Global, kept: &[Option<Kept>]) -> Result<Vec<Run>, AllocError>
     ensures runs { IfOk result (λ v. v.items ≡ runs_from 0 kept.now) }
     ensures within { IfOk result (λ v. All (IsRunWithin 0 (length kept.now)) v.items) }
+    ensures rising { IfOk result (λ v. AreRising v.items) }
 {
     let mut runs = Vec::new(alloc);
     let mut k = kept.len();
@@ -56,19 +57,4 @@ pub fn runs(alloc: Global, kept: &[Option<Kept>]) -> Result<Vec<Run>, AllocError
     }
     runs.reverse();
     Ok(runs)
-}
-
-/// Adds the places of a run.
-#[tactic(auto, using(crate::proofs::LevelRuns::kept_some, crate::proofs::LevelRuns::kept_none, crate::proofs::LevelRuns::kept_all))]
-pub fn add_places(places: &mut Places, kept: &[Option<Kept>], run: Run) -> Result<(), AllocError>
-    requires ordered { run.first ≤ run.last }
-    requires within { run.last < length kept.now }
-    ensures { OnOk result (places.new.items ≡ places.old.items ++ places_of kept.now run) }
-{
-    for k in run.first..run.last + 1 {
-        if kept[k].is_some() {
-            places.push(k)?;
-        }
-    }
-    Ok(())
 }

@@ -17,6 +17,11 @@ fn unit_of(pattern: &str) -> &'static [char] {
         &['\u{2068}']
     } else if pattern == "terminators" {
         &['#', '#', '#', '#', '#', '#', '#', '\u{661}']
+    } else if pattern == "isolated_brackets" {
+        &[
+            '(', '\u{2067}', '(', '\u{2068}', '(', '\u{2067}', '\u{5d0}', '\u{2069}', ')',
+            '\u{2069}', 'a', ')', '\u{2069}', ')',
+        ]
     } else if pattern == "nested" {
         &[
             '(', '(', '(', '(', '(', '(', '(', '(', '!', '\u{5d0}', ')', ')', ')', ')', ')', ')',
@@ -30,8 +35,44 @@ fn unit_of(pattern: &str) -> &'static [char] {
     }
 }
 
+/// A text of terminators with a digit at its end, after a Hebrew letter.
+fn before_a_number(alloc: Global, count: usize) -> Result<Vec<char>, AllocError> {
+    let mut chars = Vec::new(alloc);
+    chars.push('\u{5d0}')?;
+    for _ in 2..count {
+        chars.push('#')?;
+    }
+    chars.push('1')?;
+    Ok(chars)
+}
+
+/// Text in 60 brackets around it, again and again: a thousand blanks and a Hebrew letter.
+fn deep_brackets(alloc: Global, count: usize) -> Result<Vec<char>, AllocError> {
+    let mut chars = Vec::new(alloc);
+    let mut k: usize = 0;
+    for _ in 0..count {
+        if k < 60 {
+            chars.push('(')?;
+        } else if k < 1060 {
+            chars.push(' ')?;
+        } else if k == 1060 {
+            chars.push('\u{5d0}')?;
+        } else {
+            chars.push(')')?;
+        }
+        k = if k >= 1120 { 0 } else { k.saturating_add(1) };
+    }
+    Ok(chars)
+}
+
 /// A text of a pattern.
 pub fn text(alloc: Global, pattern: &str, count: usize) -> Result<Vec<char>, AllocError> {
+    if pattern == "deep" {
+        return deep_brackets(alloc, count);
+    }
+    if pattern == "one_number" {
+        return before_a_number(alloc, count);
+    }
     let unit = unit_of(pattern);
     let mut chars = Vec::new(alloc);
     let mut k = 0;

@@ -1,5 +1,6 @@
 mod Rows
 pub mod Run
+pub mod Fused
 pub mod Written
 pub mod PlainRuns
 pub mod PlainPairs

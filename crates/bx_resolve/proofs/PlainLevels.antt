@@ -7,7 +7,8 @@ use Rattle.bx_ucd.specs.declared.class.Class.TheVariants.{L, EN, ES, ET, CS, NSM
 use Rattle.bx_ucd.specs.declared.data.Side.{Side}
 use Rattle.bx_explicit.specs.declared.entry.Kept.{Kept}
 use Rattle.bx_explicit.specs.Sequences.{sequences, direction}
-use Rattle.bx_resolve.specs.Levels.{with_levels, with_sequences, levels_in, sequence_levels, paragraph_levels, types_at}
+use Rattle.bx_resolve.specs.Levels.{with_levels, with_sequences, levels_in, sequence_types, sequence_levels, paragraph_levels, types_at}
+use Rattle.bx_resolve.specs.Neutral.{implicit_at}
 use Rattle.bx_resolve.specs.Plain.{is_plain, is_unformatted, all_pass}
 use Rattle.bx_resolve.proofs.PlainRuns.{Each, kept_as, explicit_plain, sequences_plain, whole, places_from, chars_whole, types_whole}
 use Rattle.bx_resolve.proofs.PlainLengths.{levels_length}
@@ -74,7 +75,7 @@ unformatted_levels class bracket paragraph chars e =
     let l : length cs ≡ length chars = length-map chars class in
     ap (λ ks. with_sequences bracket chars ks (sequences paragraph cs ks) (replicate (length chars) None)) (explicit_plain paragraph cs h) ∙ by_classes bracket paragraph chars cs (length chars) refl l
 
-pub unformatted_from : (class : ℕ → Class) (bracket : ℕ → Option (Side × ℕ)) (paragraph : ℕ) (chars : List ℕ) (cs : List Class) (side : Class) (ls : List ℕ) (each : List (Option ℕ)) → cs ≡ map class chars → all_pass is_unformatted cs ≡ true → side ≡ direction paragraph → ls ≡ sequence_levels bracket paragraph side side chars cs → each ≡ map found ls → each ≡ paragraph_levels class bracket paragraph chars
+unformatted_from : (class : ℕ → Class) (bracket : ℕ → Option (Side × ℕ)) (paragraph : ℕ) (chars : List ℕ) (cs : List Class) (side : Class) (ls : List ℕ) (each : List (Option ℕ)) → cs ≡ map class chars → all_pass is_unformatted cs ≡ true → side ≡ direction paragraph → ls ≡ sequence_levels bracket paragraph side side chars cs → each ≡ map found ls → each ≡ paragraph_levels class bracket paragraph chars
 unformatted_from class bracket paragraph chars cs side ls each c e s l m =
     let p : all_pass is_unformatted (map class chars) ≡ true = ap (all_pass is_unformatted) (sym c) ∙ e in
     m ∙ ap (map found) (l ∙ ap (λ d. sequence_levels bracket paragraph d d chars cs) s ∙ ap (sequence_levels bracket paragraph (direction paragraph) (direction paragraph) chars) c) ∙ sym (unformatted_levels class bracket paragraph chars p)
@@ -117,3 +118,11 @@ module _ (p : Class → Bool) where
 
   pub pass_all : (cs : List Class) → all_pass p (drop (length cs) cs) ≡ true
   pass_all cs = rw drop-length
+
+map_both : {A B C : Type 0} (f : A → B) (g : B → C) (xs : List A) → map (λ x. g (f x)) xs ≡ map g (map f xs)
+map_both f g [] = refl
+map_both f g (x ∷ xs) = ap (λ ws. g (f x) ∷ ws) (map_both f g xs)
+
+pub found_from : (class : ℕ → Class) (bracket : ℕ → Option (Side × ℕ)) (paragraph : ℕ) (chars : List ℕ) (cs ts us : List Class) (side : Class) (each : List (Option ℕ)) → cs ≡ map class chars → all_pass is_unformatted cs ≡ true → side ≡ direction paragraph → ts ≡ sequence_types bracket paragraph side side chars cs → us ≡ ts → each ≡ map (λ t. Some (implicit_at paragraph t)) us → each ≡ paragraph_levels class bracket paragraph chars
+found_from class bracket paragraph chars cs ts us side each c e s t u m =
+    unformatted_from class bracket paragraph chars cs side (map (implicit_at paragraph) ts) each c e s (ap (map (implicit_at paragraph)) t) (m ∙ ap (map (λ t. Some (implicit_at paragraph t))) u ∙ map_both (implicit_at paragraph) found ts)

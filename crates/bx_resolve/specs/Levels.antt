@@ -24,13 +24,17 @@ chars_at chars ps = map (λ p. slice_index_or chars p 0) ps
 abbrev pub types_at : List (Option Kept) → List ℕ → List Class
 types_at kept ps = map (λ p. type_of (slice_index_or kept p None)) ps
 
--- the levels of a sequence, from its characters and types: W1 to W7, N0, N1, N2, and I1 and I2
-abbrev pub sequence_levels : (ℕ → Option (Side × ℕ)) → ℕ → Class → Class → List ℕ → List Class → List ℕ
-sequence_levels bracket level sos eos chars ts =
+-- the types of a sequence that I1 and I2 see, from its characters and types: W1 to W7, N0, and N1 and N2
+abbrev pub sequence_types : (ℕ → Option (Side × ℕ)) → ℕ → Class → Class → List ℕ → List Class → List Class
+sequence_types bracket level sos eos chars ts =
     let embedding = direction level in
     let weak_types = weak sos ts in
     let paired = resolve_pairs embedding sos (map is_nsm ts) (pairs bracket chars weak_types) weak_types in
-    implicit level (n2 embedding (n1 sos eos paired))
+    n2 embedding (n1 sos eos paired)
+
+-- the levels of its characters, by I1 and I2
+abbrev pub sequence_levels : (ℕ → Option (Side × ℕ)) → ℕ → Class → Class → List ℕ → List Class → List ℕ
+sequence_levels bracket level sos eos chars ts = implicit level (sequence_types bracket level sos eos chars ts)
 
 -- the same of a sequence of a paragraph
 abbrev pub levels_in : (ℕ → Option (Side × ℕ)) → List ℕ → List (Option Kept) → RunSequence → List ℕ

@@ -1,5 +1,6 @@
 pub mod Places
 pub mod Weak
+pub mod Turns
 pub mod Neutral
 pub mod Levels
 pub mod Plain

@@ -26,7 +26,7 @@ pub fn classes_of<D: BidiData>(
 }
 
 /// The type of the character at a place, after overrides.
-fn type_at(kept: &[Option<Kept>], place: usize) -> Class
+pub fn type_at(kept: &[Option<Kept>], place: usize) -> Class
     requires { place < length kept.now }
     ensures { result ≡ type_of (slice_index_or kept.now place None) }
 {
@@ -82,8 +82,8 @@ fn implicit(alloc: Global, types: &[Class], level: u8) -> Result<Vec<u8>, AllocE
     types.iter().map(|t| implicit_at(level, *t)).collect(alloc)
 }
 
-/// Gives the types of a sequence those after N2, rule by rule.
-pub fn resolve<D: BidiData>(
+/// The levels of a sequence's characters, from those and their types, rule by rule.
+fn resolve<D: BidiData>(
     alloc: Global,
     source: &D,
     chars: &[char],

@@ -4,9 +4,11 @@
 mod answer;
 mod by_rules;
 mod error;
+mod formatted;
 mod neutral;
 mod plain;
 mod resolve;
+mod scratch;
 #[cfg(test)]
 mod tests;
 mod weak;

@@ -1,6 +1,6 @@
 //! The rules for neutral types and the implicit levels.
 ghost use Rattle.std.specs.Prelude.{◌≡◌, ◌≤◌, ◌+◌};
-ghost use Rattle.bx_resolve.specs.Neutral.{side_of, side, agreed, n1, n2, implicit_at};
+ghost use Rattle.bx_resolve.specs.Neutral.{side_of, side, agreed, n1, n2, n2_at, implicit_at};
 
 use bx_ucd::Class;
 use bx_ucd::class::is_neutral;
@@ -68,6 +68,41 @@ pub fn n2(types: &mut [Class], embedding: Class)
     for t in types.iter_mut() {
         if is_neutral(*t) {
             *t = embedding;
+        }
+    }
+}
+
+/// What N1 and N2 make of a neutral between two directions.
+fn taken(t: Class, before: Class, after: Class, embedding: Class) -> Class
+    ensures { result ≡ n2_at embedding (agreed t before after) }
+{
+    let agreed = agreed(t, before, after);
+    if is_neutral(agreed) {
+        embedding
+    } else {
+        agreed
+    }
+}
+
+/// N1 and N2 in one pass.
+#[tactic(auto, using(crate::proofs::Run::run_write, crate::proofs::Run::run_keep, crate::proofs::Fused::neutral_run, crate::proofs::Run::side_more, crate::proofs::Fused::keeps_other))]
+pub fn neutral(types: &mut [Class], sos: Class, eos: Class, embedding: Class)
+    ensures { types.new ≡ n2 embedding (n1 sos eos types.old) }
+{
+    let mut before = sos;
+    let mut known: Option<Class> = None;
+    for i in 0..types.len() {
+        let t = types[i];
+        if is_neutral(t) {
+            let after = match known {
+                Some(after) => after,
+                None => side(eos, &types[i + 1..]),
+            };
+            known = Some(after);
+            types[i] = taken(t, before, after, embedding);
+        } else {
+            before = side_of(t);
+            known = None;
         }
     }
 }

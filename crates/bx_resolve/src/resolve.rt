@@ -1,21 +1,29 @@
 //! The levels of a paragraph.
 ghost use Rattle.std.specs.Prelude.{◌≡◌, ◌≤◌, IfOk, Some, map, true};
+ghost use Rattle.bx_resolve.specs.Neutral.{implicit_at};
 ghost use Rattle.bx_resolve.specs.Levels.{paragraph_levels, paragraph_level_under, levels_under};
 ghost use Rattle.bx_resolve.specs.Plain.{is_unformatted, all_pass};
 
 use crate::answer::Levels;
-use crate::by_rules::{classes_of, levels_from, resolve};
+use crate::by_rules::classes_of;
 use crate::error::ResolveError;
+use crate::formatted::formatted_levels;
+use crate::neutral::implicit_at;
 use crate::plain::{are_plain, are_unformatted};
+use crate::scratch::{Ends, Scratch};
 use bx_explicit::{Base, base_level, direction};
 use bx_ucd::{BidiData, Class};
 use std::alloc::{AllocError, Global};
 
-/// The levels, each found.
-fn found_levels(alloc: Global, levels: &[u8]) -> Result<Vec<Option<u8>>, AllocError>
-    ensures { IfOk result (λ v. v.items ≡ map (λ l. Some l) levels.now) }
+/// The levels of resolved types in a sequence of a level, each found.
+fn found_levels(alloc: Global, types: &[Class], level: u8) -> Result<Vec<Option<u8>>, AllocError>
+    requires { level ≤ 125 }
+    ensures { IfOk result (λ v. v.items ≡ map (λ t. Some (implicit_at level t)) types.now) }
 {
-    levels.iter().map(|level| Some(*level)).collect(alloc)
+    types
+        .iter()
+        .map(|t| Some(implicit_at(level, *t)))
+        .collect(alloc)
 }
 
 /// The levels of a paragraph body of a level that has no formatting characters, and so is one sequence.
@@ -33,8 +41,13 @@ fn unformatted_levels<D: BidiData>(
     ensures each { IfOk result (λ v. v.each.items ≡ paragraph_levels (D.class_of source.now) (D.bracket_of source.now) paragraph chars.now) }
 {
     let side = direction(paragraph);
-    let found = resolve(alloc, source, chars, classes, paragraph, side, side)?;
-    let each = found_levels(alloc, &found)?;
+    let ends = Ends {
+        level: paragraph,
+        sos: side,
+        eos: side,
+    };
+    Scratch::new(alloc).resolve(source, chars, classes, ends)?;
+    let each = found_levels(alloc, classes, paragraph)?;
     Ok(Levels { paragraph, each })
 }
 
@@ -59,5 +72,5 @@ pub fn levels<D: BidiData>(
     if are_unformatted(&classes) {
         return unformatted_levels(alloc, chars, source, &mut classes, paragraph);
     }
-    levels_from(alloc, chars, source, &classes, paragraph)
+    formatted_levels(alloc, chars, source, classes, paragraph)
 }

@@ -1,9 +1,11 @@
 //! The worked examples and outside values, each call with ample memory.
+mod rows;
 mod tables;
 mod vectors;
 
-use crate::{levels, levels_by_rules};
+use crate::{Levels, levels, levels_by_rules};
 use bx_explicit::Base;
+use rows::ROWS;
 use std::alloc::Global;
 use std::process::Abort;
 use std::test::Fail;
@@ -51,6 +53,25 @@ fn shown(alloc: Global, each: &[Option<u8>]) -> Result<String, Fail> {
     Ok(text)
 }
 
+/// Both bodies give the same under each base.
+fn check_agreement(rt: &impl Abort, alloc: Global, chars: &[char]) -> Result<(), Fail> {
+    for base in [Base::Auto, Base::Ltr, Base::Rtl] {
+        let by_rules = levels_by_rules(alloc, chars, &TestTables, base)?;
+        let found = levels(alloc, chars, &TestTables, base)?;
+        assert_eq!(rt;
+            found.paragraph,
+            by_rules.paragraph,
+            "in {chars:?} {base:?}"
+        );
+        assert_eq!(rt;
+            found.each.as_slice(),
+            by_rules.each.as_slice(),
+            "in {chars:?} {base:?}"
+        );
+    }
+    Ok(())
+}
+
 /// One line of the outside values.
 fn check_line(rt: &impl Abort, alloc: Global, line: &str) -> Result<(), Fail> {
     let mut fields = line.split('\t');
@@ -65,14 +86,7 @@ fn check_line(rt: &impl Abort, alloc: Global, line: &str) -> Result<(), Fail> {
         "in {line}"
     );
     assert_eq!(rt; shown(alloc, &by_rules.each)?.as_str(), each, "in {line}");
-    let found = levels(alloc, &chars, &TestTables, base)?;
-    assert_eq!(rt; found.paragraph, by_rules.paragraph, "in {line}");
-    assert_eq!(rt;
-        found.each.as_slice(),
-        by_rules.each.as_slice(),
-        "in {line}"
-    );
-    Ok(())
+    check_agreement(rt, alloc, &chars)
 }
 
 /// A character of each class but B.
@@ -83,19 +97,11 @@ const SAMPLES: [char; 22] = [
 ];
 
 #[test]
-fn both_bodies_agree(rt: HostRuntime) -> Result<(), Fail> {
+fn both_bodies_agree_on_three_characters(rt: HostRuntime) -> Result<(), Fail> {
     for a in SAMPLES {
         for b in SAMPLES {
             for c in SAMPLES {
-                let text = [a, b, c];
-                let by_rules = levels_by_rules(rt.alloc(), &text, &TestTables, Base::Auto)?;
-                let found = levels(rt.alloc(), &text, &TestTables, Base::Auto)?;
-                assert_eq!(rt; found.paragraph, by_rules.paragraph, "in {text:?}");
-                assert_eq!(rt;
-                    found.each.as_slice(),
-                    by_rules.each.as_slice(),
-                    "in {text:?}"
-                );
+                check_agreement(&rt, rt.alloc(), &[a, b, c])?;
             }
         }
     }
@@ -111,11 +117,86 @@ fn levels_of_random_texts(rt: HostRuntime) -> Result<(), Fail> {
 }
 
 #[test]
+fn worked_rows(rt: HostRuntime) -> Result<(), Fail> {
+    for row in ROWS.lines() {
+        let (_shows, line) = row.split_once('\t').ok_or("no row")?;
+        check_line(&rt, rt.alloc(), line)?;
+    }
+    Ok(())
+}
+
+/// Adds a character some times.
+fn add(chars: &mut Vec<char>, c: char, times: usize) -> Result<(), Fail> {
+    for _ in 0..times {
+        chars.push(c)?;
+    }
+    Ok(())
+}
+
+/// The levels by both bodies, which agree.
+fn levels_by_both(rt: &impl Abort, alloc: Global, chars: &[char]) -> Result<Levels, Fail> {
+    check_agreement(rt, alloc, chars)?;
+    Ok(levels(alloc, chars, &TestTables, Base::Auto)?)
+}
+
+#[test]
 fn isolates_never_closed(rt: HostRuntime) -> Result<(), Fail> {
-    let mut chars = vec![in rt.alloc(); '\u{2067}'; 1000]?;
-    chars.push('a')?;
-    let levels = levels_by_rules(rt.alloc(), &chars, &TestTables, Base::Auto)?;
+    let mut chars = Vec::new(rt.alloc());
+    add(&mut chars, '\u{2067}', 1000)?;
+    add(&mut chars, 'a', 1)?;
+    let levels = levels_by_both(&rt, rt.alloc(), &chars)?;
     assert_eq!(rt; levels.paragraph, 0);
     assert_eq!(rt; levels.each.last().copied(), Some(Some(126)));
+    Ok(())
+}
+
+#[test]
+fn pdis_that_close_nothing(rt: HostRuntime) -> Result<(), Fail> {
+    let mut chars = Vec::new(rt.alloc());
+    add(&mut chars, '\u{2069}', 1000)?;
+    add(&mut chars, 'a', 1)?;
+    let levels = levels_by_both(&rt, rt.alloc(), &chars)?;
+    let zeros = vec![in rt.alloc(); Some(0); 1001]?;
+    assert_eq!(rt; levels.each.as_slice(), zeros.as_slice());
+    Ok(())
+}
+
+#[test]
+fn embeddings_at_the_limit(rt: HostRuntime) -> Result<(), Fail> {
+    let mut chars = Vec::new(rt.alloc());
+    add(&mut chars, '\u{202b}', 63)?;
+    add(&mut chars, 'a', 1)?;
+    let levels = levels_by_both(&rt, rt.alloc(), &chars)?;
+    assert_eq!(rt; levels.each.last().copied(), Some(Some(126)));
+    let mut chars = Vec::new(rt.alloc());
+    add(&mut chars, '\u{202b}', 64)?;
+    add(&mut chars, '\u{202c}', 1)?;
+    add(&mut chars, 'a', 1)?;
+    let levels = levels_by_both(&rt, rt.alloc(), &chars)?;
+    assert_eq!(rt; levels.each.last().copied(), Some(Some(126)));
+    Ok(())
+}
+
+/// `a`, some openers, a Hebrew letter, as many closers, and another.
+fn nested_brackets(alloc: Global, depth: usize) -> Result<Vec<char>, Fail> {
+    let mut chars = Vec::new(alloc);
+    add(&mut chars, 'a', 1)?;
+    add(&mut chars, '(', depth)?;
+    add(&mut chars, '\u{5d0}', 1)?;
+    add(&mut chars, ')', depth)?;
+    add(&mut chars, '\u{5d0}', 1)?;
+    Ok(chars)
+}
+
+#[test]
+fn brackets_at_the_limit(rt: HostRuntime) -> Result<(), Fail> {
+    let chars = nested_brackets(rt.alloc(), 63)?;
+    let levels = levels_by_both(&rt, rt.alloc(), &chars)?;
+    assert_eq!(rt; levels.each.get(63).copied(), Some(Some(0)));
+    assert_eq!(rt; levels.each.get(65).copied(), Some(Some(0)));
+    let chars = nested_brackets(rt.alloc(), 64)?;
+    let levels = levels_by_both(&rt, rt.alloc(), &chars)?;
+    assert_eq!(rt; levels.each.get(64).copied(), Some(Some(0)));
+    assert_eq!(rt; levels.each.get(66).copied(), Some(Some(1)));
     Ok(())
 }

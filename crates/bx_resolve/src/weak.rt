@@ -1,6 +1,7 @@
 //! The rules for weak types (W1 to W7), each over a whole sequence.
-ghost use Rattle.std.specs.Prelude.{◌≡◌};
-ghost use Rattle.bx_resolve.specs.Weak.{is_nsm, is_en, is_an, is_et, is_left_or_right, mark_after, number_after, w3_at, separator, is_en_past, terminator_of, w6_at, left_number, w1, w2, w3, w4, w5, w6, w7, weak};
+ghost use Rattle.std.specs.Prelude.{◌≡◌, MatchOption, true};
+ghost use Rattle.bx_resolve.specs.Turns.{after_w3, marked, mark_next, number_of, strong_next, ahead, terminated, past_next, left_of, side_next};
+ghost use Rattle.bx_resolve.specs.Weak.{is_nsm, is_en, is_an, is_et, is_left_or_right, mark_after, number_after, w3_at, beside, separator, is_en_past, terminator_of, w6_at, left_number, w1, w2, w3, w4, w5, w6, w7, weak};
 
 use bx_ucd::Class;
 
@@ -90,6 +91,56 @@ fn w3(types: &mut [Class])
     }
 }
 
+/// The type after W1.
+fn marked(mark: Class, t: Class) -> Class
+    ensures { result ≡ marked mark t }
+{
+    match t {
+        Class::NSM => mark,
+        _ => t,
+    }
+}
+
+/// What a later NSM becomes.
+fn mark_next(mark: Class, t: Class) -> Class
+    ensures { result ≡ mark_next mark t }
+{
+    match t {
+        Class::NSM => mark,
+        _ => mark_after(t),
+    }
+}
+
+/// The type after W2.
+fn number_of(strong: Class, t: Class) -> Class
+    ensures { result ≡ number_of strong t }
+{
+    match t {
+        Class::EN => number_after(strong),
+        _ => t,
+    }
+}
+
+/// The nearest strong type from now on.
+fn strong_next(strong: Class, t: Class) -> Class
+    ensures { result ≡ strong_next strong t }
+{
+    match t {
+        Class::L | Class::R | Class::AL => t,
+        _ => strong,
+    }
+}
+
+/// The type after W3.
+fn w3_at(t: Class) -> Class
+    ensures { result ≡ w3_at t }
+{
+    match t {
+        Class::AL => Class::R,
+        _ => t,
+    }
+}
+
 /// W4: single separators between numbers.
 #[tactic(auto, using(crate::proofs::Run::run_write, crate::proofs::Run::run_keep, crate::proofs::Run::w4_run))]
 fn w4(types: &mut [Class])
@@ -175,6 +226,161 @@ fn w7(types: &mut [Class], sos: Class)
             Class::EN => *t = left_number(strong),
             Class::L | Class::R => strong = *t,
             _ => {}
+        }
+    }
+}
+
+/// The type after W3 of the first character of a list, or ON where there is none.
+fn beside_ahead(mark: Class, strong: Class, types: &[Class]) -> Class
+    ensures { result ≡ beside (after_w3 mark strong types.now) }
+{
+    match types {
+        [] => Class::ON,
+        [t, ..] => w3_at(number_of(strong, marked(mark, *t))),
+    }
+}
+
+/// The type after W4, where the one before is `before` after W3. Only a separator looks ahead.
+fn parted(before: Class, t: Class, mark: Class, strong: Class, rest: &[Class]) -> Class
+    ensures { result ≡ separator before t (beside (after_w3 mark strong rest.now)) }
+{
+    match t {
+        Class::ES | Class::CS => separator(before, t, beside_ahead(mark, strong, rest)),
+        _ => t,
+    }
+}
+
+/// Whether the nearest type after W3 that is no ET is EN.
+#[tactic(auto, using(crate::proofs::Fused::past_et, crate::proofs::Fused::past_other, crate::proofs::Fused::past_end))]
+fn is_en_ahead(mark: Class, strong: Class, types: &[Class]) -> bool
+    ensures { result ≡ is_en_past (after_w3 mark strong types.now) }
+{
+    let mut mark = mark;
+    let mut strong = strong;
+    for i in 0..types.len() {
+        let t = types[i];
+        let after_w1 = marked(mark, t);
+        let after_w3 = w3_at(number_of(strong, after_w1));
+        if after_w3 != Class::ET {
+            return after_w3 == Class::EN;
+        }
+        mark = mark_next(mark, t);
+        strong = strong_next(strong, after_w1);
+    }
+    false
+}
+
+/// Whether the run of ET that `t` is of stands before an EN, where that may be known.
+fn look_ahead(
+    known: Option<bool>,
+    t: Class,
+    mark: Class,
+    strong: Class,
+    rest: &[Class],
+) -> Option<bool>
+    requires { MatchOption known (Unit {0}) (λ a. is_et t ≡ true → a ≡ is_en_past (after_w3 mark strong rest.now)) }
+    ensures { result ≡ ahead t (after_w3 mark strong rest.now) }
+{
+    if t != Class::ET {
+        return None;
+    }
+    match known {
+        Some(after) => Some(after),
+        None => Some(is_en_ahead(mark, strong, rest)),
+    }
+}
+
+/// The type after W5.
+fn terminated(t: Class, before: bool, ahead: Option<bool>) -> Class
+    ensures { result ≡ terminated t before ahead }
+{
+    match ahead {
+        Some(after) => terminator_of(before, after),
+        None => t,
+    }
+}
+
+/// Whether an EN stands before a run of ET, from now on.
+fn past_next(past: bool, t: Class) -> bool
+    ensures { result ≡ past_next past t }
+{
+    match t {
+        Class::ET => past,
+        _ => t == Class::EN,
+    }
+}
+
+/// The type after W6.
+fn w6_at(t: Class) -> Class
+    ensures { result ≡ w6_at t }
+{
+    match t {
+        Class::ES | Class::ET | Class::CS => Class::ON,
+        _ => t,
+    }
+}
+
+/// The type after W7.
+fn left_of(side: Class, t: Class) -> Class
+    ensures { result ≡ left_of side t }
+{
+    match t {
+        Class::EN => left_number(side),
+        _ => t,
+    }
+}
+
+/// The nearest L or R from now on.
+fn side_next(side: Class, t: Class) -> Class
+    ensures { result ≡ side_next side t }
+{
+    match t {
+        Class::L | Class::R => t,
+        _ => side,
+    }
+}
+
+/// Whether the rules leave a type as it is, whatever stands beside it.
+fn is_settled(t: Class) -> bool
+    ensures { result ≡ is_left_or_right t }
+{
+    matches!(t, Class::L | Class::R)
+}
+
+/// W1 to W7 in one pass.
+#[tactic(auto, using(crate::proofs::Fused::go_write, crate::proofs::Fused::weak_run, crate::proofs::Fused::known_after, crate::proofs::Fused::settled_keep))]
+pub fn fast_weak(types: &mut [Class], sos: Class)
+    ensures { types.new ≡ weak sos types.old }
+{
+    let mut mark = sos;
+    let mut strong = sos;
+    let mut before = Class::ON;
+    let mut past = false;
+    let mut side = sos;
+    let mut known: Option<bool> = None;
+    for i in 0..types.len() {
+        let whole: &[Class] = &types[..];
+        let t = whole[i];
+        if is_settled(t) {
+            mark = t;
+            strong = t;
+            before = t;
+            past = false;
+            side = t;
+            known = None;
+        } else {
+            let rest = &whole[i + 1..];
+            let after_w1 = marked(mark, t);
+            let after_w3 = w3_at(number_of(strong, after_w1));
+            mark = mark_next(mark, t);
+            strong = strong_next(strong, after_w1);
+            let parted = parted(before, after_w3, mark, strong, rest);
+            known = look_ahead(known, parted, mark, strong, rest);
+            let left = w6_at(terminated(parted, past, known));
+            types[i] = left_of(side, left);
+            before = after_w3;
+            past = past_next(past, parted);
+            side = side_next(side, left);
         }
     }
 }

@@ -17,13 +17,14 @@ loop-pair-preserved c =
     let before : Class = c.context-before.result in
     let long : length ts ≡ length c.args.types.now = omega arith in
     let w : IsPairWithin (length ts) pq = subst (λ n. IsPairWithin n pq) (sym long) (c.requires.within i (0, 0) (omega arith)) in
-    let new : c.resolve_in.new.types ≡ resolve_in e before was pq ts = c.resolve_in.ensures in
+    let new : c.resolve_in-clears.new.types ≡ resolve_in e before was pq ts = c.resolve_in-clears.ensures.types in
     let context : before ≡ context_of sos ts pq.0 = c.context-before.ensures in
-    let same : take pq.0 c.resolve_in.new.types ≡ take pq.0 ts = ap (take pq.0) new ∙ take_resolved e before was pq ts w in
+    let same : take pq.0 c.resolve_in-clears.new.types ≡ take pq.0 ts = ap (take pq.0) new ∙ take_resolved e before was pq ts w in
     let low : pq.0 < pq.1 = w.ordered in
     let high : pq.1 < length ts = w.ends in
     record {
       within = omega arith;
       context = context ∙ sym (ap (λ xs. nearest sos (reverse xs)) same);
+      clear = c.resolve_in-clears.ensures.clear;
       done = c.loop-pair.invariant.done ∙ pairs_more e sos was ps i (0, 0) ts (omega arith) ∙ ap (resolve_pairs e sos was (drop (i + 1) ps)) (ap (λ x. resolve_in e x was pq ts) (sym context) ∙ sym new);
     }

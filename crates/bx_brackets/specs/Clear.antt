@@ -1,0 +1,28 @@
+-- What the walk over the pairs knows to be clear of a direction, so that it looks at no place again.
+use Rattle.std.specs.Prelude.{◌≡◌, ◌≤◌, ◌<◌, ℕ, false, true, List, slice_index_or, max, min}
+use Rattle.bx_ucd.specs.declared.class.Class.{Class}
+use Rattle.bx_ucd.specs.declared.class.Class.TheVariants.{L}
+use Rattle.bx_brackets.specs.declared.resolve.Clear.{Clear}
+use Rattle.bx_brackets.specs.declared.resolve.Clears.{Clears}
+use Rattle.bx_brackets.specs.Resolve.{counts_as, opposite}
+
+-- no type of a range counts as the direction
+abbrev pub IsClear : Class → List Class → Clear → Type 0
+IsClear d ts c = (k : ℕ) → c.from ≤ k → k < c.to → counts_as d (slice_index_or ts k L) ≡ false
+
+pub record AreClear (embedding : Class) (ts : List Class) (c : Clears) : Type 0 where
+  pub embedding_is : IsClear embedding ts c.embedding
+  pub other_is : IsClear (opposite embedding) ts c.other
+
+-- two lists are the same from a place on
+abbrev pub AreSameFrom : ℕ → List Class → List Class → Type 0
+AreSameFrom n old new = (k : ℕ) → n ≤ k → slice_index_or new k L ≡ slice_index_or old k L
+
+abbrev pub between : Clear → ℕ → ℕ → Clear
+between c from to = record { from = max c.from from; to = min c.to to }
+
+abbrev pub clear_after : Class → Class → Clears → ℕ → ℕ → Clears
+clear_after embedding d c from to = elim (counts_as embedding d) [
+  | true ↦ record c { embedding = between c.embedding from to }
+  | false ↦ record c { other = between c.other from to }
+]

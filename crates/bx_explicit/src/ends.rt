@@ -1,0 +1,72 @@
+//! The types at the ends of an isolating run sequence (X10).
+ghost use Rattle.std.specs.Prelude.{◌≡◌, ◌<◌, ◌≤◌, length, reverse};
+ghost use Rattle.bx_explicit.specs.Sequences.{direction, level_of_first, start_class, level_after, end_class};
+
+use crate::entry::{Explicit, Kept};
+use crate::runs::Run;
+use bx_ucd::Class;
+use bx_ucd::class::is_initiator;
+
+/// The direction of a level: L or R.
+pub fn direction(level: u8) -> Class
+    ensures { result ≡ direction level }
+{
+    if level % 2 == 0 { Class::L } else { Class::R }
+}
+
+/// The level of the last kept character, or the paragraph level.
+#[tactic(auto, using(crate::proofs::Nearest::before_more, crate::proofs::Nearest::before_here))]
+fn level_before(paragraph: u8, kept: &[Option<Kept>]) -> u8
+    ensures { result ≡ level_of_first paragraph (reverse kept.now) }
+{
+    let mut k = kept.len();
+    while k > 0 {
+        k -= 1;
+        if let Some(c) = kept[k] {
+            return c.level;
+        }
+    }
+    paragraph
+}
+
+/// The level of the first kept character, or the paragraph level.
+#[tactic(auto, using(crate::proofs::Nearest::first_more, crate::proofs::Nearest::first_here, crate::proofs::Nearest::first_none))]
+fn level_of_first(paragraph: u8, kept: &[Option<Kept>]) -> u8
+    ensures { result ≡ level_of_first paragraph kept.now }
+{
+    for c in kept {
+        if let Some(c) = *c {
+            return c.level;
+        }
+    }
+    paragraph
+}
+
+/// The type before the first character of a run (X10).
+pub fn start_class(explicit: &Explicit, run: Run) -> Class
+    requires { run.first ≤ length explicit.now.kept.items }
+    ensures { result ≡ start_class explicit.now.level explicit.now.kept.items run }
+{
+    let before = level_before(explicit.level, &explicit.kept[..run.first]);
+    direction(run.level.max(before))
+}
+
+/// The level after the last character of a run (X10).
+fn level_after(explicit: &Explicit, last: usize) -> u8
+    requires { last < length explicit.now.kept.items }
+    ensures { result ≡ level_after explicit.now.level explicit.now.classes.items explicit.now.kept.items last }
+{
+    if is_initiator(explicit.classes[last]) {
+        explicit.level
+    } else {
+        level_of_first(explicit.level, &explicit.kept[last + 1..])
+    }
+}
+
+/// The type after the last character of a run (X10).
+pub fn end_class(explicit: &Explicit, run: Run) -> Class
+    requires { run.last < length explicit.now.kept.items }
+    ensures { result ≡ end_class explicit.now.level explicit.now.classes.items explicit.now.kept.items run }
+{
+    direction(run.level.max(level_after(explicit, run.last)))
+}

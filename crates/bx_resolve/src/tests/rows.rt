@@ -1,0 +1,20 @@
+//! Worked examples of the rules.
+
+/// A line each: what it shows, the characters in hexadecimal, the base, the paragraph level, and a level each.
+pub const ROWS: &str = "\
+right to left in left to right\t0061 0020 05D0 05D1 0020 0062\tauto\t0\t0 0 1 1 0 0\n\
+the same from right to left\t0061 0020 05D0 05D1 0020 0062\trtl\t1\t2 1 1 1 1 2\n\
+digits after letters\t05D0 05D1 0020 0031 0032\tauto\t1\t1 1 1 2 2\n\
+the same from left to right\t05D0 05D1 0020 0031 0032\tltr\t0\t1 1 1 2 2\n\
+brackets take the embedding direction\t05D0 05D1 0020 0028 0061 0029 0020 05D2\tauto\t1\t1 1 1 1 2 1 1 1\n\
+an isolate\t0061 2067 05D1 2069 0063\tauto\t0\t0 0 1 0 0\n\
+a number after an isolate\t0061 2067 05D1 2069 0021 0031\tauto\t0\t0 0 1 0 0 0\n\
+an isolate in an isolate of its own direction\t2068 2066 0061 2069 05D1 2069 0063\tauto\t0\t0 1 2 1 1 0 0\n\
+the same in a text from right to left\t2068 2066 0061 2069 05D1 2069 0063\trtl\t1\t1 3 4 3 3 1 2\n\
+inner brackets see outer ones\t0061 05D1 0028 0028 05D2 0029 05D0 0064 0029\tauto\t0\t0 1 0 0 1 0 1 0 0\n\
+a comma between Arabic numbers\t0627 0031 002C 0032\tauto\t1\t1 2 2 2\n\
+a plus between Arabic numbers\t0627 0031 002B 0032\tauto\t1\t1 2 1 2\n\
+a mark follows its bracket\t05D0 0020 0061 0028 0062 0029 0301 0020 05D1\tauto\t1\t1 1 2 2 2 2 2 1 1\n\
+a mark under an override does not\t202B 0061 0028 0062 0029 202C 202E 0301 202C\tauto\t0\tx 2 2 2 2 x x 1 x\n\
+an Arabic number counts as right\t0661 0020 05D0\tltr\t0\t2 1 1\n\
+no characters\t-\tauto\t0\t-";
