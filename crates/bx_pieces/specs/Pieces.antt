@@ -1,5 +1,7 @@
 -- Sequences of pieces, cut at offsets in bytes.
-use Rattle.std.specs.Prelude.{◌^◌, ◌<◌, ℕ, ◌+◌, ◌-◌, nat_le, ◌==◌, List, [], ◌∷◌, Option, Some, None, if◌then◌else◌}
+use Rattle.std.specs.Prelude.{◌^◌, ◌<◌, ◌&&◌, ℕ, ◌+◌, ◌-◌, Bool, true, false, nat_le, ◌==◌, List, [], ◌∷◌, ◌++◌, Option, Some, None, if◌then◌else◌}
+use Rattle.bx_pieces.specs.declared.piece.Buffer.{Buffer}
+use Rattle.bx_pieces.specs.declared.piece.Buffer.TheVariants.{Opened, Added}
 use Rattle.bx_pieces.specs.declared.piece.Piece.{Piece}
 
 -- how many bytes the pieces have
@@ -42,6 +44,35 @@ front (p ∷ ps) k = if nat_le p.len k then p ∷ front ps (k - p.len) else if k
 abbrev pub back : List Piece → ℕ → List Piece
 back [] k = []
 back (p ∷ ps) k = if nat_le p.len k then back ps (k - p.len) else if k == 0 then p ∷ ps else rest_of p k ∷ ps
+
+-- a piece begins where another one ends
+abbrev pub are_same : Buffer → Buffer → Bool
+are_same Opened Opened = true
+are_same Opened Added = false
+are_same Added Opened = false
+are_same Added Added = true
+
+abbrev pub goes_on : Piece → Piece → Bool
+goes_on p q = are_same p.buffer q.buffer && (p.start + p.len == q.start)
+
+abbrev pub last_of : List Piece → Option Piece
+last_of [] = None
+last_of (p ∷ []) = Some p
+last_of (p ∷ x ∷ ps) = last_of (x ∷ ps)
+
+-- the last piece with so many bytes more
+abbrev pub longer : List Piece → ℕ → List Piece
+longer [] n = []
+longer (p ∷ []) n = record p { len = p.len + n } ∷ []
+longer (p ∷ x ∷ ps) n = p ∷ longer (x ∷ ps) n
+
+-- one piece more: where it begins where the last one ends, that one is made longer
+abbrev pub pushed_after : Option Piece → List Piece → Piece → List Piece
+pushed_after None ps q = ps ++ q ∷ []
+pushed_after (Some p) ps q = if goes_on p q then longer ps q.len else ps ++ q ∷ []
+
+abbrev pub pushed : List Piece → Piece → List Piece
+pushed ps q = pushed_after (last_of ps) ps q
 
 -- each piece ends at an offset that a machine can count
 abbrev pub IsAddressable : List Piece → Type 0

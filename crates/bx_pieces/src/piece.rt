@@ -1,3 +1,6 @@
+ghost use Rattle.std.specs.Prelude.{◌≡◌};
+ghost use Rattle.bx_pieces.specs.Pieces.{goes_on};
+
 /// Where the bytes of a piece stand.
 #[derive(Clone, Copy, PartialEq, Eq, Debug)]
 pub enum Buffer {
@@ -15,4 +18,13 @@ pub struct Piece {
     pub start: usize,
     /// How many bytes it has.
     pub len: usize,
+}
+
+impl Piece {
+    /// Whether another piece begins where this one ends.
+    pub fn goes_on(&self, next: &Piece) -> bool
+        ensures { result ≡ goes_on self.now next.now }
+    {
+        self.buffer == next.buffer && next.start.checked_sub(self.start) == Some(self.len)
+    }
 }

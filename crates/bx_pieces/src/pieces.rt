@@ -1,7 +1,7 @@
 //! Sequences of pieces.
 
 ghost use Rattle.std.specs.Prelude.{◌≡◌, [], ◌∷◌, ◌++◌, ◌+◌, ◌<◌, ◌≤◌, ◌^◌, ◌↔◌, IsTrue};
-ghost use Rattle.bx_pieces.specs.Pieces.{total, front, back, holding, IsAddressable};
+ghost use Rattle.bx_pieces.specs.Pieces.{total, front, back, holding, pushed, IsAddressable};
 
 use crate::piece::Piece;
 use crate::spares::Spares;
@@ -58,6 +58,24 @@ impl Pieces {
         Pieces {
             tree: tree::join(self.tree, others.tree),
         }
+    }
+
+    /// Adds a piece behind them: where it begins where the last one ends, that one is made longer.
+    /// No memory.
+    pub fn push(&mut self, piece: Piece, spares: &mut Spares)
+        requires spare { 0 < spares.old }
+        requires fits { total self.old + piece.len < 2 ^ 64 }
+        ensures pieces { self.new ≡ pushed self.old piece }
+        ensures spares { spares.old ≤ spares.new + 1 }
+    {
+        if let Some(last) = tree::last(&self.tree)
+            && last.goes_on(&piece)
+            && let Some(tree) = &mut self.tree
+        {
+            tree::lengthen(&mut **tree, piece.len);
+            return;
+        }
+        self.tree = tree::join(self.tree.take(), Some(spares.tree_of(piece)));
     }
 
     /// The piece that the byte at an offset stands in, and how many bytes of it stand before that one;

@@ -35,6 +35,23 @@ fn a_piece_is_cut_in_two(rt: HostRuntime) -> Result<(), Fail> {
 }
 
 #[test]
+fn a_piece_that_goes_on_makes_the_last_one_longer(rt: HostRuntime) -> Result<(), Fail> {
+    let mut spares = Spares::new(rt.alloc());
+    spares.fill(3)?;
+    let mut pieces = Pieces::new();
+    for start in [10usize, 15, 30] {
+        spares.fill(1)?;
+        if pieces.len() < 15 {
+            pieces.push(piece(start, 5), &mut spares);
+        }
+    }
+    assert_eq!(rt; pieces.len(), 15);
+    assert_eq!(rt; pieces.holding(7), Some((piece(10, 10), 7)));
+    assert_eq!(rt; pieces.holding(12), Some((piece(30, 5), 2)));
+    Ok(())
+}
+
+#[test]
 fn many_pieces_stay_in_order(rt: HostRuntime) -> Result<(), Fail> {
     let mut spares = Spares::new(rt.alloc());
     let mut pieces = Pieces::new();

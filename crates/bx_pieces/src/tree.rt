@@ -1,7 +1,7 @@
 //! The tree: a treap, whose forks each know how many bytes they have below them.
 
 ghost use Rattle.std.specs.Prelude.{◌≡◌, [], ◌∷◌, ◌++◌, ◌+◌, ◌<◌, ◌≤◌, ◌^◌, length, map, IfSome};
-ghost use Rattle.bx_pieces.specs.Pieces.{total, before, across, after, holding, first_of, rest_of, IsAddressable};
+ghost use Rattle.bx_pieces.specs.Pieces.{total, before, across, after, holding, first_of, rest_of, last_of, longer, IsAddressable};
 ghost use Rattle.bx_pieces.specs.Tree.{sequence};
 
 use crate::piece::{Buffer, Piece};
@@ -111,6 +111,39 @@ fn add_before(first: Box<Tree>, tree: &mut Tree)
 {
     tree.len += first.len;
     tree.left = join(Some(first), tree.left.take());
+}
+
+/// The last piece. No memory.
+#[cycle(ending)]
+pub fn last(tree: &Link) -> Option<Piece>
+    ensures { result ≡ last_of (sequence tree.now) }
+{
+    match tree {
+        None => None,
+        Some(tree) => last_in(&**tree),
+    }
+}
+
+#[cycle(ending)]
+#[tactic(auto, using(crate::proofs::Ends::last_of_append))]
+fn last_in(tree: &Tree) -> Option<Piece>
+    ensures { result ≡ last_of tree.now }
+{
+    last(&tree.right).or(Some(tree.piece))
+}
+
+/// Makes the last piece so many bytes longer. No memory.
+#[tactic(auto, using(crate::proofs::Cuts::total_append, crate::proofs::Ends::longer_here, crate::proofs::Ends::longer_later, crate::proofs::Ends::total_longer))]
+pub fn lengthen(tree: &mut Tree, by: usize)
+    requires { total tree.old + by < 2 ^ 64 }
+    ensures longer { tree.new ≡ longer tree.old by }
+    ensures some { 0 < length tree.old }
+{
+    tree.len += by;
+    match &mut tree.right {
+        None => tree.piece.len += by,
+        Some(right) => lengthen(&mut **right, by),
+    }
 }
 
 /// The piece that the byte at an offset stands in, and how many bytes of it stand before that one;

@@ -1,24 +1,27 @@
 -- The bytes of pieces that are cut and put together.
-use Rattle.std.proofs.Common.{◌≡◌, ℕ, ◌+◌, ◌-◌, ◌<◌, ◌≤◌, ◌^◌, Bool, true, false, nat_le, ◌==◌, List, [], ◌∷◌, ◌++◌, length, take, drop, zero, suc, refl, ap, sym, ◌∙◌, append_assoc, length-append, if◌then◌else◌, arith}
+use Rattle.std.proofs.Common.{◌≡◌, ℕ, ◌+◌, ◌-◌, ◌<◌, ◌≤◌, ◌^◌, Bool, true, false, nat_le, ◌==◌, List, [], ◌∷◌, ◌++◌, length, take, drop, zero, suc, refl, ap, sym, subst, ◌∙◌, append_assoc, length-append, arith}
 use Rattle.std.proofs.lemmas.Bool.Decides.{nat_tests}
 use Rattle.std.proofs.lemmas.List.{append-nil, length-take-le, length-drop, take-take, drop-drop, drop-take, take-append-le, drop-append-le}
-use Rattle.std.proofs.Math.Seq.{take-append-add, drop-append-add, take-add}
+use Rattle.std.proofs.Math.Seq.{take-append-add, drop-append-add}
 use Rattle.bx_pieces.specs.declared.piece.Buffer.{Buffer}
 use Rattle.bx_pieces.specs.declared.piece.Buffer.TheVariants.{Opened, Added}
 use Rattle.bx_pieces.specs.declared.piece.Piece.{Piece}
 use Rattle.bx_pieces.specs.Pieces.{total, front, back, first_of, rest_of, IsAddressable}
-use Rattle.bx_text.specs.Buffers.{Buffers, buffer_bytes, piece_bytes, bytes_of, ArePlaced}
+use Rattle.std.proofs.lemmas.Str.{IsUtf8-nil, IsUtf8-append, IsUtf8-take, IsUtf8-drop}
+use Rattle.std.specs.Str.{IsUtf8, IsCharBoundary}
+use Rattle.bx_text.specs.Buffers.{Buffers, buffer_bytes, piece_bytes, bytes_of, IsPlaced, ArePlaced}
+use Rattle.bx_text.proofs.Characters.{IsCharBoundary-left, IsCharBoundary-right}
 
 -- ---- one piece
 
-pub length-piece_bytes : (b : Buffers) (p : Piece) → p.start + p.len ≤ length (buffer_bytes b p.buffer) → length (piece_bytes b p) ≡ p.len
+pub length-piece_bytes : (b : Buffers) (p : Piece) → IsPlaced b p → length (piece_bytes b p) ≡ p.len
 length-piece_bytes b p h =
-    length-take-le p.len (drop p.start (buffer_bytes b p.buffer)) (omega (arith, length-drop p.start (buffer_bytes b p.buffer)))
+    length-take-le p.len (drop p.start (buffer_bytes b p.buffer)) (omega (arith, length-drop p.start (buffer_bytes b p.buffer), h.inside))
 
 first_bytes : (b : Buffers) (p : Piece) (k : ℕ) → k ≤ p.len → piece_bytes b (first_of p k) ≡ take k (piece_bytes b p)
 first_bytes b p k h = sym (take-take k p.len (drop p.start (buffer_bytes b p.buffer)) h)
 
-rest_bytes : (b : Buffers) (p : Piece) (k : ℕ) → k ≤ p.len → piece_bytes b (rest_of p k) ≡ drop k (piece_bytes b p)
+pub rest_bytes : (b : Buffers) (p : Piece) (k : ℕ) → k ≤ p.len → piece_bytes b (rest_of p k) ≡ drop k (piece_bytes b p)
 rest_bytes b p k h =
     let text = buffer_bytes b p.buffer in
     let e : p.len ≡ k + (p.len - k) = omega arith in
@@ -57,7 +60,7 @@ in_memory b p o a h = omega (arith, short_buffer b p.buffer o a)
 
 pub IsAddressable-placed : (b : Buffers) (ps : List Piece) → length b.opened < 2 ^ 64 → length b.added < 2 ^ 64 → ArePlaced b ps → IsAddressable ps
 IsAddressable-placed b [] o a h = h
-IsAddressable-placed b (p ∷ ps) o a h = (in_memory b p o a h.0, IsAddressable-placed b ps o a h.1)
+IsAddressable-placed b (p ∷ ps) o a h = (in_memory b p o a h.0.inside, IsAddressable-placed b ps o a h.1)
 
 -- ---- bytes
 
@@ -79,13 +82,13 @@ take_past xs ys n k e h =
     let f : k ≡ length xs + (k - n) = omega (arith, e) in
     ap (λ m. take m (xs ++ ys)) f ∙ take-append-add xs ys (k - n)
 
-drop_past : (xs ys : List ℕ) (n k : ℕ) → length xs ≡ n → n ≤ k → drop k (xs ++ ys) ≡ drop (k - n) ys
+pub drop_past : (xs ys : List ℕ) (n k : ℕ) → length xs ≡ n → n ≤ k → drop k (xs ++ ys) ≡ drop (k - n) ys
 drop_past xs ys n k e h =
     let f : k ≡ length xs + (k - n) = omega (arith, e) in
     ap (λ m. drop m (xs ++ ys)) f ∙ drop-append-add xs ys (k - n)
 
 front_bytes_at : (b : Buffers) (fits none : Bool) (x : Piece) (xs : List Piece) (k : ℕ) → nat_le x.len k ≡ fits → (k == 0) ≡ none
-    → x.start + x.len ≤ length (buffer_bytes b x.buffer) → bytes_of b (front xs (k - x.len)) ≡ take (k - x.len) (bytes_of b xs)
+    → IsPlaced b x → bytes_of b (front xs (k - x.len)) ≡ take (k - x.len) (bytes_of b xs)
     → bytes_of b (front (x ∷ xs) k) ≡ take k (bytes_of b (x ∷ xs))
 front_bytes_at b true none x xs k e f placed more =
     rw e (ap (λ ys. piece_bytes b x ++ ys) more ∙ sym (take_past (piece_bytes b x) (bytes_of b xs) x.len k (length-piece_bytes b x placed) (grind (arith, nat_tests))))
@@ -102,7 +105,7 @@ bytes_of-front b [] (suc k) h = refl
 bytes_of-front b (x ∷ xs) k h = front_bytes_at b (nat_le x.len k) (k == 0) x xs k refl refl h.0 (bytes_of-front b xs (k - x.len) h.1)
 
 back_bytes_at : (b : Buffers) (fits none : Bool) (x : Piece) (xs : List Piece) (k : ℕ) → nat_le x.len k ≡ fits → (k == 0) ≡ none
-    → x.start + x.len ≤ length (buffer_bytes b x.buffer) → bytes_of b (back xs (k - x.len)) ≡ drop (k - x.len) (bytes_of b xs)
+    → IsPlaced b x → bytes_of b (back xs (k - x.len)) ≡ drop (k - x.len) (bytes_of b xs)
     → bytes_of b (back (x ∷ xs) k) ≡ drop k (bytes_of b (x ∷ xs))
 back_bytes_at b true none x xs k e f placed more =
     rw e (more ∙ sym (drop_past (piece_bytes b x) (bytes_of b xs) x.len k (length-piece_bytes b x placed) (grind (arith, nat_tests))))
@@ -118,28 +121,41 @@ bytes_of-back b [] zero h = refl
 bytes_of-back b [] (suc k) h = refl
 bytes_of-back b (x ∷ xs) k h = back_bytes_at b (nat_le x.len k) (k == 0) x xs k refl refl h.0 (bytes_of-back b xs (k - x.len) h.1)
 
-front_placed_at : (b : Buffers) (fits none : Bool) (x : Piece) (xs : List Piece) (k : ℕ) → nat_le x.len k ≡ fits → (k == 0) ≡ none
-    → ArePlaced b (x ∷ xs) → (ArePlaced b xs → ArePlaced b (front xs (k - x.len))) → ArePlaced b (front (x ∷ xs) k)
-front_placed_at b true none x xs k e f h more = rw e (h.0, more h.1)
-front_placed_at b false true x xs k e f h more = rw (e, f) tt
-front_placed_at b false false x xs k e f h more =
-    let short : k ≤ x.len = grind (arith, nat_tests) in
-    let placed : x.start + x.len ≤ length (buffer_bytes b x.buffer) = h.0 in
-    rw (e, f) (omega arith, tt)
+pub IsUtf8-bytes_of : (b : Buffers) (ps : List Piece) → ArePlaced b ps → IsUtf8 (bytes_of b ps)
+IsUtf8-bytes_of b [] h = IsUtf8-nil
+IsUtf8-bytes_of b (p ∷ ps) h = IsUtf8-append (piece_bytes b p) (bytes_of b ps) h.0.utf8 (IsUtf8-bytes_of b ps h.1)
 
-pub ArePlaced-front : (b : Buffers) (ps : List Piece) (k : ℕ) → ArePlaced b ps → ArePlaced b (front ps k)
-ArePlaced-front b [] k h = h
-ArePlaced-front b (x ∷ xs) k h = front_placed_at b (nat_le x.len k) (k == 0) x xs k refl refl h (ArePlaced-front b xs (k - x.len))
+-- a piece cut between two characters
+first_placed : (b : Buffers) (x : Piece) (xs : List Piece) (k : ℕ) → IsPlaced b x → k ≤ x.len → IsCharBoundary (bytes_of b (x ∷ xs)) k → IsPlaced b (first_of x k)
+first_placed b x xs k h short c =
+    let at : IsCharBoundary (piece_bytes b x) k = IsCharBoundary-left (piece_bytes b x) (bytes_of b xs) k (omega (arith, length-piece_bytes b x h)) c in
+    record { inside = omega (arith, h.inside); utf8 = subst IsUtf8 (sym (first_bytes b x k short)) (IsUtf8-take (piece_bytes b x) k h.utf8 at) }
+
+rest_placed : (b : Buffers) (x : Piece) (xs : List Piece) (k : ℕ) → IsPlaced b x → k ≤ x.len → IsCharBoundary (bytes_of b (x ∷ xs)) k → IsPlaced b (rest_of x k)
+rest_placed b x xs k h short c =
+    let at : IsCharBoundary (piece_bytes b x) k = IsCharBoundary-left (piece_bytes b x) (bytes_of b xs) k (omega (arith, length-piece_bytes b x h)) c in
+    record { inside = omega (arith, h.inside); utf8 = subst IsUtf8 (sym (rest_bytes b x k short)) (IsUtf8-drop (piece_bytes b x) k h.utf8 at) }
+
+-- a place past the first piece
+further_bounds : (b : Buffers) (x : Piece) (xs : List Piece) (k : ℕ) → IsPlaced b x → x.len ≤ k → IsCharBoundary (bytes_of b (x ∷ xs)) k → IsCharBoundary (bytes_of b xs) (k - x.len)
+further_bounds b x xs k h past c = IsCharBoundary-right (piece_bytes b x) (bytes_of b xs) x.len k (length-piece_bytes b x h) past c
+
+front_placed_at : (b : Buffers) (fits none : Bool) (x : Piece) (xs : List Piece) (k : ℕ) → nat_le x.len k ≡ fits → (k == 0) ≡ none
+    → ArePlaced b (x ∷ xs) → IsCharBoundary (bytes_of b (x ∷ xs)) k → (IsCharBoundary (bytes_of b xs) (k - x.len) → ArePlaced b (front xs (k - x.len))) → ArePlaced b (front (x ∷ xs) k)
+front_placed_at b true none x xs k e f h c more = rw e (h.0, more (further_bounds b x xs k h.0 (grind (arith, nat_tests)) c))
+front_placed_at b false true x xs k e f h c more = rw (e, f) tt
+front_placed_at b false false x xs k e f h c more = rw (e, f) (first_placed b x xs k h.0 (grind (arith, nat_tests)) c, tt)
+
+pub ArePlaced-front : (b : Buffers) (ps : List Piece) (k : ℕ) → ArePlaced b ps → IsCharBoundary (bytes_of b ps) k → ArePlaced b (front ps k)
+ArePlaced-front b [] k h c = h
+ArePlaced-front b (x ∷ xs) k h c = front_placed_at b (nat_le x.len k) (k == 0) x xs k refl refl h c (ArePlaced-front b xs (k - x.len) h.1)
 
 back_placed_at : (b : Buffers) (fits none : Bool) (x : Piece) (xs : List Piece) (k : ℕ) → nat_le x.len k ≡ fits → (k == 0) ≡ none
-    → ArePlaced b (x ∷ xs) → (ArePlaced b xs → ArePlaced b (back xs (k - x.len))) → ArePlaced b (back (x ∷ xs) k)
-back_placed_at b true none x xs k e f h more = rw e (more h.1)
-back_placed_at b false true x xs k e f h more = rw (e, f) h
-back_placed_at b false false x xs k e f h more =
-    let short : k ≤ x.len = grind (arith, nat_tests) in
-    let placed : x.start + x.len ≤ length (buffer_bytes b x.buffer) = h.0 in
-    rw (e, f) (omega arith, h.1)
+    → ArePlaced b (x ∷ xs) → IsCharBoundary (bytes_of b (x ∷ xs)) k → (IsCharBoundary (bytes_of b xs) (k - x.len) → ArePlaced b (back xs (k - x.len))) → ArePlaced b (back (x ∷ xs) k)
+back_placed_at b true none x xs k e f h c more = rw e (more (further_bounds b x xs k h.0 (grind (arith, nat_tests)) c))
+back_placed_at b false true x xs k e f h c more = rw (e, f) h
+back_placed_at b false false x xs k e f h c more = rw (e, f) (rest_placed b x xs k h.0 (grind (arith, nat_tests)) c, h.1)
 
-pub ArePlaced-back : (b : Buffers) (ps : List Piece) (k : ℕ) → ArePlaced b ps → ArePlaced b (back ps k)
-ArePlaced-back b [] k h = h
-ArePlaced-back b (x ∷ xs) k h = back_placed_at b (nat_le x.len k) (k == 0) x xs k refl refl h (ArePlaced-back b xs (k - x.len))
+pub ArePlaced-back : (b : Buffers) (ps : List Piece) (k : ℕ) → ArePlaced b ps → IsCharBoundary (bytes_of b ps) k → ArePlaced b (back ps k)
+ArePlaced-back b [] k h c = h
+ArePlaced-back b (x ∷ xs) k h c = back_placed_at b (nat_le x.len k) (k == 0) x xs k refl refl h c (ArePlaced-back b xs (k - x.len) h.1)

@@ -1,6 +1,9 @@
+pub mod Characters
 pub mod Bytes
 pub mod Versions
+pub mod Pushed
 pub mod Replaced
 pub mod Held
 pub mod Turned
 pub mod Rows
+pub mod Lent

@@ -1,42 +1,46 @@
 -- A step taken back or made again: the text after it, and the step that undoes it.
-use Rattle.std.proofs.Common.{◌≡◌, ℕ, ◌+◌, ◌-◌, ◌<◌, ◌≤◌, List, [], ◌∷◌, ◌++◌, length, take, drop, reverse, ◌^◌, refl, ap, sym, subst, ◌∙◌, arith}
+use Rattle.std.proofs.Common.{◌≡◌, ℕ, ◌+◌, ◌<◌, ◌≤◌, List, [], ◌∷◌, ◌++◌, length, take, drop, reverse, ◌^◌, IfSome, refl, ap, sym, subst, ◌∙◌, arith}
 use Rattle.std.proofs.lemmas.List.{length-take-le, length-drop, reverse-append}
 use Rattle.bx_pieces.specs.declared.piece.Piece.{Piece}
 use Rattle.bx_pieces.specs.Pieces.{total, front, back}
 use Rattle.bx_text.specs.declared.step.Step.{Step}
 use Rattle.bx_text.specs.Buffers.{Buffers, bytes_of, ArePlaced}
-use Rattle.bx_text.specs.Edits.{Edit, Edited, spliced, undone, redone, largest}
+use Rattle.bx_text.specs.Edits.{Edit, IsRange, Leads, spliced, undone, redone, next_undo, next_redo, largest}
 use Rattle.bx_text.specs.Steps.{swapped, past_of, future_of, AreSteps, turned_pieces, turned_step, Turns}
-use Rattle.bx_text.proofs.Bytes.{length-bytes_of}
-use Rattle.bx_text.proofs.Versions.{swapped_bytes, swapped_placed, old_bytes, old_placed, length-spliced, spliced_back}
+use Rattle.bx_text.proofs.Characters.{IsRange-spliced}
+use Rattle.bx_text.proofs.Bytes.{length-bytes_of, IsUtf8-bytes_of}
+use Rattle.bx_text.proofs.Versions.{swapped_bytes, swapped_placed, old_bytes, old_placed, length-spliced, spliced_back, spliced_leads}
 
-module _ (b : Buffers) (ps : List Piece) (s : Step) (placed : ArePlaced b ps) (inside : s.start + s.len ≤ length (bytes_of b ps)) (span_placed : ArePlaced b s.span) where
+module _ (b : Buffers) (ps : List Piece) (s : Step) (placed : ArePlaced b ps) (range : IsRange (bytes_of b ps) s.start (s.start + s.len)) (span_placed : ArePlaced b s.span) where
   pub turned_bytes : bytes_of b (turned_pieces ps s) ≡ swapped b (bytes_of b ps) s
-  turned_bytes = swapped_bytes b ps s.span s.start s.len placed
+  turned_bytes = swapped_bytes b ps s.span s.start s.len placed range.start_bounds
 
   pub turned_placed : ArePlaced b (turned_pieces ps s)
-  turned_placed = swapped_placed b ps s.span s.start s.len placed span_placed
+  turned_placed = swapped_placed b ps s.span s.start s.len placed span_placed range
 
   pub turned_total : total (front (back ps s.start) s.len) ≡ s.len
   turned_total =
-      sym (length-bytes_of b (front (back ps s.start) s.len) (old_placed b ps s.start s.len placed))
-      ∙ ap length (old_bytes b ps s.start s.len placed)
-      ∙ length-take-le s.len (drop s.start (bytes_of b ps)) (omega (arith, length-drop s.start (bytes_of b ps)))
+      sym (length-bytes_of b (front (back ps s.start) s.len) (old_placed b ps s.start s.len placed range))
+      ∙ ap length (old_bytes b ps s.start s.len placed range)
+      ∙ length-take-le s.len (drop s.start (bytes_of b ps)) (omega (arith, length-drop s.start (bytes_of b ps), range.stop_bounds.0))
 
   pub turned_back : swapped b (bytes_of b (turned_pieces ps s)) (turned_step ps s) ≡ bytes_of b ps
   turned_back =
       ap (λ (t : List ℕ). spliced t s.start (s.start + total s.span) (bytes_of b (front (back ps s.start) s.len))) turned_bytes
-      ∙ ap (spliced (swapped b (bytes_of b ps) s) s.start (s.start + total s.span)) (old_bytes b ps s.start s.len placed)
+      ∙ ap (spliced (swapped b (bytes_of b ps) s) s.start (s.start + total s.span)) (old_bytes b ps s.start s.len placed range)
       ∙ ap (λ n. spliced (swapped b (bytes_of b ps) s) s.start (s.start + n) (take s.len (drop s.start (bytes_of b ps)))) (sym (length-bytes_of b s.span span_placed))
-      ∙ spliced_back (bytes_of b ps) (bytes_of b s.span) s.start s.len inside
+      ∙ spliced_back (bytes_of b ps) (bytes_of b s.span) s.start s.len range.stop_bounds.0
 
   pub turned_steps : (steps others : List Step) → length (bytes_of b ps) ≤ largest → AreSteps b (bytes_of b ps) others
       → AreSteps b (bytes_of b (turned_pieces ps s)) (turned_step ps s ∷ others)
-  turned_steps steps others short h =
-      let count : length (bytes_of b (turned_pieces ps s)) + s.len ≡ length (bytes_of b ps) + total s.span =
-      ap (λ (t : List ℕ). length t + s.len) turned_bytes ∙ length-spliced (bytes_of b ps) (bytes_of b s.span) s.start s.len inside
-      ∙ ap (λ n. length (bytes_of b ps) + n) (length-bytes_of b s.span span_placed) in
-      (omega (arith, count), old_placed b ps s.start s.len placed, rw turned_back short, rw turned_back h)
+  turned_steps steps others short h = (
+    subst (λ t. IsRange t s.start (s.start + total s.span)) (sym turned_bytes)
+        (subst (λ n. IsRange (swapped b (bytes_of b ps) s) s.start (s.start + n)) (length-bytes_of b s.span span_placed)
+        (IsRange-spliced (bytes_of b ps) (bytes_of b s.span) s.start s.len (IsUtf8-bytes_of b ps placed) (IsUtf8-bytes_of b s.span span_placed) range)),
+    old_placed b ps s.start s.len placed range,
+    rw turned_back short,
+    rw turned_back h,
+  )
 
   pub turned_future : (others : List Step)
       → future_of b (bytes_of b (turned_pieces ps s)) (turned_step ps s ∷ others)
@@ -88,9 +92,9 @@ pub span_short : (b : Buffers) (ps : List Piece) (items rest : List Step) (s : S
     → AreSteps b (bytes_of b ps) (reverse items) → items ≡ rest ++ s ∷ [] → total ps + total s.span < 2 ^ 64
 span_short b ps items rest s placed short steps e =
     let h : AreSteps b (bytes_of b ps) (s ∷ reverse rest) = subst (AreSteps b (bytes_of b ps)) (reverse_last rest items s e) steps in
-    let inside : s.start + s.len ≤ length (bytes_of b ps) = h.0 in
+    let range : IsRange (bytes_of b ps) s.start (s.start + s.len) = h.0 in
     let after : length (swapped b (bytes_of b ps) s) ≤ largest = h.2 in
-    omega (arith, length-spliced (bytes_of b ps) (bytes_of b s.span) s.start s.len inside, length-bytes_of b s.span h.1, length-bytes_of b ps placed)
+    omega (arith, length-spliced (bytes_of b ps) (bytes_of b s.span) s.start s.len range.stop_bounds.0, length-bytes_of b s.span h.1, length-bytes_of b ps placed)
 
 pub record IsTurned (b : Buffers) (P : List Piece) (from to : List Step) : Type 0 where
   pub placed : ArePlaced b P
@@ -132,3 +136,28 @@ redone_view b ps from to P from' to' placed from_steps t =
     let next = reverse_last from' from s t.1 in
     let h : AreSteps b (bytes_of b ps) (s ∷ reverse from') = subst (AreSteps b (bytes_of b ps)) next from_steps in
     rw (t.2, reverse_last to to' (turned_step ps s) t.3, next) (redone_is b ps s placed h.0 h.1 (reverse to) (reverse from'))
+
+-- what a step turned leads to
+step_leads : (b : Buffers) (ps : List Piece) (s : Step) (place : ℕ) → ArePlaced b ps → IsRange (bytes_of b ps) s.start (s.start + s.len) → ArePlaced b s.span
+    → Leads (bytes_of b ps) (record { start = s.start; removed = s.len; added = total s.span; place = place }) (bytes_of b (turned_pieces ps s))
+step_leads b ps s place placed range span_placed =
+    rw (turned_bytes b ps s placed range span_placed, ← length-bytes_of b s.span span_placed)
+    (spliced_leads (bytes_of b ps) (bytes_of b s.span) s.start s.len place (IsUtf8-bytes_of b ps placed) (IsUtf8-bytes_of b s.span span_placed) range)
+
+pub undone_leads : (b : Buffers) (ps : List Piece) (from to : List Step) (future : List Edit) (P : List Piece) (from' to' : List Step) → ArePlaced b ps
+    → AreSteps b (bytes_of b ps) (reverse from) → Turns ps from to P from' to'
+    → IfSome (next_undo (record { text = bytes_of b ps; past = past_of b (bytes_of b ps) (reverse from); future = future })) (λ c. Leads (bytes_of b ps) c (bytes_of b P))
+undone_leads b ps from to future P from' to' placed from_steps t =
+    let s = t.0 in
+    let next = reverse_last from' from s t.1 in
+    let h : AreSteps b (bytes_of b ps) (s ∷ reverse from') = subst (AreSteps b (bytes_of b ps)) next from_steps in
+    rw (next, t.2) (step_leads b ps s s.before placed h.0 h.1)
+
+pub redone_leads : (b : Buffers) (ps : List Piece) (from to : List Step) (past : List Edit) (P : List Piece) (from' to' : List Step) → ArePlaced b ps
+    → AreSteps b (bytes_of b ps) (reverse from) → Turns ps from to P from' to'
+    → IfSome (next_redo (record { text = bytes_of b ps; past = past; future = future_of b (bytes_of b ps) (reverse from) })) (λ c. Leads (bytes_of b ps) c (bytes_of b P))
+redone_leads b ps from to past P from' to' placed from_steps t =
+    let s = t.0 in
+    let next = reverse_last from' from s t.1 in
+    let h : AreSteps b (bytes_of b ps) (s ∷ reverse from') = subst (AreSteps b (bytes_of b ps)) next from_steps in
+    rw (next, t.2) (step_leads b ps s s.after placed h.0 h.1)

@@ -1,40 +1,56 @@
 -- Versions of a text: what a swap leaves, how it is taken back, and that what is added later changes none of them.
-use Rattle.std.proofs.Common.{◌≡◌, ℕ, ◌+◌, ◌-◌, ◌<◌, ◌≤◌, List, [], ◌∷◌, ◌++◌, length, take, drop, refl, ap, sym, ◌∙◌, append_assoc, length-append, arith}
-use Rattle.std.proofs.lemmas.List.{append-nil, length-take-le, length-drop, drop-drop, take-append-drop, take_at, drop_at, take-append-le, drop-append-le}
+use Rattle.std.proofs.Common.{◌≡◌, ℕ, ◌+◌, ◌≤◌, List, [], ◌∷◌, ◌++◌, length, take, drop, refl, ap, sym, subst, ◌∙◌, append_assoc, length-append, arith}
+use Rattle.std.proofs.lemmas.List.{length-take-le, length-drop, drop-drop, take-append-drop, take_at, drop_at, take-append-le, drop-append-le}
 use Rattle.bx_pieces.specs.declared.piece.Buffer.{Buffer}
 use Rattle.bx_pieces.specs.declared.piece.Buffer.TheVariants.{Opened, Added}
 use Rattle.bx_pieces.specs.declared.piece.Piece.{Piece}
 use Rattle.bx_pieces.specs.Pieces.{total, front, back}
 use Rattle.bx_text.specs.declared.step.Step.{Step}
-use Rattle.bx_text.specs.Buffers.{Buffers, buffer_bytes, piece_bytes, bytes_of, ArePlaced}
-use Rattle.bx_text.specs.Edits.{Edit, spliced, largest}
-use Rattle.bx_text.specs.Steps.{swapped, past_of, future_of, AreSteps}
-use Rattle.bx_text.proofs.Bytes.{length-bytes_of, bytes_of-append, bytes_of-front, bytes_of-back, ArePlaced-append, ArePlaced-front, ArePlaced-back}
+use Rattle.std.specs.Str.{IsUtf8, IsCharBoundary}
+use Rattle.bx_text.specs.Buffers.{Buffers, buffer_bytes, piece_bytes, bytes_of, IsPlaced, ArePlaced}
+use Rattle.bx_text.specs.Edits.{Edit, IsRange, Leads, spliced}
+use Rattle.bx_text.proofs.Characters.{IsCharBoundary-drop, IsRange-spliced}
+use Rattle.bx_text.specs.Steps.{swapped, past_of, AreSteps}
+use Rattle.bx_text.proofs.Bytes.{bytes_of-append, bytes_of-front, bytes_of-back, ArePlaced-append, ArePlaced-front, ArePlaced-back}
 
 -- ---- a swap
 
-pub swapped_bytes : (b : Buffers) (ps span : List Piece) (start len : ℕ) → ArePlaced b ps
+-- the end of what gives way, from its start on
+back_bounds : (b : Buffers) (ps : List Piece) (start len : ℕ) → ArePlaced b ps → IsRange (bytes_of b ps) start (start + len) → IsCharBoundary (bytes_of b (back ps start)) len
+back_bounds b ps start len h r =
+    subst (λ xs. IsCharBoundary xs len) (sym (bytes_of-back b ps start h)) (IsCharBoundary-drop (bytes_of b ps) start len r.stop_bounds)
+
+-- what stands behind it
+pub last_bytes : (b : Buffers) (ps : List Piece) (start len : ℕ) → ArePlaced b ps → IsCharBoundary (bytes_of b ps) start
+    → bytes_of b (back (back ps start) len) ≡ drop (start + len) (bytes_of b ps)
+last_bytes b ps start len h c =
+    bytes_of-back b (back ps start) len (ArePlaced-back b ps start h c) ∙ ap (drop len) (bytes_of-back b ps start h) ∙ drop-drop len start (bytes_of b ps)
+
+pub last_placed : (b : Buffers) (ps : List Piece) (start len : ℕ) → ArePlaced b ps → IsRange (bytes_of b ps) start (start + len) → ArePlaced b (back (back ps start) len)
+last_placed b ps start len h r = ArePlaced-back b (back ps start) len (ArePlaced-back b ps start h r.start_bounds) (back_bounds b ps start len h r)
+
+pub swapped_bytes : (b : Buffers) (ps span : List Piece) (start len : ℕ) → ArePlaced b ps → IsCharBoundary (bytes_of b ps) start
     → bytes_of b (front ps start ++ (span ++ back (back ps start) len)) ≡ spliced (bytes_of b ps) start (start + len) (bytes_of b span)
-swapped_bytes b ps span start len h =
+swapped_bytes b ps span start len h c =
     bytes_of-append b (front ps start) (span ++ back (back ps start) len)
     ∙ ap (λ xs. xs ++ bytes_of b (span ++ back (back ps start) len)) (bytes_of-front b ps start h)
     ∙ ap (λ xs. take start (bytes_of b ps) ++ xs)
     (bytes_of-append b span (back (back ps start) len)
-    ∙ ap (λ xs. bytes_of b span ++ xs) (bytes_of-back b (back ps start) len (ArePlaced-back b ps start h) ∙ ap (drop len) (bytes_of-back b ps start h) ∙ drop-drop len start (bytes_of b ps)))
+    ∙ ap (λ xs. bytes_of b span ++ xs) (last_bytes b ps start len h c))
     ∙ sym (append_assoc (take start (bytes_of b ps)) (bytes_of b span) (drop (start + len) (bytes_of b ps)))
 
-pub swapped_placed : (b : Buffers) (ps span : List Piece) (start len : ℕ) → ArePlaced b ps → ArePlaced b span
+pub swapped_placed : (b : Buffers) (ps span : List Piece) (start len : ℕ) → ArePlaced b ps → ArePlaced b span → IsRange (bytes_of b ps) start (start + len)
     → ArePlaced b (front ps start ++ (span ++ back (back ps start) len))
-swapped_placed b ps span start len h k =
-    ArePlaced-append b (front ps start) (span ++ back (back ps start) len) (ArePlaced-front b ps start h)
-    (ArePlaced-append b span (back (back ps start) len) k (ArePlaced-back b (back ps start) len (ArePlaced-back b ps start h)))
+swapped_placed b ps span start len h k r =
+    ArePlaced-append b (front ps start) (span ++ back (back ps start) len) (ArePlaced-front b ps start h r.start_bounds)
+    (ArePlaced-append b span (back (back ps start) len) k (last_placed b ps start len h r))
 
-pub old_bytes : (b : Buffers) (ps : List Piece) (start len : ℕ) → ArePlaced b ps
+pub old_bytes : (b : Buffers) (ps : List Piece) (start len : ℕ) → ArePlaced b ps → IsRange (bytes_of b ps) start (start + len)
     → bytes_of b (front (back ps start) len) ≡ take len (drop start (bytes_of b ps))
-old_bytes b ps start len h = bytes_of-front b (back ps start) len (ArePlaced-back b ps start h) ∙ ap (take len) (bytes_of-back b ps start h)
+old_bytes b ps start len h r = bytes_of-front b (back ps start) len (ArePlaced-back b ps start h r.start_bounds) ∙ ap (take len) (bytes_of-back b ps start h)
 
-pub old_placed : (b : Buffers) (ps : List Piece) (start len : ℕ) → ArePlaced b ps → ArePlaced b (front (back ps start) len)
-old_placed b ps start len h = ArePlaced-front b (back ps start) len (ArePlaced-back b ps start h)
+pub old_placed : (b : Buffers) (ps : List Piece) (start len : ℕ) → ArePlaced b ps → IsRange (bytes_of b ps) start (start + len) → ArePlaced b (front (back ps start) len)
+old_placed b ps start len h r = ArePlaced-front b (back ps start) len (ArePlaced-back b ps start h r.start_bounds) (back_bounds b ps start len h r)
 
 -- ---- and back
 
@@ -49,21 +65,33 @@ length-spliced text new start len h =
       length-drop (start + len) text,
     )
 
+-- what stands before and after what was put in
+pub spliced_before : (text new : List ℕ) (start stop : ℕ) → start ≤ length text → take start (spliced text start stop new) ≡ take start text
+spliced_before text new start stop h =
+    ap (take start) (append_assoc (take start text) new (drop stop text)) ∙ take_at (take start text) (new ++ drop stop text) start (length-take-le start text h)
+
+pub spliced_after : (text new : List ℕ) (start stop : ℕ) → start ≤ length text → drop (start + length new) (spliced text start stop new) ≡ drop stop text
+spliced_after text new start stop h =
+    drop_at (take start text ++ new) (drop stop text) (start + length new) (length-append (take start text) new ∙ ap (λ n. n + length new) (length-take-le start text h))
+
 pub spliced_back : (text new : List ℕ) (start len : ℕ) → start + len ≤ length text
     → spliced (spliced text start (start + len) new) start (start + length new) (take len (drop start text)) ≡ text
 spliced_back text new start len h =
-    let front : List ℕ = take start text in
-    let rest : List ℕ = drop (start + len) text in
-    let count : length front ≡ start = length-take-le start text (omega arith) in
-    let a : take start ((front ++ new) ++ rest) ≡ front =
-    ap (take start) (append_assoc front new rest) ∙ take_at front (new ++ rest) start count in
-    let c : drop (start + length new) ((front ++ new) ++ rest) ≡ rest =
-    drop_at (front ++ new) rest (start + length new) (length-append front new ∙ ap (λ n. n + length new) count) in
-    rw (a, c)
-    (append_assoc front (take len (drop start text)) rest
-    ∙ ap (λ xs. front ++ (take len (drop start text) ++ xs)) (sym (drop-drop len start text))
-    ∙ ap (λ xs. front ++ xs) (take-append-drop len (drop start text))
+    rw (spliced_before text new start (start + len) (omega arith), spliced_after text new start (start + len) (omega arith))
+    (append_assoc (take start text) (take len (drop start text)) (drop (start + len) text)
+    ∙ ap (λ xs. take start text ++ (take len (drop start text) ++ xs)) (sym (drop-drop len start text))
+    ∙ ap (λ xs. take start text ++ xs) (take-append-drop len (drop start text))
     ∙ take-append-drop start text)
+
+pub spliced_leads : (text new : List ℕ) (start len place : ℕ) → IsUtf8 text → IsUtf8 new → IsRange text start (start + len)
+    → Leads text (record { start = start; removed = len; added = length new; place = place }) (spliced text start (start + len) new)
+spliced_leads text new start len place utf8 more range = record {
+  gave_way = range;
+  came = IsRange-spliced text new start len utf8 more range;
+  same_before = spliced_before text new start (start + len) range.start_bounds.0;
+  same_after = spliced_after text new start (start + len) range.start_bounds.0;
+  grown = length-spliced text new start len range.stop_bounds.0;
+}
 
 -- ---- growth
 
@@ -74,10 +102,6 @@ placed_longer : (b : Buffers) (more : List ℕ) (which : Buffer) (n : ℕ) → n
 placed_longer b more Opened n h = h
 placed_longer b more Added n h = omega (arith, length-append b.added more)
 
-pub ArePlaced-grown : (b : Buffers) (more : List ℕ) (ps : List Piece) → ArePlaced b ps → ArePlaced (grown b more) ps
-ArePlaced-grown b more [] h = h
-ArePlaced-grown b more (p ∷ ps) h = (placed_longer b more p.buffer (p.start + p.len) h.0, ArePlaced-grown b more ps h.1)
-
 stretch_kept : (xs more : List ℕ) (start len : ℕ) → start + len ≤ length xs → take len (drop start (xs ++ more)) ≡ take len (drop start xs)
 stretch_kept xs more start len h =
     ap (take len) (drop-append-le start xs more (omega arith)) ∙ take-append-le len (drop start xs) more (omega (arith, length-drop start xs))
@@ -87,10 +111,20 @@ stretch_grown : (b : Buffers) (more : List ℕ) (which : Buffer) (start len : �
 stretch_grown b more Opened start len h = refl
 stretch_grown b more Added start len h = stretch_kept b.added more start len h
 
+IsPlaced-grown : (b : Buffers) (more : List ℕ) (p : Piece) → IsPlaced b p → IsPlaced (grown b more) p
+IsPlaced-grown b more p h = record {
+  inside = placed_longer b more p.buffer (p.start + p.len) h.inside;
+  utf8 = subst IsUtf8 (sym (stretch_grown b more p.buffer p.start p.len h.inside)) h.utf8;
+}
+
+pub ArePlaced-grown : (b : Buffers) (more : List ℕ) (ps : List Piece) → ArePlaced b ps → ArePlaced (grown b more) ps
+ArePlaced-grown b more [] h = h
+ArePlaced-grown b more (p ∷ ps) h = (IsPlaced-grown b more p h.0, ArePlaced-grown b more ps h.1)
+
 pub bytes_of-grown : (b : Buffers) (more : List ℕ) (ps : List Piece) → ArePlaced b ps → bytes_of (grown b more) ps ≡ bytes_of b ps
 bytes_of-grown b more [] h = refl
 bytes_of-grown b more (p ∷ ps) h =
-    ap (λ xs. xs ++ bytes_of (grown b more) ps) (stretch_grown b more p.buffer p.start p.len h.0) ∙ ap (λ xs. piece_bytes b p ++ xs) (bytes_of-grown b more ps h.1)
+    ap (λ xs. xs ++ bytes_of (grown b more) ps) (stretch_grown b more p.buffer p.start p.len h.0.inside) ∙ ap (λ xs. piece_bytes b p ++ xs) (bytes_of-grown b more ps h.1)
 
 swapped-grown : (b : Buffers) (more text : List ℕ) (s : Step) → ArePlaced b s.span → swapped (grown b more) text s ≡ swapped b text s
 swapped-grown b more text s h = ap (spliced text s.start (s.start + s.len)) (bytes_of-grown b more s.span h)

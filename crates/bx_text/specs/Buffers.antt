@@ -1,8 +1,10 @@
 -- The bytes that pieces stand for.
-use Rattle.std.specs.Prelude.{◌==◌, if◌then◌else◌, ◌≡◌, ℕ, ◌+◌, ◌≤◌, List, [], ◌++◌, ◌∷◌, length, take, drop}
+use Rattle.std.specs.Prelude.{◌==◌, if◌then◌else◌, ◌≡◌, ℕ, ◌+◌, ◌<◌, ◌≤◌, List, [], ◌++◌, ◌∷◌, length, take, drop, IsCharBoundary}
+use Rattle.std.specs.Str.{IsUtf8}
 use Rattle.bx_pieces.specs.declared.piece.Buffer.{Buffer}
 use Rattle.bx_pieces.specs.declared.piece.Buffer.TheVariants.{Opened, Added}
 use Rattle.bx_pieces.specs.declared.piece.Piece.{Piece}
+use Rattle.bx_pieces.specs.Pieces.{pushed}
 
 pub record Buffers : Type 0 where
   pub opened : List ℕ
@@ -19,11 +21,21 @@ abbrev pub bytes_of : Buffers → List Piece → List ℕ
 bytes_of b [] = []
 bytes_of b (p ∷ ps) = piece_bytes b p ++ bytes_of b ps
 
--- each piece stands in its buffer
+-- the piece stands in its buffer, and is made of whole characters
+pub record IsPlaced (b : Buffers) (p : Piece) : Type 0 where
+  pub inside : p.start + p.len ≤ length (buffer_bytes b p.buffer)
+  pub utf8 : IsUtf8 (piece_bytes b p)
+
 abbrev pub ArePlaced : Buffers → List Piece → Type 0
 ArePlaced b [] = Unit {0}
-ArePlaced b (p ∷ ps) = (p.start + p.len ≤ length (buffer_bytes b p.buffer)) × ArePlaced b ps
+ArePlaced b (p ∷ ps) = IsPlaced b p × ArePlaced b ps
 
--- the piece that so many added bytes are, behind those that stood there; none where there are none
-abbrev pub pieces_added : ℕ → ℕ → List Piece
-pieces_added start len = if len == 0 then [] else record { buffer = Added; start = start; len = len } ∷ []
+-- the pieces with so many added bytes behind them, which stand in their buffer from a place on
+abbrev pub with_added : List Piece → ℕ → ℕ → List Piece
+with_added ps start len = if len == 0 then ps else pushed ps (record { buffer = Added; start = start; len = len })
+
+-- some bytes that the text goes on with from a place on, up to a place between two characters
+pub record IsRest (text : List ℕ) (at : ℕ) (rest : List ℕ) : Type 0 where
+  pub bytes : take (length rest) (drop at text) ≡ rest
+  pub not_empty : 0 < length rest
+  pub next : IsCharBoundary text (at + length rest)

@@ -1,5 +1,5 @@
 -- What a text is seen as: its bytes with past and future, and the room that was made for the next edit.
-use Rattle.std.specs.Prelude.{◌≡◌, ℕ, ◌+◌, ◌≤◌, List, length, reverse, Option, None, Some, IfSome, string_bytes, string_len, string_capacity, vec_len, vec_capacity}
+use Rattle.std.specs.Prelude.{ℕ, ◌+◌, ◌≤◌, List, length, reverse, Option, None, Some, IfSome, string_bytes, string_len, string_capacity, vec_len, vec_capacity}
 use Rattle.bx_text.specs.declared.text.Text.TheInside.{Inside}
 use Rattle.bx_text.specs.Buffers.{Buffers, bytes_of, ArePlaced}
 use Rattle.bx_text.specs.Edits.{Edited, largest}

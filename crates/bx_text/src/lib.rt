@@ -1,15 +1,17 @@
 //! A text under edits, with undo and redo: a piece table.
 #![tactic(auto)]
 
-mod byte;
+mod buffers;
 mod change;
 mod error;
+mod slices;
 mod step;
 mod swap;
 mod text;
 
 pub use change::Change;
 pub use error::TextError;
+pub use slices::Slices;
 pub use text::Text;
 
 #[cfg(test)]

@@ -1,7 +1,7 @@
 //! Pieces in the place of others.
 
 ghost use Rattle.std.specs.Prelude.{◌≡◌, ◌++◌, ◌+◌, ◌<◌, ◌≤◌, ◌^◌, OnOk, OnErr, length, vec_len, vec_capacity, string_len, string_capacity, string_bytes};
-ghost use Rattle.bx_text.specs.Buffers.{pieces_added};
+ghost use Rattle.bx_text.specs.Buffers.{with_added};
 ghost use Rattle.bx_text.specs.Steps.{IsShort, Turns};
 ghost use Rattle.bx_pieces.specs.Pieces.{total, front, back, IsAddressable};
 
@@ -31,26 +31,49 @@ pub fn swap(
     old
 }
 
-/// Appends text to the buffer of what was added, and gives the piece that it is; none where it is empty.
-/// No memory.
-pub fn added_pieces(added: &mut String, text: &str, spares: &mut Spares) -> Pieces
+/// Appends text to the buffer of what was added, and puts it behind some pieces. No memory.
+fn add(pieces: &mut Pieces, added: &mut String, text: &str, spares: &mut Spares)
     requires room { string_len added.old + length text.now ≤ string_capacity added.old }
     requires spare { 1 ≤ spares.old }
+    requires small { total pieces.old + length text.now < 2 ^ 64 }
     ensures buffer { string_bytes added.new ≡ string_bytes added.old ++ text.now }
-    ensures pieces { result ≡ pieces_added (string_len added.old) (length text.now) }
-    ensures spares { spares.old ≤ spares.new + 1 }
+    ensures pieces { pieces.new ≡ with_added pieces.old (string_len added.old) (length text.now) }
 {
     let start = added.len();
     added.push_str(text).unwrap();
     if text.is_empty() {
-        return Pieces::new();
+        return;
     }
     let piece = Piece {
         buffer: Buffer::Added,
         start,
         len: text.len(),
     };
-    Pieces::of(piece, spares)
+    pieces.push(piece, spares);
+}
+
+/// Puts text in the place of so many bytes, and gives what stood there. No memory.
+pub fn put(
+    pieces: &mut Pieces,
+    start: usize,
+    len: usize,
+    added: &mut String,
+    text: &str,
+    spares: &mut Spares,
+) -> Pieces
+    requires room { string_len added.old + length text.now ≤ string_capacity added.old }
+    requires spare { 3 ≤ spares.old }
+    requires fits { IsAddressable pieces.old }
+    requires small { total pieces.old + length text.now < 2 ^ 64 }
+    ensures buffer { string_bytes added.new ≡ string_bytes added.old ++ text.now }
+    ensures pieces { pieces.new ≡ with_added (front pieces.old start) (string_len added.old) (length text.now) ++ back (back pieces.old start) len }
+    ensures span { result ≡ front (back pieces.old start) len }
+{
+    let (mut first, rest) = mem::replace(pieces, Pieces::new()).cut(start, spares);
+    let (old, last) = rest.cut(len, spares);
+    add(&mut first, added, text, spares);
+    *pieces = first.join(last);
+    old
 }
 
 /// Makes the last of some steps, and adds the step that takes it back to others. Where memory runs out

@@ -12,8 +12,11 @@ fn text_of(alloc: Global, text: &str) -> Result<Text, TextError> {
 /// The text has to be these bytes.
 fn holds(rt: &impl Abort, text: &Text, bytes: &[u8]) {
     assert_eq!(rt; text.len(), bytes.len());
-    for (at, byte) in bytes.iter().enumerate() {
-        assert_eq!(rt; text.byte_at(at), Some(*byte));
+    for at in 0..text.len() {
+        assert!(rt;
+            text.piece_at(at)
+                .is_some_and(|rest| bytes[at..].starts_with(rest.as_bytes()))
+        );
     }
 }
 
@@ -74,6 +77,53 @@ fn offsets_within_a_character(rt: HostRuntime) -> Result<(), Fail> {
     Ok(())
 }
 
+fn copied(text: &Text, start: usize, stop: usize, wanted: &str) -> Result<bool, TextError> {
+    let copy = text.copy_range(start, stop)?;
+    Ok(copy.as_str() == wanted)
+}
+
+#[test]
+fn ranges_are_copied(rt: HostRuntime) -> Result<(), Fail> {
+    let mut text = text_of(rt.alloc(), "xab")?;
+    assert!(rt; copied(&text, 1, 3, "ab")?);
+    text.insert(1, "\u{5D0}y", 1, 4)?;
+    assert!(rt; copied(&text, 0, 6, "x\u{5D0}yab")?);
+    assert!(rt; copied(&text, 1, 5, "\u{5D0}ya")?);
+    assert!(rt; copied(&text, 6, 6, "")?);
+    for (start, stop) in [(2usize, 3usize), (1, 2), (0, 7), (7, 7), (3, 1)] {
+        let refused = text.copy_range(start, stop);
+        assert!(rt; matches!(refused, Err(TextError::NotABoundary)));
+    }
+    Ok(())
+}
+
+#[test]
+fn pieces_come_in_order(rt: HostRuntime) -> Result<(), Fail> {
+    let mut text = text_of(rt.alloc(), "xab")?;
+    text.insert(1, "yz", 1, 3)?;
+    let mut pieces = text.pieces();
+    assert_eq!(rt; pieces.next(), Some("x"));
+    assert_eq!(rt; pieces.next(), Some("yz"));
+    assert_eq!(rt; pieces.next(), Some("ab"));
+    assert_eq!(rt; pieces.next(), None);
+    assert_eq!(rt; text.piece_at(2), Some("z"));
+    Ok(())
+}
+
+#[test]
+fn letters_typed_in_one_place_are_one_piece(rt: HostRuntime) -> Result<(), Fail> {
+    let mut text = text_of(rt.alloc(), "xab")?;
+    for at in 1..100usize {
+        text.insert(at, "y", at, at + 1)?;
+    }
+    assert_eq!(rt; text.pieces().count(), 3);
+    for _ in 1..100 {
+        text.undo()?;
+    }
+    holds(&rt, &text, b"xab");
+    Ok(())
+}
+
 fn doubled(alloc: Global, unit: &str, times: u32) -> Result<String, AllocError> {
     let mut text = String::from_str(alloc, unit)?;
     for _ in 0..times {
@@ -90,9 +140,12 @@ fn a_text_as_long_as_may_be(rt: HostRuntime) -> Result<(), Fail> {
     assert_eq!(rt; text.insert(0, "x", 0, 1), Err(TextError::TooLong));
     assert_eq!(rt; text.insert(1, "x", 0, 1), Err(TextError::NotABoundary));
     text.remove(0, 2, 2, 0)?;
+    text.insert(0, "ab", 0, 2)?;
+    text.remove(2, 4, 4, 2)?;
     text.undo()?;
     assert_eq!(rt; text.insert(0, "x", 0, 1), Err(TextError::TooLong));
-    assert_eq!(rt; text.next_redo(), Some(change(0, 2, 0, 0)));
+    assert_eq!(rt; text.next_undo(), Some(change(0, 2, 0, 0)));
+    assert_eq!(rt; text.next_redo(), Some(change(2, 2, 0, 2)));
     Ok(())
 }
 

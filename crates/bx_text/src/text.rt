@@ -1,14 +1,19 @@
 //! The text.
 
-ghost use Rattle.std.specs.Prelude.{◌≡◌, ◌+◌, ◌-◌, IsSome, ◌<◌, ◌≤◌, ◌^◌, ◌↔◌, [], None, Some, true, false, MatchOption, slice_index, length, IsOk, string_bytes, IsTrue, IsCharBoundary, IfOk, OnOk, OnErr, IsErrOf};
-ghost use Rattle.bx_text.specs.Edits.{opened, largest, next_undo, next_redo, replaced, inserted, removed, undone, redone, fits, IsRange};
+ghost use Rattle.std.specs.Prelude.{◌≡◌, ℕ, List, slice_range, ◌+◌, ◌-◌, IsSome, ◌<◌, ◌≤◌, ◌^◌, ◌↔◌, [], None, Some, true, false, IfSome, take, drop, length, IsOk, string_bytes, IsTrue, IsCharBoundary, IfOk, OnOk, OnErr, IsErrOf};
+ghost use Rattle.std.specs.Str.{IsUtf8};
+ghost use Rattle.bx_text.specs.Edits.{opened, largest, next_undo, next_redo, replaced, inserted, removed, undone, redone, fits, IsRange, Leads};
 ghost use Rattle.bx_text.specs.Text.{TextState, HasRoomFor};
+ghost use Rattle.bx_text.specs.Slices.{lends, joined};
+ghost use Rattle.std.specs.Iterator.{Drains};
+ghost use Rattle.std.specs.Borrow.{Bor};
 
-use crate::byte::byte_in;
+use crate::buffers::rest_in;
 use crate::change::Change;
 use crate::error::TextError;
+use crate::slices::Slices;
 use crate::step::Step;
-use crate::swap::{added_pieces, swap, turn};
+use crate::swap::{put, turn};
 use bx_pieces::{Buffer, Piece, Pieces, Spares};
 use std::alloc::{AllocError, Global};
 use std::marker::Model;
@@ -52,6 +57,7 @@ impl Text {
         ensures ok { IfOk result (λ t. t ≡ record { edited = opened (string_bytes text); room = None }) }
         ensures short { OnOk result (length (string_bytes text) ≤ largest) }
         ensures too_long { IsErrOf result TextError.TooLong ↔ (largest < length (string_bytes text)) }
+        ensures always_a_boundary { IsErrOf result TextError.NotABoundary → ⊥ }
     {
         let len = text.len();
         if len > LONGEST {
@@ -84,8 +90,8 @@ impl Text {
     pub fn len(&self) -> usize
         ensures len { result ≡ length self.now.edited.text }
         ensures short { length self.now.edited.text ≤ largest }
+        ensures utf8 { IsUtf8 self.now.edited.text }
     {
-        let _opened = &self.opened;
         self.pieces.len()
     }
 
@@ -162,13 +168,20 @@ impl Text {
         after: usize,
     ) -> Change
         requires room { HasRoomFor self.old.room (length text.now) }
-        requires inside { start + len ≤ length self.old.edited.text }
+        requires range { IsRange self.old.edited.text start (start + len) }
         requires short { length self.old.edited.text + length text.now ≤ largest + len }
         ensures text { self.new ≡ record { edited = replaced self.old.edited start (start + len) text.now before after; room = None } }
         ensures change { result ≡ record { start = start; removed = len; added = length text.now; place = after } }
+        ensures leads { Leads self.old.edited.text result self.new.edited.text }
     {
-        let span = added_pieces(&mut self.added, text, &mut self.spares);
-        let old = swap(&mut self.pieces, start, len, span, &mut self.spares);
+        let old = put(
+            &mut self.pieces,
+            start,
+            len,
+            &mut self.added,
+            text,
+            &mut self.spares,
+        );
         let step = Step {
             start,
             span: old,
@@ -187,21 +200,75 @@ impl Text {
         }
     }
 
-    /// The byte at an offset; none at or past the end. No memory.
-    pub(crate) fn byte_at(&self, at: usize) -> Option<u8>
-        ensures { MatchOption result (length self.now.edited.text ≤ at) (λ byte. (at < length self.now.edited.text) × (byte ≡ slice_index self.now.edited.text at)) }
+    /// The rest, from an offset on, of the piece of the text that holds it; none where the offset bounds no
+    /// character, is the text's end or is past it. No memory.
+    pub fn piece_at(&self, offset: usize) -> Option<&str>
+        ensures there { IsSome result ↔ (IsCharBoundary self.now.edited.text offset × (offset < length self.now.edited.text)) }
+        ensures bytes { IfSome result (λ s. take (length s.now) (drop offset self.now.edited.text) ≡ s.now) }
+        ensures not_empty { IfSome result (λ s. 0 < length s.now) }
+        ensures next { IfSome result (λ s. IsCharBoundary self.now.edited.text (offset + length s.now)) }
+        ensures utf8 { IsUtf8 self.now.edited.text }
     {
-        byte_in(self.opened.as_str(), self.added.as_str(), &self.pieces, at)
+        let (opened, added) = (self.opened.as_str(), self.added.as_str());
+        rest_in(opened, added, &self.pieces, offset)
     }
 
     /// Whether an offset is the text's end or the first byte of a character. No memory.
     fn is_boundary(&self, at: usize) -> bool
         ensures { IsTrue result ↔ IsCharBoundary self.now.edited.text at }
     {
-        match self.byte_at(at) {
-            None => at == self.len(),
-            Some(byte) => byte < 128 || 192 <= byte,
+        at == self.len() || self.piece_at(at).is_some()
+    }
+
+    /// Whether two offsets bound characters and stand in order. No memory.
+    fn is_range(&self, start: usize, stop: usize) -> bool
+        ensures range { IsTrue result ↔ IsRange self.now.edited.text start stop }
+        ensures short { length self.now.edited.text ≤ largest }
+    {
+        // Past the end there is no piece to look for.
+        let len = self.len();
+        start <= stop && stop <= len && self.is_boundary(start) && self.is_boundary(stop)
+    }
+
+    /// What stands from a place on, as far as the piece that holds it goes, up to a later place. No memory.
+    pub(crate) fn part_at(&self, at: usize, stop: usize) -> &str
+        requires range { IsRange self.now.edited.text at stop }
+        requires before { at < stop }
+        ensures bytes { take (length result.now) (drop at self.now.edited.text) ≡ result.now }
+        ensures not_empty { 0 < length result.now }
+        ensures range { IsRange self.now.edited.text (at + length result.now) stop }
+    {
+        let rest = self.piece_at(at).unwrap();
+        let len = rest.len().min(stop - at);
+        &rest[..len]
+    }
+
+    /// The text's pieces in order, which joined are the text. No memory.
+    pub fn pieces(&self) -> Slices<'_>
+        ensures text { result ≡ self.now.edited.text }
+        ensures joined { (slices : List (Bor (List ℕ))) → Drains lends result slices → joined slices ≡ self.now.edited.text }
+    {
+        Slices::new(self, 0, self.len())
+    }
+
+    /// A copy of what stands from one offset to another, both between two characters.
+    ///
+    /// Errors: `NotABoundary`, also where `start > stop`; `OutOfMemory`.
+    pub fn copy_range(&self, start: usize, stop: usize) -> Result<String, TextError>
+        ensures bytes { IfOk result (λ copy. string_bytes copy ≡ slice_range self.now.edited.text start stop) }
+        ensures range { OnOk result (IsRange self.now.edited.text start stop) }
+        ensures not_a_boundary { IsErrOf result TextError.NotABoundary → ¬ (IsRange self.now.edited.text start stop) }
+        ensures boundary { ¬ (IsRange self.now.edited.text start stop) → IsErrOf result TextError.NotABoundary }
+        ensures never_too_long { IsErrOf result TextError.TooLong → ⊥ }
+    {
+        if !self.is_range(start, stop) {
+            return Err(TextError::NotABoundary);
         }
+        let mut copy = String::with_capacity(*self.added.allocator(), stop - start)?;
+        for slice in Slices::new(self, start, stop) {
+            copy.push_str(slice)?;
+        }
+        Ok(copy)
     }
 
     /// Room for so many bytes, unless it was made before.
@@ -230,6 +297,7 @@ impl Text {
     ) -> Result<Change, TextError>
         ensures ok { OnOk result (self.new ≡ record { edited = inserted self.old.edited pos text.now before after; room = None }) }
         ensures change { IfOk result (λ c. c ≡ record { start = pos; removed = 0; added = length text.now; place = after }) }
+        ensures leads { IfOk result (λ c. Leads self.old.edited.text c self.new.edited.text) }
         ensures err { OnErr result (self.new ≡ self.old) }
 
         // Which refusal comes, and that no other cause refuses.
@@ -263,6 +331,7 @@ impl Text {
     ) -> Result<Change, TextError>
         ensures ok { OnOk result (self.new ≡ record { edited = removed self.old.edited start stop before after; room = None }) }
         ensures change { IfOk result (λ c. c ≡ record { start = start; removed = stop - start; added = 0; place = after }) }
+        ensures leads { IfOk result (λ c. Leads self.old.edited.text c self.new.edited.text) }
         ensures err { OnErr result (self.new ≡ self.old) }
 
         // Which refusal comes, and that no other cause refuses.
@@ -272,11 +341,7 @@ impl Text {
         ensures never_too_long { IsErrOf result TextError.TooLong → ⊥ }
         ensures memory { IsSome self.old.room → IsErrOf result TextError.OutOfMemory → ⊥ }
     {
-        if start > stop
-            || stop > self.len()
-            || !self.is_boundary(start)
-            || !self.is_boundary(stop)
-        {
+        if !self.is_range(start, stop) {
             return Err(TextError::NotABoundary);
         }
         self.make_room(0)?;
@@ -289,6 +354,8 @@ impl Text {
     pub fn undo(&mut self) -> Result<Option<Change>, TextError>
         ensures ok { OnOk result (self.new.edited ≡ undone self.old.edited) }
         ensures change { IfOk result (λ c. c ≡ next_undo self.old.edited) }
+        ensures leads { IfOk result (λ change. IfSome change (λ c. Leads self.old.edited.text c self.new.edited.text)) }
+        ensures nothing { next_undo self.old.edited ≡ None → IsOk result }
         ensures err { OnErr result ((self.new ≡ self.old) × (result ≡ Err TextError.OutOfMemory)) }
     {
         let change = self.next_undo();
@@ -311,6 +378,8 @@ impl Text {
     pub fn redo(&mut self) -> Result<Option<Change>, TextError>
         ensures ok { OnOk result (self.new.edited ≡ redone self.old.edited) }
         ensures change { IfOk result (λ c. c ≡ next_redo self.old.edited) }
+        ensures leads { IfOk result (λ change. IfSome change (λ c. Leads self.old.edited.text c self.new.edited.text)) }
+        ensures nothing { next_redo self.old.edited ≡ None → IsOk result }
         ensures err { OnErr result ((self.new ≡ self.old) × (result ≡ Err TextError.OutOfMemory)) }
     {
         let change = self.next_redo();

@@ -1,4 +1,4 @@
-use Rattle.std.proofs.Common.{◌≡◌, ap, arith}
+use Rattle.std.proofs.Common.{ap, arith}
 use Rattle.bx_pieces.proofs.Cuts.{total_append}
 use Rattle.bx_pieces.specs.Pieces.{total}
 use Rattle.bx_text.proofs.Bytes.{total_cut, IsAddressable-back}

@@ -1,5 +1,3 @@
-use Rattle.std.proofs.Common.{◌≡◌, ◌∙◌, ◌++◌, ◌∷◌, [], sym, ap, List}
-use Rattle.bx_text.specs.declared.step.Step.{Step}
 use Rattle.bx_text.proofs.swap.turn.Goals as goal
 
 pub swap-span-requires-clause-small : goal.swap-span-requires-clause-small

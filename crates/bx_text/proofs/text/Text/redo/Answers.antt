@@ -1,9 +1,11 @@
-use Rattle.std.proofs.Common.{◌≡◌, ◌∙◌, ◌^◌, ◌<◌, List, length, reverse, sym, ap, arith}
-use Rattle.std.specs.Prelude.{string_len}
+use Rattle.std.proofs.Common.{ℕ, List, reverse, Option, IfSome, sym, subst, ◌∙◌, ap, arith}
 use Rattle.bx_text.specs.Text.{TextState, buffers_of}
-use Rattle.bx_text.specs.Edits.{undone, redone}
+use Rattle.bx_text.specs.declared.change.Change.{Change}
+use Rattle.bx_text.specs.Buffers.{bytes_of}
+use Rattle.bx_text.specs.Edits.{Leads, redone, next_redo}
+use Rattle.bx_text.specs.Steps.{past_of}
 use Rattle.bx_text.proofs.Bytes.{IsAddressable-placed}
-use Rattle.bx_text.proofs.Turned.{span_short, turned_sound, redone_view}
+use Rattle.bx_text.proofs.Turned.{span_short, turned_sound, redone_view, redone_leads}
 use Rattle.bx_text.proofs.text.Text.redo.Goals as goal
 
 pub turn-requires-clause-fits : goal.turn-requires-clause-fits
@@ -35,3 +37,12 @@ returns-clause-ok c =
     redone_view (buffers_of t) t.pieces t.future.items t.past.items c.turn.new.pieces c.turn.new.from.items c.turn.new.to.items
     c.self.invariant.placed c.self.invariant.future_steps c.in_ok-turn.ensures.ok
     ∙ ap (λ (x : TextState). redone x.edited) c.self.view_is
+
+pub returns-clause-leads : goal.returns-clause-leads
+returns-clause-leads c =
+    let t = c.self.inside in
+    let after : List ℕ = bytes_of (buffers_of t) c.turn.new.pieces in
+    subst (λ (o : Option Change). IfSome o (λ d. Leads c.args.self.now.edited.text d after)) (sym c.next_redo-change.ensures)
+    (subst (λ (x : TextState). IfSome (next_redo x.edited) (λ d. Leads x.edited.text d after)) c.self.view_is
+    (redone_leads (buffers_of t) t.pieces t.future.items t.past.items (past_of (buffers_of t) (bytes_of (buffers_of t) t.pieces) (reverse t.past.items))
+    c.turn.new.pieces c.turn.new.from.items c.turn.new.to.items c.self.invariant.placed c.self.invariant.future_steps c.in_ok-turn.ensures.ok))

@@ -1,0 +1,138 @@
+-- The bytes of pieces with one piece more, which may make the last one longer.
+use Rattle.std.proofs.Common.{◌≡◌, ℕ, ◌+◌, Bool, true, false, ◌&&◌, ◌==◌, List, [], ◌∷◌, ◌++◌, length, take, drop, Option, Some, None, refl, ap, sym, subst, ◌∙◌, append_assoc, length-append, arith}
+use Rattle.std.proofs.lemmas.Bool.Decides.{nat_tests}
+use Rattle.std.proofs.lemmas.List.{append-nil, drop-drop, drop_at, take_all}
+use Rattle.std.proofs.lemmas.Str.{IsUtf8-append}
+use Rattle.std.proofs.Math.Seq.{take-add}
+use Rattle.std.specs.Str.{IsUtf8}
+use Rattle.bx_pieces.specs.declared.piece.Buffer.{Buffer}
+use Rattle.bx_pieces.specs.declared.piece.Buffer.TheVariants.{Opened, Added}
+use Rattle.bx_pieces.specs.declared.piece.Piece.{Piece}
+use Rattle.bx_pieces.specs.Pieces.{total, are_same, goes_on, last_of, longer, pushed, pushed_after}
+use Rattle.bx_pieces.proofs.Ends.{total_pushed}
+use Rattle.bx_text.specs.Buffers.{Buffers, buffer_bytes, piece_bytes, bytes_of, IsPlaced, ArePlaced, with_added}
+use Rattle.bx_text.proofs.Bytes.{bytes_of-append, ArePlaced-append}
+use Rattle.bx_text.proofs.Versions.{grown, bytes_of-grown, ArePlaced-grown}
+
+-- ---- two pieces that are one
+
+both : (a b : Bool) → (a && b) ≡ true → (a ≡ true) × (b ≡ true)
+both true true e = (refl, refl)
+both true false e = absurd (cc)
+both false b e = absurd (cc)
+
+same_buffer : (x y : Buffer) → are_same x y ≡ true → x ≡ y
+same_buffer Opened Opened e = refl
+same_buffer Opened Added e = absurd (cc)
+same_buffer Added Opened e = absurd (cc)
+same_buffer Added Added e = refl
+
+record GoesOn (p q : Piece) : Type 0 where
+  pub buffer : p.buffer ≡ q.buffer
+  pub start : p.start + p.len ≡ q.start
+
+goes_on_parts : (p q : Piece) → goes_on p q ≡ true → GoesOn p q
+goes_on_parts p q e =
+    let h = both (are_same p.buffer q.buffer) (p.start + p.len == q.start) e in
+    record { buffer = same_buffer p.buffer q.buffer h.0; start = grind (arith, nat_tests, h.1) }
+
+abbrev joined : Piece → Piece → Piece
+joined p q = record p { len = p.len + q.len }
+
+joined_bytes : (b : Buffers) (p q : Piece) → goes_on p q ≡ true → piece_bytes b (joined p q) ≡ piece_bytes b p ++ piece_bytes b q
+joined_bytes b p q e =
+    let h = goes_on_parts p q e in
+    let text : List ℕ = buffer_bytes b p.buffer in
+    take-add p.len q.len (drop p.start text)
+    ∙ ap (λ xs. take p.len (drop p.start text) ++ take q.len xs) (drop-drop p.len p.start text ∙ ap (λ n. drop n text) h.start ∙ ap (λ x. drop q.start (buffer_bytes b x)) h.buffer)
+
+joined_placed : (b : Buffers) (p q : Piece) → goes_on p q ≡ true → IsPlaced b p → IsPlaced b q → IsPlaced b (joined p q)
+joined_placed b p q e hp hq =
+    let h = goes_on_parts p q e in
+    record {
+      inside = omega (arith, hq.inside, h.start, ap (λ x. length (buffer_bytes b x)) h.buffer);
+      utf8 = subst IsUtf8 (sym (joined_bytes b p q e)) (IsUtf8-append (piece_bytes b p) (piece_bytes b q) hp.utf8 hq.utf8);
+    }
+
+-- ---- the last piece made longer
+
+bytes_of-longer : (b : Buffers) (ps : List Piece) (p q : Piece) → last_of ps ≡ Some p → goes_on p q ≡ true → bytes_of b (longer ps q.len) ≡ bytes_of b ps ++ piece_bytes b q
+bytes_of-longer b [] p q h e = absurd (cc)
+bytes_of-longer b (x ∷ []) p q h e =
+    let same : p ≡ x = cc in
+    let on : goes_on x q ≡ true = subst (λ y. goes_on y q ≡ true) same e in
+    append-nil (piece_bytes b (joined x q)) ∙ joined_bytes b x q on ∙ ap (λ xs. xs ++ piece_bytes b q) (sym (append-nil (piece_bytes b x)))
+bytes_of-longer b (x ∷ y ∷ ys) p q h e =
+    ap (λ xs. piece_bytes b x ++ xs) (bytes_of-longer b (y ∷ ys) p q h e) ∙ sym (append_assoc (piece_bytes b x) (bytes_of b (y ∷ ys)) (piece_bytes b q))
+
+longer_placed : (b : Buffers) (ps : List Piece) (p q : Piece) → last_of ps ≡ Some p → goes_on p q ≡ true → ArePlaced b ps → IsPlaced b q → ArePlaced b (longer ps q.len)
+longer_placed b [] p q h e hs hq = tt
+longer_placed b (x ∷ []) p q h e hs hq =
+    let same : p ≡ x = cc in
+    (joined_placed b x q (subst (λ y. goes_on y q ≡ true) same e) hs.0 hq, tt)
+longer_placed b (x ∷ y ∷ ys) p q h e hs hq = (hs.0, longer_placed b (y ∷ ys) p q h e hs.1 hq)
+
+-- ---- one piece more
+
+record IsPushed (b : Buffers) (ps : List Piece) (q : Piece) (after : List Piece) : Type 0 where
+  pub bytes : bytes_of b after ≡ bytes_of b ps ++ piece_bytes b q
+  pub placed : ArePlaced b ps → IsPlaced b q → ArePlaced b after
+
+behind : (b : Buffers) (ps : List Piece) (q : Piece) → IsPushed b ps q (ps ++ q ∷ [])
+behind b ps q = record {
+  bytes = bytes_of-append b ps (q ∷ []) ∙ ap (λ xs. bytes_of b ps ++ xs) (append-nil (piece_bytes b q));
+  placed = λ hs hq. ArePlaced-append b ps (q ∷ []) hs (hq, tt);
+}
+
+is_pushed_at : (joins : Bool) (b : Buffers) (p : Piece) (ps : List Piece) (q : Piece) → goes_on p q ≡ joins → last_of ps ≡ Some p → IsPushed b ps q (pushed_after (Some p) ps q)
+is_pushed_at true b p ps q e h = rw e (record { bytes = bytes_of-longer b ps p q h e; placed = longer_placed b ps p q h e })
+is_pushed_at false b p ps q e h = rw e (behind b ps q)
+
+is_pushed_after : (o : Option Piece) (b : Buffers) (ps : List Piece) (q : Piece) → last_of ps ≡ o → IsPushed b ps q (pushed_after o ps q)
+is_pushed_after None b ps q h = behind b ps q
+is_pushed_after (Some p) b ps q h = is_pushed_at (goes_on p q) b p ps q refl h
+
+is_pushed : (b : Buffers) (ps : List Piece) (q : Piece) → IsPushed b ps q (pushed ps q)
+is_pushed b ps q = is_pushed_after (last_of ps) b ps q refl
+
+-- ---- added text behind pieces
+
+abbrev new_piece : Buffers → List ℕ → Piece
+new_piece b more = record { buffer = Added; start = length b.added; len = length more }
+
+new_bytes : (b : Buffers) (more : List ℕ) → piece_bytes (grown b more) (new_piece b more) ≡ more
+new_bytes b more = ap (take (length more)) (drop_at b.added more (length b.added) refl) ∙ take_all (length more) more (omega arith)
+
+new_placed : (b : Buffers) (more : List ℕ) → IsUtf8 more → IsPlaced (grown b more) (new_piece b more)
+new_placed b more utf8 =
+    record { inside = omega (arith, length-append b.added more); utf8 = subst IsUtf8 (sym (new_bytes b more)) utf8 }
+
+added_bytes_at : (none : Bool) (b : Buffers) (ps : List Piece) (more : List ℕ) → (length more == 0) ≡ none → ArePlaced b ps
+    → bytes_of (grown b more) (with_added ps (length b.added) (length more)) ≡ bytes_of b ps ++ more
+added_bytes_at true b ps [] e h = bytes_of-grown b [] ps h ∙ sym (append-nil (bytes_of b ps))
+added_bytes_at true b ps (x ∷ xs) e h = absurd (let z : length (x ∷ xs) ≡ 0 = grind (arith, nat_tests) in omega (arith, z))
+added_bytes_at false b ps more e h =
+    rw e ((is_pushed (grown b more) ps (new_piece b more)).bytes
+    ∙ ap (λ xs. xs ++ piece_bytes (grown b more) (new_piece b more)) (bytes_of-grown b more ps h)
+    ∙ ap (λ xs. bytes_of b ps ++ xs) (new_bytes b more))
+
+pub bytes_of-with_added : (b : Buffers) (ps : List Piece) (more : List ℕ) → ArePlaced b ps
+    → bytes_of (grown b more) (with_added ps (length b.added) (length more)) ≡ bytes_of b ps ++ more
+bytes_of-with_added b ps more h = added_bytes_at (length more == 0) b ps more refl h
+
+added_placed_at : (none : Bool) (b : Buffers) (ps : List Piece) (more : List ℕ) → (length more == 0) ≡ none → ArePlaced b ps → IsUtf8 more
+    → ArePlaced (grown b more) (with_added ps (length b.added) (length more))
+added_placed_at true b ps more e h utf8 = rw e (ArePlaced-grown b more ps h)
+added_placed_at false b ps more e h utf8 =
+    rw e ((is_pushed (grown b more) ps (new_piece b more)).placed (ArePlaced-grown b more ps h) (new_placed b more utf8))
+
+pub ArePlaced-with_added : (b : Buffers) (ps : List Piece) (more : List ℕ) → ArePlaced b ps → IsUtf8 more
+    → ArePlaced (grown b more) (with_added ps (length b.added) (length more))
+ArePlaced-with_added b ps more h utf8 = added_placed_at (length more == 0) b ps more refl h utf8
+
+total_with_added_at : (none : Bool) (ps : List Piece) (start len : ℕ) → (len == 0) ≡ none → total (with_added ps start len) ≡ total ps + len
+total_with_added_at true ps start len e = let z : len ≡ 0 = grind (arith, nat_tests) in rw e (omega (arith, z))
+total_with_added_at false ps start len e = rw e (total_pushed ps (record { buffer = Added; start = start; len = len }))
+
+pub total_with_added : (ps : List Piece) (start len : ℕ) → total (with_added ps start len) ≡ total ps + len
+total_with_added ps start len = total_with_added_at (len == 0) ps start len refl

@@ -1,0 +1,9 @@
+use Rattle.std.proofs.Common.{subst}
+use Rattle.std.specs.Str.{IsUtf8}
+use Rattle.bx_text.specs.Text.{TextState, buffers_of}
+use Rattle.bx_text.proofs.Bytes.{IsUtf8-bytes_of}
+use Rattle.bx_text.proofs.text.Text.piece_at.Goals as goal
+
+pub returns-clause-utf8 : goal.returns-clause-utf8
+returns-clause-utf8 c =
+    subst (λ (t : TextState). IsUtf8 t.edited.text) c.self.view_is (IsUtf8-bytes_of (buffers_of c.self.inside) c.self.inside.pieces c.self.invariant.placed)

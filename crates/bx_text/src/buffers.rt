@@ -1,0 +1,33 @@
+//! The two buffers that pieces stand in, read.
+
+ghost use Rattle.std.specs.Prelude.{◌≡◌, ◌<◌, ◌↔◌, IsSome, IfSome, length, IsCharBoundary};
+ghost use Rattle.bx_text.specs.Buffers.{Buffers, buffer_bytes, bytes_of, ArePlaced, IsRest};
+
+use bx_pieces::{Buffer, Pieces};
+
+fn buffer_of<'a>(opened: &'a str, added: &'a str, buffer: Buffer) -> &'a str
+    ensures { result.now ≡ buffer_bytes (record { opened = opened.now; added = added.now }) buffer }
+{
+    match buffer {
+        Buffer::Opened => opened,
+        Buffer::Added => added,
+    }
+}
+
+/// The rest, from an offset on, of the piece that holds it; none where the offset bounds no character, is
+/// the end of the pieces' text or is past it. No memory.
+pub fn rest_in<'a>(opened: &'a str, added: &'a str, pieces: &Pieces, at: usize) -> Option<&'a str>
+    requires { ArePlaced (record { opened = opened.now; added = added.now }) pieces.now }
+    ensures there { let text = bytes_of (record { opened = opened.now; added = added.now }) pieces.now in
+        IsSome result ↔ (IsCharBoundary text at × (at < length text)) }
+    ensures rest { let text = bytes_of (record { opened = opened.now; added = added.now }) pieces.now in
+        IfSome result (λ s. IsRest text at s.now) }
+{
+    let (piece, before) = pieces.holding(at)?;
+    let text = buffer_of(opened, added, piece.buffer);
+    let start = piece.start + before;
+    if !text.is_char_boundary(start) {
+        return None;
+    }
+    Some(&text[start..piece.start + piece.len])
+}

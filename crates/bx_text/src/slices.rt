@@ -1,0 +1,64 @@
+//! The pieces of a text, lent one after another.
+
+ghost use Rattle.std.specs.Prelude.{◌≡◌, length, slice_range};
+ghost use Rattle.std.specs.Iterator.{at_most};
+ghost use Rattle.bx_text.specs.Edits.{IsRange};
+
+use crate::text::Text;
+use std::marker::Model;
+
+/// The pieces of a text from one place to another, lent in order, none of them empty. It is seen as the
+/// bytes that are left. Each call finds its piece by offset, and takes no memory.
+#[derive(Drop)]
+pub struct Slices<'a> {
+    text: &'a Text,
+    at: usize,
+    stop: usize,
+}
+
+impl<'a> Model for Slices<'a> {
+    ghost use Rattle.std.specs.Prelude.{ℕ, List};
+
+    ghost Value = { List ℕ };
+
+    ghost use Rattle.bx_text.specs.Slices.{bytes_left, AreSlices};
+
+    ghost view = { bytes_left };
+
+    ghost invariant = { AreSlices };
+}
+
+impl<'a> Slices<'a> {
+    /// The pieces between two places.
+    pub(crate) fn new(text: &'a Text, start: usize, stop: usize) -> Slices<'a>
+        requires { IsRange text.now.edited.text start stop }
+        ensures { result ≡ slice_range text.now.edited.text start stop }
+    {
+        Slices {
+            text,
+            at: start,
+            stop,
+        }
+    }
+}
+
+impl<'a> Iterator for Slices<'a> {
+    ghost use Rattle.std.specs.Prelude.{length};
+    ghost use Rattle.std.specs.Iterator.{at_most};
+    ghost use Rattle.bx_text.specs.Slices.{lends};
+
+    type Item = &'a str;
+
+    ghost next_gives = { lends };
+
+    ghost remaining = { λ s. at_most (length s) };
+
+    fn next(&mut self) -> Option<&'a str> {
+        if self.at == self.stop {
+            return None;
+        }
+        let slice = self.text.part_at(self.at, self.stop);
+        self.at += slice.len();
+        Some(slice)
+    }
+}
