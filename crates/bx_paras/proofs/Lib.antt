@@ -1,0 +1,16 @@
+pub mod Totals
+pub mod Written
+pub mod Flats
+pub mod Spliced
+mod Rows
+pub mod Cuts
+mod Seams
+mod Counts
+mod Edits
+mod Changes
+mod Rewritten
+pub mod Scans
+pub mod Firsts
+pub mod Turns
+pub mod Followed
+pub mod Asked

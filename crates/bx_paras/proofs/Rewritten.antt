@@ -1,0 +1,149 @@
+-- The paragraphs of a text after a change: those in front of it stay, some are found anew, and those behind it stay.
+use Rattle.std.proofs.Common.{◌≡◌, ◌<◌, ◌≤◌, ◌+◌, ◌-◌, ◌∙◌, ℕ, true, List, [], ◌∷◌, ◌++◌, length, take, drop, chars, IsUtf8, IsCharBoundary, ap, sym, subst, arith, length-append, append_assoc, append-nil}
+use Rattle.std.proofs.lemmas.Str.{length-le-encodes}
+use Rattle.bx_ucd.specs.declared.class.Class.{Class}
+use Rattle.bx_text.specs.declared.change.Change.{Change}
+use Rattle.bx_text.specs.Edits.{Leads}
+use Rattle.bx_paras.specs.declared.lengths.Lengths.{Lengths}
+use Rattle.bx_paras.specs.Paragraphs.{lengths}
+use Rattle.bx_paras.specs.Places.{bytes_of, total}
+use Rattle.bx_paras.specs.Ended.{ended_within}
+use Rattle.bx_paras.proofs.Cuts.{widths, widths_append, unended, lens, parts}
+use Rattle.bx_paras.proofs.Totals.{total_append}
+use Rattle.bx_paras.proofs.Seams.{before_last, before_last_append, lens_append, lens_before}
+use Rattle.bx_paras.proofs.Counts.{AreEnded, count, cut_of, total_lens, count_few, count_together}
+use Rattle.bx_paras.proofs.Edits.{Front, Back, front_of, back_of, last_of, ended_all, ended_in_none}
+use Rattle.bx_paras.proofs.Changes.{AreAround, around, cut_at}
+
+-- the paragraphs of a text that stay in front, those that end from there to an offset, and those that stay behind
+pub record IsRewritten (class : ℕ → Class) (text : List ℕ) (front : List Lengths) (stop added : ℕ) (back : List Lengths) : Type 0 where
+  pub bounds : IsCharBoundary text (total front)
+  pub kept : lengths class text ≡ front ++ (ended_within (stop - total front) (lengths class (drop (total front) text)) ++ back)
+  pub few : length (ended_within (stop - total front) (lengths class (drop (total front) text))) ≤ added + 2
+
+module _ (class : ℕ → Class) where
+  ended_before : (g : List ℕ) → AreEnded (before_last (lens class g))
+  ended_before g =
+      let c = cut_of class g in
+      subst AreEnded (sym (ap before_last c.is ∙ before_last_append c.ended (unended c.last))) c.are_ended
+
+  -- what is found anew, where paragraphs stay behind it
+  record IsFound (r : List ℕ) (k added : ℕ) (back : List Lengths) : Type 0 where
+    ends : List Lengths
+    are_found : ended_within k (lens class r) ≡ ends
+    then_back : lens class r ≡ ends ++ back
+    few : length ends ≤ added + 2
+
+  found_before : (h n d : List ℕ) (past k added : ℕ) (back : List Lengths) → count class h ≤ 2 → widths n ≡ added → widths h + (added + past) ≡ k → Back class d past back
+      → IsFound (h ++ (n ++ d)) k added back
+  found_before h n d past k added back few w e b =
+      let g : List ℕ = (h ++ n) ++ b.t in
+      let es : List Lengths = before_last (lens class g) in
+      let all : h ++ (n ++ d) ≡ g ++ b.y = sym (append_assoc h n d) ∙ ap (λ v. (h ++ n) ++ v) b.whole ∙ sym (append_assoc (h ++ n) b.t b.y) in
+      let p : parts class g b.y ≡ true = b.parts (h ++ n) in
+      let joined : lens class (h ++ (n ++ d)) ≡ es ++ back = ap (lens class) all ∙ lens_append class g b.y p ∙ ap (λ ls. es ++ ls) b.rest in
+      let alone : lens class g ≡ es ++ unended 0 ∷ [] = lens_before class g b.y p in
+      let sum : total es + total (unended 0 ∷ []) ≡ widths g = sym (total_append es (unended 0 ∷ [])) ∙ ap total (sym alone) ∙ total_lens class g in
+      let len : total es + 0 ≡ k = omega (arith, sum, widths_append (h ++ n) b.t, widths_append h n, b.bytes) in
+      let number : count class g ≡ length es + 1 = ap length alone ∙ length-append es (unended 0 ∷ []) in
+      record {
+        ends = es;
+        are_found = ap (ended_within k) joined ∙ ended_all es back k 0 (ended_before g) len ∙ ap (λ ls. es ++ ls) (ended_in_none back) ∙ append-nil es;
+        then_back = joined;
+        few = omega (arith, number, count_together class (h ++ n) b.t, count_together class h n, count_few class n, length-le-encodes n, b.few);
+      }
+
+  found_last : (h n d : List ℕ) (added : ℕ) → count class h ≤ 2 → widths n ≡ added → count class d ≤ 1
+      → (last : ℕ) × IsFound (h ++ (n ++ d)) (widths (h ++ (n ++ d))) added (unended last ∷ [])
+  found_last h n d added few w one =
+      let r : List ℕ = h ++ (n ++ d) in
+      let c = cut_of class r in
+      let sum : total c.ended + total (unended c.last ∷ []) ≡ widths r = sym (total_append c.ended (unended c.last ∷ [])) ∙ ap total (sym c.is) ∙ total_lens class r in
+      let len : total c.ended + c.last ≡ widths r = omega (arith, sum) in
+      let number : count class r ≡ length c.ended + 1 = ap length c.is ∙ length-append c.ended (unended c.last ∷ []) in
+      let whole : count class r ≡ count class ((h ++ n) ++ d) = ap (count class) (sym (append_assoc h n d)) in (
+        c.last,
+        record {
+          ends = c.ended;
+          are_found = ap (ended_within (widths r)) c.is ∙ ended_all c.ended (unended c.last ∷ []) (widths r) c.last c.are_ended len ∙ append-nil c.ended;
+          then_back = c.is;
+          few = omega (arith, number, whole, count_together class (h ++ n) d, count_together class h n, count_few class n, length-le-encodes n);
+        },
+      )
+
+  -- the whole text from what is found
+  rewritten : (new x r : List ℕ) (front : List Lengths) (stop added : ℕ) (back : List Lengths) → IsUtf8 new → chars new ≡ x ++ r → widths x ≡ total front
+      → lens class (x ++ r) ≡ front ++ lens class r → IsFound r (stop - total front) added back → IsRewritten class new front stop added back
+  rewritten new x r front stop added back utf8 e w kept f =
+      let c = cut_at new x r (total front) utf8 e w in
+      let again : ended_within (stop - total front) (lengths class (drop (total front) new)) ≡ f.ends = ap (λ cs. ended_within (stop - total front) (lens class cs)) c.rest ∙ f.are_found in
+      record {
+        bounds = c.bounds;
+        kept = ap (lens class) e ∙ kept ∙ ap (λ ls. front ++ ls) (f.then_back ∙ ap (λ ls. ls ++ back) (sym again));
+        few = omega (arith, ap length again, f.few);
+      }
+
+  module _ (old : List ℕ) (c : Change) (new : List ℕ) (utf8 : IsUtf8 old) (utf8' : IsUtf8 new) (h : Leads old c new)
+      (front : List Lengths) (l : Lengths) (behind : List Lengths) (first : lengths class old ≡ front ++ l ∷ behind)
+      (begun : total front ≤ c.start - 1) (holds : c.start ≤ total front + bytes_of l) where
+    a : List ℕ
+    a = chars (take c.start old)
+
+    o : List ℕ
+    o = chars (take c.removed (drop c.start old))
+
+    n : List ℕ
+    n = chars (take c.added (drop c.start new))
+
+    d : List ℕ
+    d = chars (drop (c.start + c.removed) old)
+
+    parted : AreAround old c new a o n d
+    unfolding a o n d
+    parted = around old c new utf8 utf8' h
+
+    in_front : Front class a front
+    in_front = front_of class a (o ++ d) front l behind (ap (lens class) (sym parted.old_chars) ∙ first) (omega (arith, parted.before)) (omega (arith, parted.before))
+
+    -- the new characters behind those of the front
+    abbrev found : List ℕ
+    found = in_front.h ++ (n ++ d)
+
+    whole : chars new ≡ in_front.x ++ found
+    whole = parted.new_chars ∙ ap (λ v. v ++ (n ++ d)) in_front.whole ∙ append_assoc in_front.x in_front.h (n ++ d)
+
+    kept : lens class (in_front.x ++ found) ≡ front ++ lens class found
+    kept = ap (lens class) (sym (append_assoc in_front.x in_front.h (n ++ d)) ∙ ap (λ v. v ++ (n ++ d)) (sym in_front.whole)) ∙ in_front.kept (n ++ d)
+
+    to_change : c.start ≡ total front + widths in_front.h
+    to_change = omega (arith, parted.before, ap widths in_front.whole, widths_append in_front.x in_front.h, in_front.bytes)
+
+    replaced : lens class ((a ++ o) ++ d) ≡ lengths class old
+    replaced = ap (lens class) (append_assoc a o d ∙ sym parted.old_chars)
+
+    to_rest : widths (a ++ o) ≡ c.start + c.removed
+    to_rest = omega (arith, widths_append a o, parted.before, parted.gone)
+
+    -- a paragraph ends behind the change
+    pub change_inside : (upto : List Lengths) (q m : Lengths) (back : List Lengths) → lengths class old ≡ upto ++ q ∷ m ∷ back
+        → total upto ≤ c.start + c.removed → c.start + c.removed < total upto + bytes_of q
+        → IsRewritten class new front (((total upto + bytes_of q) - (c.start + c.removed)) + (c.start + c.added)) c.added (m ∷ back)
+    change_inside upto q m back e f g =
+        let past : ℕ = (total upto + bytes_of q) - widths (a ++ o) in
+        let b : Back class d past (m ∷ back) = back_of class (a ++ o) d upto q m back (replaced ∙ e) (omega (arith, to_rest)) (omega (arith, to_rest)) in
+        let len : widths in_front.h + (c.added + past) ≡ (((total upto + bytes_of q) - (c.start + c.removed)) + (c.start + c.added)) - total front = omega (arith, to_rest, to_change) in
+        rewritten new in_front.x found front _ c.added (m ∷ back) utf8' whole in_front.bytes kept
+        (found_before in_front.h n d past _ c.added (m ∷ back) in_front.few parted.come len b)
+
+    -- the change reaches into the last paragraph
+    pub change_at_end : (upto : List Lengths) (q : Lengths) → lengths class old ≡ upto ++ q ∷ [] → total upto ≤ c.start + c.removed
+        → (last : ℕ) × IsRewritten class new front (length new) c.added (unended last ∷ [])
+    change_at_end upto q e f =
+        let one : count class d ≤ 1 = last_of class (a ++ o) d upto q (replaced ∙ e) (omega (arith, to_rest)) in
+        let (last, is_found) = found_last in_front.h n d c.added in_front.few parted.come one in
+        let cut = cut_at new in_front.x found (total front) utf8' whole in_front.bytes in
+        let len : widths found ≡ length new - total front = omega (arith, cut.bytes) in (
+          last,
+          rewritten new in_front.x found front (length new) c.added (unended last ∷ []) utf8' whole in_front.bytes kept
+              (subst (λ k. IsFound found k c.added (unended last ∷ [])) len is_found),
+        )

@@ -1,0 +1,18 @@
+-- The paragraphs before the offset stand in the blocks, and the others follow.
+use Rattle.std.proofs.Common.{◌≡◌, ◌≤◌, ◌-◌, ◌++◌, [], IsCharBoundary, drop, length}
+use Rattle.bx_paras.specs.Paragraphs.{lengths}
+use Rattle.bx_paras.specs.Places.{total}
+use Rattle.bx_paras.specs.Flat.{flat}
+use Rattle.bx_paras.proofs.index.Index.build.Given as goal
+
+abbrev pub invariant-loop-at : goal.invariant-loop-at
+invariant-loop-at g l = record {
+  bounds : IsCharBoundary l.text.edited.text l.at;
+  place : l.place ≤ length l.ended.blocks;
+  front : flat l.ended.blocks ++ lengths (g.D.BidiData.class_of l.source) (drop l.at l.text.edited.text) ≡ lengths (g.D.BidiData.class_of l.source) l.text.edited.text;
+  behind : flat (drop l.place l.ended.blocks) ≡ [];
+  bytes : total (flat l.ended.blocks) ≡ l.at;
+}
+
+abbrev pub decreases-loop-at : goal.decreases-loop-at
+decreases-loop-at g l = length l.text.edited.text - l.at

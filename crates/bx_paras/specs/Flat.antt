@@ -1,0 +1,30 @@
+-- Paragraphs in blocks, and places among them.
+use Rattle.std.specs.Prelude.{◌≡◌, ◌<◌, ◌≤◌, ℕ, ◌+◌, ◌-◌, ◌*◌, ◌==◌, List, [], ◌∷◌, ◌++◌, length, take, get_or, if◌then◌else◌, MatchOption}
+use Rattle.bx_paras.specs.declared.lengths.Lengths.{Lengths}
+use Rattle.bx_paras.specs.declared.place.Place.{Place}
+use Rattle.bx_paras.specs.Places.{total}
+
+-- the paragraphs of all blocks
+abbrev pub flat : List (List Lengths) → List Lengths
+flat [] = []
+flat (b ∷ bs) = b ++ flat bs
+
+-- blocks, and how many more can be put among them with no memory
+pub record BlocksState : Type 0 where
+  pub blocks : List (List Lengths)
+  pub spares : ℕ
+
+-- how many more paragraphs the block in front of a place among the blocks can hold
+abbrev pub free_before : List (List Lengths) → ℕ → ℕ
+free_before bs at = if at == 0 then 0 else 128 - length (get_or bs (at - 1) [])
+
+-- how many paragraphs can be put in at a place among the blocks with no memory
+abbrev pub room_at : BlocksState → ℕ → ℕ
+room_at s at = free_before s.blocks at + 128 * s.spares
+
+-- the paragraph that an offset falls in: it ends past the offset, or it is the one behind all of these
+pub record IsPlace (ps : List Lengths) (offset : ℕ) (p : Place) : Type 0 where
+  pub number : p.number ≤ length ps
+  pub start : p.start ≡ total (take p.number ps)
+  pub begun : p.start ≤ offset
+  pub ended : MatchOption p.end (p.number ≡ length ps) (λ e. (p.number < length ps) × (e ≡ total (take (p.number + 1) ps)) × (offset < e))

@@ -1,0 +1,24 @@
+-- What an index is seen as: how many bytes each paragraph has, and the room that was made for the next edit.
+use Rattle.std.specs.Prelude.{ℕ, ◌+◌, ◌*◌, ◌≤◌, List, [], ◌∷◌, ◌++◌, length, Option, IfSome}
+use Rattle.bx_text.specs.Edits.{largest}
+use Rattle.bx_paras.specs.declared.lengths.Lengths.{Lengths}
+use Rattle.bx_paras.specs.declared.index.Index.TheInside.{Inside}
+use Rattle.bx_paras.specs.Flat.{flat}
+use Rattle.bx_paras.specs.Places.{total}
+
+pub record IndexState : Type 0 where
+  pub paragraphs : List Lengths
+  -- where it is Some of a number, the next edit that adds at most so many bytes takes no memory
+  pub room : Option ℕ
+
+abbrev pub index_of : Inside → IndexState
+index_of i = record { paragraphs = flat i.ended.blocks ++ record { body = i.last; separator = 0 } ∷ []; room = i.room }
+
+-- the blocks that an edit cuts, and those that it fills
+abbrev pub HasSpares : ℕ → ℕ → Type 0
+HasSpares spares bytes = bytes + 258 ≤ 128 * spares
+
+pub record IsIndex (i : Inside) : Type 0 where
+  pub short : total (flat i.ended.blocks ++ record { body = i.last; separator = 0 } ∷ []) ≤ largest
+  pub few : length (flat i.ended.blocks) ≤ largest
+  pub has_room : IfSome i.room (HasSpares i.ended.spares)

@@ -1,0 +1,9 @@
+pub mod Paragraphs
+pub mod Places
+pub mod Ended
+pub mod Scan
+pub mod OneBlock
+pub mod Flat
+pub mod Blocks
+pub mod Index
+pub mod LineEnds

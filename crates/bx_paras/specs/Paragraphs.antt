@@ -1,0 +1,57 @@
+-- The paragraphs of a text: the text cut at each paragraph separator (P1). CR LF is one separator.
+use Rattle.std.specs.Prelude.{ℕ, ◌==◌, ◌&&◌, Bool, true, false, List, [], ◌∷◌, ◌++◌, map, length, chars, encode_utf8}
+use Rattle.bx_ucd.specs.declared.class.Class.{Class}
+use Rattle.bx_ucd.specs.declared.class.Class.TheVariants.{B}
+use Rattle.bx_paras.specs.declared.lengths.Lengths.{Lengths}
+
+-- a paragraph: the bytes of its body, and those of the separator that ends it, none in the last
+pub record Paragraph : Type 0 where
+  pub body : List ℕ
+  pub separator : List ℕ
+
+-- a paragraph separator
+abbrev pub is_separator : Class → Bool
+is_separator B = true
+is_separator _ = false
+
+-- the characters begin with an LF that is a separator
+abbrev pub begins_with_lf : (ℕ → Class) → List ℕ → Bool
+begins_with_lf class [] = false
+begins_with_lf class (c ∷ cs) = (c == 10) && is_separator (class c)
+
+-- the first paragraph has one more character in front of its body
+abbrev pub after_character : ℕ → List Paragraph → List Paragraph
+after_character c [] = []
+after_character c (p ∷ ps) = record p { body = encode_utf8 c ++ p.body } ∷ ps
+
+-- the first paragraph has CR in front of its separator
+abbrev pub after_cr : List Paragraph → List Paragraph
+after_cr [] = []
+after_cr (p ∷ ps) = record p { separator = encode_utf8 13 ++ p.separator } ∷ ps
+
+-- a paragraph with no body
+abbrev pub bare : List ℕ → Paragraph
+bare separator = record { body = []; separator = separator }
+
+-- the characters cut at each separator: CR goes with an LF after it
+abbrev pub cut : (ℕ → Class) → List ℕ → List Paragraph
+cut class [] = bare [] ∷ []
+cut class (c ∷ cs) = elim (is_separator (class c)) [
+  | false ↦ after_character c (cut class cs)
+  | true ↦ elim ((c == 13) && begins_with_lf class cs) [
+    | true ↦ after_cr (cut class cs)
+    | false ↦ bare (encode_utf8 c) ∷ cut class cs
+  ]
+]
+
+-- the paragraphs of a text, which is its bytes
+abbrev pub paragraphs : (ℕ → Class) → List ℕ → List Paragraph
+paragraphs class text = cut class (chars text)
+
+-- how many bytes a paragraph has
+abbrev pub lengths_of : Paragraph → Lengths
+lengths_of p = record { body = length p.body; separator = length p.separator }
+
+-- how many bytes each paragraph of a text has
+abbrev pub lengths : (ℕ → Class) → List ℕ → List Lengths
+lengths class text = map lengths_of (paragraphs class text)

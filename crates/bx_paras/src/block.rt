@@ -1,0 +1,123 @@
+//! A block of paragraphs.
+
+ghost use Rattle.std.specs.Prelude.{◌≡◌, [], ◌∷◌, ◌++◌, ◌+◌, ◌<◌, ◌≤◌, ◌^◌, length, take, drop, nat_lt, IfOk};
+ghost use Rattle.bx_paras.specs.Places.{bytes_of, total};
+
+use crate::lengths::Lengths;
+use std::alloc::{AllocError, Global};
+use std::marker::Model;
+
+/// How many paragraphs a block holds at most.
+pub const MOST: usize = 128;
+
+/// Paragraphs that follow one another, at most 128, and how many bytes they have together.
+#[derive(Drop)]
+pub struct Block {
+    lengths: Vec<Lengths>,
+    bytes: usize,
+}
+
+impl Model for Block {
+    ghost use Rattle.std.specs.Prelude.{List};
+    ghost use Rattle.bx_paras.specs.declared.lengths.Lengths.{Lengths};
+    ghost use Rattle.bx_paras.specs.OneBlock.{IsBlock};
+
+    ghost Value = { List Lengths };
+
+    ghost view = { λ b. b.lengths.items };
+
+    ghost invariant = { IsBlock };
+}
+
+/// The bytes of some paragraphs.
+#[tactic(auto, using(crate::proofs::Totals::total_more, crate::proofs::Totals::total_front))]
+pub fn total(lengths: &[Lengths]) -> usize
+    requires { total lengths.now < 2 ^ 64 }
+    ensures { result ≡ total lengths.now }
+{
+    let mut bytes = 0;
+    for paragraph in lengths {
+        bytes += paragraph.bytes();
+    }
+    bytes
+}
+
+impl Block {
+    /// No paragraph, and room for 128.
+    pub fn new(alloc: Global) -> Result<Block, AllocError>
+        ensures { IfOk result (λ b. b ≡ []) }
+    {
+        Ok(Block {
+            lengths: Vec::with_capacity(alloc, MOST)?,
+            bytes: 0,
+        })
+    }
+
+    /// How many bytes the paragraphs have. No memory.
+    pub fn bytes(&self) -> usize
+        ensures { result ≡ total self.now }
+    {
+        self.bytes
+    }
+
+    /// The paragraphs. No memory.
+    pub fn lengths(&self) -> &[Lengths]
+        ensures paragraphs { result.now ≡ self.now }
+        ensures few { length result.now ≤ 128 }
+    {
+        self.lengths.as_slice()
+    }
+
+    /// Whether another paragraph fits in. No memory.
+    pub fn has_room(&self) -> bool
+        ensures { result ≡ nat_lt (length self.now) 128 }
+    {
+        self.lengths.len() < MOST
+    }
+
+    /// One paragraph more, behind the others. No memory.
+    #[tactic(auto, using(crate::proofs::Totals::total_push))]
+    pub fn push(&mut self, paragraph: Lengths)
+        requires room { length self.old < 128 }
+        requires short { total self.old + bytes_of paragraph < 2 ^ 64 }
+        ensures { self.new ≡ self.old ++ paragraph ∷ [] }
+    {
+        self.bytes += paragraph.bytes();
+        self.lengths.push(paragraph).unwrap();
+    }
+
+    /// Takes the paragraphs from a number on into another block, in the place of those that it had. No memory.
+    #[tactic(auto, using(crate::proofs::Totals::total_rest))]
+    pub fn cut(&mut self, at: usize, mut rest: Block) -> Block
+        requires { at ≤ length self.old }
+        ensures front { self.new ≡ take at self.old }
+        ensures back { result ≡ drop at self.old }
+    {
+        let back = &self.lengths[at..];
+        rest.lengths.clear();
+        rest.lengths.extend_from_slice(back).unwrap();
+        rest.bytes = total(back);
+        self.bytes -= rest.bytes;
+        self.lengths.truncate(at);
+        rest
+    }
+
+    /// Puts the paragraphs of another block behind these. No memory.
+    #[tactic(auto, using(crate::proofs::Totals::total_append))]
+    pub fn append(&mut self, other: &Block)
+        requires room { length self.old + length other.now ≤ 128 }
+        requires short { total self.old + total other.now < 2 ^ 64 }
+        ensures { self.new ≡ self.old ++ other.now }
+    {
+        self.bytes += other.bytes;
+        self.lengths.extend_from_slice(&other.lengths).unwrap();
+    }
+
+    /// No paragraph any more. No memory.
+    pub fn clear(&mut self)
+        ensures { self.new ≡ [] }
+    {
+        self.lengths.clear();
+        self.bytes = 0;
+    }
+}

@@ -1,0 +1,259 @@
+//! Paragraphs in blocks.
+
+ghost use Rattle.std.specs.Prelude.{◌≡◌, ℕ, [], ◌∷◌, ◌++◌, ◌+◌, ◌-◌, ◌<◌, ◌≤◌, ◌^◌, ◌⊎◌, length, take, drop, get_or, IfOk, OnOk, OnErr, MatchOption, vec_len};
+ghost use Rattle.bx_paras.specs.Places.{bytes_of, total};
+ghost use Rattle.bx_paras.specs.Flat.{flat, BlocksState, room_at, IsPlace};
+
+use crate::block::{Block, MOST, total};
+use crate::lengths::Lengths;
+use crate::place::Place;
+use crate::splices::{cut_at, join_at, push_at, remove_blocks};
+use std::alloc::{AllocError, Global};
+use std::marker::Model;
+
+/// Paragraphs that end with a separator, in blocks, and blocks that were made ahead.
+#[derive(Drop)]
+pub struct Blocks {
+    blocks: Vec<Block>,
+    // they may have paragraphs of earlier times
+    spares: Vec<Block>,
+}
+
+impl Model for Blocks {
+    ghost use Rattle.bx_paras.specs.Flat.{BlocksState};
+    ghost use Rattle.bx_paras.specs.Blocks.{blocks_of, AreBlocks};
+
+    ghost Value = { BlocksState };
+
+    ghost view = { blocks_of };
+
+    ghost invariant = { AreBlocks };
+}
+
+/// Where the paragraph stands that an offset falls in, among the paragraphs of a block that end past it: its number,
+/// where it begins and where it ends.
+#[tactic(auto, using(crate::proofs::Totals::total_more, crate::proofs::Totals::total_front))]
+fn place_within(lengths: &[Lengths], offset: usize) -> (usize, usize, usize)
+    requires inside { offset < total lengths.now }
+    requires short { total lengths.now < 2 ^ 64 }
+    ensures number { result.0 < length lengths.now }
+    ensures start { result.1 ≡ total (take result.0 lengths.now) }
+    ensures begun { result.1 ≤ offset }
+    ensures end { result.2 ≡ total (take (result.0 + 1) lengths.now) }
+    ensures past { offset < result.2 }
+{
+    let mut number = 0;
+    let mut start = 0;
+    for paragraph in lengths {
+        let end = start + paragraph.bytes();
+        if offset < end {
+            return (number, start, end);
+        }
+        number += 1;
+        start = end;
+    }
+    (number, start, start)
+}
+
+/// One of the blocks that were made ahead, with no paragraph. No memory.
+fn spare(spares: &mut Vec<Block>) -> Block
+    requires { 0 < vec_len spares.old }
+    ensures fewer { vec_len spares.new + 1 ≡ vec_len spares.old }
+    ensures empty { result ≡ [] }
+{
+    let mut block = spares.pop().unwrap();
+    block.clear();
+    block
+}
+
+impl Blocks {
+    /// No paragraph.
+    pub fn new(alloc: Global) -> Blocks
+        ensures { result ≡ record { blocks = []; spares = 0 } }
+    {
+        Blocks {
+            blocks: Vec::new(alloc),
+            spares: Vec::new(alloc),
+        }
+    }
+
+    /// Where the paragraph stands that an offset falls in. No memory.
+    #[tactic(auto, using(crate::proofs::Flats::total_flat_more, crate::proofs::Flats::length_flat_more, crate::proofs::Flats::total_flat_front, crate::proofs::Flats::length_flat_front))]
+    pub fn find(&self, offset: usize) -> Place
+        ensures { IsPlace (flat self.now.blocks) offset result }
+    {
+        let mut number = 0;
+        let mut start = 0;
+        for block in &self.blocks {
+            let end = start + block.bytes();
+            if offset < end {
+                let (within, before, past) = place_within(block.lengths(), offset - start);
+                return Place {
+                    number: number + within,
+                    start: start + before,
+                    end: Some(start + past),
+                };
+            }
+            number += block.lengths().len();
+            start = end;
+        }
+        Place {
+            number,
+            start,
+            end: None,
+        }
+    }
+
+    /// How many paragraphs there are, and how many bytes they have. No memory.
+    #[tactic(auto, using(crate::proofs::Flats::total_flat_more, crate::proofs::Flats::length_flat_more, crate::proofs::Flats::total_flat_front, crate::proofs::Flats::length_flat_front))]
+    pub fn size(&self) -> (usize, usize)
+        ensures count { result.0 ≡ length (flat self.now.blocks) }
+        ensures bytes { result.1 ≡ total (flat self.now.blocks) }
+    {
+        let mut count = 0;
+        let mut bytes = 0;
+        for block in &self.blocks {
+            count += block.lengths().len();
+            bytes += block.bytes();
+        }
+        (count, bytes)
+    }
+
+    /// A paragraph and the offset at which it begins; none where there are not so many. No memory.
+    #[tactic(auto, using(crate::proofs::Flats::total_flat_more, crate::proofs::Flats::length_flat_more, crate::proofs::Flats::total_flat_front, crate::proofs::Flats::length_flat_front))]
+    pub fn get(&self, number: usize) -> Option<(usize, Lengths)>
+        ensures { MatchOption result (length (flat self.now.blocks) ≤ number) (λ p. (number < length (flat self.now.blocks)) × (p.0 ≡ total (take number (flat self.now.blocks))) × (p.1 ≡ get_or (flat self.now.blocks) number p.1)) }
+    {
+        let mut left = number;
+        let mut start = 0;
+        for block in &self.blocks {
+            let lengths = block.lengths();
+            if left < lengths.len() {
+                return Some((start + total(&lengths[..left]), lengths[left]));
+            }
+            left -= lengths.len();
+            start += block.bytes();
+        }
+        None
+    }
+
+    /// The block of a paragraph, and how many paragraphs of the block stand before it; behind the last one no block
+    /// is left. No memory.
+    #[tactic(auto, using(crate::proofs::Flats::length_flat_more, crate::proofs::Flats::length_flat_front))]
+    fn seek(&self, number: usize) -> (usize, usize)
+        requires { number ≤ length (flat self.now.blocks) }
+        ensures block { result.0 ≤ length self.now.blocks }
+        ensures number { number ≡ length (flat (take result.0 self.now.blocks)) + result.1 }
+        ensures within { (result.1 ≡ 0) ⊎ ((result.0 < length self.now.blocks) × (result.1 < length (get_or self.now.blocks result.0 []))) }
+    {
+        let mut left = number;
+        for (i, block) in self.blocks.iter().enumerate() {
+            let count = block.lengths().len();
+            if left < count {
+                return (i, left);
+            }
+            left -= count;
+        }
+        (self.blocks.len(), 0)
+    }
+
+    /// Makes one block ahead.
+    fn add_spare(&mut self) -> Result<(), AllocError>
+        ensures blocks { self.new.blocks ≡ self.old.blocks }
+        ensures ok { OnOk result (self.new.spares ≡ self.old.spares + 1) }
+        ensures err { OnErr result (self.new.spares ≡ self.old.spares) }
+    {
+        let alloc = *self.blocks.allocator();
+        self.blocks.reserve(self.spares.len() + 1)?;
+        let block = Block::new(alloc)?;
+        self.spares.push(block)?;
+        Ok(())
+    }
+
+    /// Makes as many blocks ahead as are missing. Where memory runs out some of them may be made.
+    pub fn ready(&mut self, spares: usize) -> Result<(), AllocError>
+        ensures blocks { self.new.blocks ≡ self.old.blocks }
+        ensures no_fewer { self.old.spares ≤ self.new.spares }
+        ensures enough { OnOk result (spares ≤ self.new.spares) }
+    {
+        for _made in self.spares.len()..spares {
+            self.add_spare()?;
+        }
+        Ok(())
+    }
+
+    /// Cuts the block that a paragraph stands in, so that the paragraph begins a block, and gives the block's number,
+    /// which is that of the blocks where the paragraph is behind the last. No memory.
+    fn cut(&mut self, number: usize) -> usize
+        requires spare { 0 < self.old.spares }
+        requires inside { number ≤ length (flat self.old.blocks) }
+        ensures block { result ≤ length self.new.blocks }
+        ensures paragraphs { flat self.new.blocks ≡ flat self.old.blocks }
+        ensures front { flat (take result self.new.blocks) ≡ take number (flat self.old.blocks) }
+        ensures back { flat (drop result self.new.blocks) ≡ drop number (flat self.old.blocks) }
+        ensures spares { self.old.spares ≤ self.new.spares + 1 }
+        ensures before { (k : ℕ) → k ≤ length self.old.blocks → length (flat (take k self.old.blocks)) ≤ number → (take k self.new.blocks ≡ take k self.old.blocks) × (k ≤ length self.new.blocks) }
+    {
+        let (block, within) = self.seek(number);
+        if within == 0 {
+            return block;
+        }
+        let spare = spare(&mut self.spares);
+        cut_at(&mut self.blocks, block, within, spare);
+        block + 1
+    }
+
+    /// Puts a paragraph behind those of the blocks before a place among the blocks, and gives the place behind it.
+    /// No memory.
+    pub fn push(&mut self, at: usize, paragraph: Lengths) -> usize
+        requires place { at ≤ length self.old.blocks }
+        requires room { 0 < room_at self.old at }
+        requires short { total (flat self.old.blocks) + bytes_of paragraph < 2 ^ 64 }
+        requires few { length (flat self.old.blocks) + 1 < 2 ^ 64 }
+        ensures place { result ≤ length self.new.blocks }
+        ensures front { flat (take result self.new.blocks) ≡ flat (take at self.old.blocks) ++ paragraph ∷ [] }
+        ensures back { flat (drop result self.new.blocks) ≡ flat (drop at self.old.blocks) }
+        ensures room { room_at self.new result + 1 ≡ room_at self.old at }
+    {
+        if at > 0 && self.blocks[at - 1].has_room() {
+            push_at(&mut self.blocks, at - 1, paragraph);
+            return at;
+        }
+        let mut block = spare(&mut self.spares);
+        block.push(paragraph);
+        self.blocks.insert(at, block).unwrap();
+        at + 1
+    }
+
+    /// Takes out the paragraphs from one to another, and gives the place among the blocks where they stood. No memory.
+    pub fn take_out(&mut self, from: usize, to: usize) -> usize
+        requires spares { 2 ≤ self.old.spares }
+        requires order { from ≤ to }
+        requires inside { to ≤ length (flat self.old.blocks) }
+        ensures place { result ≤ length self.new.blocks }
+        ensures front { flat (take result self.new.blocks) ≡ take from (flat self.old.blocks) }
+        ensures back { flat (drop result self.new.blocks) ≡ drop to (flat self.old.blocks) }
+        ensures spares { self.old.spares ≤ self.new.spares + 2 }
+    {
+        let first = self.cut(from);
+        let last = self.cut(to);
+        if first < last {
+            remove_blocks(&mut self.blocks, first, last);
+        }
+        first
+    }
+
+    /// Joins the blocks before and behind a place among them, where they have room for one another. No memory.
+    pub fn join(&mut self, at: usize)
+        ensures paragraphs { flat self.new.blocks ≡ flat self.old.blocks }
+        ensures spares { self.new.spares ≡ self.old.spares }
+    {
+        if at == 0 || at >= self.blocks.len() {
+            return;
+        }
+        let behind = self.blocks[at].lengths().len();
+        if self.blocks[at - 1].lengths().len() + behind <= MOST {
+            join_at(&mut self.blocks, at - 1);
+        }
+    }
+}

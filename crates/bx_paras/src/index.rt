@@ -1,0 +1,152 @@
+//! The index.
+
+ghost use Rattle.std.specs.Prelude.{◌≡◌, ℕ, ◌+◌, ◌-◌, ◌<◌, ◌≤◌, List, None, Some, length, slice_get, IsUtf8, IfOk, OnOk, OnErr};
+ghost use Rattle.bx_text.specs.Edits.{Leads};
+ghost use Rattle.bx_text.specs.Text.{HasRoomFor};
+ghost use Rattle.bx_paras.specs.Paragraphs.{lengths};
+ghost use Rattle.bx_paras.specs.Places.{spans, separators, paragraph_of};
+ghost use Rattle.bx_paras.specs.Index.{IndexState};
+
+use crate::block::MOST;
+use crate::blocks::Blocks;
+use crate::error::ParasError;
+use crate::fill::replace;
+use crate::scan::paragraph_from;
+use bx_text::{Change, Text};
+use bx_ucd::BidiData;
+use std::alloc::Global;
+use std::marker::Model;
+
+/// How many bytes each paragraph of a text has: its body, and the separator that ends it. It keeps lengths in blocks, and
+/// no offsets, so an edit changes what it touches.
+#[derive(Drop)]
+pub struct Index {
+    ended: Blocks,
+    // the bytes of the last paragraph, which no separator ends
+    last: u32,
+    room: Option<usize>,
+}
+
+impl Model for Index {
+    ghost use Rattle.bx_paras.specs.Index.{IndexState, index_of, IsIndex};
+
+    ghost Value = { IndexState };
+
+    ghost view = { index_of };
+
+    ghost invariant = { IsIndex };
+}
+
+impl Index {
+    /// The paragraphs of a text.
+    ///
+    /// Errors: `OutOfMemory`.
+    pub fn build<D: BidiData>(alloc: Global, text: &Text, source: &D) -> Result<Index, ParasError>
+        ensures { IfOk result (λ i. i ≡ record { paragraphs = lengths (D.class_of source.now) text.now.edited.text; room = None }) }
+    {
+        let len = text.len();
+        let mut ended = Blocks::new(alloc);
+        let mut place = 0;
+        let mut at = 0;
+        while at < len {
+            let paragraph = paragraph_from(text, source, at);
+            if paragraph.separator == 0 {
+                return Ok(Index {
+                    ended,
+                    last: paragraph.body,
+                    room: None,
+                });
+            }
+            ended.ready(1)?;
+            place = ended.push(place, paragraph);
+            at += paragraph.bytes();
+        }
+        Ok(Index {
+            ended,
+            last: 0,
+            room: None,
+        })
+    }
+
+    /// Makes room: after Ok an edit that adds at most so many bytes can be followed with no memory.
+    ///
+    /// Errors: `OutOfMemory`, and the index and the room made before are unchanged.
+    pub fn ready(&mut self, bytes: usize) -> Result<(), ParasError>
+        ensures paragraphs { self.new.paragraphs ≡ self.old.paragraphs }
+        ensures ok { OnOk result (self.new.room ≡ Some bytes) }
+        ensures err { OnErr result (self.new ≡ self.old) }
+    {
+        self.ended.ready(bytes / MOST + 4)?;
+        self.room = Some(bytes);
+        Ok(())
+    }
+
+    /// Follows an edit of the text, which it looks at where the change is. No memory, and it always succeeds: the index
+    /// was that of the text before the change, by the same data, and `ready` made room for what was added.
+    pub fn edited<D: BidiData>(&mut self, text: &Text, source: &D, change: &Change)
+        requires was { (old : List ℕ) × IsUtf8 old × (self.old.paragraphs ≡ lengths (D.class_of source.now) old) × Leads old change.now text.now.edited.text }
+        requires room { HasRoomFor self.old.room change.now.added }
+        ensures { self.new ≡ record { paragraphs = lengths (D.class_of source.now) text.now.edited.text; room = None } }
+    {
+        let len = text.len();
+        let first = self.ended.find(change.start.saturating_sub(1));
+        let stop = change.start + change.removed;
+        let last = self.ended.find(stop);
+        if let Some(end) = last.end {
+            let behind = end - stop + change.start + change.added;
+            replace(
+                &mut self.ended,
+                text,
+                source,
+                first,
+                last.number + 1,
+                behind,
+            );
+            self.room = None;
+            return;
+        }
+        let at = replace(&mut self.ended, text, source, first, last.number, len);
+        self.last = (len - at) as u32;
+        self.room = None;
+    }
+
+    /// How many paragraphs the text has, at least one. No memory.
+    pub fn count(&self) -> usize
+        ensures { result ≡ length self.now.paragraphs }
+    {
+        self.ended.size().0 + 1
+    }
+
+    /// The number of the paragraph, from 0, that an offset in bytes falls in: the last that begins at or before it.
+    /// No memory.
+    pub fn paragraph_of(&self, offset: usize) -> usize
+        ensures { result ≡ paragraph_of self.now.paragraphs offset }
+    {
+        self.ended.find(offset).number
+    }
+
+    /// Where the body of a paragraph begins and ends, in bytes. No memory.
+    pub fn span(&self, number: usize) -> (usize, usize)
+        requires { number < length self.now.paragraphs }
+        ensures { slice_get (spans self.now.paragraphs) number ≡ Some result }
+    {
+        match self.ended.get(number) {
+            Some((start, paragraph)) => (start, start + paragraph.body as usize),
+            None => {
+                let start = self.ended.size().1;
+                (start, start + self.last as usize)
+            }
+        }
+    }
+
+    /// How many bytes the separator has that ends a paragraph, 0 for the last. No memory.
+    pub fn separator(&self, number: usize) -> usize
+        requires { number < length self.now.paragraphs }
+        ensures { slice_get (separators self.now.paragraphs) number ≡ Some result }
+    {
+        match self.ended.get(number) {
+            Some((_, paragraph)) => paragraph.separator as usize,
+            None => 0,
+        }
+    }
+}

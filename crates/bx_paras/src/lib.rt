@@ -1,0 +1,18 @@
+//! The paragraphs of a text: an index that follows its edits.
+#![tactic(auto)]
+
+mod block;
+mod blocks;
+mod error;
+mod fill;
+mod index;
+mod lengths;
+mod place;
+mod scan;
+mod splices;
+
+pub use error::ParasError;
+pub use index::Index;
+
+#[cfg(test)]
+mod tests;

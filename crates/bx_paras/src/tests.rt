@@ -1,0 +1,198 @@
+//! Worked rows: the paragraphs of small texts, before and after edits.
+
+ghost use Rattle.std.specs.Prelude.{◌≡◌, OnOk};
+ghost use Rattle.bx_paras.specs.Paragraphs.{lengths};
+ghost use Rattle.bx_paras.specs.LineEnds.{class};
+
+use crate::Index;
+use bx_text::{Text, TextError};
+use bx_ucd::{BidiData, Class, Side};
+use std::alloc::Global;
+use std::cell::Cell;
+use std::process::Abort;
+use std::test::Fail;
+
+/// Line feed, carriage return and U+2029 separate paragraphs. It counts the questions for a class.
+#[derive(Drop)]
+struct LineEnds {
+    asked: Cell<u32>,
+}
+
+impl LineEnds {
+    fn new() -> LineEnds {
+        LineEnds {
+            asked: Cell::new(0),
+        }
+    }
+}
+
+impl BidiData for LineEnds {
+    ghost use Rattle.std.specs.Prelude.{None};
+    ghost use Rattle.bx_paras.specs.LineEnds.{class};
+
+    ghost class_of = { λ _ c. class c };
+
+    ghost bracket_of = { λ _ _. None };
+
+    ghost mirror_of = { λ _ _. None };
+
+    ghost no_mirror_is_control = { λ _ _. tt };
+
+    fn class(&self, c: char) -> Class {
+        self.asked.set(self.asked.get().wrapping_add(1));
+        match c {
+            '\n' | '\r' | '\u{2029}' => Class::B,
+            _ => Class::L,
+        }
+    }
+
+    fn bracket(&self, c: char) -> Option<(Side, char)> {
+        let _ = c;
+        None
+    }
+
+    fn mirror(&self, c: char) -> Option<char> {
+        let _ = c;
+        None
+    }
+}
+
+fn text_of(alloc: Global, text: &str) -> Result<Text, TextError> {
+    Text::open(alloc, String::from_str(alloc, text)?)
+}
+
+/// Each paragraph of the index has to be this: where its body begins and ends, and the length of its separator.
+fn shows(rt: &impl Abort, index: &Index, paragraphs: &[(usize, usize, usize)]) {
+    assert_eq!(rt; index.count(), paragraphs.len());
+    for (i, paragraph) in paragraphs.iter().enumerate() {
+        if i < index.count() {
+            let (start, stop) = index.span(i);
+            assert_eq!(rt; (start, stop, index.separator(i)), *paragraph);
+        }
+    }
+}
+
+/// Puts text in, and has the index follow.
+fn insert(
+    text: &mut Text,
+    index: &mut Index,
+    source: &LineEnds,
+    at: usize,
+    added: &str,
+) -> Result<(), Fail>
+    requires { index.old.paragraphs ≡ lengths class text.old.edited.text }
+    ensures { OnOk result (index.new.paragraphs ≡ lengths class text.new.edited.text) }
+{
+    let _utf8 = text.len();
+    index.ready(added.len())?;
+    let change = text.insert(at, added, at, at)?;
+    index.edited(text, source, &change);
+    Ok(())
+}
+
+/// Takes text out, and has the index follow.
+fn remove(
+    text: &mut Text,
+    index: &mut Index,
+    source: &LineEnds,
+    start: usize,
+    stop: usize,
+) -> Result<(), Fail>
+    requires { index.old.paragraphs ≡ lengths class text.old.edited.text }
+    ensures { OnOk result (index.new.paragraphs ≡ lengths class text.new.edited.text) }
+{
+    let _utf8 = text.len();
+    index.ready(0)?;
+    let change = text.remove(start, stop, stop, start)?;
+    index.edited(text, source, &change);
+    Ok(())
+}
+
+/// Takes the latest edit back, and has the index follow.
+fn undo(text: &mut Text, index: &mut Index, source: &LineEnds) -> Result<(), Fail>
+    requires { index.old.paragraphs ≡ lengths class text.old.edited.text }
+    ensures { OnOk result (index.new.paragraphs ≡ lengths class text.new.edited.text) }
+{
+    let _utf8 = text.len();
+    let Some(next) = text.next_undo() else {
+        return Ok(());
+    };
+    index.ready(next.added)?;
+    if let Some(change) = text.undo()? {
+        index.edited(text, source, &change);
+    }
+    Ok(())
+}
+
+#[test]
+fn line_ends_separate_paragraphs(rt: HostRuntime) -> Result<(), Fail> {
+    let source = LineEnds::new();
+    let mut text = text_of(rt.alloc(), "1\n2\r\n3")?;
+    let mut index = Index::build(rt.alloc(), &text, &source)?;
+    shows(&rt, &index, &[(0, 1, 1), (2, 3, 2), (5, 6, 0)]);
+    assert_eq!(rt; index.paragraph_of(1), 0);
+    assert_eq!(rt; index.paragraph_of(4), 1);
+    assert_eq!(rt; index.paragraph_of(6), 2);
+    insert(&mut text, &mut index, &source, 1, "\r")?;
+    shows(&rt, &index, &[(0, 1, 2), (3, 4, 2), (6, 7, 0)]);
+    Ok(())
+}
+
+#[test]
+fn lf_goes_with_a_lone_cr(rt: HostRuntime) -> Result<(), Fail> {
+    let source = LineEnds::new();
+    let mut text = text_of(rt.alloc(), "a\rb")?;
+    let mut index = Index::build(rt.alloc(), &text, &source)?;
+    shows(&rt, &index, &[(0, 1, 1), (2, 3, 0)]);
+    insert(&mut text, &mut index, &source, 2, "\n")?;
+    shows(&rt, &index, &[(0, 1, 2), (3, 4, 0)]);
+    Ok(())
+}
+
+#[test]
+fn cr_and_lf_meet_where_what_stood_between_is_removed(rt: HostRuntime) -> Result<(), Fail> {
+    let source = LineEnds::new();
+    let mut text = text_of(rt.alloc(), "\rx\n")?;
+    let mut index = Index::build(rt.alloc(), &text, &source)?;
+    shows(&rt, &index, &[(0, 0, 1), (1, 2, 1), (3, 3, 0)]);
+    remove(&mut text, &mut index, &source, 1, 2)?;
+    shows(&rt, &index, &[(0, 0, 2), (2, 2, 0)]);
+    undo(&mut text, &mut index, &source)?;
+    shows(&rt, &index, &[(0, 0, 1), (1, 2, 1), (3, 3, 0)]);
+    Ok(())
+}
+
+#[test]
+fn a_separator_of_three_bytes(rt: HostRuntime) -> Result<(), Fail> {
+    let source = LineEnds::new();
+    let text = text_of(rt.alloc(), "a\u{2029}")?;
+    let index = Index::build(rt.alloc(), &text, &source)?;
+    shows(&rt, &index, &[(0, 1, 3), (4, 4, 0)]);
+    let empty = text_of(rt.alloc(), "")?;
+    shows(
+        &rt,
+        &Index::build(rt.alloc(), &empty, &source)?,
+        &[(0, 0, 0)],
+    );
+    Ok(())
+}
+
+#[test]
+fn an_edit_looks_at_its_paragraphs_alone(rt: HostRuntime) -> Result<(), Fail> {
+    let source = LineEnds::new();
+    let mut lines = String::new(rt.alloc());
+    for _ in 0..1000 {
+        lines.push_str("ab\n")?;
+    }
+    let mut text = Text::open(rt.alloc(), lines)?;
+    let mut index = Index::build(rt.alloc(), &text, &source)?;
+    assert_eq!(rt; index.count(), 1001);
+    source.asked.set(0);
+    insert(&mut text, &mut index, &source, 1501, "x\n")?;
+    assert!(rt; source.asked.get() < 100);
+    assert_eq!(rt; index.count(), 1002);
+    assert_eq!(rt; index.span(500), (1500, 1502));
+    assert_eq!(rt; index.span(501), (1503, 1504));
+    assert_eq!(rt; index.span(1001), (3002, 3002));
+    Ok(())
+}
