@@ -2,7 +2,7 @@
 use Rattle.std.proofs.Common.{◌≡◌, ℕ, ◌+◌, ◌*◌, ◌<◌, ◌≤◌, nat_le, true, ◌&&◌, List, [], ◌∷◌, ◌++◌, length, map, take, drop, set, get_or, replicate, zero, suc, refl, ap, sym, ◌∙◌, append_assoc, arith}
 use Rattle.std.specs.List.{list_all}
 use Rattle.std.proofs.lemmas.List.{get_or-map, map-set, set_at, drop_more, length-take-le, length-set, length-replicate, take-append-drop}
-use Rattle.bx_grid.specs.Columns.{Col, blank, paste, is_plain}
+use Rattle.bx_grid.specs.Columns.{Col, blank, paste, is_plain, is_printable_text}
 use Rattle.bx_grid.specs.Seen.{seen, all_seen}
 use Rattle.bx_grid.specs.declared.column.Column.{Column}
 use Rattle.std.proofs.lemmas.Bool.Decides.{nat_tests}
@@ -68,3 +68,8 @@ put_kept h w k items x g e =
       };
       plain = rw map-set (plain_set (all_seen items) k (seen x) g.plain e);
     }
+
+pub one_byte : (text : List ℕ) → is_printable_text text ≡ true → get_or text 0 0 ∷ [] ≡ text
+one_byte [] h = absurd (cc h)
+one_byte (b ∷ []) h = refl
+one_byte (b ∷ c ∷ rest) h = absurd (cc h)

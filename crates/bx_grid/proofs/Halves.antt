@@ -1,15 +1,20 @@
 -- What half-read bytes look like, and what their token does.
-use Rattle.std.proofs.Common.{◌≡◌, ℕ, ◌≤◌, Bool, true, false, ◌&&◌, cond, nat_le, nat_eq, min, List, [], ◌∷◌, ◌++◌, length, drop, Option, Some, None, Result, Ok, Err, OnOk, inl, inr, refl, ap, ◌∙◌, arith}
-use Rattle.std.specs.List.{list_all}
+use Rattle.std.proofs.Common.{◌≡◌, ℕ, ◌<◌, ◌≤◌, Bool, true, false, cond, nat_le, nat_eq, min, List, [], ◌∷◌, ◌++◌, length, drop, get_or, Result, Ok, Err, OnOk, inl, inr, refl, ap, sym, ◌∙◌, arith}
 use Rattle.std.proofs.lemmas.Bool.{cases_lt}
 use Rattle.std.proofs.lemmas.Bool.Decides.{nat_tests}
-use Rattle.bx_grid.proofs.Reading.{at, and_left}
-use Rattle.bx_grid.proofs.Pushed.{inter_rest}
+use Rattle.bx_grid.proofs.Reading.{at}
 use Rattle.std.proofs.Math.Bool.{and-false}
 use Rattle.bx_grid.specs.Capped.{capped}
-use Rattle.bx_grid.specs.Tokens.{is_printable, is_intermediate, is_final, params, after_params, after_intermediates, final_fate, escape_fate, fate, command_of, command_at, command}
-use Rattle.bx_grid.specs.Terminal.{Terminal, all_unknown, moved, cleared, erased, obeyed, token_read, sequence_read, shown}
-use Rattle.bx_grid.specs.declared.token.Fate.TheVariants.{Waits, Ends, Breaks}
+use Rattle.bx_grid.specs.Tokens.{is_final, after_params, after_intermediates, final_fate, escape_fate, fate, command}
+use Rattle.bx_grid.specs.Terminal.{Terminal, moved, obeyed, token_read, byte_read, read_after, went_on}
+use Rattle.bx_bytes.specs.declared.fate.Fate.TheVariants.{Waits, Ends, Breaks}
+use Rattle.bx_bytes.specs.Fate.{fate_in}
+use Rattle.bx_bytes.specs.Utf8.{characters, is_character, begins_character}
+use Rattle.bx_bytes.proofs.Encoded.{are_encodings}
+use Rattle.std.specs.Char.{encode_utf8, IsScalar}
+use Rattle.std.specs.Str.{chars}
+use Rattle.std.proofs.lemmas.Str.{chars-encodes}
+use Rattle.std.proofs.lemmas.List.{append-nil}
 use Rattle.bx_grid.specs.declared.token.Command.{Command}
 use Rattle.bx_grid.specs.declared.token.Command.TheVariants.{Move, Clear, Erase, Render, Other}
 
@@ -21,18 +26,6 @@ went_first false x y z e h = (refl, e)
 went_second : {A : Type 0} (t : Bool) (x y z : A) → cond t x y ≡ z → (y ≡ z → ⊥) → (t ≡ true) × (x ≡ z)
 went_second true x y z e h = (refl, e)
 went_second false x y z e h = absurd (h e)
-
--- ---- runs
-
-run_by : (t : Bool) (b : ℕ) (rest : List ℕ) → nat_eq b 0x1B ≡ t → nat_eq b 0x1B ≡ false → fate (b ∷ rest) ≡ Waits → list_all is_printable (b ∷ rest) ≡ true
-run_by t b rest e no_escape h =
-    let g : cond (list_all is_printable (b ∷ rest)) Waits Breaks ≡ Waits = rw no_escape at h in
-    (went_second (list_all is_printable (b ∷ rest)) Waits Breaks Waits g (λ (w : Breaks ≡ Waits). cc w)).0
-
-pub run_printable : (b : ℕ) (rest : List ℕ) → nat_eq b 0x1B ≡ false → fate (b ∷ rest) ≡ Waits → list_all is_printable (b ∷ rest) ≡ true
-run_printable b rest e h = run_by false b rest e e h
-
--- ---- sequences
 
 never : {A : Type 0} (t : Bool) (x y z : A) → (x ≡ z → ⊥) → (y ≡ z → ⊥) → cond t x y ≡ z → ⊥
 never true x y z nx ny e = nx e
@@ -48,33 +41,6 @@ escape_shape y body h =
     let g = went_second (nat_eq y 0x5B) (final_fate (after_intermediates (after_params body))) Breaks Waits h (λ (w : Breaks ≡ Waits). cc w) in
     (g.0, final_waits (after_intermediates (after_params body)) g.1)
 
-intermediate_asks : (ps : List ℕ) (x : ℕ) → is_intermediate x ≡ true → command_of ps x ≡ Other
-intermediate_asks ps x h =
-    let a : nat_eq x 0x48 ≡ false = grind (arith, nat_tests) in
-    let b : nat_eq x 0x4A ≡ false = grind (arith, nat_tests) in
-    let c : nat_eq x 0x4B ≡ false = grind (arith, nat_tests) in
-    let d : nat_eq x 0x6D ≡ false = grind (arith, nat_tests) in
-    rw (a, b, c, d) refl
-
-other_command : (ps xs : List ℕ) → after_intermediates xs ≡ [] → command_at ps xs ≡ Other
-other_command ps [] h = refl
-other_command ps (x ∷ []) h = intermediate_asks ps x (inter_rest (is_intermediate x) x [] refl h).0
-other_command ps (x ∷ y ∷ rest) h = refl
-
-broken_sequence : (t : Terminal) (rest : List ℕ) → escape_fate rest ≡ Waits → sequence_read t rest ≡ all_unknown t
-broken_sequence t [] h = refl
-broken_sequence t (y ∷ body) h = rw (other_command (params body) (after_params body) (escape_shape y body h).1) refl
-
--- a sequence that is broken off asks for nothing
-pub token_broken : (t : Terminal) (b : ℕ) (rest : List ℕ) → nat_eq b 0x1B ≡ true → fate (b ∷ rest) ≡ Waits → token_read t (b ∷ rest) ≡ all_unknown t
-token_broken t b rest e h = rw e (broken_sequence t rest (rw e at h))
-
-pub token_run : (t : Terminal) (b : ℕ) (rest : List ℕ) → nat_eq b 0x1B ≡ false → fate (b ∷ rest) ≡ Waits
-    → token_read t (b ∷ rest) ≡ shown t t.position t.negative (b ∷ rest)
-token_run t b rest e h =
-    let p : nat_le 0x20 b && nat_le b 0x7E ≡ true = and_left (is_printable b) (list_all is_printable rest) (run_printable b rest e h) in
-    rw (e, p) refl
-
 run_never_ends : (t : Bool) → cond t Waits Breaks ≡ Ends → ⊥
 run_never_ends t h = never t Waits Breaks Ends (λ (w : Waits ≡ Ends). cc w) (λ (w : Breaks ≡ Ends). cc w) h
 
@@ -86,15 +52,19 @@ escape_ends (y ∷ body) b h =
     let e : y ≡ 0x5B = grind (arith, nat_tests) in
     (body, rw e refl)
 
-pub ends_shape : (half : List ℕ) (b : ℕ) → fate (half ++ b ∷ []) ≡ Ends → (body : List ℕ) × (half ≡ 0x1B ∷ 0x5B ∷ body)
-ends_shape [] b h =
-    absurd (never (nat_eq b 0x1B) Waits (cond (list_all is_printable (b ∷ [])) Waits Breaks) Ends (λ (w : Waits ≡ Ends). cc w) (run_never_ends (list_all is_printable (b ∷ []))) h)
-ends_shape (x ∷ rest) b h =
-    let g = went_second (nat_eq x 0x1B) (escape_fate (rest ++ b ∷ [])) (cond (list_all is_printable (x ∷ rest ++ b ∷ [])) Waits Breaks) Ends h (run_never_ends (list_all is_printable (x ∷ rest ++ b ∷ []))) in
-    let t : nat_eq x 0x1B ≡ true = g.0 in
-    let e : x ≡ 0x1B = grind (arith, nat_tests) in
-    let r = escape_ends rest b g.1 in
-    (r.0, ap (λ y. y ∷ rest) e ∙ ap (λ ys. 0x1B ∷ ys) r.1)
+-- a whole sequence, and a whole character
+pub sequence_shape : (first : ℕ) (rest : List ℕ) (b : ℕ) → nat_eq first 0x1B ≡ true → fate (first ∷ rest ++ b ∷ []) ≡ Ends
+    → first ∷ rest ++ b ∷ [] ≡ 0x1B ∷ 0x5B ∷ drop 2 (first ∷ rest ++ b ∷ [])
+sequence_shape first rest b t h =
+    let e : first ≡ 0x1B = grind (arith, nat_tests) in
+    let g : escape_fate (rest ++ b ∷ []) ≡ Ends = rw t at h in
+    let r = escape_ends rest b g in
+    let is : rest ≡ 0x5B ∷ r.0 = r.1 in
+    rw (e, is) refl
+
+pub character_shape : (first : ℕ) (rest : List ℕ) (b : ℕ) → nat_eq first 0x1B ≡ false → fate (first ∷ rest ++ b ∷ []) ≡ Ends
+    → fate_in characters (first ∷ rest ++ b ∷ []) ≡ Ends
+character_shape first rest b t h = rw t at h
 
 -- ---- commands
 
@@ -131,41 +101,41 @@ obeyed_capped t Erase h w = refl
 obeyed_capped t (Render negative) h w = refl
 obeyed_capped t Other h w = refl
 
-cleared_half : (t : Terminal) (half : List ℕ) (n : Option Bool) → cleared (at t half) n ≡ cleared t n
-cleared_half t half (Some true) = refl
-cleared_half t half (Some false) = refl
-cleared_half t half None = refl
-
-erased_half : (t : Terminal) (half : List ℕ) (p : Option (ℕ × ℕ)) (n : Option Bool) → erased (at t half) p n ≡ erased t p n
-erased_half t half (Some p) (Some true) = refl
-erased_half t half (Some p) (Some false) = refl
-erased_half t half (Some p) None = refl
-erased_half t half None n = refl
-
--- what is half read does not matter
-pub obeyed_half : (t : Terminal) (half : List ℕ) (c : Command) → obeyed (at t half) c ≡ obeyed t c
-obeyed_half t half (Move line column) = refl
-obeyed_half t half Clear = cleared_half t half t.negative
-obeyed_half t half Erase = erased_half t half t.position t.negative
-obeyed_half t half (Render negative) = refl
-obeyed_half t half Other = refl
-
-token_ends : (t : Terminal) (half body : List ℕ) (b : ℕ) → half ≡ 0x1B ∷ 0x5B ∷ body
-    → obeyed t (command (drop 2 (half ++ b ∷ []))) ≡ token_read t (half ++ b ∷ [])
-token_ends t half body b e = rw e refl
-
 -- the last byte of a sequence
-pub end_read : (t : Terminal) (b : ℕ) (rest : List ℕ) → fate (t.half ++ b ∷ []) ≡ Ends → rest ≡ drop 2 (t.half ++ b ∷ [])
+pub end_read : (t : Terminal) (b : ℕ) (rest : List ℕ) → t.half ++ b ∷ [] ≡ 0x1B ∷ 0x5B ∷ drop 2 (t.half ++ b ∷ []) → rest ≡ drop 2 (t.half ++ b ∷ [])
     → t.height ≤ 500 → t.width ≤ 500
     → obeyed (at t []) (capped (command rest)) ≡ token_read t (t.half ++ b ∷ [])
 end_read t b rest h e hh ww =
-    obeyed_half t [] (capped (command rest))
-    ∙ obeyed_capped t (command rest) hh ww
-    ∙ ap (λ r. obeyed t (command r)) e
-    ∙ token_ends t t.half (ends_shape t.half b h).0 b (ends_shape t.half b h).1
+    obeyed_capped (at t []) (command rest) hh ww
+    ∙ ap (λ r. obeyed (at t []) (command r)) e
+    ∙ ap (token_read t) (sym h)
 
-pub end_long : (half : List ℕ) (b : ℕ) → fate (half ++ b ∷ []) ≡ Ends → 2 ≤ length half
-end_long half b h = let s = ends_shape half b h in omega (arith, ap length s.1)
+-- a byte after the beginning of a token
+pub read_on : (t : Terminal) (b : ℕ) (half : List ℕ) → half ≡ t.half → 0 < length t.half → byte_read t b ≡ went_on t b (fate (t.half ++ b ∷ []))
+read_on t b [] e h = absurd (let n : 0 ≡ length t.half = ap length e in omega arith)
+read_on t b (x ∷ half) e h = ap (read_after t b) (sym e) ∙ ap (λ xs. went_on t b (fate (xs ++ b ∷ []))) e
+
+-- ---- characters
+
+is_whole_by : (t : Bool) (bs : List ℕ) → is_character bs ≡ t → fate_in characters bs ≡ Ends → is_character bs ≡ true
+is_whole_by true bs e h = e
+is_whole_by false bs e h = absurd (run_never_ends (begins_character bs) (let g = rw e at h in g))
+
+pub is_whole : (bs : List ℕ) → fate_in characters bs ≡ Ends → is_character bs ≡ true
+is_whole bs h = is_whole_by (is_character bs) bs refl h
+
+pub head_is : (a b : ℕ) → a ∷ [] ≡ b ∷ [] → a ≡ b
+head_is a b e = ap (λ xs. get_or xs 0 0) e
+
+pub chars_of : (c : ℕ) → IsScalar c → chars (encode_utf8 c) ≡ c ∷ []
+chars_of c h = ap chars (sym (append-nil (encode_utf8 c))) ∙ chars-encodes (c ∷ []) (rw h refl)
+
+-- the character that the bytes spell has these bytes
+pub spelled : (bs : List ℕ) (c : ℕ) → fate_in characters bs ≡ Ends → chars bs ≡ c ∷ [] → encode_utf8 c ≡ bs
+spelled bs c h e =
+    let found = (are_encodings bs).0 (is_whole bs h) in
+    let same : chars bs ≡ found.0 ∷ [] = ap chars (sym found.2) ∙ chars_of found.0 found.1 in
+    ap encode_utf8 (head_is c found.0 (sym e ∙ same)) ∙ found.2
 
 pub on_ok : {T E : Type 0} (r : Result T E) (P Q : Type 0) → (P → Q) → OnOk r P → OnOk r Q
 on_ok (Ok x) P Q f h = f h

@@ -7,3 +7,7 @@ pub mod Rows
 pub mod Plain
 pub mod Reading
 pub mod Grids
+pub mod Equal
+pub mod Doing
+pub mod RunEnds
+pub mod Texts

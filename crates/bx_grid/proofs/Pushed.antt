@@ -11,7 +11,7 @@ use Rattle.std.proofs.lemmas.Str.{digit_value_digit}
 use Rattle.std.proofs.Math.Bool.{and-false}
 use Rattle.bx_grid.proofs.Reading.{and_left, and_right}
 use Rattle.bx_grid.specs.Tokens.{is_param, is_intermediate, is_final, after_params, after_intermediates, final_fate, number}
-use Rattle.bx_grid.specs.declared.token.Fate.TheVariants.{Ends, Breaks}
+use Rattle.bx_bytes.specs.declared.fate.Fate.TheVariants.{Ends, Breaks}
 
 pub inter_rest : (t : Bool) (x : ℕ) (rest : List ℕ) → is_intermediate x ≡ t → after_intermediates (x ∷ rest) ≡ [] → (is_intermediate x ≡ true) × (after_intermediates rest ≡ [])
 inter_rest true x rest e h = (e, rw e at h)

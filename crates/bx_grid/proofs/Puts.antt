@@ -1,7 +1,11 @@
 -- One more column paste.
-use Rattle.std.proofs.Common.{◌≡◌, ℕ, ◌+◌, ◌<◌, ◌≤◌, Bool, List, [], ◌∷◌, ◌++◌, length, take, drop, set, replicate, get_or, ap, sym, ◌∙◌, append_assoc, length-append, arith}
+use Rattle.std.proofs.Common.{◌≡◌, ℕ, ◌+◌, ◌<◌, ◌≤◌, Bool, true, false, zero, suc, refl, List, [], ◌∷◌, ◌++◌, length, take, drop, set, replicate, get_or, ap, sym, ◌∙◌, append_assoc, length-append, arith}
 use Rattle.std.proofs.lemmas.List.{append-nil, set_at, drop_more, length-take-le, length_push, map-set, map_more, length-map, replicate_more, length-replicate, drop_all}
-use Rattle.bx_grid.specs.Columns.{Col, Glyph, paste, run_columns}
+use Rattle.bx_grid.specs.Columns.{Col, Glyph, paste, plain_columns, run_columns, glyph_columns_from}
+use Rattle.bx_grid.specs.Tokens.{is_printable}
+use Rattle.std.specs.List.{list_all}
+use Rattle.std.specs.Str.{chars}
+use Rattle.unicode_width.specs.Width.{str_width}
 use Rattle.bx_grid.specs.Seen.{seen, all_seen}
 use Rattle.bx_grid.specs.declared.column.Column.{Column}
 
@@ -17,17 +21,17 @@ put_more columns k news x h =
     ∙ ap (λ xs. xs ++ drop (k + length news + 1) columns) (append_assoc (take k columns) news (x ∷ [])))
 
 pub run_more : (columns : List Column) (start : List Col) (k i : ℕ) (run : List ℕ) (negative : Bool) (x : Column)
-    → k + length run ≤ length start → i < length run → all_seen columns ≡ paste start k (run_columns negative (take i run))
+    → k + length run ≤ length start → i < length run → all_seen columns ≡ paste start k (plain_columns negative (take i run))
     → seen x ≡ Glyph (get_or run i 0 ∷ []) 1 0 negative
-    → all_seen (set columns (k + i) x) ≡ paste start k (run_columns negative (take (i + 1) run))
+    → all_seen (set columns (k + i) x) ≡ paste start k (plain_columns negative (take (i + 1) run))
 run_more columns start k i run negative x fits low before is =
     let glyph = λ (b : ℕ). Glyph (b ∷ []) 1 0 negative in
-    let count : length (run_columns negative (take i run)) ≡ i = length-map (take i run) glyph ∙ length-take-le i run (omega arith) in
+    let count : length (plain_columns negative (take i run)) ≡ i = length-map (take i run) glyph ∙ length-take-le i run (omega arith) in
     map-set seen columns (k + i) x
     ∙ ap (λ cs. set cs (k + i) (seen x)) before
-    ∙ ap (λ n. set (paste start k (run_columns negative (take i run))) (k + n) (seen x)) (sym count)
-    ∙ put_more start k (run_columns negative (take i run)) (seen x) (omega (arith, count))
-    ∙ ap (λ y. paste start k (run_columns negative (take i run) ++ y ∷ [])) is
+    ∙ ap (λ n. set (paste start k (plain_columns negative (take i run))) (k + n) (seen x)) (sym count)
+    ∙ put_more start k (plain_columns negative (take i run)) (seen x) (omega (arith, count))
+    ∙ ap (λ y. paste start k (plain_columns negative (take i run) ++ y ∷ [])) is
     ∙ ap (paste start k) (sym (map_more glyph run i 0 low))
 
 -- at place j, the next of these
@@ -46,3 +50,41 @@ filled_more columns start k i j n y x at next fits before is =
 pub put_all : (start : List Col) (n : ℕ) (y : Col) → length start ≡ n → paste start 0 (replicate n y) ≡ replicate n y
 put_all start n y e =
     ap (λ xs. replicate n y ++ xs) (drop_all (0 + length (replicate n y)) start (omega (arith, length-replicate n y, e))) ∙ append-nil (replicate n y)
+
+-- one more column of a glyph
+pub glyph_more : (text : List ℕ) (columns offset count : ℕ) (negative : Bool)
+    → glyph_columns_from text columns negative offset (suc count) ≡ glyph_columns_from text columns negative offset count ++ Glyph text columns (offset + count) negative ∷ []
+glyph_more text columns offset zero negative = ap (λ n. Glyph text columns n negative ∷ []) (let e : offset ≡ offset + zero = omega arith in e)
+glyph_more text columns offset (suc count) negative =
+    ap (λ xs. Glyph text columns offset negative ∷ xs)
+    (glyph_more text columns (offset + 1) count negative
+    ∙ ap (λ n. glyph_columns_from text columns negative (offset + 1) count ++ Glyph text columns n negative ∷ []) (let e : (offset + 1) + count ≡ offset + suc count = omega arith in e))
+
+pub length-glyph : (text : List ℕ) (columns offset count : ℕ) (negative : Bool) → length (glyph_columns_from text columns negative offset count) ≡ count
+length-glyph text columns offset zero negative = refl
+length-glyph text columns offset (suc count) negative = ap suc (length-glyph text columns (offset + 1) count negative)
+
+pub glyph_put : (columns : List Column) (start : List Col) (k i count : ℕ) (text : List ℕ) (negative : Bool) (x : Column)
+    → k + i < length start → all_seen columns ≡ paste start k (glyph_columns_from text count negative 0 i) → seen x ≡ Glyph text count i negative
+    → all_seen (set columns (k + i) x) ≡ paste start k (glyph_columns_from text count negative 0 (i + 1))
+glyph_put columns start k i count text negative x fits before is =
+    let news = glyph_columns_from text count negative 0 i in
+    let len : length news ≡ i = length-glyph text count 0 i negative in
+    let one : suc i ≡ i + 1 = omega arith in
+    map-set seen columns (k + i) x
+    ∙ ap (λ cs. set cs (k + i) (seen x)) before
+    ∙ ap (λ n. set (paste start k news) (k + n) (seen x)) (sym len)
+    ∙ put_more start k news (seen x) (omega (arith, len))
+    ∙ ap (λ y. paste start k (news ++ y ∷ [])) (is ∙ ap (λ n. Glyph text count n negative) (let z : i ≡ 0 + i = omega arith in z))
+    ∙ ap (paste start k) (sym (glyph_more text count 0 i negative))
+    ∙ ap (λ n. paste start k (glyph_columns_from text count negative 0 n)) one
+
+run_length_by : (t n m : Bool) (run : List ℕ) → list_all is_printable run ≡ t → length (run_columns n run) ≡ length (run_columns m run)
+run_length_by true n m run e =
+    rw e (length-map run (λ b. Glyph (b ∷ []) 1 0 n) ∙ sym (length-map run (λ b. Glyph (b ∷ []) 1 0 m)))
+run_length_by false n m run e =
+    let w = str_width false (chars run) in
+    rw e (length-glyph run w 0 w n ∙ sym (length-glyph run w 0 w m))
+
+pub run_length : (n m : Bool) (run : List ℕ) → length (run_columns n run) ≡ length (run_columns m run)
+run_length n m run = run_length_by (list_all is_printable run) n m run refl

@@ -6,14 +6,16 @@ use Rattle.std.specs.Str.{all_ascii_digits}
 use Rattle.std.specs.Char.{is_ascii_digit}
 use Rattle.std.specs.Str.Parse.{digits_value}
 use Rattle.std.proofs.lemmas.Bool.Decides.{nat_tests}
-use Rattle.std.proofs.Math.Bool.{and-false}
 use Rattle.std.proofs.lemmas.List.{append-nil}
 use Rattle.std.proofs.lemmas.Str.Parse.{IsNumeralModel, numerals_by_value, tells_all_ascii_digits}
 use Rattle.std.proofs.lemmas.Fmt.{digits_decimal, digits_value-decimal, decimal_nonempty}
-use Rattle.bx_grid.specs.declared.token.Fate.TheVariants.{Breaks}
+use Rattle.bx_bytes.specs.declared.fate.Fate.TheVariants.{Ends}
+use Rattle.bx_bytes.specs.Fate.{fate_in}
+use Rattle.bx_bytes.specs.Utf8.{characters, is_control, are_printable}
+use Rattle.bx_bytes.proofs.Codes.{chars_of_one}
 use Rattle.bx_grid.specs.declared.token.Command.TheVariants.{Move}
-use Rattle.bx_grid.specs.Tokens.{is_printable, is_param, is_intermediate, is_final, params, after_params, fate, command_of, number, before_semicolon, after_semicolon}
-use Rattle.bx_grid.specs.Terminal.{Terminal, reads, byte_read, token_read, obeyed}
+use Rattle.bx_grid.specs.Tokens.{is_printable, is_param, is_intermediate, is_final, params, after_params, command_of, number, before_semicolon, after_semicolon}
+use Rattle.bx_grid.specs.Terminal.{Terminal, reads, byte_read, read_after, begun, run_ended, obeyed}
 
 pub reads-append : (t : Terminal) (xs ys : List ℕ) → reads t (xs ++ ys) ≡ reads (reads t xs) ys
 reads-append t [] ys = refl
@@ -31,30 +33,39 @@ pub and_right : (a b : Bool) → a && b ≡ true → b ≡ true
 and_right true b h = h
 and_right false b h = absurd (cc h)
 
-not_escape : (b : ℕ) → is_printable b ≡ true → nat_eq b 0x1B ≡ false
+-- an escape ends a run, which then takes effect
+pub escape_begins : (t : Terminal) → t.half ≡ [] → byte_read t 0x1B ≡ at (run_ended t) (0x1B ∷ [])
+escape_begins t h = ap (read_after t 0x1B) h
+
+-- ---- a character from SPACE to TILDE
+
+pub not_escape : (b : ℕ) → is_printable b ≡ true → nat_eq b 0x1B ≡ false
 not_escape b h = grind (arith, nat_tests)
 
-escape_stops : (run : List ℕ) → list_all is_printable (run ++ 0x1B ∷ []) ≡ false
-escape_stops [] = refl
-escape_stops (b ∷ run) = rw (escape_stops run) (and-false (is_printable b))
+pub ends_alone : (b : ℕ) → is_printable b ≡ true → fate_in characters (b ∷ []) ≡ Ends
+ends_alone b h = grind (arith, nat_tests)
 
-fate_broken : (b : ℕ) (run : List ℕ) → is_printable b ≡ true → fate (b ∷ run ++ 0x1B ∷ []) ≡ Breaks
-fate_broken b run h = rw (not_escape b h, escape_stops (b ∷ run)) refl
+no_control : (b : ℕ) → is_printable b ≡ true → is_control b ≡ false
+no_control b h = grind (arith, nat_tests)
 
--- an escape ends a run, which then takes effect
-pub escape_begins : (t : Terminal) (run : List ℕ) → list_all is_printable run ≡ true
-    → byte_read (at t run) 0x1B ≡ at (token_read (at t run) run) (0x1B ∷ [])
-escape_begins t [] h = refl
-escape_begins t (b ∷ run) h = rw (fate_broken b run (and_left (is_printable b) (list_all is_printable run) h)) refl
+pub prints : (b : ℕ) → is_printable b ≡ true → are_printable (b ∷ []) ≡ true
+prints b h = rw (chars_of_one b (ends_alone b h), no_control b h) refl
+
+pub printable_begins : (t : Terminal) (b : ℕ) → is_printable b ≡ true → begun t b ≡ record t { run = t.run ++ b ∷ []; half = [] }
+printable_begins t b h = rw (not_escape b h, ends_alone b h, not_escape b h, prints b h) refl
+
+-- it goes on with a run, or begins one
+pub printable_read : (t : Terminal) (b : ℕ) → t.half ≡ [] → is_printable b ≡ true → byte_read t b ≡ record t { run = t.run ++ b ∷ []; half = [] }
+printable_read t b h e = ap (read_after t b) h ∙ printable_begins t b e
 
 -- ---- a sequence
 
-params_all : (qs : List ℕ) → list_all is_param qs ≡ true → after_params qs ≡ []
+pub params_all : (qs : List ℕ) → list_all is_param qs ≡ true → after_params qs ≡ []
 params_all [] h = refl
 params_all (q ∷ qs) h =
     rw (and_left (is_param q) (list_all is_param qs) h) (params_all qs (and_right (is_param q) (list_all is_param qs) h))
 
-params_then : (qs : List ℕ) (f : ℕ) → list_all is_param qs ≡ true → is_param f ≡ false
+pub params_then : (qs : List ℕ) (f : ℕ) → list_all is_param qs ≡ true → is_param f ≡ false
     → (params (qs ++ f ∷ []) ≡ qs) × (after_params (qs ++ f ∷ []) ≡ f ∷ [])
 params_then [] f h n = (rw n refl, rw n refl)
 params_then (q ∷ qs) f h n =
@@ -84,20 +95,19 @@ pub record IsFinal (f : ℕ) : Type 0 where
   pub no_intermediate : is_intermediate f ≡ false
 
 final_read : (t : Terminal) (ps : List ℕ) (f : ℕ) → list_all is_param ps ≡ true → IsFinal f
-    → byte_read (at t (0x1B ∷ 0x5B ∷ ps)) f ≡ obeyed (at t (0x1B ∷ 0x5B ∷ ps)) (command_of ps f)
+    → byte_read (at t (0x1B ∷ 0x5B ∷ ps)) f ≡ obeyed (at t []) (command_of ps f)
 final_read t ps f h e =
     let split = params_then ps f h e.no_param in
     rw (split.1, e.no_intermediate, e.ends, split.0, split.1) refl
 
 -- a sequence that follows a run
-pub sequence_read_after : (t : Terminal) (run ps : List ℕ) (f : ℕ)
-    → list_all is_printable run ≡ true → list_all is_param ps ≡ true → IsFinal f
-    → reads (at t run) (0x1B ∷ 0x5B ∷ (ps ++ f ∷ [])) ≡ obeyed (at (token_read (at t run) run) (0x1B ∷ 0x5B ∷ ps)) (command_of ps f)
-sequence_read_after t run ps f r h e =
-    ap (λ u. reads u (0x5B ∷ (ps ++ f ∷ []))) (escape_begins t run r)
-    ∙ (reads-append (at (token_read (at t run) run) (0x1B ∷ 0x5B ∷ [])) ps (f ∷ [])
-    ∙ ap (λ u. reads u (f ∷ [])) (params_read (token_read (at t run) run) [] ps refl h)
-    ∙ final_read (token_read (at t run) run) ps f h e)
+pub sequence_read_after : (t : Terminal) (ps : List ℕ) (f : ℕ) → t.half ≡ [] → list_all is_param ps ≡ true → IsFinal f
+    → reads t (0x1B ∷ 0x5B ∷ (ps ++ f ∷ [])) ≡ obeyed (at (run_ended t) []) (command_of ps f)
+sequence_read_after t ps f r h e =
+    ap (λ u. reads u (0x5B ∷ (ps ++ f ∷ []))) (escape_begins t r)
+    ∙ (reads-append (at (run_ended t) (0x1B ∷ 0x5B ∷ [])) ps (f ∷ [])
+    ∙ ap (λ u. reads u (f ∷ [])) (params_read (run_ended t) [] ps refl h)
+    ∙ final_read (run_ended t) ps f h e)
 
 -- ---- numbers
 

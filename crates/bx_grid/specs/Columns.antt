@@ -1,6 +1,9 @@
 -- What a column of a grid shows, and what putting a run of columns leaves.
 use Rattle.bx_grid.specs.Tokens.{is_printable, is_only}
-use Rattle.std.specs.Prelude.{ℕ, ◌+◌, ◌-◌, ◌*◌, nat_lt, if◌then◌else◌, Bool, false, ◌&&◌, ◌==◌, not, List, [], ◌∷◌, ◌++◌, length, map, take, drop}
+use Rattle.std.specs.Str.{bytes_eq}
+use Rattle.std.specs.List.{list_all}
+use Rattle.unicode_width.specs.Width.{str_width}
+use Rattle.std.specs.Prelude.{ℕ, zero, suc, chars, ◌+◌, ◌-◌, ◌*◌, nat_lt, if◌then◌else◌, Bool, true, false, ◌&&◌, ◌==◌, not, List, [], ◌∷◌, ◌++◌, length, map, take, drop}
 
 pub data Col : Type 0 where
   Unknown : Col
@@ -57,6 +60,40 @@ abbrev pub is_blank : Col → Bool
 is_blank Unknown = false
 is_blank (Glyph text columns offset negative) = is_only 0x20 text && (columns == 1) && (offset == 0) && not negative
 
--- the columns of a run
+abbrev pub bool_eq : Bool → Bool → Bool
+bool_eq true b = b
+bool_eq false b = not b
+
+-- both show the same
+abbrev pub col_eq : Col → Col → Bool
+col_eq Unknown Unknown = true
+col_eq Unknown (Glyph text columns offset negative) = false
+col_eq (Glyph text columns offset negative) Unknown = false
+col_eq (Glyph a n i x) (Glyph b m j y) = (bytes_eq a b && (n == m)) && ((i == j) && bool_eq x y)
+
+abbrev pub are_equal : List Col → List Col → Bool
+are_equal [] [] = true
+are_equal [] (d ∷ ds) = false
+are_equal (c ∷ cs) [] = false
+are_equal (c ∷ cs) (d ∷ ds) = col_eq c d && are_equal cs ds
+
+-- ---- glyphs
+
+-- so many columns of a glyph, from this one on
+abbrev pub glyph_columns_from : List ℕ → ℕ → Bool → ℕ → ℕ → List Col
+glyph_columns_from text columns negative offset zero = []
+glyph_columns_from text columns negative offset (suc count) =
+    Glyph text columns offset negative ∷ glyph_columns_from text columns negative (offset + 1) count
+
+-- all columns of a glyph
+abbrev pub glyph_columns : List ℕ → ℕ → Bool → List Col
+glyph_columns text columns negative = glyph_columns_from text columns negative 0 columns
+
+-- one glyph for each character
+abbrev pub plain_columns : Bool → List ℕ → List Col
+plain_columns negative run = map (λ b. Glyph (b ∷ []) 1 0 negative) run
+
+-- the columns of a run: characters from SPACE to TILDE are a glyph each, any other run is one glyph
 abbrev pub run_columns : Bool → List ℕ → List Col
-run_columns negative run = map (λ b. Glyph (b ∷ []) 1 0 negative) run
+run_columns negative run =
+    if list_all is_printable run then plain_columns negative run else glyph_columns run (str_width false (chars run)) negative

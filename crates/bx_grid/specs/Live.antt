@@ -1,10 +1,10 @@
 -- What the program's terminal stands for.
-use Rattle.std.specs.Prelude.{◌≡◌, ◌<◌, length, IfSome}
+use Rattle.std.specs.Prelude.{◌≡◌, ◌<◌, length, IfSome, string_bytes}
 use Rattle.bx_grid.specs.Seen.{all_seen}
 use Rattle.bx_grid.specs.Tokens.{fate}
 use Rattle.bx_grid.specs.Picture.{IsSized}
 use Rattle.bx_grid.specs.Terminal.{Terminal}
-use Rattle.bx_grid.specs.declared.token.Fate.TheVariants.{Waits}
+use Rattle.bx_bytes.specs.declared.fate.Fate.TheVariants.{Waits}
 use Rattle.bx_grid.specs.declared.live.Live.TheInside.{Inside}
 
 abbrev pub terminal_of : Inside → Terminal
@@ -14,6 +14,7 @@ terminal_of s = record {
   columns = all_seen s.columns.items;
   position = s.position;
   negative = s.negative;
+  run = string_bytes s.run;
   half = s.half.items;
 }
 

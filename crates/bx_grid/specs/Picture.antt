@@ -1,5 +1,5 @@
 -- Pictures, and a terminal that shows one.
-use Rattle.std.specs.Prelude.{◌≡◌, ℕ, ◌*◌, ◌≤◌, Bool, true, false, ◌&&◌, nat_le, List, [], Some, length}
+use Rattle.std.specs.Prelude.{◌≡◌, ℕ, ◌*◌, ◌≤◌, ◌<◌, Bool, true, false, ◌&&◌, nat_le, List, [], Some, length}
 use Rattle.std.specs.List.{list_all}
 use Rattle.bx_grid.specs.Columns.{Col, is_plain}
 use Rattle.bx_grid.specs.Terminal.{Terminal}
@@ -18,9 +18,14 @@ pub record Image : Type 0 where
   pub row : ℕ
   pub column : ℕ
 
+-- nothing is half read: no run, and no token
+pub record IsIdle (t : Terminal) : Type 0 where
+  pub no_run : t.run ≡ []
+  pub no_token : t.half ≡ []
+
 -- the terminal shows the picture
 pub record Shows (t : Terminal) (p : Image) : Type 0 where
-  pub nothing_half_read : t.half ≡ []
+  pub nothing_half_read : IsIdle t
   pub same_height : t.height ≡ p.height
   pub same_width : t.width ≡ p.width
   pub same_columns : t.columns ≡ p.columns
@@ -49,3 +54,9 @@ pub record IsWithin (height width line column : ℕ) : Type 0 where
   pub bottom : line ≤ height
   pub left : 1 ≤ column
   pub right : column ≤ width
+
+-- a picture is a grid and a cursor inside
+pub record IsPicture (p : Image) : Type 0 where
+  pub grid : IsGrid p.height p.width p.columns
+  pub row_inside : p.row < p.height
+  pub column_inside : p.column < p.width

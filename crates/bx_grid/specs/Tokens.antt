@@ -1,15 +1,17 @@
 -- The tokens that a list of bytes may begin.
 use Rattle.std.specs.Prelude.{ℕ, Bool, true, false, ◌&&◌, nat_le, ◌==◌, List, [], ◌∷◌, Option, Some, None, if◌then◌else◌}
-use Rattle.std.specs.List.{list_all}
 use Rattle.std.specs.Str.{all_ascii_digits}
-use Rattle.bx_grid.specs.declared.token.Fate.{Fate}
-use Rattle.bx_grid.specs.declared.token.Fate.TheVariants.{Waits, Ends, Breaks}
+use Rattle.bx_bytes.specs.Fate.{fate_in}
+use Rattle.bx_bytes.specs.Utf8.{characters, is_ascii_printable}
+use Rattle.bx_bytes.specs.declared.fate.Fate.{Fate}
+use Rattle.bx_bytes.specs.declared.fate.Fate.TheVariants.{Waits, Ends, Breaks}
 use Rattle.bx_grid.specs.declared.token.Command.{Command}
 use Rattle.bx_grid.specs.declared.token.Command.TheVariants.{Move, Clear, Erase, Render, Other}
 use Rattle.std.specs.Str.Parse.{digits_value}
 
+-- a character from SPACE to TILDE
 abbrev pub is_printable : ℕ → Bool
-is_printable b = nat_le 0x20 b && nat_le b 0x7E
+is_printable b = is_ascii_printable b
 
 abbrev pub is_param : ℕ → Bool
 is_param b = nat_le 0x30 b && nat_le b 0x3F
@@ -42,12 +44,11 @@ abbrev pub escape_fate : List ℕ → Fate
 escape_fate [] = Waits
 escape_fate (b ∷ body) = if b == 0x5B then final_fate (after_intermediates (after_params body)) else Breaks
 
+-- what some bytes are, as far as they are read: a control sequence (ECMA-48: CSI, parameter bytes, intermediate bytes, a final
+-- byte) or a character in UTF-8
 abbrev pub fate : List ℕ → Fate
 fate [] = Waits
-fate (b ∷ rest) =
-    if b == 0x1B then escape_fate rest
-    else if list_all is_printable (b ∷ rest) then Waits
-    else Breaks
+fate (b ∷ rest) = if b == 0x1B then escape_fate rest else fate_in characters (b ∷ rest)
 
 -- a number, 1 where it is absent
 abbrev pub number : List ℕ → Option ℕ

@@ -1,14 +1,16 @@
 //! Lists of columns: filling, putting, and forgetting what is left of a glyph.
 
-ghost use Rattle.std.specs.Prelude.{◌≡◌, ℕ, ◌+◌, ◌≤◌, [], ◌∷◌, length, replicate, ◌-◌, ◌*◌, ◌<◌, true, nat_le, ◌&&◌, IfOk, OnOk};
+ghost use Rattle.std.specs.Prelude.{◌≡◌, ℕ, ◌+◌, ◌≤◌, [], ◌∷◌, length, replicate, ◌-◌, ◌*◌, ◌<◌, true, nat_le, ◌&&◌, false, IfOk, OnOk};
 ghost use Rattle.std.specs.List.{list_all};
 ghost use Rattle.bx_grid.specs.Tokens.{is_printable};
-ghost use Rattle.bx_grid.specs.Columns.{blank, put, paste, put_in_row, left_of, right_of, columns_after, columns_before, run_columns};
+ghost use Rattle.bx_grid.specs.Columns.{blank, put, paste, put_in_row, left_of, right_of, columns_after, columns_before, plain_columns, glyph_columns, run_columns};
 ghost use Rattle.bx_grid.specs.Columns as spec;
 ghost use Rattle.bx_grid.specs.Seen.{seen, all_seen};
 
 use crate::column::Column;
+use crate::token::printable;
 use std::alloc::{AllocError, Global};
+use unicode_width::UnicodeWidthStr;
 
 /// The most rows or columns of a window.
 const LARGEST: u16 = 500;
@@ -21,15 +23,13 @@ pub fn is_side(side: u16) -> bool
 }
 
 /// A blank.
-fn blank_column(alloc: Global) -> Result<Column, AllocError>
-    ensures { IfOk result (λ column. seen column ≡ blank) }
+fn blank_column() -> Column
+    ensures { seen result ≡ blank }
 {
-    Ok(Column::Glyph {
-        text: String::from_str(alloc, " ")?,
-        columns: 1,
-        offset: 0,
+    Column::Ascii {
+        byte: b' ',
         negative: false,
-    })
+    }
 }
 
 pub fn blank_columns(alloc: Global, count: usize) -> Result<Vec<Column>, AllocError>
@@ -37,7 +37,7 @@ pub fn blank_columns(alloc: Global, count: usize) -> Result<Vec<Column>, AllocEr
 {
     let mut columns = Vec::with_capacity(alloc, count)?;
     for _ in 0..count {
-        columns.push(blank_column(alloc)?)?;
+        columns.push(blank_column())?;
     }
     Ok(columns)
 }
@@ -52,21 +52,6 @@ pub fn unknown_columns(alloc: Global, count: usize) -> Result<Vec<Column>, Alloc
     Ok(columns)
 }
 
-/// The column of an ASCII character.
-fn plain_column(alloc: Global, byte: u8, negative: bool) -> Result<Column, AllocError>
-    requires { byte < 128 }
-    ensures { IfOk result (λ column. seen column ≡ spec.Glyph (byte ∷ []) 1 0 negative) }
-{
-    let mut text = String::new(alloc);
-    text.push(byte as char)?;
-    Ok(Column::Glyph {
-        text,
-        columns: 1,
-        offset: 0,
-        negative,
-    })
-}
-
 pub fn fill_unknown(columns: &mut [Column])
     ensures { all_seen columns.new ≡ replicate (length columns.old) spec.Unknown }
 {
@@ -75,39 +60,89 @@ pub fn fill_unknown(columns: &mut [Column])
     }
 }
 
-/// Blanks from a place up to another. Where memory runs out some are written.
-pub fn fill_blank(
+/// Blanks from a place up to another.
+pub fn fill_blank(columns: &mut [Column], from: usize, to: usize)
+    requires order { from ≤ to }
+    requires inside { to ≤ length columns.old }
+    ensures { all_seen columns.new ≡ paste (all_seen columns.old) from (replicate (to - from) blank) }
+{
+    for place in from..to {
+        columns[place] = blank_column();
+    }
+}
+
+/// Puts a run of characters from SPACE to TILDE.
+fn put_run(columns: &mut [Column], from: usize, run: &[u8], negative: bool)
+    requires inside { from + length run.now ≤ length columns.old }
+    requires printable { list_all is_printable run.now ≡ true }
+    ensures { all_seen columns.new ≡ paste (all_seen columns.old) from (plain_columns negative run.now) }
+{
+    for (i, byte) in run.iter().enumerate() {
+        columns[from + i] = Column::Ascii {
+            byte: *byte,
+            negative,
+        };
+    }
+}
+
+/// Puts a glyph of so many columns. Where memory runs out some of it is written.
+fn put_glyph(
     alloc: Global,
     columns: &mut [Column],
     from: usize,
-    to: usize,
+    text: &str,
+    count: u16,
+    negative: bool,
 ) -> Result<(), AllocError>
-    requires order { from ≤ to }
-    requires inside { to ≤ length columns.old }
-    ensures { OnOk result (all_seen columns.new ≡ paste (all_seen columns.old) from (replicate (to - from) blank)) }
+    requires inside { from + count ≤ length columns.old }
+    ensures { OnOk result (all_seen columns.new ≡ paste (all_seen columns.old) from (glyph_columns text.now count negative)) }
 {
-    for place in from..to {
-        columns[place] = blank_column(alloc)?;
+    for offset in 0..count {
+        columns[from + offset as usize] = Column::Glyph {
+            text: String::from_str(alloc, text)?,
+            columns: count,
+            offset,
+            negative,
+        };
     }
     Ok(())
 }
 
-/// Puts a run. Where memory runs out some of it is written.
-pub fn put_run(
+fn is_plain_run(run: &str) -> bool
+    ensures { result ≡ list_all is_printable run.now }
+{
+    run.as_bytes().iter().all(|b| printable(*b))
+}
+
+/// How many columns a run takes.
+pub fn run_width(run: &str) -> usize
+    ensures { result ≡ length (run_columns false run.now) }
+{
+    if is_plain_run(run) {
+        run.len()
+    } else {
+        run.width()
+    }
+}
+
+/// Puts a run, whose columns are counted. Where memory runs out some of it is written.
+fn put_glyphs(
     alloc: Global,
     columns: &mut [Column],
     from: usize,
-    run: &[u8],
+    run: &str,
+    count: u16,
     negative: bool,
 ) -> Result<(), AllocError>
-    requires inside { from + length run.now ≤ length columns.old }
-    requires printable { list_all is_printable run.now ≡ true }
+    requires counted { count ≡ length (run_columns false run.now) }
+    requires inside { from + count ≤ length columns.old }
     ensures { OnOk result (all_seen columns.new ≡ paste (all_seen columns.old) from (run_columns negative run.now)) }
 {
-    for (i, byte) in run.iter().enumerate() {
-        columns[from + i] = plain_column(alloc, *byte, negative)?;
+    if is_plain_run(run) {
+        put_run(columns, from, run.as_bytes(), negative);
+        return Ok(());
     }
-    Ok(())
+    put_glyph(alloc, columns, from, run, count, negative)
 }
 
 impl Column {
@@ -116,7 +151,7 @@ impl Column {
         ensures { result ≡ columns_after (seen self.now) }
     {
         match self {
-            Column::Unknown => 0,
+            Column::Unknown | Column::Ascii { .. } => 0,
             Column::Glyph {
                 columns,
                 offset,
@@ -129,7 +164,7 @@ impl Column {
         ensures { result ≡ columns_before (seen self.now) }
     {
         match self {
-            Column::Unknown => 0,
+            Column::Unknown | Column::Ascii { .. } => 0,
             Column::Glyph { offset, .. } => *offset,
         }
     }
@@ -163,41 +198,43 @@ pub fn show_in_row(
     alloc: Global,
     row: &mut [Column],
     from: usize,
-    run: &[u8],
+    run: &str,
+    count: u16,
     negative: bool,
 ) -> Result<(), AllocError>
-    requires inside { from + length run.now ≤ length row.old }
-    requires printable { list_all is_printable run.now ≡ true }
+    requires counted { count ≡ length (run_columns false run.now) }
+    requires inside { from + count ≤ length row.old }
     ensures { OnOk result (all_seen row.new ≡ put_in_row (all_seen row.old) from (run_columns negative run.now)) }
 {
     forget_left(&mut row[..from]);
-    forget_right(&mut row[from + run.len()..]);
-    put_run(alloc, row, from, run, negative)
+    forget_right(&mut row[from + count as usize..]);
+    put_glyphs(alloc, row, from, run, count, negative)
 }
 
-pub fn erase_in_row(alloc: Global, row: &mut [Column], from: usize) -> Result<(), AllocError>
+pub fn erase_in_row(row: &mut [Column], from: usize)
     requires { from ≤ length row.old }
-    ensures { OnOk result (all_seen row.new ≡ put_in_row (all_seen row.old) from (replicate (length row.old - from) blank)) }
+    ensures { all_seen row.new ≡ put_in_row (all_seen row.old) from (replicate (length row.old - from) blank) }
 {
     forget_left(&mut row[..from]);
     let count = row.len();
-    fill_blank(alloc, row, from, count)
+    fill_blank(row, from, count);
 }
 
-/// Puts a run in a row of all columns.
+/// Puts a run in a row of all columns. Where memory runs out some of it is written.
 pub fn show_at(
     alloc: Global,
     columns: &mut [Column],
     width: usize,
     row: usize,
     from: usize,
-    run: &[u8],
+    run: &str,
+    count: u16,
     negative: bool,
 ) -> Result<(), AllocError>
     requires small { (row < 500) × (width ≤ 500) }
     requires rows { row * width + width ≤ length columns.old }
-    requires inside { from + length run.now ≤ width }
-    requires printable { list_all is_printable run.now ≡ true }
+    requires counted { count ≡ length (run_columns false run.now) }
+    requires inside { from + count ≤ width }
     ensures { OnOk result (all_seen columns.new ≡ put width (all_seen columns.old) row from (run_columns negative run.now)) }
 {
     let start = row * width;
@@ -206,22 +243,17 @@ pub fn show_at(
         &mut columns[start..start + width],
         from,
         run,
+        count,
         negative,
     )
 }
 
-pub fn erase_at(
-    alloc: Global,
-    columns: &mut [Column],
-    width: usize,
-    row: usize,
-    from: usize,
-) -> Result<(), AllocError>
+pub fn erase_at(columns: &mut [Column], width: usize, row: usize, from: usize)
     requires small { (row < 500) × (width ≤ 500) }
     requires rows { row * width + width ≤ length columns.old }
     requires inside { from ≤ width }
-    ensures { OnOk result (all_seen columns.new ≡ put width (all_seen columns.old) row from (replicate (width - from) blank)) }
+    ensures { all_seen columns.new ≡ put width (all_seen columns.old) row from (replicate (width - from) blank) }
 {
     let start = row * width;
-    erase_in_row(alloc, &mut columns[start..start + width], from)
+    erase_in_row(&mut columns[start..start + width], from);
 }

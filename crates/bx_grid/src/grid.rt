@@ -5,7 +5,7 @@ ghost use Rattle.std.specs.List.{list_all};
 ghost use Rattle.bx_grid.specs.Columns as spec;
 ghost use Rattle.bx_grid.specs.Columns.{blank, is_plain, is_printable_text, paste};
 ghost use Rattle.bx_grid.specs.Seen.{seen, all_seen};
-ghost use Rattle.bx_grid.specs.Picture.{Cells, IsWithin, is_size};
+ghost use Rattle.bx_grid.specs.Picture.{Cells, IsGrid, IsWithin, is_size};
 
 use crate::cell::Cell;
 use crate::column::Column;
@@ -65,12 +65,8 @@ impl Grid {
         ensures memory { OnErr result (result ≡ Err GridError.OutOfMemory) }
     {
         let place = (cell.line - 1) as usize * self.width as usize + (cell.column - 1) as usize;
-        let alloc = *self.columns.allocator();
-        let text = String::from_str(alloc, text)?;
-        self.columns[place] = Column::Glyph {
-            text,
-            columns: 1,
-            offset: 0,
+        self.columns[place] = Column::Ascii {
+            byte: text.as_bytes()[0],
             negative,
         };
         Ok(())
@@ -80,7 +76,7 @@ impl Grid {
     pub fn columns(&self) -> &[Column]
         ensures columns { all_seen result.now ≡ self.now.columns }
         ensures size { length result.now ≡ self.now.height * self.now.width }
-        ensures plain { list_all is_plain self.now.columns ≡ true }
+        ensures grid { IsGrid self.now.height self.now.width self.now.columns }
     {
         self.columns.as_slice()
     }

@@ -1,8 +1,10 @@
 //! A grid of columns, pictures, and a terminal as code.
 #![tactic(auto)]
 
-ghost use Rattle.std.specs.Prelude.{◌≡◌, ℕ, List, ◌++◌};
-ghost use Rattle.bx_grid.specs.Terminal.{Terminal, reads};
+ghost use Rattle.std.specs.Prelude.{◌≡◌, ℕ, List, [], ◌++◌, true};
+ghost use Rattle.std.specs.Str.{IsUtf8};
+ghost use Rattle.bx_bytes.specs.Utf8.{are_printable};
+ghost use Rattle.bx_grid.specs.Terminal.{Terminal, reads, resized};
 
 mod cell;
 mod column;
@@ -15,7 +17,7 @@ mod screen;
 mod token;
 
 pub use cell::Cell;
-pub use column::Column;
+pub use column::{Column, all_same};
 pub use error::GridError;
 pub use grid::Grid;
 pub use picture::Picture;
@@ -24,6 +26,17 @@ pub use screen::Screen;
 /// However the bytes are cut, reading them piece by piece is reading them at once.
 pub fn in_any_pieces()
     ensures { (t : Terminal) (xs ys : List ℕ) → reads t (xs ++ ys) ≡ reads (reads t xs) ys }
+{}
+
+/// A change of the window keeps what is half read.
+pub fn window_keeps_what_is_half_read()
+    ensures { (t : Terminal) (height width : ℕ) → ((resized t height width).run ≡ t.run) × ((resized t height width).half ≡ t.half) }
+{}
+
+/// A text of printable characters, read where no token is half read, goes on with the run, however many bytes its
+/// characters have.
+pub fn text_goes_on_with_the_run()
+    ensures { (t : Terminal) (text : List ℕ) → IsUtf8 text → are_printable text ≡ true → t.half ≡ [] → reads t text ≡ record t { run = t.run ++ text } }
 {}
 
 #[cfg(test)]

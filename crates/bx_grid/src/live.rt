@@ -1,16 +1,19 @@
 //! A terminal that has not failed.
 
-ghost use Rattle.std.specs.Prelude.{◌≡◌, ℕ, ◌*◌, ◌<◌, ◌≤◌, List, [], ◌∷◌, ◌++◌, length, replicate, true, IsTrue, ◌↔◌, IfOk, OnOk};
-ghost use Rattle.std.specs.List.{list_all};
+ghost use Rattle.std.specs.Prelude.{◌≡◌, ℕ, ◌*◌, ◌<◌, ◌≤◌, List, [], ◌∷◌, ◌++◌, length, replicate, nat_eq, drop, true, IsTrue, ◌↔◌, IfOk, OnOk};
 ghost use Rattle.bx_grid.specs.Columns as spec;
 ghost use Rattle.bx_grid.specs.Picture.{Shows};
-ghost use Rattle.bx_grid.specs.Tokens.{is_printable, fate};
-ghost use Rattle.bx_grid.specs.Terminal.{Terminal, all_unknown, moved, cleared, erased, rendered, shown, obeyed, token_read, byte_read, begun, reads, resized};
+ghost use Rattle.bx_bytes.specs.Fate.{fate_in};
+ghost use Rattle.bx_bytes.specs.Utf8.{characters};
+ghost use Rattle.bx_grid.specs.Columns.{run_columns};
+ghost use Rattle.bx_grid.specs.Tokens.{fate};
+ghost use Rattle.bx_grid.specs.Terminal.{Terminal, all_unknown, moved, cleared, erased, rendered, obeyed, glyphs_put, run_ended, character_read, token_read, begun, went_on, byte_read, reads, resized};
 
 use crate::column::{Column, all_same};
-use crate::columns::{erase_at, fill_blank, fill_unknown, show_at, unknown_columns};
+use crate::columns::{erase_at, fill_blank, fill_unknown, run_width, show_at, unknown_columns};
 use crate::picture::Picture;
-use crate::token::{Command, ESCAPE, Fate, command_in, fate_of, printable};
+use crate::token::{Command, ESCAPE, command_in, fate_of, is_control};
+use bx_bytes::{Fate, character};
 use std::alloc::{AllocError, Global};
 use std::marker::Model;
 
@@ -21,6 +24,7 @@ pub struct Live {
     columns: Vec<Column>,
     position: Option<(u16, u16)>,
     negative: Option<bool>,
+    run: String,
     half: Vec<u8>,
 }
 
@@ -40,7 +44,7 @@ impl Live {
     pub fn new(alloc: Global, height: u16, width: u16) -> Result<Live, AllocError>
         requires tall { (1 ≤ height) × (height ≤ 500) }
         requires wide { (1 ≤ width) × (width ≤ 500) }
-        ensures { IfOk result (λ t. t ≡ record { height = height; width = width; columns = replicate (height * width) spec.Unknown; position = None; negative = None; half = [] }) }
+        ensures { IfOk result (λ t. t ≡ record { height = height; width = width; columns = replicate (height * width) spec.Unknown; position = None; negative = None; run = []; half = [] }) }
     {
         let columns = unknown_columns(alloc, height as usize * width as usize)?;
         Ok(Live {
@@ -49,6 +53,7 @@ impl Live {
             columns,
             position: None,
             negative: None,
+            run: String::new(alloc),
             half: Vec::new(alloc),
         })
     }
@@ -60,6 +65,7 @@ impl Live {
         fill_unknown(self.columns.as_mut_slice());
         self.position = None;
         self.negative = None;
+        self.run.clear();
         self.half.clear();
     }
 
@@ -67,7 +73,6 @@ impl Live {
         ensures { self.new ≡ rendered self.old negative }
     {
         self.negative = Some(negative);
-        self.half.clear();
     }
 
     fn go_to(&mut self, line: u16, column: u16)
@@ -75,147 +80,182 @@ impl Live {
     {
         if 1 <= line && line <= self.height && 1 <= column && column <= self.width {
             self.position = Some((line - 1, column - 1));
-            self.half.clear();
         } else {
             self.forget();
         }
     }
 
-    fn clear(&mut self) -> Result<(), AllocError>
-        ensures { OnOk result (self.new ≡ cleared self.old self.old.negative) }
+    fn clear(&mut self)
+        ensures { self.new ≡ cleared self.old self.old.negative }
     {
         if self.negative == Some(false) {
             let count = self.columns.len();
-            let alloc = *self.columns.allocator();
-            fill_blank(alloc, self.columns.as_mut_slice(), 0, count)?;
+            fill_blank(self.columns.as_mut_slice(), 0, count);
             self.position = None;
-            self.half.clear();
         } else {
             self.forget();
         }
-        Ok(())
     }
 
-    fn erase(&mut self) -> Result<(), AllocError>
-        ensures { OnOk result (self.new ≡ erased self.old self.old.position self.old.negative) }
+    fn erase(&mut self)
+        ensures { self.new ≡ erased self.old self.old.position self.old.negative }
     {
         match (self.position, self.negative) {
             (Some((row, column)), Some(false)) => {
-                let alloc = *self.columns.allocator();
                 let width = self.width as usize;
                 erase_at(
-                    alloc,
                     self.columns.as_mut_slice(),
                     width,
                     row as usize,
                     column as usize,
-                )?;
+                );
                 self.position = None;
-                self.half.clear();
             }
             _ => self.forget(),
         }
-        Ok(())
     }
 
-    /// The run that is half read takes effect.
-    fn show(&mut self) -> Result<(), AllocError>
-        requires { list_all is_printable self.old.half ≡ true }
-        ensures { OnOk result (self.new ≡ shown self.old self.old.position self.old.negative self.old.half) }
-    {
-        match (self.position, self.negative) {
-            (Some((row, column)), Some(negative)) => {
-                let count = self.half.len();
-                if count <= (self.width - column) as usize {
-                    let alloc = *self.columns.allocator();
-                    let width = self.width as usize;
-                    show_at(
-                        alloc,
-                        self.columns.as_mut_slice(),
-                        width,
-                        row as usize,
-                        column as usize,
-                        self.half.as_slice(),
-                        negative,
-                    )?;
-                    let end = column + count as u16;
-                    self.position = if end < self.width {
-                        Some((row, end))
-                    } else {
-                        None
-                    };
-                    self.half.clear();
-                } else {
-                    self.forget();
-                }
-            }
-            _ => self.forget(),
-        }
-        Ok(())
-    }
-
-    fn obey(&mut self, command: Command) -> Result<(), AllocError>
-        ensures { OnOk result (self.new ≡ obeyed self.old command) }
+    fn obey(&mut self, command: Command)
+        ensures { self.new ≡ obeyed self.old command }
     {
         match command {
             Command::Move(line, column) => self.go_to(line, column),
-            Command::Clear => self.clear()?,
-            Command::Erase => self.erase()?,
+            Command::Clear => self.clear(),
+            Command::Erase => self.erase(),
             Command::Render(negative) => self.render(negative),
             Command::Other => self.forget(),
         }
-        Ok(())
     }
 
-    /// The token that was broken off takes effect: a run is shown, and a sequence asks for nothing.
-    fn break_off(&mut self) -> Result<(), AllocError>
-        ensures effect { OnOk result (self.new ≡ token_read self.old self.old.half) }
-        ensures empty { OnOk result (self.new.half ≡ []) }
+    /// Puts the run's glyphs, in columns from a place on.
+    fn put_run(&mut self, row: u16, column: u16, negative: bool) -> Result<(), AllocError>
+        requires { (row < self.old.height) × (column < self.old.width) }
+        ensures { OnOk result (self.new ≡ glyphs_put self.old (row, column) (run_columns negative self.old.run)) }
     {
-        match self.half.first() {
-            None => {}
-            Some(&ESCAPE) => self.forget(),
-            Some(_) => self.show()?,
-        }
-        Ok(())
-    }
-
-    /// A byte where nothing is half read.
-    fn begin(&mut self, byte: u8) -> Result<(), AllocError>
-        requires { self.old.half ≡ [] }
-        ensures { OnOk result (self.new ≡ begun self.old byte (fate (byte ∷ []))) }
-    {
-        if byte == ESCAPE || printable(byte) {
-            self.half.push(byte)?;
-        } else {
+        let count = run_width(self.run.as_str());
+        if count < 1 || count > (self.width - column) as usize {
             self.forget();
+            return Ok(());
+        }
+        let alloc = *self.columns.allocator();
+        let width = self.width as usize;
+        show_at(
+            alloc,
+            self.columns.as_mut_slice(),
+            width,
+            row as usize,
+            column as usize,
+            self.run.as_str(),
+            count as u16,
+            negative,
+        )?;
+        let end = column + count as u16;
+        self.position = if end < self.width {
+            Some((row, end))
+        } else {
+            None
+        };
+        self.run.clear();
+        Ok(())
+    }
+
+    /// The run takes effect, if there is one.
+    fn end_run(&mut self) -> Result<(), AllocError>
+        ensures { OnOk result (self.new ≡ run_ended self.old) }
+    {
+        if self.run.as_bytes().is_empty() {
+            return Ok(());
+        }
+        match self.position {
+            None => {
+                self.forget();
+                Ok(())
+            }
+            Some((row, column)) => match self.negative {
+                None => {
+                    self.forget();
+                    Ok(())
+                }
+                Some(negative) => self.put_run(row, column, negative),
+            },
+        }
+    }
+
+    /// The last byte of a character.
+    fn end_character(&mut self, byte: u8) -> Result<(), AllocError>
+        requires { fate_in characters (self.old.half ++ byte ∷ []) ≡ Fate.Ends }
+        ensures { OnOk result (self.new ≡ character_read self.old (self.old.half ++ byte ∷ [])) }
+    {
+        let c = character(self.half.as_slice(), byte);
+        if is_control(c) {
+            self.forget();
+        } else {
+            self.half.clear();
+            self.run.push(c)?;
         }
         Ok(())
     }
 
     /// The last byte of a sequence.
-    fn end(&mut self, byte: u8) -> Result<(), AllocError>
-        requires { fate (self.old.half ++ byte ∷ []) ≡ Fate.Ends }
+    fn end_sequence(&mut self, byte: u8) -> Result<(), AllocError>
+        requires { self.old.half ++ byte ∷ [] ≡ 0x1B ∷ 0x5B ∷ drop 2 (self.old.half ++ byte ∷ []) }
         ensures { OnOk result (self.new ≡ token_read self.old (self.old.half ++ byte ∷ [])) }
     {
         self.half.push(byte)?;
         let command = command_in(&self.half[2..]);
         self.half.clear();
-        self.obey(command)
+        self.obey(command);
+        Ok(())
+    }
+
+    /// A byte where no token is half read.
+    fn begin(&mut self, byte: u8) -> Result<(), AllocError>
+        requires { self.old.half ≡ [] }
+        ensures { OnOk result (self.new ≡ begun self.old byte) }
+    {
+        if byte == ESCAPE {
+            self.end_run()?;
+            self.half.push(byte)?;
+            return Ok(());
+        }
+        match fate_of(&[], byte) {
+            Fate::Waits => self.half.push(byte)?,
+            Fate::Ends => self.end_character(byte)?,
+            Fate::Breaks => self.forget(),
+        }
+        Ok(())
+    }
+
+    /// A byte after the beginning of a token.
+    fn go_on(&mut self, byte: u8) -> Result<(), AllocError>
+        requires { 0 < length self.old.half }
+        ensures { OnOk result (self.new ≡ went_on self.old byte (fate (self.old.half ++ byte ∷ []))) }
+    {
+        match fate_of(self.half.as_slice(), byte) {
+            Fate::Waits => self.half.push(byte)?,
+            Fate::Ends => {
+                if self.half[0] == ESCAPE {
+                    self.end_sequence(byte)?;
+                } else {
+                    self.end_character(byte)?;
+                }
+            }
+            Fate::Breaks => {
+                self.forget();
+                self.begin(byte)?;
+            }
+        }
+        Ok(())
     }
 
     fn read_byte(&mut self, byte: u8) -> Result<(), AllocError>
         ensures { OnOk result (self.new ≡ byte_read self.old byte) }
     {
-        match fate_of(self.half.as_slice(), byte) {
-            Fate::Waits => self.half.push(byte)?,
-            Fate::Ends => self.end(byte)?,
-            Fate::Breaks => {
-                self.break_off()?;
-                self.begin(byte)?;
-            }
+        if self.half.is_empty() {
+            self.begin(byte)
+        } else {
+            self.go_on(byte)
         }
-        Ok(())
     }
 
     pub fn read(&mut self, bytes: &[u8]) -> Result<(), AllocError>
@@ -248,7 +288,10 @@ impl Live {
     {
         let grid = picture.grid();
         let cursor = picture.cursor();
-        if !self.half.is_empty() || self.height != grid.height() || self.width != grid.width() {
+        if !self.run.is_empty() || !self.half.is_empty() {
+            return false;
+        }
+        if self.height != grid.height() || self.width != grid.width() {
             return false;
         }
         if self.negative != Some(false) {

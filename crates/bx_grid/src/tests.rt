@@ -102,3 +102,35 @@ fn a_blank_is_a_space_in_normal_rendition(rt: HostRuntime) -> Result<(), Fail> {
     assert!(rt; !Column::Unknown.is_blank());
     Ok(())
 }
+
+/// A row of four columns, with an `x` in its second.
+fn picture_of_x(alloc: Global) -> Result<Picture, GridError> {
+    let mut grid = Grid::blank(alloc, 1, 4)?;
+    grid.put(Cell { line: 1, column: 2 }, "x", false)?;
+    Ok(Picture::new(grid, Cell { line: 1, column: 1 }))
+}
+
+#[test]
+fn a_wide_glyph_takes_two_columns(rt: HostRuntime) -> Result<(), Fail> {
+    let picture = picture_of_x(rt.alloc())?;
+    let mut screen = Screen::new(rt.alloc(), 1, 4)?;
+    // U+4E16, and an x on its second column
+    screen.read(b"\x1b[0m\x1b[2J\x1b[1;1H\xE4\xB8\x96\x1b[1;2Hx\x1b[1;1H")?;
+    assert!(rt; !screen.shows(&picture), "its first column is unknown");
+    screen.read(b" \x1b[1;1H")?;
+    assert!(rt; screen.shows(&picture));
+    Ok(())
+}
+
+#[test]
+fn half_a_character_is_broken_off(rt: HostRuntime) -> Result<(), Fail> {
+    let picture = picture_of_x(rt.alloc())?;
+    let mut screen = Screen::new(rt.alloc(), 1, 4)?;
+    screen.read(b"\x1b[0m\x1b[2J\x1b[1;2Hx\x1b[1;1H")?;
+    assert!(rt; screen.shows(&picture));
+    screen.read(b"\xE4\xB8")?;
+    assert!(rt; !screen.shows(&picture));
+    screen.read(b"\x1b[0m\x1b[1;1H")?;
+    assert!(rt; !screen.shows(&picture), "all is unknown");
+    Ok(())
+}

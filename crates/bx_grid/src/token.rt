@@ -1,19 +1,14 @@
-//! Tokens: what a byte does to the bytes that are half read, and what a sequence asks for.
+//! Tokens: what a byte makes of the bytes that are half read, and what a sequence asks for.
 
 ghost use Rattle.std.specs.Prelude.{◌≡◌, ℕ, ◌+◌, ◌*◌, ◌<◌, ◌≤◌, Bool, true, false, ◌&&◌, ◌∷◌, [], ◌++◌, length, min, nat_le, option_map, take, drop};
 ghost use Rattle.std.specs.List.{list_all};
 ghost use Rattle.bx_grid.specs.Tokens.{is_printable, is_param, is_intermediate, is_final, fate, escape_fate, final_fate, after_params, after_intermediates, number, command, params, is_absent_or_zero, is_only, before_semicolon, after_semicolon, command_of};
+ghost use Rattle.bx_bytes.specs.Utf8.{is_control};
 ghost use Rattle.bx_grid.specs.Capped.{capped};
 
-pub const ESCAPE: u8 = 0x1B;
+use bx_bytes::{Fate, character_fate};
 
-/// What a list of bytes is: the beginning of a token that may go on, a whole token that can't, or neither.
-#[derive(Clone, Copy)]
-pub enum Fate {
-    Waits,
-    Ends,
-    Breaks,
-}
+pub const ESCAPE: u8 = 0x1B;
 
 /// What a sequence asks for.
 #[derive(Clone, Copy)]
@@ -29,6 +24,13 @@ pub fn printable(byte: u8) -> bool
     ensures { result ≡ is_printable byte }
 {
     0x20 <= byte && byte <= 0x7E
+}
+
+/// A control character of C0 or C1, DELETE, LINE SEPARATOR or PARAGRAPH SEPARATOR.
+pub fn is_control(c: char) -> bool
+    ensures { result ≡ is_control c }
+{
+    c <= '\u{1F}' || ('\u{7F}' <= c && c <= '\u{9F}') || ('\u{2028}' <= c && c <= '\u{2029}')
 }
 
 fn param(byte: u8) -> bool
@@ -78,21 +80,17 @@ pub fn fate_of(half: &[u8], byte: u8) -> Fate
 {
     match half {
         [] => {
-            if byte == ESCAPE || printable(byte) {
+            if byte == ESCAPE {
                 Fate::Waits
             } else {
-                Fate::Breaks
+                character_fate(&[], byte)
             }
         }
         [first, rest @ ..] => {
-            if *first != ESCAPE {
-                if printable(byte) {
-                    Fate::Waits
-                } else {
-                    Fate::Breaks
-                }
-            } else {
+            if *first == ESCAPE {
                 fate_after_escape(rest, byte)
+            } else {
+                character_fate(half, byte)
             }
         }
     }

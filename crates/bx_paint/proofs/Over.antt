@@ -1,57 +1,97 @@
--- What is put over blanks.
-use Rattle.std.proofs.Common.{◌≡◌, ℕ, ◌+◌, ◌*◌, ◌-◌, ◌≤◌, true, false, nat_lt, List, [], ◌∷◌, ◌++◌, length, take, drop, replicate, zero, suc, refl, ap, sym, ◌∙◌, append_assoc, arith}
+-- What is put over columns of one glyph each.
+use Rattle.std.proofs.Common.{◌≡◌, ℕ, ◌+◌, ◌*◌, ◌-◌, ◌≤◌, true, false, ◌&&◌, nat_lt, List, [], ◌∷◌, ◌++◌, length, take, drop, replicate, zero, suc, refl, ap, sym, ◌∙◌, append_assoc, length-append, arith}
 use Rattle.std.specs.List.{list_all}
 use Rattle.std.proofs.lemmas.Bool.Decides.{nat_tests}
-use Rattle.std.proofs.lemmas.List.{take-append-drop, take_at, drop_at, drop-drop, take-take, drop-take, drop-replicate, length-take-le, length-drop}
-use Rattle.bx_grid.specs.Columns.{Col, blank, is_plain, columns_after, left_of, right_of, put}
+use Rattle.std.proofs.lemmas.List.{take-append-drop, take_at, drop_at, drop-drop, take-take, drop-take}
+use Rattle.std.proofs.lemmas.List.Folds.{list_all-append}
+use Rattle.std.proofs.Math.Seq.{take-add}
+use Rattle.bx_grid.specs.Columns.{Col, blank, is_blank, is_plain, columns_after, columns_before, left_of, right_of, put, paste}
 use Rattle.bx_grid.proofs.Reading.{and_left, and_right}
-use Rattle.bx_grid.proofs.Plain.{plain_is}
+use Rattle.bx_grid.proofs.Plain.{plain_is, blank_is}
 
-right_blank : (d q m : ℕ) → right_of d (take q (replicate m blank)) ≡ take q (replicate m blank)
-right_blank d zero m = refl
-right_blank d (suc q) zero = refl
-right_blank d (suc q) (suc m) =
-    let t : nat_lt d 0 ≡ false = grind (arith, nat_tests) in
-    rw t (ap (λ xs. blank ∷ xs) (right_blank (d + 1) q m))
+-- ---- columns that are plain, or blank
 
-narrow : (x : Col) → is_plain x ≡ true → columns_after x ≡ 0
-narrow x h = let g = plain_is x h in rw (g.2.is) refl
+pub plain-append : (xs ys : List Col) → list_all is_plain xs ≡ true → list_all is_plain ys ≡ true → list_all is_plain (xs ++ ys) ≡ true
+plain-append xs ys h g = list_all-append is_plain xs ys ∙ rw (h, g) refl
 
-pub plain_closed : (xs : List Col) → list_all is_plain xs ≡ true → left_of xs ≡ xs
-plain_closed [] h = refl
-plain_closed (x ∷ xs) h =
-    let n : columns_after x ≡ 0 = narrow x (and_left (is_plain x) (list_all is_plain xs) h) in
-    let t : nat_lt (length xs) 0 ≡ false = grind (arith, nat_tests) in
-    rw (n, t) (ap (λ ys. x ∷ ys) (plain_closed xs (and_right (is_plain x) (list_all is_plain xs) h)))
+pub plain_parts : (xs ys : List Col) → list_all is_plain (xs ++ ys) ≡ true → (list_all is_plain xs ≡ true) × (list_all is_plain ys ≡ true)
+plain_parts xs ys h =
+    let both : list_all is_plain xs && list_all is_plain ys ≡ true = sym (list_all-append is_plain xs ys) ∙ h in
+    (and_left (list_all is_plain xs) (list_all is_plain ys) both, and_right (list_all is_plain xs) (list_all is_plain ys) both)
+
+pub plain-take : (k : ℕ) (xs : List Col) → list_all is_plain xs ≡ true → list_all is_plain (take k xs) ≡ true
+plain-take zero xs h = refl
+plain-take (suc k) [] h = refl
+plain-take (suc k) (x ∷ xs) h =
+    rw (and_left (is_plain x) (list_all is_plain xs) h) (plain-take k xs (and_right (is_plain x) (list_all is_plain xs) h))
 
 pub plain-drop : (k : ℕ) (xs : List Col) → list_all is_plain xs ≡ true → list_all is_plain (drop k xs) ≡ true
 plain-drop zero xs h = h
 plain-drop (suc k) [] h = refl
 plain-drop (suc k) (x ∷ xs) h = plain-drop k xs (and_right (is_plain x) (list_all is_plain xs) h)
 
-pub put_over : (before news : List Col) (w r k m : ℕ) → length before ≡ r * w + k → k + length news ≤ w
-    → left_of (drop (r * w) before) ≡ drop (r * w) before
-    → put w (before ++ replicate (length news + m) blank) r k news ≡ (before ++ news) ++ replicate m blank
-put_over before news w r k m len fits closed =
+pub plain-replicate : (n : ℕ) → list_all is_plain (replicate n blank) ≡ true
+plain-replicate zero = refl
+plain-replicate (suc n) = plain-replicate n
+
+pub blanks_are : (xs : List Col) → list_all is_blank xs ≡ true → xs ≡ replicate (length xs) blank
+blanks_are [] h = refl
+blanks_are (x ∷ xs) h =
+    let is : x ≡ blank = blank_is x (and_left (is_blank x) (list_all is_blank xs) h) in
+    ap (λ y. y ∷ xs) is ∙ ap (λ ys. blank ∷ ys) (blanks_are xs (and_right (is_blank x) (list_all is_blank xs) h))
+
+narrow : (x : Col) → is_plain x ≡ true → (columns_after x ≡ 0) × (columns_before x ≡ 0)
+narrow x h = let g = plain_is x h in rw (g.2.is) (refl, refl)
+
+plain_left : (xs : List Col) → list_all is_plain xs ≡ true → left_of xs ≡ xs
+plain_left [] h = refl
+plain_left (x ∷ xs) h =
+    let n : columns_after x ≡ 0 = (narrow x (and_left (is_plain x) (list_all is_plain xs) h)).0 in
+    let t : nat_lt (length xs) 0 ≡ false = grind (arith, nat_tests) in
+    rw (n, t) (ap (λ ys. x ∷ ys) (plain_left xs (and_right (is_plain x) (list_all is_plain xs) h)))
+
+plain_right : (d : ℕ) (xs : List Col) → list_all is_plain xs ≡ true → right_of d xs ≡ xs
+plain_right d [] h = refl
+plain_right d (x ∷ xs) h =
+    let n : columns_before x ≡ 0 = (narrow x (and_left (is_plain x) (list_all is_plain xs) h)).1 in
+    let t : nat_lt d 0 ≡ false = grind (arith, nat_tests) in
+    rw (n, t) (ap (λ ys. x ∷ ys) (plain_right (d + 1) xs (and_right (is_plain x) (list_all is_plain xs) h)))
+
+-- ---- putting over them
+
+-- over plain columns it takes away what it covers and nothing else
+put_pastes : (columns news : List Col) (w r k : ℕ) → list_all is_plain columns ≡ true → k + length news ≤ w
+    → put w columns r k news ≡ paste columns (r * w + k) news
+put_pastes columns news w r k plain fits =
     let n = length news in
+    let below = drop (r * w) columns in
     let q : ℕ = w - (k + n) in
-    let a : List Col = take (r * w) before in
-    let b : List Col = drop (r * w) before in
-    let blanks : List Col = replicate (n + m) blank in
-    let alen : length a ≡ r * w = length-take-le (r * w) before (omega (arith, len)) in
-    let blen : length b ≡ k = length-drop (r * w) before ∙ omega (arith, len) in
-    let split : before ++ blanks ≡ a ++ (b ++ blanks) = ap (λ xs. xs ++ blanks) (sym (take-append-drop (r * w) before)) ∙ append_assoc a b blanks in
-    let t : take (r * w) (before ++ blanks) ≡ a = ap (take (r * w)) split ∙ take_at a (b ++ blanks) (r * w) alen in
-    let d : drop (r * w) (before ++ blanks) ≡ b ++ blanks = ap (drop (r * w)) split ∙ drop_at a (b ++ blanks) (r * w) alen in
     let we : w ≡ (k + n) + q = omega arith in
-    let front : take k (take w (b ++ blanks)) ≡ b = take-take k w (b ++ blanks) (omega arith) ∙ take_at b blanks k blen in
-    let past : drop (k + n) (b ++ blanks) ≡ replicate m blank =
-    sym (drop-drop n k (b ++ blanks)) ∙ ap (drop n) (drop_at b blanks k blen) ∙ drop-replicate n (n + m) blank ∙ ap (λ x. replicate x blank) (omega arith) in
-    let back : drop (k + n) (take w (b ++ blanks)) ≡ take q (replicate m blank) =
-    ap (λ x. drop (k + n) (take x (b ++ blanks))) we ∙ drop-take (k + n) q (b ++ blanks) ∙ ap (take q) past in
-    let rest : drop w (b ++ blanks) ≡ drop q (replicate m blank) =
-    ap (λ x. drop x (b ++ blanks)) we ∙ sym (drop-drop q (k + n) (b ++ blanks)) ∙ ap (drop q) past in
-    rw (t, d, front, back, rest, closed, right_blank 0 q m)
-    (ap (λ xs. a ++ xs) (append_assoc (b ++ news) (take q (replicate m blank)) (drop q (replicate m blank)) ∙ ap (λ xs. (b ++ news) ++ xs) (take-append-drop q (replicate m blank)))
-    ∙ sym (append_assoc a (b ++ news) (replicate m blank))
-    ∙ ap (λ xs. xs ++ replicate m blank) (sym (append_assoc a b news) ∙ ap (λ xs. xs ++ news) (take-append-drop (r * w) before)))
+    let rest_plain : list_all is_plain below ≡ true = plain-drop (r * w) columns plain in
+    let row_plain : list_all is_plain (take w below) ≡ true = plain-take w below rest_plain in
+    let left : left_of (take k (take w below)) ≡ take k below =
+    plain_left (take k (take w below)) (plain-take k (take w below) row_plain) ∙ take-take k w below (omega arith) in
+    let right : right_of 0 (drop (k + n) (take w below)) ≡ take q (drop (k + n) below) =
+    plain_right 0 (drop (k + n) (take w below)) (plain-drop (k + n) (take w below) row_plain)
+    ∙ ap (λ x. drop (k + n) (take x below)) we ∙ drop-take (k + n) q below in
+    let past : drop w below ≡ drop q (drop (k + n) below) = ap (λ x. drop x below) we ∙ sym (drop-drop q (k + n) below) in
+    let whole : drop (k + n) below ≡ drop ((r * w + k) + n) columns =
+    drop-drop (k + n) (r * w) columns ∙ ap (λ x. drop x columns) (omega arith) in
+    let front : take (r * w + k) columns ≡ take (r * w) columns ++ take k below = take-add (r * w) k columns in
+    rw (left, right, past, front)
+    (ap (λ xs. take (r * w) columns ++ xs)
+    (append_assoc (take k below ++ news) (take q (drop (k + n) below)) (drop q (drop (k + n) below))
+    ∙ ap (λ xs. (take k below ++ news) ++ xs) (take-append-drop q (drop (k + n) below) ∙ whole))
+    ∙ sym (append_assoc (take (r * w) columns) (take k below ++ news) (drop ((r * w + k) + n) columns))
+    ∙ ap (λ xs. xs ++ drop ((r * w + k) + n) columns) (sym (append_assoc (take (r * w) columns) (take k below) news)))
+
+pub put_over : (before mid rest news : List Col) (w r k : ℕ) → list_all is_plain (before ++ (mid ++ rest)) ≡ true
+    → length before ≡ r * w + k → length mid ≡ length news → k + length news ≤ w
+    → put w (before ++ (mid ++ rest)) r k news ≡ (before ++ news) ++ rest
+put_over before mid rest news w r k plain len same fits =
+    let columns = before ++ (mid ++ rest) in
+    let front : take (r * w + k) columns ≡ before = take_at before (mid ++ rest) (r * w + k) len in
+    let back : drop ((r * w + k) + length news) columns ≡ rest =
+    ap (drop ((r * w + k) + length news)) (sym (append_assoc before mid rest))
+    ∙ drop_at (before ++ mid) rest ((r * w + k) + length news) (length-append before mid ∙ omega (arith, len, same)) in
+    put_pastes columns news w r k plain fits ∙ rw (front, back) refl

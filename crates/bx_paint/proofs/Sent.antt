@@ -1,49 +1,171 @@
--- One more column sent.
-use Rattle.std.proofs.lemmas.Bool.Decides.{nat_tests}
-use Rattle.std.proofs.Math.Bool.{and-false, and-true}
-use Rattle.std.proofs.Common.{◌≡◌, ℕ, ◌+◌, Bool, true, false, not, ◌&&◌, cond, nat_eq, List, [], ◌∷◌, ◌++◌, drop, refl, ap, sym, ◌∙◌, append_assoc, arith}
-use Rattle.bx_grid.specs.Columns.{Col, is_blank}
+-- The parts of a row, and what is sent for them, one column after another.
+use Rattle.std.proofs.Common.{◌≡◌, ℕ, ◌+◌, ◌*◌, ◌-◌, ◌<◌, ◌≤◌, Bool, true, false, min, get_or, List, [], ◌∷◌, ◌++◌, length, take, drop, suc, refl, ap, sym, ◌∙◌, inl, inr, append_assoc, arith}
+use Rattle.std.specs.List.{list_all}
+use Rattle.std.proofs.lemmas.Bool.{cases_lt}
+use Rattle.std.proofs.lemmas.List.{take_all, take_more, drop_more, drop-drop, drop-map, take-map, map-append}
 use Rattle.bx_grid.specs.Seen.{seen, all_seen}
 use Rattle.bx_grid.specs.declared.column.Column.{Column}
-use Rattle.bx_grid.specs.Picture.{Image}
-use Rattle.bx_paint.specs.Painting.{column_bytes, painted, next_row, next_column, rendition_after}
+use Rattle.std.proofs.lemmas.List.Folds.{list_all-append}
+use Rattle.std.proofs.Math.Bool.{and-false, and-true}
+use Rattle.bx_grid.specs.Columns.{Col, is_blank, col_eq, are_equal}
+use Rattle.bx_paint.specs.Painting.{Sent, then_sent, before_tail, leading_blanks, column_sent, columns_sent, tail_sent, tail_after, row_sent, rows_sent}
+use Rattle.bx_grid.specs.declared.column.Column.TheVariants.{Unknown}
 
-painted_by : (t : Bool) (p : Image) (r c : ℕ) (near negative : Bool) (x : Col) (xs : List Col) → is_blank x ≡ t
-    → painted p r c near negative (x ∷ xs)
-    ≡ cond t [] (column_bytes r c near negative x)
-    ++ painted p (next_row p.width r c) (next_column p.width c) (not t && not (nat_eq (c + 1) p.width)) (cond t negative (rendition_after negative x)) xs
-painted_by true p r c near negative x xs e = rw e refl
-painted_by false p r c near negative x xs e = rw e refl
+-- ---- lists of columns
 
-pub sent_more : (p : Image) (columns : List Column) (i : ℕ) (x : Column) (r c r' c' : ℕ) (near near' negative negative' blank : Bool) (out out' total : List ℕ)
-    → drop i columns ≡ x ∷ drop (i + 1) columns → blank ≡ is_blank (seen x)
-    → out' ≡ out ++ cond blank [] (column_bytes r c near negative (seen x))
-    → r' ≡ next_row p.width r c → c' ≡ next_column p.width c → near' ≡ (not blank && not (nat_eq (c + 1) p.width)) → negative' ≡ cond blank negative (rendition_after negative (seen x))
-    → out ++ painted p r c near negative (all_seen (drop i columns)) ≡ total
-    → out' ++ painted p r' c' near' negative' (all_seen (drop (i + 1) columns)) ≡ total
-sent_more p columns i x r c r' c' near near' negative negative' blank out out' total at b o er ec en eg before =
-    let rest = all_seen (drop (i + 1) columns) in
-    rw (o, er, ec, en, eg)
-    (append_assoc out (cond blank [] (column_bytes r c near negative (seen x)))
-    (painted p (next_row p.width r c) (next_column p.width c) (not blank && not (nat_eq (c + 1) p.width)) (cond blank negative (rendition_after negative (seen x))) rest)
-    ∙ ap (λ ys. out ++ ys) (sym (painted_by blank p r c near negative (seen x) rest (sym b)))
-    ∙ ap (λ ys. out ++ painted p r c near negative (all_seen ys)) (sym at)
-    ∙ before)
+pub unequal_lengths : (xs ys : List Col) → (length xs ≡ length ys → ⊥) → are_equal xs ys ≡ false
+unequal_lengths [] [] h = absurd (h refl)
+unequal_lengths [] (y ∷ ys) h = refl
+unequal_lengths (x ∷ xs) [] h = refl
+unequal_lengths (x ∷ xs) (y ∷ ys) h =
+    rw (unequal_lengths xs ys (λ e. h (ap suc e))) (and-false (col_eq x y))
 
--- the place after this one
-pub record IsNext (v r c : ℕ) (blank : Bool) (r' c' : ℕ) (near' : Bool) : Type 0 where
-  pub row : r' ≡ next_row v r c
-  pub column : c' ≡ next_column v c
-  pub near : near' ≡ (not blank && not (nat_eq (c + 1) v))
+pub take_min : {A : Type 0} (n : ℕ) (xs : List A) → take (min (length xs) n) xs ≡ take n xs
+take_min n xs = elim (cases_lt n (length xs)) [
+  | inl small ↦ (let e : min (length xs) n ≡ n = omega arith in rw e refl)
+  | inr large ↦ (let e : min (length xs) n ≡ length xs = omega arith in rw e (take_all (length xs) xs (omega arith) ∙ sym (take_all n xs large)))
+]
 
-pub next_at_end : (w v r c : ℕ) (blank : Bool) (r' c' : ℕ) (near' : Bool) → w ≡ v → c + 1 ≡ w → r' ≡ r + 1 → c' ≡ 0 → near' ≡ false
-    → IsNext v r c blank r' c' near'
-next_at_end w v r c blank r' c' near' same end er ec en =
-    let t : nat_eq (c + 1) v ≡ true = grind (arith, nat_tests) in
-    record { row = rw t er; column = rw t ec; near = rw t (en ∙ sym (and-false (not blank))) }
+-- ---- the tail
 
-pub next_inside : (w v r c : ℕ) (blank : Bool) (r' c' : ℕ) (near' : Bool) → w ≡ v → (c + 1 ≡ w → ⊥) → r' ≡ r → c' ≡ c + 1 → near' ≡ not blank
-    → IsNext v r c blank r' c' near'
-next_inside w v r c blank r' c' near' same inside er ec en =
-    let t : nat_eq (c + 1) v ≡ false = grind (arith, nat_tests) in
-    record { row = rw t er; column = rw t ec; near = rw t (en ∙ sym (and-true (not blank))) }
+push_by : (t : Bool) (x b : Col) (xs : List Col) → list_all is_blank (x ∷ xs) ≡ t → is_blank b ≡ true
+    → before_tail (xs ++ b ∷ []) ≡ before_tail xs → before_tail (x ∷ xs ++ b ∷ []) ≡ before_tail (x ∷ xs)
+push_by t x b xs e blank more =
+    let same : list_all is_blank (x ∷ xs ++ b ∷ []) ≡ list_all is_blank (x ∷ xs) =
+    list_all-append is_blank (x ∷ xs) (b ∷ []) ∙ rw blank (and-true (list_all is_blank (x ∷ xs))) in
+    rw (same, more) refl
+
+pub before_tail_blank : (xs : List Col) (b : Col) → is_blank b ≡ true → before_tail (xs ++ b ∷ []) ≡ before_tail xs
+before_tail_blank [] b h = rw h refl
+before_tail_blank (x ∷ xs) b h = push_by (list_all is_blank (x ∷ xs)) x b xs refl h (before_tail_blank xs b h)
+
+pub before_tail_other : (xs : List Col) (b : Col) → is_blank b ≡ false → before_tail (xs ++ b ∷ []) ≡ xs ++ b ∷ []
+before_tail_other [] b h = rw h refl
+before_tail_other (x ∷ xs) b h =
+    let none : list_all is_blank (x ∷ xs ++ b ∷ []) ≡ false =
+    list_all-append is_blank (x ∷ xs) (b ∷ []) ∙ rw h (and-false (list_all is_blank (x ∷ xs))) in
+    rw (none, before_tail_other xs b h) refl
+
+-- ---- blanks at the front
+
+all_by : (t : Bool) (x : Col) (xs : List Col) → is_blank x ≡ t → (leading_blanks xs ≡ length xs → list_all is_blank xs ≡ true)
+    → leading_blanks xs ≤ length xs → leading_blanks (x ∷ xs) ≡ length (x ∷ xs) → list_all is_blank (x ∷ xs) ≡ true
+all_by true x xs e more le h =
+    let g : leading_blanks xs + 1 ≡ suc (length xs) = rw e at h in
+    rw e (more (omega arith))
+all_by false x xs e more le h = absurd (let g : 0 ≡ suc (length xs) = rw e at h in omega arith)
+
+le_by : (t : Bool) (x : Col) (xs : List Col) → is_blank x ≡ t → leading_blanks xs ≤ length xs → leading_blanks (x ∷ xs) ≤ length (x ∷ xs)
+le_by true x xs e le = rw e (omega arith)
+le_by false x xs e le = rw e (omega arith)
+
+pub leading_blanks_le : (xs : List Col) → leading_blanks xs ≤ length xs
+leading_blanks_le [] = omega arith
+leading_blanks_le (x ∷ xs) = le_by (is_blank x) x xs refl (leading_blanks_le xs)
+
+pub all_blank_is : (xs : List Col) → leading_blanks xs ≡ length xs → list_all is_blank xs ≡ true
+all_blank_is [] h = refl
+all_blank_is (x ∷ xs) h = all_by (is_blank x) x xs refl (all_blank_is xs) (leading_blanks_le xs) h
+
+lead_by : (t : Bool) (x : Col) (xs : List Col) → is_blank x ≡ t → (list_all is_blank xs ≡ true → leading_blanks xs ≡ length xs)
+    → list_all is_blank (x ∷ xs) ≡ true → leading_blanks (x ∷ xs) ≡ length (x ∷ xs)
+lead_by true x xs e more h =
+    let g : list_all is_blank xs ≡ true = rw e at h in
+    rw e (omega (arith, more g))
+lead_by false x xs e more h = absurd (let g : false ≡ true = rw e at h in cc g)
+
+pub blanks_lead : (xs : List Col) → list_all is_blank xs ≡ true → leading_blanks xs ≡ length xs
+blanks_lead [] h = refl
+blanks_lead (x ∷ xs) h = lead_by (is_blank x) x xs refl (blanks_lead xs) h
+
+not_all : (t : Bool) (xs : List Col) → list_all is_blank xs ≡ t → (leading_blanks xs ≡ length xs → ⊥) → list_all is_blank xs ≡ false
+not_all true xs e h = absurd (h (blanks_lead xs e))
+not_all false xs e h = e
+
+pub some_not_blank : (xs : List Col) → (leading_blanks xs ≡ length xs → ⊥) → list_all is_blank xs ≡ false
+some_not_blank xs h = not_all (list_all is_blank xs) xs refl h
+
+-- the last of the first columns
+pub last_seen : (columns : List Column) (len : ℕ) (x : Column) → (0 < len) × (len ≤ length columns) → x ≡ get_or columns (len - 1) x
+    → all_seen (take len columns) ≡ all_seen (take (len - 1) columns) ++ seen x ∷ []
+last_seen columns len x h is =
+    let e : (len - 1) + 1 ≡ len = omega (arith, h.0) in
+    ap (λ n. all_seen (take n columns)) (sym e)
+    ∙ ap all_seen (take_more columns (len - 1) x (omega (arith, h.0, h.1)))
+    ∙ map-append seen (take (len - 1) columns) (get_or columns (len - 1) x ∷ [])
+    ∙ ap (λ y. all_seen (take (len - 1) columns) ++ seen y ∷ []) (sym is)
+
+-- ---- one column more
+
+one_more : (row i : ℕ) (near negative : Bool) (old new new' : List Col) (x : Col) (out : List ℕ) → new ≡ x ∷ new'
+    → then_sent (out ++ (column_sent row i near negative old new).bytes)
+    (columns_sent row (i + 1) (column_sent row i near negative old new).near (column_sent row i near negative old new).negative (drop 1 old) new')
+    ≡ then_sent out (columns_sent row i near negative old new)
+one_more row i near negative old new new' x out h =
+    let s = column_sent row i near negative old (x ∷ new') in
+    let rest = columns_sent row (i + 1) s.near s.negative (drop 1 old) new' in
+    let with_rest : List ℕ → Sent = λ bs. record { bytes = bs; negative = rest.negative } in
+    rw h (ap with_rest (append_assoc out s.bytes rest.bytes))
+
+pub column_more : (row i : ℕ) (near negative near' negative' : Bool) (old new po pn : List Column) (out out' : List ℕ) → i < length new
+    → po ≡ drop i old → pn ≡ drop i new
+    → out' ≡ out ++ (column_sent row i near negative (all_seen po) (all_seen pn)).bytes
+    → near' ≡ (column_sent row i near negative (all_seen po) (all_seen pn)).near
+    → negative' ≡ (column_sent row i near negative (all_seen po) (all_seen pn)).negative
+    → then_sent out' (columns_sent row (i + 1) near' negative' (all_seen (drop (i + 1) old)) (all_seen (drop (i + 1) new)))
+    ≡ then_sent out (columns_sent row i near negative (all_seen (drop i old)) (all_seen (drop i new)))
+column_more row i near negative near' negative' old new po pn out out' low ep ew eo en eg =
+    let split : all_seen (drop i new) ≡ seen (get_or new i Unknown) ∷ all_seen (drop (i + 1) new) = ap all_seen (drop_more new i Unknown low) in
+    let rest : all_seen (drop (i + 1) old) ≡ drop 1 (all_seen (drop i old)) =
+    ap all_seen (sym (drop-drop 1 i old)) ∙ sym (drop-map seen 1 (drop i old)) in
+    rw (eo, en, eg, ep, ew, rest) (one_more row i near negative (all_seen (drop i old)) (all_seen (drop i new)) (all_seen (drop (i + 1) new)) (seen (get_or new i Unknown)) out split)
+
+-- ---- a row
+
+pub row_by : (row f : ℕ) (negative : Bool) (old new front before after : List Col)
+    → front ≡ before_tail new → f ≡ length (before_tail new) → before ≡ take (length (before_tail new)) old → after ≡ drop (length (before_tail new)) old
+    → row_sent row negative old new ≡ tail_after row f after (columns_sent row 0 false negative before front)
+row_by row f negative old new front before after h e b a = rw (h, e, b, a) refl
+
+-- the bytes of a row's columns, and then those of its tail
+pub row_bytes : (row f : ℕ) (negative after : Bool) (before tail front : List Col) (out out' out'' : List ℕ)
+    → out' ≡ out ++ (columns_sent row 0 false negative before front).bytes → after ≡ (columns_sent row 0 false negative before front).negative
+    → out'' ≡ out' ++ (tail_sent row f after tail).bytes
+    → out'' ≡ out ++ (tail_after row f tail (columns_sent row 0 false negative before front)).bytes
+row_bytes row f negative after before tail front out out' out'' e a e' =
+    let s = columns_sent row 0 false negative before front in
+    rw (e', e, a) (append_assoc out s.bytes (tail_sent row f s.negative tail).bytes)
+
+-- ---- one row more
+
+row_seen : (row width : ℕ) (columns part : List Column) → part ≡ take ((row * width + width) - row * width) (drop (row * width) columns)
+    → all_seen part ≡ take width (all_seen (drop (row * width) columns))
+row_seen row width columns part h =
+    let e : (row * width + width) - row * width ≡ width = omega arith in
+    ap all_seen h ∙ ap (λ n. all_seen (take n (drop (row * width) columns))) e ∙ sym (take-map seen width (drop (row * width) columns))
+
+rest_seen : (row width : ℕ) (columns : List Column) → all_seen (drop ((row + 1) * width) columns) ≡ drop width (all_seen (drop (row * width) columns))
+rest_seen row width columns =
+    let e : (row + 1) * width ≡ row * width + width = omega arith in
+    ap (λ n. all_seen (drop n columns)) e ∙ ap all_seen (sym (drop-drop width (row * width) columns)) ∙ sym (drop-map seen width (drop (row * width) columns))
+
+rows_more : (height row width : ℕ) (negative negative' : Bool) (old new old' new' po pn : List Col) (out out' : List ℕ) → row < height
+    → po ≡ take width old → pn ≡ take width new → old' ≡ drop width old → new' ≡ drop width new
+    → out' ≡ out ++ (row_sent row negative po pn).bytes → negative' ≡ (row_sent row negative po pn).negative
+    → then_sent out' (rows_sent (height - (row + 1)) (row + 1) width negative' old' new') ≡ then_sent out (rows_sent (height - row) row width negative old new)
+rows_more height row width negative negative' old new old' new' po pn out out' low eo en eo' en' e eg =
+    let count : height - row ≡ suc (height - (row + 1)) = omega arith in
+    let s = row_sent row negative (take width old) (take width new) in
+    let rest = rows_sent (height - (row + 1)) (row + 1) width s.negative (drop width old) (drop width new) in
+    let with_rest : List ℕ → Sent = λ bs. record { bytes = bs; negative = rest.negative } in
+    rw (e, eg, eo, en, eo', en', count) (ap with_rest (append_assoc out s.bytes rest.bytes))
+
+pub row_more : (height row width : ℕ) (negative negative' : Bool) (old new po pn : List Column) (out out' : List ℕ) → row < height
+    → po ≡ take ((row * width + width) - row * width) (drop (row * width) old) → pn ≡ take ((row * width + width) - row * width) (drop (row * width) new)
+    → out' ≡ out ++ (row_sent row negative (all_seen po) (all_seen pn)).bytes → negative' ≡ (row_sent row negative (all_seen po) (all_seen pn)).negative
+    → then_sent out' (rows_sent (height - (row + 1)) (row + 1) width negative' (all_seen (drop ((row + 1) * width) old)) (all_seen (drop ((row + 1) * width) new)))
+    ≡ then_sent out (rows_sent (height - row) row width negative (all_seen (drop (row * width) old)) (all_seen (drop (row * width) new)))
+row_more height row width negative negative' old new po pn out out' low eo en e eg =
+    rows_more height row width negative negative' (all_seen (drop (row * width) old)) (all_seen (drop (row * width) new))
+    (all_seen (drop ((row + 1) * width) old)) (all_seen (drop ((row + 1) * width) new)) (all_seen po) (all_seen pn) out out' low
+    (row_seen row width old po eo) (row_seen row width new pn en) (rest_seen row width old) (rest_seen row width new) e eg

@@ -1,46 +1,136 @@
--- The bytes that paint a picture.
-use Rattle.std.specs.Prelude.{ℕ, ◌+◌, Bool, true, false, not, ◌==◌, List, [], ◌∷◌, ◌++◌, if◌then◌else◌, decimal}
-use Rattle.bx_grid.specs.Columns.{Col, Unknown, Glyph, is_blank}
+-- The bytes that paint a picture, whole or where it differs from the one before.
+use Rattle.std.specs.Prelude.{ℕ, zero, suc, ◌+◌, ◌*◌, Bool, true, false, not, ◌&&◌, ◌==◌, List, [], ◌∷◌, ◌++◌, length, take, drop, replicate, if◌then◌else◌, decimal}
+use Rattle.std.specs.List.{list_all}
+use Rattle.bx_grid.specs.Columns.{Col, Unknown, Glyph, blank, is_blank, is_printable_text, are_equal}
 use Rattle.bx_grid.specs.Picture.{Image}
 
--- CSI line ; column H, of a row and a column from 0
+-- ---- sequences
+
+-- CUP, `\e[LINE;COLUMNH`, to a row and a column from 0
 abbrev pub move_bytes : ℕ → ℕ → List ℕ
 move_bytes row column = 0x1B ∷ 0x5B ∷ ((decimal (row + 1) ++ 0x3B ∷ decimal (column + 1)) ++ 0x48 ∷ [])
 
+-- SGR, `\e[7m` or `\e[0m`
 abbrev pub render_bytes : Bool → List ℕ
 render_bytes negative = 0x1B ∷ 0x5B ∷ (if negative then 0x37 else 0x30) ∷ 0x6D ∷ []
 
+-- SGR, if the rendition must change
 abbrev pub render_change : Bool → Bool → List ℕ
 render_change true true = []
 render_change true false = render_bytes false
 render_change false true = render_bytes true
 render_change false false = []
 
--- what is sent for a column, where near says that the glyph before it was sent
-abbrev pub column_bytes : ℕ → ℕ → Bool → Bool → Col → List ℕ
-column_bytes row column near negative Unknown = []
-column_bytes row column near negative (Glyph text columns offset inverse) =
-    (if near then [] else move_bytes row column) ++ (render_change negative inverse ++ text)
+-- EL, `\e[0K`
+abbrev pub erase_bytes : List ℕ
+erase_bytes = 0x1B ∷ 0x5B ∷ 0x30 ∷ 0x4B ∷ []
 
-abbrev pub rendition_after : Bool → Col → Bool
-rendition_after negative Unknown = negative
-rendition_after negative (Glyph text columns offset inverse) = inverse
+-- ---- a row
 
-abbrev pub next_row : ℕ → ℕ → ℕ → ℕ
-next_row width row column = if column + 1 == width then row + 1 else row
+-- bytes, and whether the rendition is negative after them
+pub record Sent : Type 0 where
+  pub bytes : List ℕ
+  pub negative : Bool
 
-abbrev pub next_column : ℕ → ℕ → ℕ
-next_column width column = if column + 1 == width then 0 else column + 1
+abbrev pub then_sent : List ℕ → Sent → Sent
+then_sent bytes s = record { bytes = bytes ++ s.bytes; negative = s.negative }
 
--- what is sent for these columns, which begin at a row and a column, and then for the cursor
-abbrev pub painted : Image → ℕ → ℕ → Bool → Bool → List Col → List ℕ
-painted p row column near negative [] = render_change negative false ++ move_bytes p.row p.column
-painted p row column near negative (x ∷ xs) =
-    if is_blank x
-    then painted p (next_row p.width row column) (next_column p.width column) false negative xs
-    else column_bytes row column near negative x
-    ++ painted p (next_row p.width row column) (next_column p.width column) (not (column + 1 == p.width)) (rendition_after negative x) xs
+-- the columns before the row's tail, which is the longest run of blanks at its end
+abbrev pub before_tail : List Col → List Col
+before_tail [] = []
+before_tail (c ∷ cs) = if list_all is_blank (c ∷ cs) then [] else c ∷ before_tail cs
 
--- \e[0m\e[2J and then the picture, over blanks
+-- how many blanks the columns begin with
+abbrev pub leading_blanks : List Col → ℕ
+leading_blanks [] = 0
+leading_blanks (c ∷ cs) = if is_blank c then leading_blanks cs + 1 else 0
+
+-- these columns begin with a glyph of which a column differs from the old ones
+abbrev pub is_sent : List Col → List Col → Bool
+is_sent old [] = false
+is_sent old (Unknown ∷ cs) = false
+is_sent old (Glyph text columns offset negative ∷ cs) =
+    (offset == 0) && not (are_equal (take columns old) (take columns (Glyph text columns offset negative ∷ cs)))
+
+-- a glyph; near says that it follows one that was just sent, and that one is a character from SPACE to TILDE
+abbrev pub glyph_bytes : ℕ → ℕ → Bool → Bool → List ℕ → Bool → List ℕ
+glyph_bytes row column near negative text inverse =
+    (if near && is_printable_text text then [] else move_bytes row column) ++ (render_change negative inverse ++ text)
+
+-- what is sent for one column, whether a character from SPACE to TILDE was sent that ends there, and the rendition after it
+pub record Step : Type 0 where
+  pub bytes : List ℕ
+  pub near : Bool
+  pub negative : Bool
+
+abbrev pub nothing_sent : Bool → Step
+nothing_sent negative = record { bytes = []; near = false; negative = negative }
+
+-- the first of these columns of a row
+abbrev pub column_sent : ℕ → ℕ → Bool → Bool → List Col → List Col → Step
+column_sent row column near negative old [] = nothing_sent negative
+column_sent row column near negative old (Unknown ∷ cs) = nothing_sent negative
+column_sent row column near negative old (Glyph text columns offset inverse ∷ cs) =
+    if is_sent old (Glyph text columns offset inverse ∷ cs)
+    then record { bytes = glyph_bytes row column near negative text inverse; near = is_printable_text text; negative = inverse }
+    else nothing_sent negative
+
+-- the columns of a row before its tail, from one on
+abbrev pub columns_sent : ℕ → ℕ → Bool → Bool → List Col → List Col → Sent
+columns_sent row column near negative old [] = record { bytes = []; negative = negative }
+columns_sent row column near negative old (c ∷ cs) =
+    let s = column_sent row column near negative old (c ∷ cs) in
+    then_sent s.bytes (columns_sent row (column + 1) s.near s.negative (drop 1 old) cs)
+
+-- the row's tail, where these columns stand now: erased from the first that differs
+abbrev pub tail_sent : ℕ → ℕ → Bool → List Col → Sent
+tail_sent row column negative old =
+    if list_all is_blank old
+    then record { bytes = []; negative = negative }
+    else record { bytes = move_bytes row (column + leading_blanks old) ++ (render_change negative false ++ erase_bytes); negative = false }
+
+abbrev pub tail_after : ℕ → ℕ → List Col → Sent → Sent
+tail_after row column old s = then_sent s.bytes (tail_sent row column s.negative old)
+
+abbrev pub row_sent : ℕ → Bool → List Col → List Col → Sent
+row_sent row negative old new =
+    let front = before_tail new in
+    tail_after row (length front) (drop (length front) old) (columns_sent row 0 false negative (take (length front) old) front)
+
+-- ---- a picture
+
+abbrev pub rows_after : Sent → (Bool → Sent) → Sent
+rows_after s more = then_sent s.bytes (more s.negative)
+
+-- so many rows, from this one on
+abbrev pub rows_sent : ℕ → ℕ → ℕ → Bool → List Col → List Col → Sent
+rows_sent zero row width negative old new = record { bytes = []; negative = negative }
+rows_sent (suc count) row width negative old new =
+    rows_after (row_sent row negative (take width old) (take width new))
+    (λ after. rows_sent count (row + 1) width after (drop width old) (drop width new))
+
+-- a picture, where these columns stand now
+abbrev pub columns_changed : List Col → Image → Sent
+columns_changed old p = rows_sent p.height 0 p.width false old p.columns
+
+-- normal rendition, and the cursor
+abbrev pub ended : Image → Sent → List ℕ
+ended p s = s.bytes ++ (render_change s.negative false ++ move_bytes p.row p.column)
+
+abbrev pub is_at_cursor_of : Image → Image → Bool
+is_at_cursor_of p q = (p.row == q.row) && (p.column == q.column)
+
+abbrev pub is_none : List ℕ → Bool
+is_none [] = true
+is_none (b ∷ bs) = false
+
+abbrev pub if_changed : Image → Image → Sent → List ℕ
+if_changed old new s = if is_none s.bytes && is_at_cursor_of old new then [] else ended new s
+
+-- what leads from one picture to another of its size
+abbrev pub changes_bytes : Image → Image → List ℕ
+changes_bytes old new = if_changed old new (columns_changed old.columns new)
+
+-- `\e[0m\e[2J`, and then the picture, over blanks
 abbrev pub whole_bytes : Image → List ℕ
-whole_bytes p = 0x1B ∷ 0x5B ∷ 0x30 ∷ 0x6D ∷ 0x1B ∷ 0x5B ∷ 0x32 ∷ 0x4A ∷ painted p 0 0 false false p.columns
+whole_bytes p = 0x1B ∷ 0x5B ∷ 0x30 ∷ 0x6D ∷ 0x1B ∷ 0x5B ∷ 0x32 ∷ 0x4A ∷ ended p (columns_changed (replicate (p.height * p.width) blank) p)

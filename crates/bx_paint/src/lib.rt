@@ -1,8 +1,12 @@
-//! The bytes that paint a picture on a terminal.
+//! The bytes that paint a picture on a terminal, whole or where it differs from the one before.
 #![tactic(auto)]
 
 mod error;
 mod painting;
+mod sending;
 
 pub use error::PaintError;
-pub use painting::whole;
+pub use painting::{changes, whole};
+
+#[cfg(test)]
+mod tests;

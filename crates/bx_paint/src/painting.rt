@@ -1,107 +1,67 @@
-//! The bytes of a painting, written one after another.
+//! A picture's painting, whole or where it differs from the one before.
 
-ghost use Rattle.std.specs.Prelude.{◌≡◌, ℕ, ◌+◌, ◌*◌, ◌<◌, ◌≤◌, ◌^◌, [], ◌∷◌, ◌++◌, length, true, false, IfOk, OnOk, OnErr, string_bytes};
-ghost use Rattle.bx_grid.specs.Seen.{seen, all_seen};
-ghost use Rattle.bx_grid.specs.Picture.{Image, Shows};
+ghost use Rattle.std.specs.Prelude.{◌≡◌, ◌+◌, ◌-◌, ◌≤◌, ◌<◌, ◌++◌, [], length, false, IfOk, OnOk, OnErr};
+ghost use Rattle.bx_grid.specs.Deeds.{deeds};
+ghost use Rattle.bx_grid.specs.Picture.{Image, IsGrid, IsIdle, IsPicture, Shows};
 ghost use Rattle.bx_grid.specs.Terminal.{Terminal, reads};
-ghost use Rattle.bx_paint.specs.Painting.{move_bytes, render_change, column_bytes, painted, whole_bytes, next_row, next_column, rendition_after};
+ghost use Rattle.bx_paint.specs.Changed.{changed, differing};
+ghost use Rattle.bx_paint.specs.Painting.{whole_bytes, changes_bytes, columns_changed, ended, render_change, move_bytes};
 
 use crate::error::PaintError;
-use bx_grid::{Column, Picture};
-use itoa::Buffer;
+use crate::sending::{send_move, send_rendition, send_rows};
+use bx_grid::{Cell, Grid, Picture};
 use std::alloc::{AllocError, Global};
 
-/// Sends the cursor to a row and a column, from 0.
-fn send_move(out: &mut Vec<u8>, row: u16, column: u16) -> Result<(), AllocError>
-    requires small { (row < 65535) × (column < 65535) }
-    ensures { OnOk result (out.new.items ≡ out.old.items ++ move_bytes row column) }
-{
-    out.extend_from_slice(b"\x1b[")?;
-    let mut line = Buffer::new();
-    out.extend_from_slice(line.format(row + 1).as_bytes())?;
-    out.extend_from_slice(b";")?;
-    let mut place = Buffer::new();
-    out.extend_from_slice(place.format(column + 1).as_bytes())?;
-    out.extend_from_slice(b"H")?;
-    Ok(())
-}
+/// Room for the bytes of a few glyphs.
+const ROOM: usize = 64;
 
-fn send_rendition(out: &mut Vec<u8>, from: bool, to: bool) -> Result<(), AllocError>
-    ensures { OnOk result (out.new.items ≡ out.old.items ++ render_change from to) }
+/// Normal rendition, and the cursor.
+fn send_end(out: &mut Vec<u8>, negative: bool, cursor: Cell) -> Result<(), AllocError>
+    requires line { (1 ≤ cursor.line) × (cursor.line ≤ 500) }
+    requires column { (1 ≤ cursor.column) × (cursor.column ≤ 500) }
+    ensures { OnOk result (out.new.items ≡ out.old.items ++ (render_change negative false ++ move_bytes (cursor.line - 1) (cursor.column - 1))) }
 {
-    if from == to {
-        return Ok(());
-    }
-    if to {
-        out.extend_from_slice(b"\x1b[7m")
-    } else {
-        out.extend_from_slice(b"\x1b[0m")
-    }
-}
-
-/// Sends a column's glyph.
-fn send_column(
-    out: &mut Vec<u8>,
-    row: u16,
-    column: u16,
-    near: bool,
-    negative: bool,
-    shown: &Column,
-) -> Result<bool, AllocError>
-    requires small { (row < 65535) × (column < 65535) }
-    ensures bytes { OnOk result (out.new.items ≡ out.old.items ++ column_bytes row column near negative (seen shown.now)) }
-    ensures rendition { IfOk result (λ after. after ≡ rendition_after negative (seen shown.now)) }
-{
-    match shown {
-        Column::Unknown => Ok(negative),
-        Column::Glyph {
-            text,
-            negative: inverse,
-            ..
-        } => {
-            if !near {
-                send_move(out, row, column)?;
-            }
-            send_rendition(out, negative, *inverse)?;
-            out.extend_from_slice(text.as_bytes())?;
-            Ok(*inverse)
-        }
-    }
-}
-
-/// Sends what stands in the columns, and then the cursor.
-fn send_columns(
-    out: &mut Vec<u8>,
-    columns: &[Column],
-    width: u16,
-    picture: &Picture,
-) -> Result<(), AllocError>
-    requires wide { (1 ≤ width) × (width ≤ 500) }
-    requires same { width ≡ picture.now.width }
-    requires count { length columns.now ≤ 500 * width }
-    ensures { OnOk result (out.new.items ≡ out.old.items ++ painted picture.now 0 0 false false (all_seen columns.now)) }
-{
-    let mut row = 0u16;
-    let mut column = 0u16;
-    let mut near = false;
-    let mut negative = false;
-    for shown in columns {
-        let blank = shown.is_blank();
-        if !blank {
-            negative = send_column(out, row, column, near, negative, shown)?;
-        }
-        if column + 1 == width {
-            row += 1;
-            column = 0;
-            near = false;
-        } else {
-            column += 1;
-            near = !blank;
-        }
-    }
-    let cursor = picture.cursor();
     send_rendition(out, negative, false)?;
     send_move(out, cursor.line - 1, cursor.column - 1)
+}
+
+/// Sends a picture whole.
+fn send_whole(alloc: Global, out: &mut Vec<u8>, picture: &Picture) -> Result<(), AllocError>
+    requires { out.old.items ≡ [] }
+    ensures bytes { OnOk result (out.new.items ≡ whole_bytes picture.now) }
+    ensures picture { IsPicture picture.now }
+{
+    let grid = picture.grid();
+    let height = grid.height();
+    let width = grid.width();
+    let columns = grid.columns();
+    let cursor = picture.cursor();
+    let Ok(blank) = Grid::blank(alloc, height, width) else {
+        return Err(AllocError);
+    };
+    out.extend_from_slice(b"\x1b[0m\x1b[2J")?;
+    let negative = send_rows(out, height, width, blank.columns(), columns)?;
+    send_end(out, negative, cursor)
+}
+
+/// Sends what leads from one picture to another of its size.
+fn send_changes(out: &mut Vec<u8>, old: &Picture, new: &Picture) -> Result<(), AllocError>
+    requires empty { out.old.items ≡ [] }
+    requires height { old.now.height ≡ new.now.height }
+    requires width { old.now.width ≡ new.now.width }
+    ensures bytes { OnOk result (out.new.items ≡ changes_bytes old.now new.now) }
+    ensures old { IsGrid old.now.height old.now.width old.now.columns }
+    ensures new { IsPicture new.now }
+{
+    let from = old.grid().columns();
+    let grid = new.grid();
+    let to = grid.columns();
+    let cursor = new.cursor();
+    let negative = send_rows(out, grid.height(), grid.width(), from, to)?;
+    if out.is_empty() && old.cursor() == cursor {
+        return Ok(());
+    }
+    send_end(out, negative, cursor)
 }
 
 /// The bytes that paint a picture whole (ECMA-48: SGR, ED, CUP and the characters): they make a
@@ -110,14 +70,32 @@ fn send_columns(
 /// Errors: `OutOfMemory`.
 pub fn whole(alloc: Global, picture: &Picture) -> Result<Vec<u8>, PaintError>
     ensures bytes { IfOk result (λ out. out.items ≡ whole_bytes picture.now) }
-    ensures shows { IfOk result (λ out. (t : Terminal) → t.half ≡ [] → t.height ≡ picture.now.height → t.width ≡ picture.now.width
+    ensures shows { IfOk result (λ out. (t : Terminal) → IsIdle t → t.height ≡ picture.now.height → t.width ≡ picture.now.width
         → Shows (reads t out.items) picture.now) }
 {
-    let grid = picture.grid();
-    let _height = grid.height();
-    let width = grid.width();
-    let _cursor = picture.cursor();
-    let mut out = Vec::from_slice(alloc, b"\x1b[0m\x1b[2J")?;
-    send_columns(&mut out, grid.columns(), width, picture)?;
+    let mut out = Vec::new(alloc);
+    send_whole(alloc, &mut out, picture)?;
+    Ok(out)
+}
+
+/// The bytes that lead from one picture to another of its size: they make a terminal that shows the
+/// old picture show the new one (ECMA-48: CUP, SGR, EL and the characters).
+///
+/// A glyph before its row's blank tail is sent once if one of its columns differs, else never; a row is
+/// erased to its end once if a column of its tail differs, else never. Where grids and cursors are
+/// equal there is no byte.
+///
+/// Errors: `OutOfMemory`.
+pub fn changes(alloc: Global, old: &Picture, new: &Picture) -> Result<Vec<u8>, PaintError>
+    requires height { old.now.height ≡ new.now.height }
+    requires width { old.now.width ≡ new.now.width }
+    ensures bytes { IfOk result (λ out. out.items ≡ changes_bytes old.now new.now) }
+    ensures shows { IfOk result (λ out. (t : Terminal) → Shows t old.now → Shows (reads t out.items) new.now) }
+    ensures sends { IfOk result (λ out. (t : Terminal) → Shows t old.now → deeds t out.items ≡ changed old.now new.now) }
+    ensures few { OnOk result (length (changed old.now new.now) ≤ differing old.now.columns new.now.columns) }
+    ensures nothing { IfOk result (λ out. old.now ≡ new.now → out.items ≡ []) }
+{
+    let mut out = Vec::with_capacity(alloc, ROOM)?;
+    send_changes(&mut out, old, new)?;
     Ok(out)
 }

@@ -5,7 +5,7 @@ use Rattle.std.proofs.Math.Seq.{take-add, drop-append-add}
 use Rattle.std.proofs.Math.Nat.{div-add-mod}
 use Rattle.std.proofs.lemmas.Bool.Decides.{nat_tests}
 use Rattle.std.proofs.lemmas.List.{take_at, map_more, map-append, length-map, length-take, length-take-le, append-nil, replicate-append-replicate, take_all, drop_all}
-use Rattle.bx_grid.specs.Columns.{Col, Glyph, blank, paste, run_columns}
+use Rattle.bx_grid.specs.Columns.{Col, Glyph, blank, paste, plain_columns}
 use Rattle.bx_grid.specs.Picture.{Image, is_size}
 use Rattle.bx_grid.specs.Tokens.{is_printable}
 use Rattle.bx_grid.proofs.Reading.{and_left, and_right}
@@ -18,7 +18,7 @@ abbrev blanks : ℕ → List Col
 blanks n = replicate n blank
 
 abbrev run : List ℕ → List Col
-run text = run_columns false text
+run text = plain_columns false text
 
 -- one more glyph where the blanks begin
 paste_next : (done : List Col) (k m : ℕ) (y : Col) → length done ≡ k → paste (done ++ blanks (suc m)) k (y ∷ []) ≡ (done ++ y ∷ []) ++ blanks m

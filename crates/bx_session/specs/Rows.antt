@@ -1,6 +1,6 @@
 -- The rows of the text, and the picture that shows them.
 use Rattle.std.specs.Prelude.{ℕ, zero, suc, ◌+◌, ◌-◌, ◌*◌, ◌/◌, ◌≤◌, ◌<◌, min, max, false, nat_le, List, [], ◌++◌, length, take, drop, replicate, if◌then◌else◌}
-use Rattle.bx_grid.specs.Columns.{Col, blank, run_columns}
+use Rattle.bx_grid.specs.Columns.{Col, blank, plain_columns}
 use Rattle.bx_grid.specs.Picture.{Image}
 use Rattle.bx_session.specs.Editor.{EditorState}
 
@@ -29,7 +29,7 @@ followed e top = top_after (shown_height e.height) (row_of e.width e.text e.plac
 
 -- the columns of a row: its characters, and blanks to its end
 abbrev pub row_columns : ℕ → List ℕ → List Col
-row_columns width row = run_columns false row ++ replicate (width - length row) blank
+row_columns width row = plain_columns false row ++ replicate (width - length row) blank
 
 -- the columns of so many rows: each takes what it has room for, and the rest makes the next ones
 abbrev pub rows_columns : ℕ → ℕ → List ℕ → List Col
@@ -61,4 +61,4 @@ pub record ShowsCursor (e : EditorState) (top : ℕ) : Type 0 where
 
 -- so many columns, the first of them these characters
 abbrev pub filled : ℕ → List ℕ → List Col
-filled count text = run_columns false text ++ replicate (count - length text) blank
+filled count text = plain_columns false text ++ replicate (count - length text) blank

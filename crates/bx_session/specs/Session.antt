@@ -1,6 +1,6 @@
 -- The session's state, and what a byte makes of it.
-use Rattle.std.specs.Prelude.{◌≡◌, ℕ, Bool, true, false, not, ◌&&◌, is_some, List, [], ◌++◌, Option, Some, None, Result, Ok, Err, if◌then◌else◌}
-use Rattle.bx_grid.specs.Picture.{Image, Shows}
+use Rattle.std.specs.Prelude.{◌≡◌, ℕ, Bool, true, false, not, ◌&&◌, is_some, List, ◌++◌, Option, Some, None, Result, Ok, Err, if◌then◌else◌}
+use Rattle.bx_grid.specs.Picture.{Image, IsIdle, Shows}
 use Rattle.bx_grid.specs.Terminal.{Terminal, reads}
 use Rattle.bx_paint.specs.Painting.{whole_bytes}
 use Rattle.bx_session.specs.declared.key.Key.{Key}
@@ -70,7 +70,7 @@ Feeds old b (Err Paint) new = (new ≡ fed_unpainted old b) × (is_idle old b �
 -- its state is
 abbrev pub Shown : List ℕ → EditorState → ℕ → Type 0
 Shown bytes e top =
-    (t : Terminal) → t.half ≡ [] → t.height ≡ e.height → t.width ≡ e.width → Shows (reads t bytes) (picture e top)
+    (t : Terminal) → IsIdle t → t.height ≡ e.height → t.width ≡ e.width → Shows (reads t bytes) (picture e top)
 
 -- what is pending has only grown, by bytes that show the session's picture
 abbrev pub PaintsWhole : List ℕ → SessionState → Type 0

@@ -3,7 +3,6 @@ use Rattle.std.proofs.lemmas.List.{length-take-le, length-drop}
 use Rattle.bx_grid.specs.Columns.{blank, put_in_row}
 use Rattle.bx_grid.specs.Seen.{all_seen}
 use Rattle.bx_grid.proofs.Pieces.{placed}
-use Rattle.bx_grid.proofs.Halves.{on_ok}
 use Rattle.bx_grid.proofs.columns.erase_at.Goals as goal
 
 pub returns : goal.returns
@@ -11,7 +10,5 @@ returns c =
     let s = c.args.row * c.args.width in
     let part = take ((s + c.args.width) - s) (drop s c.args.columns.now) in
     let len : length part ≡ c.args.width = omega (arith, length-take-le ((s + c.args.width) - s) (drop s c.args.columns.now) (omega (arith, length-drop s c.args.columns.now, c.requires.rows))) in
-    on_ok c.erase_in_row.result _ _
-    (λ e. placed c.args.columns.now c.erase_in_row.new.row c.args.width c.args.row c.args.from (replicate (c.args.width - c.args.from) blank)
-    (e ∙ ap (λ n. put_in_row (all_seen part) c.args.from (replicate (n - c.args.from) blank)) len))
-    c.erase_in_row.ensures
+    placed c.args.columns.now c.erase_in_row.new.row c.args.width c.args.row c.args.from (replicate (c.args.width - c.args.from) blank)
+    (c.erase_in_row.ensures ∙ ap (λ n. put_in_row (all_seen part) c.args.from (replicate (n - c.args.from) blank)) len)

@@ -7,6 +7,6 @@ use Rattle.bx_grid.proofs.columns.fill_blank.Goals as goal
 
 pub loop-place-preserved : goal.loop-place-preserved
 loop-place-preserved c =
-    filled_more c.loop-place.columns (all_seen c.args.columns.now) c.args.from (c.loop-place.place - c.args.from) c.loop-place.place (c.loop-place.place + 1 - c.args.from) blank c.in_ok-columns.field-0
+    filled_more c.loop-place.columns (all_seen c.args.columns.now) c.args.from (c.loop-place.place - c.args.from) c.loop-place.place (c.loop-place.place + 1 - c.args.from) blank c.blank_column.result
     (omega (arith, c.loop-place.auto.place)) (omega (arith, c.loop-place.auto.place))
-    (omega (arith, length-map c.args.columns.now seen)) c.loop-place.invariant c.in_ok-columns.ensures
+    (omega (arith, length-map c.args.columns.now seen)) c.loop-place.invariant c.blank_column.ensures

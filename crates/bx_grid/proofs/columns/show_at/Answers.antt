@@ -1,6 +1,6 @@
 use Rattle.bx_grid.specs.Columns.{run_columns}
-use Rattle.bx_grid.proofs.Pieces.{placed}
 use Rattle.bx_grid.proofs.Halves.{on_ok}
+use Rattle.bx_grid.proofs.Pieces.{placed}
 use Rattle.bx_grid.proofs.columns.show_at.Goals as goal
 
 pub returns : goal.returns

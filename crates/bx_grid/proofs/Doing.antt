@@ -1,0 +1,70 @@
+-- What a terminal that reads does to its columns, along with the state that it comes to.
+use Rattle.std.proofs.Common.{◌≡◌, ℕ, true, List, [], ◌∷◌, ◌++◌, refl, ap, sym, ◌∙◌, append_assoc}
+use Rattle.std.specs.List.{list_all}
+use Rattle.std.proofs.lemmas.List.{append-nil}
+use Rattle.bx_grid.specs.Tokens.{is_printable, is_param, command_of}
+use Rattle.bx_grid.specs.Deeds.{Deed, pending_deeds, begun_deeds, deeds_after, byte_deeds, command_deeds, deeds}
+use Rattle.bx_grid.specs.Terminal.{Terminal, reads, byte_read, read_after, run_ended, obeyed}
+use Rattle.bx_grid.proofs.Reading.{at, and_left, and_right, all-push, IsFinal, not_escape, ends_alone, prints, printable_begins, params_all, params_then}
+
+-- a terminal, and what it has done
+abbrev pub run : Terminal × List Deed → List ℕ → Terminal × List Deed
+run w [] = w
+run w (b ∷ bs) = run (byte_read w.0 b, w.1 ++ byte_deeds w.0 b) bs
+
+abbrev pub run_step : Terminal → List Deed → Terminal × List Deed
+run_step t log = (t, log)
+
+pub run-append : (w : Terminal × List Deed) (xs ys : List ℕ) → run w (xs ++ ys) ≡ run (run w xs) ys
+run-append w [] ys = refl
+run-append w (x ∷ xs) ys = run-append (byte_read w.0 x, w.1 ++ byte_deeds w.0 x) xs ys
+
+pub run_is : (t : Terminal) (log : List Deed) (bs : List ℕ) → run (t, log) bs ≡ (reads t bs, log ++ deeds t bs)
+run_is t log [] = ap (λ l. (t, l)) (sym (append-nil log))
+run_is t log (b ∷ bs) =
+    run_is (byte_read t b) (log ++ byte_deeds t b) bs
+    ∙ ap (λ l. (reads (byte_read t b) bs, l)) (append_assoc log (byte_deeds t b) (deeds (byte_read t b) bs))
+
+-- an escape ends a run, which then takes effect
+escape_does : (t : Terminal) (log : List Deed) → t.half ≡ [] → run (t, log) (0x1B ∷ []) ≡ (at (run_ended t) (0x1B ∷ []), log ++ pending_deeds t)
+escape_does t log h =
+    ap (λ half. run_step (read_after t 0x1B half) (log ++ deeds_after t 0x1B half)) h
+
+-- a character from SPACE to TILDE does nothing yet
+pub printable_does : (t : Terminal) (log : List Deed) (b : ℕ) → t.half ≡ [] → is_printable b ≡ true
+    → run (t, log) (b ∷ []) ≡ (record t { run = t.run ++ b ∷ []; half = [] }, log)
+printable_does t log b h e =
+    ap (λ half. run_step (read_after t b half) (log ++ deeds_after t b half)) h
+    ∙ ap (λ u. run_step u (log ++ begun_deeds t b)) (printable_begins t b e)
+    ∙ ap (λ ds. run_step (record t { run = t.run ++ b ∷ []; half = [] }) (log ++ ds)) (rw (not_escape b e, ends_alone b e, not_escape b e, prints b e) refl)
+    ∙ ap (λ l. run_step (record t { run = t.run ++ b ∷ []; half = [] }) l) (append-nil log)
+
+params_do : (t : Terminal) (log : List Deed) (qs ps : List ℕ) → list_all is_param qs ≡ true → list_all is_param ps ≡ true
+    → run (at t (0x1B ∷ 0x5B ∷ qs), log) ps ≡ (at t (0x1B ∷ 0x5B ∷ (qs ++ ps)), log)
+params_do t log qs [] h g = ap (λ rest. (at t (0x1B ∷ 0x5B ∷ rest), log)) (sym (append-nil qs))
+params_do t log qs (p ∷ ps) h g =
+    let here : is_param p ≡ true = and_left (is_param p) (list_all is_param ps) g in
+    let more : list_all is_param (qs ++ p ∷ []) ≡ true = all-push is_param qs p h here in
+    rw (params_all (qs ++ p ∷ []) more, append-nil log)
+    (params_do t log (qs ++ p ∷ []) ps more (and_right (is_param p) (list_all is_param ps) g)
+    ∙ ap (λ rest. (at t (0x1B ∷ 0x5B ∷ rest), log)) (append_assoc qs (p ∷ []) ps))
+
+final_does : (t : Terminal) (log : List Deed) (ps : List ℕ) (f : ℕ) → list_all is_param ps ≡ true → IsFinal f
+    → run (at t (0x1B ∷ 0x5B ∷ ps), log) (f ∷ []) ≡ (obeyed (at t []) (command_of ps f), log ++ command_deeds (at t (0x1B ∷ 0x5B ∷ ps)) (command_of ps f))
+final_does t log ps f h e =
+    let split = params_then ps f h e.no_param in
+    rw (split.1, e.no_intermediate, e.ends, split.0, split.1) refl
+
+-- a sequence that follows a run
+pub sequence_does : (t : Terminal) (log : List Deed) (ps : List ℕ) (f : ℕ)
+    → t.half ≡ [] → list_all is_param ps ≡ true → IsFinal f
+    → run (t, log) (0x1B ∷ 0x5B ∷ (ps ++ f ∷ []))
+    ≡ (obeyed (at (run_ended t) []) (command_of ps f), (log ++ pending_deeds t) ++ command_deeds (at (run_ended t) (0x1B ∷ 0x5B ∷ ps)) (command_of ps f))
+sequence_does t log ps f r h e =
+    let u : Terminal = run_ended t in
+    let done : List Deed = log ++ pending_deeds t in
+    ap (λ w. run w (0x5B ∷ (ps ++ f ∷ []))) (escape_does t log r)
+    ∙ ap (λ l. run (at u (0x1B ∷ 0x5B ∷ []), l) (ps ++ f ∷ [])) (append-nil done)
+    ∙ run-append (at u (0x1B ∷ 0x5B ∷ []), done) ps (f ∷ [])
+    ∙ ap (λ w. run w (f ∷ [])) (params_do u done [] ps refl h)
+    ∙ final_does u done ps f h e

@@ -1,0 +1,111 @@
+-- A run that takes effect, and a character that goes on with one.
+use Rattle.std.proofs.Common.{◌≡◌, ℕ, ◌+◌, ◌<◌, ◌≤◌, ◌⊎◌, Bool, true, false, ◌&&◌, nat_le, nat_lt, nat_eq, List, [], ◌∷◌, ◌++◌, length, Option, Some, None, inl, inr, refl, ap, sym, ◌∙◌, arith}
+use Rattle.std.specs.List.{list_all}
+use Rattle.std.specs.Str.{chars}
+use Rattle.std.specs.Char.{encode_utf8}
+use Rattle.std.proofs.Math.Bool.{and-false}
+use Rattle.std.proofs.lemmas.Bool.Decides.{nat_tests}
+use Rattle.unicode_width.specs.Width.{str_width}
+use Rattle.bx_bytes.specs.Utf8.{is_control, are_printable}
+use Rattle.bx_grid.specs.Columns.{Col, put, glyph_columns, run_columns}
+use Rattle.bx_grid.specs.Terminal.{Terminal, all_unknown, within, glyphs_put, run_put, run_ended, character_read, begun}
+use Rattle.bx_grid.specs.Tokens.{is_printable}
+use Rattle.bx_grid.proofs.Puts.{length-glyph, run_length}
+
+-- ---- runs that are one glyph
+
+pub glyph_width : (negative : Bool) (run : List ℕ) → list_all is_printable run ≡ false → length (run_columns negative run) ≡ str_width false (chars run)
+glyph_width negative run h =
+    let w = str_width false (chars run) in
+    rw h (length-glyph run w 0 w negative)
+
+pub glyphs_of : (negative : Bool) (run : List ℕ) (count : ℕ) → list_all is_printable run ≡ false → count ≡ length (run_columns false run)
+    → glyph_columns run count negative ≡ run_columns negative run
+glyphs_of negative run count h e =
+    let is : count ≡ str_width false (chars run) = e ∙ glyph_width false run h in
+    rw (h, is) refl
+
+-- ---- putting
+
+pub no_room : (t : Terminal) (row column : ℕ) (new : List Col) → (length new < 1) ⊎ (t.width < column + length new) → glyphs_put t (row, column) new ≡ all_unknown t
+no_room t row column new (inl few) =
+    let test : nat_le 1 (length new) ≡ false = grind (arith, nat_tests) in
+    rw test refl
+no_room t row column new (inr many) =
+    let test : nat_le (column + length new) t.width ≡ false = grind (arith, nat_tests) in
+    rw (test, and-false (nat_le 1 (length new))) refl
+
+pub within_at : (w r c : ℕ) → c < w → within w r c ≡ Some (r, c)
+within_at w r c h = let test : nat_lt c w ≡ true = grind (arith, nat_tests) in rw test refl
+
+pub within_past : (w r c : ℕ) → w ≤ c → within w r c ≡ None
+within_past w r c h = let test : nat_lt c w ≡ false = grind (arith, nat_tests) in rw test refl
+
+pub put_is : (u : Terminal) (row column count : ℕ) (negative : Bool) (columns : List Col) (position : Option (ℕ × ℕ)) (run : List ℕ)
+    → count ≡ length (run_columns false u.run) → 1 ≤ count → column + count ≤ u.width
+    → columns ≡ put u.width u.columns row column (run_columns negative u.run) → position ≡ within u.width row (column + count) → run ≡ []
+    → record u { columns = columns; position = position; run = run } ≡ glyphs_put u (row, column) (run_columns negative u.run)
+put_is u row column count negative columns position run counted some fits ec ep er =
+    let len : length (run_columns negative u.run) ≡ count = run_length negative false u.run ∙ sym counted in
+    let a : nat_le 1 count ≡ true = grind (arith, nat_tests) in
+    let b : nat_le (column + count) u.width ≡ true = grind (arith, nat_tests) in
+    rw (ec, ep, er, len, a, b) refl
+
+put_by : (t : Terminal) (p : ℕ × ℕ) (negative : Bool) (run : List ℕ) → 0 < length run → run_put t (Some p) (Some negative) run ≡ glyphs_put t p (run_columns negative run)
+put_by t p negative [] h = absurd (omega arith)
+put_by t p negative (b ∷ bs) h = refl
+
+-- ---- ending a run
+
+pub ends_put : (t : Terminal) (p : ℕ × ℕ) (negative : Bool) → t.position ≡ Some p → t.negative ≡ Some negative → 0 < length t.run
+    → run_ended t ≡ glyphs_put t p (run_columns negative t.run)
+ends_put t p negative ep en some =
+    ap (λ q. run_put t q t.negative t.run) ep ∙ ap (λ n. run_put t (Some p) n t.run) en ∙ put_by t p negative t.run some
+
+unplaced : (t : Terminal) (negative : Option Bool) (run : List ℕ) → 0 < length run → run_put t None negative run ≡ all_unknown t
+unplaced t negative [] h = absurd (omega arith)
+unplaced t negative (b ∷ bs) h = refl
+
+unrendered : (t : Terminal) (p : ℕ × ℕ) (run : List ℕ) → 0 < length run → run_put t (Some p) None run ≡ all_unknown t
+unrendered t p [] h = absurd (omega arith)
+unrendered t p (b ∷ bs) h = refl
+
+pub ends_unplaced : (t : Terminal) → t.position ≡ None → 0 < length t.run → run_ended t ≡ all_unknown t
+ends_unplaced t e some = ap (λ q. run_put t q t.negative t.run) e ∙ unplaced t t.negative t.run some
+
+pub ends_unrendered : (t : Terminal) (p : ℕ × ℕ) → t.position ≡ Some p → t.negative ≡ None → 0 < length t.run → run_ended t ≡ all_unknown t
+ends_unrendered t p ep en some =
+    ap (λ q. run_put t q t.negative t.run) ep ∙ ap (λ n. run_put t (Some p) n t.run) en ∙ unrendered t p t.run some
+
+put_half : (t : Terminal) (p : ℕ × ℕ) (fits : Bool) (new : List Col) → t.half ≡ [] → nat_le 1 (length new) && nat_le (p.1 + length new) t.width ≡ fits → (glyphs_put t p new).half ≡ []
+put_half t p true new h e = rw e h
+put_half t p false new h e = rw e refl
+
+half_by : (t : Terminal) (q : Option (ℕ × ℕ)) (n : Option Bool) (run : List ℕ) → t.half ≡ [] → (run_put t q n run).half ≡ []
+half_by t q n [] h = h
+half_by t (Some p) (Some negative) (b ∷ bs) h =
+    let new = run_columns negative (b ∷ bs) in put_half t p (nat_le 1 (length new) && nat_le (p.1 + length new) t.width) new h refl
+half_by t (Some p) None (b ∷ bs) h = refl
+half_by t None n (b ∷ bs) h = refl
+
+-- nothing is half read after it where nothing was
+pub half_ended : (t : Terminal) → t.half ≡ [] → (run_ended t).half ≡ []
+half_ended t h = half_by t t.position t.negative t.run h
+
+-- ---- a whole character
+
+pub character_is : (u : Terminal) (bs : List ℕ) (c : ℕ) (run half : List ℕ) → chars bs ≡ c ∷ [] → is_control c ≡ false → encode_utf8 c ≡ bs
+    → run ≡ u.run ++ encode_utf8 c → half ≡ [] → record u { run = run; half = half } ≡ character_read u bs
+character_is u bs c run half spells fine bytes er eh =
+    let printed : are_printable bs ≡ true = rw (spells, fine) refl in
+    rw (er, eh, printed, bytes) refl
+
+pub control_is : (u : Terminal) (bs : List ℕ) (c : ℕ) → chars bs ≡ c ∷ [] → is_control c ≡ true → character_read u bs ≡ all_unknown u
+control_is u bs c spells control =
+    let printed : are_printable bs ≡ false = rw (spells, control) refl in
+    rw printed refl
+
+pub escape_begun : (u t : Terminal) (b : ℕ) (half : List ℕ) → u ≡ run_ended t → b ≡ 0x1B → half ≡ b ∷ [] → record u { half = half } ≡ begun t b
+escape_begun u t b half e is eh =
+    let test : nat_eq b 0x1B ≡ true = grind (arith, nat_tests) in
+    rw (e, eh, test) refl

@@ -1,0 +1,12 @@
+use Rattle.std.proofs.Common.{sym, ap, ◌∙◌}
+use Rattle.bx_grid.specs.Columns.{paste}
+use Rattle.bx_grid.specs.Seen.{all_seen}
+use Rattle.bx_grid.proofs.Halves.{on_ok}
+use Rattle.bx_grid.proofs.RunEnds.{glyphs_of}
+use Rattle.bx_grid.proofs.columns.put_glyphs.Goals as goal
+
+pub returns : goal.returns
+returns c =
+    on_ok c.put_glyph.result _ _
+    (λ e. e ∙ ap (paste (all_seen c.args.columns.now) c.args.from) (glyphs_of c.args.negative c.args.run.now c.args.count (sym c.if-is_plain_run.ensures) c.requires.counted))
+    c.put_glyph.ensures

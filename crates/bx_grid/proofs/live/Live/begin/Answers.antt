@@ -1,0 +1,22 @@
+use Rattle.std.proofs.Common.{◌≡◌, ◌∷◌, [], ◌++◌, List, ℕ, ap, ◌∙◌}
+use Rattle.bx_grid.specs.Terminal.{Terminal}
+use Rattle.bx_grid.specs.Tokens.{fate}
+use Rattle.bx_grid.specs.Live.{terminal_of}
+use Rattle.bx_grid.proofs.RunEnds.{half_ended, escape_begun}
+use Rattle.bx_grid.proofs.live.Live.begin.Goals as goal
+
+pushed : (c : goal.In_ok-push) → c.push.new.self.items ≡ c.args.byte ∷ []
+pushed c =
+    let none : c.self.inside.half.items ≡ [] = ap (λ (t : Terminal). t.half) (c.self.view_is ∙ c.in_ok-end_run.ensures) ∙ half_ended c.args.self.now c.requires in
+    c.in_ok-push.ensures.items ∙ ap (λ (half : List ℕ). half ++ c.args.byte ∷ []) none
+
+pub invariant_of-self-then-byte-eq-ESCAPE : goal.invariant_of-self-then-byte-eq-ESCAPE
+invariant_of-self-then-byte-eq-ESCAPE c = record {
+  sized = c.self.invariant.sized;
+  placed = c.self.invariant.placed;
+  waits = ap fate (pushed c ∙ ap (λ b. b ∷ []) c.if-byte-eq-ESCAPE.true);
+}
+
+pub returns-then-byte-eq-ESCAPE : goal.returns-then-byte-eq-ESCAPE
+returns-then-byte-eq-ESCAPE c =
+    escape_begun (terminal_of c.self.inside) c.args.self.now c.args.byte c.push.new.self.items (c.self.view_is ∙ c.in_ok-end_run.ensures) c.if-byte-eq-ESCAPE.true (pushed c)

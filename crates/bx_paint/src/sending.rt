@@ -1,0 +1,287 @@
+//! The bytes of a painting, written one after another.
+
+ghost use Rattle.std.specs.Prelude.{◌≡◌, ℕ, ◌+◌, ◌*◌, ◌<◌, ◌≤◌, ◌^◌, [], ◌∷◌, ◌++◌, length, true, false, IfOk, OnOk, OnErr, string_bytes, take, drop};
+ghost use Rattle.bx_grid.specs.Columns.{is_printable_text, are_equal};
+ghost use Rattle.bx_grid.specs.Tokens.{is_printable};
+ghost use Rattle.bx_grid.specs.Seen.{seen, all_seen};
+ghost use Rattle.bx_paint.specs.Painting as spec;
+ghost use Rattle.bx_paint.specs.Painting.{move_bytes, render_change, glyph_bytes, before_tail, leading_blanks, column_sent, columns_sent, tail_sent, row_sent, rows_sent};
+
+use bx_grid::{Column, all_same};
+use itoa::Buffer;
+use std::alloc::AllocError;
+
+/// Sends the cursor to a row and a column, from 0.
+pub fn send_move(out: &mut Vec<u8>, row: u16, column: u16) -> Result<(), AllocError>
+    requires small { (row < 65535) × (column < 65535) }
+    ensures { OnOk result (out.new.items ≡ out.old.items ++ move_bytes row column) }
+{
+    out.extend_from_slice(b"\x1b[")?;
+    let mut line = Buffer::new();
+    out.extend_from_slice(line.format(row + 1).as_bytes())?;
+    out.extend_from_slice(b";")?;
+    let mut place = Buffer::new();
+    out.extend_from_slice(place.format(column + 1).as_bytes())?;
+    out.extend_from_slice(b"H")?;
+    Ok(())
+}
+
+pub fn send_rendition(out: &mut Vec<u8>, from: bool, to: bool) -> Result<(), AllocError>
+    ensures { OnOk result (out.new.items ≡ out.old.items ++ render_change from to) }
+{
+    if from == to {
+        return Ok(());
+    }
+    if to {
+        out.extend_from_slice(b"\x1b[7m")
+    } else {
+        out.extend_from_slice(b"\x1b[0m")
+    }
+}
+
+/// Whether a character from SPACE to TILDE was sent for the column before, and the rendition.
+#[derive(Clone, Copy)]
+struct Pen {
+    near: bool,
+    negative: bool,
+}
+
+/// Whether a byte is a character from SPACE to TILDE.
+fn is_plain_byte(byte: u8) -> bool
+    ensures { result ≡ is_printable byte }
+{
+    0x20 <= byte && byte <= 0x7E
+}
+
+/// Whether a text is one character from SPACE to TILDE.
+fn is_plain_text(text: &str) -> bool
+    ensures { result ≡ is_printable_text text.now }
+{
+    match text.as_bytes() {
+        [byte] => is_plain_byte(*byte),
+        _ => false,
+    }
+}
+
+/// Sends a glyph of one byte.
+fn send_byte(
+    out: &mut Vec<u8>,
+    row: u16,
+    column: u16,
+    pen: Pen,
+    byte: u8,
+    inverse: bool,
+) -> Result<(), AllocError>
+    requires small { (row < 65535) × (column < 65535) }
+    ensures { OnOk result (out.new.items ≡ out.old.items ++ glyph_bytes row column pen.near pen.negative (byte ∷ []) inverse) }
+{
+    if !(pen.near && is_plain_byte(byte)) {
+        send_move(out, row, column)?;
+    }
+    send_rendition(out, pen.negative, inverse)?;
+    out.push(byte)?;
+    Ok(())
+}
+
+/// Sends a glyph.
+fn send_glyph(
+    out: &mut Vec<u8>,
+    row: u16,
+    column: u16,
+    pen: Pen,
+    text: &str,
+    inverse: bool,
+) -> Result<(), AllocError>
+    requires small { (row < 65535) × (column < 65535) }
+    ensures { OnOk result (out.new.items ≡ out.old.items ++ glyph_bytes row column pen.near pen.negative text.now inverse) }
+{
+    if !(pen.near && is_plain_text(text)) {
+        send_move(out, row, column)?;
+    }
+    send_rendition(out, pen.negative, inverse)?;
+    out.extend_from_slice(text.as_bytes())
+}
+
+/// The first columns, or all where there are fewer.
+fn front(columns: &[Column], count: u16) -> &[Column]
+    ensures { all_seen result.now ≡ take count (all_seen columns.now) }
+{
+    &columns[..columns.len().min(count as usize)]
+}
+
+/// Whether the columns show the same, and are as many.
+fn are_same(columns: &[Column], others: &[Column]) -> bool
+    ensures { result ≡ are_equal (all_seen columns.now) (all_seen others.now) }
+{
+    columns.len() == others.len() && all_same(columns, others)
+}
+
+/// Whether the columns begin with a glyph of which a column differs from the old ones.
+fn is_sent(old: &[Column], new: &[Column]) -> bool
+    ensures { result ≡ spec.is_sent (all_seen old.now) (all_seen new.now) }
+{
+    match new.first() {
+        None | Some(Column::Unknown) => false,
+        Some(Column::Ascii { .. }) => !are_same(front(old, 1), front(new, 1)),
+        Some(
+            Column::Glyph {
+                columns,
+                offset,
+                ..
+            },
+        ) => *offset == 0 && !are_same(front(old, *columns), front(new, *columns)),
+    }
+}
+
+/// Sends the glyph that begins with the first column, if a column of it differs.
+fn send_column(
+    out: &mut Vec<u8>,
+    row: u16,
+    column: u16,
+    pen: Pen,
+    old: &[Column],
+    new: &[Column],
+) -> Result<Pen, AllocError>
+    requires small { (row < 65535) × (column < 65535) }
+    ensures bytes { OnOk result (out.new.items ≡ out.old.items ++ (column_sent row column pen.near pen.negative (all_seen old.now) (all_seen new.now)).bytes) }
+    ensures near { IfOk result (λ after. after.near ≡ (column_sent row column pen.near pen.negative (all_seen old.now) (all_seen new.now)).near) }
+    ensures rendition { IfOk result (λ after. after.negative ≡ (column_sent row column pen.near pen.negative (all_seen old.now) (all_seen new.now)).negative) }
+{
+    let sent = is_sent(old, new);
+    match new.first() {
+        Some(Column::Ascii { byte, negative }) if sent => {
+            send_byte(out, row, column, pen, *byte, *negative)?;
+            Ok(Pen {
+                near: is_plain_byte(*byte),
+                negative: *negative,
+            })
+        }
+        Some(Column::Glyph { text, negative, .. }) if sent => {
+            send_glyph(out, row, column, pen, text, *negative)?;
+            Ok(Pen {
+                near: is_plain_text(text),
+                negative: *negative,
+            })
+        }
+        _ => Ok(Pen {
+            near: false,
+            negative: pen.negative,
+        }),
+    }
+}
+
+/// Sends what differs in the columns of a row before its tail.
+fn send_columns(
+    out: &mut Vec<u8>,
+    row: u16,
+    negative: bool,
+    old: &[Column],
+    new: &[Column],
+) -> Result<bool, AllocError>
+    requires small { (row < 65535) × (length new.now < 65535) }
+    requires same { length old.now ≡ length new.now }
+    ensures bytes { OnOk result (out.new.items ≡ out.old.items ++ (columns_sent row 0 false negative (all_seen old.now) (all_seen new.now)).bytes) }
+    ensures rendition { IfOk result (λ after. after ≡ (columns_sent row 0 false negative (all_seen old.now) (all_seen new.now)).negative) }
+{
+    let mut pen = Pen {
+        near: false,
+        negative,
+    };
+    for i in 0..new.len() {
+        pen = send_column(out, row, i as u16, pen, &old[i..], &new[i..])?;
+    }
+    Ok(pen.negative)
+}
+
+/// How many columns stand before a row's tail, the longest run of blanks at its end.
+fn front_len(columns: &[Column]) -> usize
+    ensures within { result ≤ length columns.now }
+    ensures front { all_seen (take result columns.now) ≡ before_tail (all_seen columns.now) }
+{
+    let mut len = columns.len();
+    while len > 0 && columns[len - 1].is_blank() {
+        len -= 1;
+    }
+    len
+}
+
+/// How many blanks the columns begin with.
+fn blanks_len(columns: &[Column]) -> usize
+    ensures within { result ≤ length columns.now }
+    ensures blanks { result ≡ leading_blanks (all_seen columns.now) }
+{
+    let mut len = 0;
+    for column in columns {
+        if !column.is_blank() {
+            return len;
+        }
+        len += 1;
+    }
+    len
+}
+
+/// Erases a row's tail from its first column that differs.
+fn send_tail(
+    out: &mut Vec<u8>,
+    row: u16,
+    column: u16,
+    negative: bool,
+    old: &[Column],
+) -> Result<bool, AllocError>
+    requires small { (row < 65535) × (column + length old.now < 65535) }
+    ensures bytes { OnOk result (out.new.items ≡ out.old.items ++ (tail_sent row column negative (all_seen old.now)).bytes) }
+    ensures rendition { IfOk result (λ after. after ≡ (tail_sent row column negative (all_seen old.now)).negative) }
+{
+    let blanks = blanks_len(old);
+    if blanks == old.len() {
+        return Ok(negative);
+    }
+    send_move(out, row, column + blanks as u16)?;
+    send_rendition(out, negative, false)?;
+    out.extend_from_slice(b"\x1b[0K")?;
+    Ok(false)
+}
+
+/// Sends what differs in a row.
+fn send_row(
+    out: &mut Vec<u8>,
+    row: u16,
+    negative: bool,
+    old: &[Column],
+    new: &[Column],
+) -> Result<bool, AllocError>
+    requires small { (row < 65535) × (length new.now < 65535) }
+    requires same { length old.now ≡ length new.now }
+    ensures bytes { OnOk result (out.new.items ≡ out.old.items ++ (row_sent row negative (all_seen old.now) (all_seen new.now)).bytes) }
+    ensures rendition { IfOk result (λ after. after ≡ (row_sent row negative (all_seen old.now) (all_seen new.now)).negative) }
+{
+    if all_same(old, new) {
+        return Ok(negative);
+    }
+    let front = front_len(new);
+    let negative = send_columns(out, row, negative, &old[..front], &new[..front])?;
+    send_tail(out, row, front as u16, negative, &old[front..])
+}
+
+/// Sends what differs in all rows.
+pub fn send_rows(
+    out: &mut Vec<u8>,
+    height: u16,
+    width: u16,
+    old: &[Column],
+    new: &[Column],
+) -> Result<bool, AllocError>
+    requires small { (height ≤ 500) × (width ≤ 500) }
+    requires old { length old.now ≡ height * width }
+    requires new { length new.now ≡ height * width }
+    ensures bytes { OnOk result (out.new.items ≡ out.old.items ++ (rows_sent height 0 width false (all_seen old.now) (all_seen new.now)).bytes) }
+    ensures rendition { IfOk result (λ after. after ≡ (rows_sent height 0 width false (all_seen old.now) (all_seen new.now)).negative) }
+{
+    let mut negative = false;
+    for row in 0..height {
+        let start = row as usize * width as usize;
+        let stop = start + width as usize;
+        negative = send_row(out, row, negative, &old[start..stop], &new[start..stop])?;
+    }
+    Ok(negative)
+}

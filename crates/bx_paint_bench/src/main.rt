@@ -1,0 +1,82 @@
+//! Paints pictures of 24 rows and 80 columns some times, to count instructions: WHAT TIMES, where WHAT is `changes` (two
+//! pictures that differ in one glyph), `same` (two that do not differ), `whole`, `read` (a screen reads a whole painting)
+//! or `blank` (a grid of blanks is made). It prints how many bytes were sent or read.
+//!
+//! The cost is the difference of two runs under `valgrind --tool=callgrind` that differ in TIMES alone, by the difference
+//! in TIMES.
+#![tactic(auto)]
+
+ghost use Rattle.std.specs.Prelude.{◌≡◌, IfOk};
+
+use anyhow::{Context, Result};
+use bx_grid::{Cell, Grid, GridError, Picture, Screen};
+use bx_paint::{changes, whole};
+use std::alloc::Global;
+use std::env;
+
+/// A picture full of letters, but for five blanks at each row's end.
+fn full(alloc: Global, marked: bool) -> Result<Picture, GridError>
+    ensures { IfOk result (λ p. (p.height ≡ 24) × (p.width ≡ 80)) }
+{
+    let mut grid = Grid::blank(alloc, 24, 80)?;
+    for line in 1..25 {
+        for column in 1..76 {
+            grid.put(Cell { line, column }, "a", false)?;
+        }
+    }
+    if marked {
+        grid.put(
+            Cell {
+                line: 12,
+                column: 40,
+            },
+            "x",
+            true,
+        )?;
+    }
+    Ok(Picture::new(
+        grid,
+        Cell {
+            line: 12,
+            column: 40,
+        },
+    ))
+}
+
+fn run(alloc: Global, what: &str, times: usize) -> Result<u64> {
+    let old = full(alloc, false)?;
+    let new = full(alloc, true)?;
+    let painting = whole(alloc, &new)?;
+    let mut screen = Screen::new(alloc, 24, 80)?;
+    let mut sum: u64 = 0;
+    for _ in 0..times {
+        let count = if what == "changes" {
+            changes(alloc, &old, &new)?.len()
+        } else if what == "same" {
+            changes(alloc, &new, &new)?.len()
+        } else if what == "whole" {
+            whole(alloc, &new)?.len()
+        } else if what == "read" {
+            screen.read(painting.as_slice())?;
+            painting.len()
+        } else {
+            Grid::blank(alloc, 24, 80)?.columns().len()
+        };
+        sum = sum.wrapping_add(count as u64);
+    }
+    Ok(sum)
+}
+
+fn main(rt: HostRuntime) -> Result<()> {
+    let mut words = env::args(&rt)?;
+    let _program = words.next();
+    let what = words.next().context("nothing to do")?;
+    let times = words
+        .next()
+        .context("no number of times")?
+        .as_str()
+        .parse::<usize>()?;
+    let sum = run(rt.alloc(), what.as_str(), times)?;
+    println!(rt; "{sum}")?;
+    Ok(())
+}
