@@ -4,6 +4,9 @@
 //!     ucd_lookup --time COUNT CLASSES BRACKETS MIRRORING
 #![tactic(auto)]
 
+ghost use Rattle.std.specs.Prelude.{◌≡◌, ℕ, IfOk};
+ghost use Rattle.bx_ucd.specs.Reading.{class_in_file, bracket_in_file, mirror_in_file};
+
 use anyhow::{Context, Result, bail};
 use bx_ucd::{BidiData, Side, Tables};
 use std::rt::{Env, Files};
@@ -31,7 +34,11 @@ fn read_files<R: Files + AllocGlobal>(rt: &R, paths: &[String]) -> Result<DataFi
 }
 
 /// The tables that the files make.
-fn read_tables<R: AllocGlobal>(rt: &R, files: &DataFiles) -> Result<Tables> {
+fn read_tables<R: AllocGlobal>(rt: &R, files: &DataFiles) -> Result<Tables>
+    ensures classes { IfOk result (λ t. (code : ℕ) → ⟦<Tables as BidiData>⟧.class_of t code ≡ class_in_file files.now.classes.items code) }
+    ensures brackets { IfOk result (λ t. (code : ℕ) → ⟦<Tables as BidiData>⟧.bracket_of t code ≡ bracket_in_file files.now.brackets.items code) }
+    ensures mirrors { IfOk result (λ t. (code : ℕ) → ⟦<Tables as BidiData>⟧.mirror_of t code ≡ mirror_in_file files.now.mirroring.items code) }
+{
     let tables = Tables::read(
         rt.alloc(),
         &files.classes,
