@@ -22,6 +22,7 @@ pub use error::GridError;
 pub use grid::Grid;
 pub use picture::Picture;
 pub use screen::Screen;
+pub use token::printable;
 
 /// However the bytes are cut, reading them piece by piece is reading them at once.
 pub fn in_any_pieces()

@@ -20,6 +20,7 @@ pub enum Command {
     Other,
 }
 
+/// Whether a byte is a character from SPACE to TILDE.
 pub fn printable(byte: u8) -> bool
     ensures { result ≡ is_printable byte }
 {

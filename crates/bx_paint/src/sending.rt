@@ -2,12 +2,11 @@
 
 ghost use Rattle.std.specs.Prelude.{◌≡◌, ℕ, ◌+◌, ◌*◌, ◌<◌, ◌≤◌, ◌^◌, [], ◌∷◌, ◌++◌, length, true, false, IfOk, OnOk, OnErr, string_bytes, take, drop};
 ghost use Rattle.bx_grid.specs.Columns.{is_printable_text, are_equal};
-ghost use Rattle.bx_grid.specs.Tokens.{is_printable};
 ghost use Rattle.bx_grid.specs.Seen.{seen, all_seen};
 ghost use Rattle.bx_paint.specs.Painting as spec;
 ghost use Rattle.bx_paint.specs.Painting.{move_bytes, render_change, glyph_bytes, before_tail, leading_blanks, column_sent, columns_sent, tail_sent, row_sent, rows_sent};
 
-use bx_grid::{Column, all_same};
+use bx_grid::{Column, all_same, printable};
 use itoa::Buffer;
 use std::alloc::AllocError;
 
@@ -46,19 +45,12 @@ struct Pen {
     negative: bool,
 }
 
-/// Whether a byte is a character from SPACE to TILDE.
-fn is_plain_byte(byte: u8) -> bool
-    ensures { result ≡ is_printable byte }
-{
-    0x20 <= byte && byte <= 0x7E
-}
-
 /// Whether a text is one character from SPACE to TILDE.
 fn is_plain_text(text: &str) -> bool
     ensures { result ≡ is_printable_text text.now }
 {
     match text.as_bytes() {
-        [byte] => is_plain_byte(*byte),
+        [byte] => printable(*byte),
         _ => false,
     }
 }
@@ -75,7 +67,7 @@ fn send_byte(
     requires small { (row < 65535) × (column < 65535) }
     ensures { OnOk result (out.new.items ≡ out.old.items ++ glyph_bytes row column pen.near pen.negative (byte ∷ []) inverse) }
 {
-    if !(pen.near && is_plain_byte(byte)) {
+    if !(pen.near && printable(byte)) {
         send_move(out, row, column)?;
     }
     send_rendition(out, pen.negative, inverse)?;
@@ -152,7 +144,7 @@ fn send_column(
         Some(Column::Ascii { byte, negative }) if sent => {
             send_byte(out, row, column, pen, *byte, *negative)?;
             Ok(Pen {
-                near: is_plain_byte(*byte),
+                near: printable(*byte),
                 negative: *negative,
             })
         }
