@@ -2,10 +2,10 @@
 use Rattle.std.proofs.Common.{◌≡◌, ℕ, true, List, [], ◌∷◌, ◌++◌, refl, ap, sym, ◌∙◌, append_assoc}
 use Rattle.std.specs.List.{list_all}
 use Rattle.std.proofs.lemmas.List.{append-nil}
-use Rattle.bx_grid.specs.Tokens.{is_printable, is_param, command_of}
-use Rattle.bx_grid.specs.Deeds.{Deed, pending_deeds, begun_deeds, deeds_after, byte_deeds, command_deeds, deeds}
+use Rattle.bx_grid.specs.Tokens.{is_param, command_of}
+use Rattle.bx_grid.specs.Deeds.{Deed, pending_deeds, deeds_after, byte_deeds, command_deeds, deeds}
 use Rattle.bx_grid.specs.Terminal.{Terminal, reads, byte_read, read_after, run_ended, obeyed}
-use Rattle.bx_grid.proofs.Reading.{at, and_left, and_right, all-push, IsFinal, not_escape, ends_alone, prints, printable_begins, params_all, params_then}
+use Rattle.bx_grid.proofs.Reading.{at, and_left, and_right, all-push, IsFinal, params_all, params_then}
 
 -- a terminal, and what it has done
 abbrev pub run : Terminal × List Deed → List ℕ → Terminal × List Deed
@@ -29,15 +29,6 @@ run_is t log (b ∷ bs) =
 escape_does : (t : Terminal) (log : List Deed) → t.half ≡ [] → run (t, log) (0x1B ∷ []) ≡ (at (run_ended t) (0x1B ∷ []), log ++ pending_deeds t)
 escape_does t log h =
     ap (λ half. run_step (read_after t 0x1B half) (log ++ deeds_after t 0x1B half)) h
-
--- a character from SPACE to TILDE does nothing yet
-pub printable_does : (t : Terminal) (log : List Deed) (b : ℕ) → t.half ≡ [] → is_printable b ≡ true
-    → run (t, log) (b ∷ []) ≡ (record t { run = t.run ++ b ∷ []; half = [] }, log)
-printable_does t log b h e =
-    ap (λ half. run_step (read_after t b half) (log ++ deeds_after t b half)) h
-    ∙ ap (λ u. run_step u (log ++ begun_deeds t b)) (printable_begins t b e)
-    ∙ ap (λ ds. run_step (record t { run = t.run ++ b ∷ []; half = [] }) (log ++ ds)) (rw (not_escape b e, ends_alone b e, not_escape b e, prints b e) refl)
-    ∙ ap (λ l. run_step (record t { run = t.run ++ b ∷ []; half = [] }) l) (append-nil log)
 
 params_do : (t : Terminal) (log : List Deed) (qs ps : List ℕ) → list_all is_param qs ≡ true → list_all is_param ps ≡ true
     → run (at t (0x1B ∷ 0x5B ∷ qs), log) ps ≡ (at t (0x1B ∷ 0x5B ∷ (qs ++ ps)), log)

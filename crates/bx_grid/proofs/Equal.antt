@@ -68,9 +68,5 @@ bool_by true false f g h k = sym (k (f refl))
 bool_by false true f g h k = g (h refl)
 bool_by false false f g h k = refl
 
--- a test that tells whether columns show the same is this one
-pub same_is_equal : (b : Bool) (x y : Col) → (IsTrue b ↔ (x ≡ y)) → b ≡ col_eq x y
-same_is_equal b x y h = bool_by b (col_eq x y) (λ t. h.0 t) (λ e. h.1 e) (col_is x y) (λ e. rw e (col_eq_refl y))
-
 pub same_are_equal : (b : Bool) (xs ys : List Col) → (IsTrue b ↔ (xs ≡ ys)) → b ≡ are_equal xs ys
 same_are_equal b xs ys h = bool_by b (are_equal xs ys) (λ t. h.0 t) (λ e. h.1 e) (lists_are xs ys) (λ e. rw e (are_equal_refl ys))

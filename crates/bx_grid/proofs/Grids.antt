@@ -1,14 +1,21 @@
--- Grids of plain columns: what putting one more glyph keeps.
-use Rattle.std.proofs.Common.{◌≡◌, ℕ, ◌+◌, ◌*◌, ◌<◌, ◌≤◌, nat_le, true, ◌&&◌, List, [], ◌∷◌, ◌++◌, length, map, take, drop, set, get_or, replicate, zero, suc, refl, ap, sym, ◌∙◌, append_assoc, arith}
-use Rattle.std.specs.List.{list_all}
-use Rattle.std.proofs.lemmas.List.{get_or-map, map-set, set_at, drop_more, length-take-le, length-set, length-replicate, take-append-drop}
-use Rattle.bx_grid.specs.Columns.{Col, blank, paste, is_plain, is_printable_text}
-use Rattle.bx_grid.specs.Seen.{seen, all_seen}
-use Rattle.bx_grid.specs.declared.column.Column.{Column}
+-- Grids: their sizes, a grid of blanks, and what putting one more glyph keeps.
+use Rattle.std.proofs.Common.{◌≡◌, ℕ, ◌+◌, ◌*◌, ◌-◌, ◌<◌, ◌≤◌, nat_le, Bool, true, false, ◌&&◌, List, [], ◌∷◌, ◌++◌, length, map, take, drop, set, get_or, replicate, zero, suc, refl, subst, ap, sym, ◌∙◌, append_assoc, arith}
+use Rattle.std.specs.Str.{IsUtf8}
+use Rattle.std.proofs.lemmas.List.{get_or-map, map-set, set_at, drop_more, length-take-le, length-replicate, take-append-drop, take-map, drop-map}
 use Rattle.std.proofs.lemmas.Bool.Decides.{nat_tests}
 use Rattle.std.proofs.Math.Nat.{mul-le-mul_right}
-use Rattle.bx_grid.specs.Picture.{IsGrid}
-use Rattle.bx_grid.proofs.Reading.{and_left, and_right}
+use Rattle.bx_grid.specs.Columns.{Col, Glyph, blank, paste, run_columns, AreBlank}
+use Rattle.bx_grid.specs.Glyphs.{WholeGlyph, IsGlyph, columns_of, is_one_glyph}
+use Rattle.bx_grid.specs.Letters.{letter_of, letters_of}
+use Rattle.bx_grid.specs.Seen.{seen, all_seen}
+use Rattle.bx_grid.specs.declared.column.Column.{Column}
+use Rattle.bx_grid.specs.declared.column.Column.TheVariants.{Ascii}
+use Rattle.bx_grid.specs.Tokens.{is_printable}
+use Rattle.bx_grid.specs.Picture.{Cells, IsGrid, IsWithin}
+use Rattle.bx_grid.proofs.Laid.{plain_is_one}
+use Rattle.bx_grid.proofs.Pasted.{length-paste, rows_paste}
+use Rattle.bx_grid.proofs.Puts.{run_length}
+use Rattle.bx_grid.proofs.Whole.{rows-blank, columns_some, whole_glyph}
 
 pub set_is_paste : (xs : List Col) (k : ℕ) (y : Col) → k < length xs → set xs k y ≡ paste xs k (y ∷ [])
 set_is_paste xs k y h =
@@ -16,15 +23,6 @@ set_is_paste xs k y h =
     ap (λ ys. set ys k y) (sym (take-append-drop k xs) ∙ ap (λ d. take k xs ++ d) (drop_more xs k y h))
     ∙ set_at (take k xs) (get_or xs k y) (drop (k + 1) xs) y k front
     ∙ sym (append_assoc (take k xs) (y ∷ []) (drop (k + 1) xs))
-
-pub plain_blanks : (n : ℕ) → list_all is_plain (replicate n blank) ≡ true
-plain_blanks zero = refl
-plain_blanks (suc n) = plain_blanks n
-
-pub plain_set : (xs : List Col) (k : ℕ) (y : Col) → list_all is_plain xs ≡ true → is_plain y ≡ true → list_all is_plain (set xs k y) ≡ true
-plain_set [] k y h e = refl
-plain_set (x ∷ xs) zero y h e = rw (e, and_right (is_plain x) (list_all is_plain xs) h) refl
-plain_set (x ∷ xs) (suc k) y h e = rw (and_left (is_plain x) (list_all is_plain xs) h) (plain_set xs k y (and_right (is_plain x) (list_all is_plain xs) h) e)
 
 pub same_at : (xs ys : List Column) (i : ℕ) (x y : Column) → i < length xs → i < length ys → x ≡ get_or xs i x → y ≡ get_or ys i y
     → map seen xs ≡ map seen ys → seen x ≡ seen y
@@ -36,8 +34,9 @@ pub set_seen : (items : List Column) (k : ℕ) (x : Column) (y : Col) → seen x
 set_seen items k x y is inside =
     map-set seen items k x ∙ set_is_paste (all_seen items) k (seen x) inside ∙ ap (λ z. paste (all_seen items) k (z ∷ [])) is
 
-pub cell_inside : (r c h w : ℕ) → r < h → c < w → r * w + c < h * w
-cell_inside r c h w low left = omega (arith, mul-le-mul_right w (let below : r + 1 ≤ h = omega arith in below))
+-- some columns of a row stand among all of them
+pub span_inside : (r k n h w all : ℕ) → all ≡ h * w → r < h → k + n ≤ w → r * w + k + n ≤ all
+span_inside r k n h w all e low left = omega (arith, e, mul-le-mul_right w (let below : r + 1 ≤ h = omega arith in below))
 
 pub record IsSide (n : ℕ) : Type 0 where
   pub low : 1 ≤ n
@@ -53,23 +52,83 @@ sized_blanks h w columns tall wide e =
     let u = side_is w wide in
     record {
       sized = record { low = t.low; high = t.high; narrow = u.low; wide = u.high; each = ap length e ∙ length-replicate (h * w) blank };
-      plain = rw e (plain_blanks (h * w));
+      rows = rw e (rows-blank h w);
     }
 
-pub put_kept : (h w k : ℕ) (items : List Column) (x : Column) → IsGrid h w (all_seen items) → is_plain (seen x) ≡ true → IsGrid h w (all_seen (set items k x))
-put_kept h w k items x g e =
+-- a glyph may be put there
+pub record CanPut (g : Cells) (line column : ℕ) (text : List ℕ) : Type 0 where
+  pub inside : IsWithin g.height g.width line column
+  pub glyph : is_one_glyph text ≡ true
+  pub utf8 : IsUtf8 text
+  pub room : column - 1 + length (run_columns false text) ≤ g.width
+  pub blank : AreBlank ((line - 1) * g.width + (column - 1)) (length (run_columns false text)) g.columns
+
+pub can_along : (g old : Cells) (line column : ℕ) (text : List ℕ) → g ≡ old → CanPut old line column text → CanPut g line column text
+can_along g old line column text e can = subst (λ (x : Cells). CanPut x line column text) (sym e) can
+
+pub plain_seen : (g : Cells) (items : List Column) (line column : ℕ) (text : List ℕ) (byte : ℕ) (negative : Bool) → g.columns ≡ all_seen items
+    → text ≡ byte ∷ [] → is_printable byte ≡ true → IsGrid g.height g.width g.columns → CanPut g line column text
+    → all_seen (set items ((line - 1) * g.width + (column - 1)) (Ascii byte negative)) ≡ paste g.columns ((line - 1) * g.width + (column - 1)) (run_columns negative text)
+plain_seen g items line column text byte negative seen_as e h is can =
+    let r = line - 1 in
+    let k = column - 1 in
+    let y : Col = Glyph (byte ∷ []) 1 0 negative in
+    let below : r < g.height = omega (arith, can.inside) in
+    let room : k + 1 ≤ g.width = omega (arith, can.inside) in
+    let fits : r * g.width + k + 1 ≤ length g.columns = span_inside r k 1 g.height g.width (length g.columns) is.sized.each below room in
+    set_seen items (r * g.width + k) (Ascii byte negative) y refl (omega (arith, ap length seen_as))
+    ∙ ap (λ cs. paste cs (r * g.width + k) (y ∷ [])) (sym seen_as)
+    ∙ ap (paste g.columns (r * g.width + k)) (sym (plain_is_one negative text byte e h))
+
+pub put_kept : (g : Cells) (line column : ℕ) (text : List ℕ) (negative : Bool) → IsGrid g.height g.width g.columns → CanPut g line column text
+    → IsGrid g.height g.width (paste g.columns ((line - 1) * g.width + (column - 1)) (run_columns negative text))
+put_kept g line column text negative is can =
+    let r = line - 1 in
+    let k = column - 1 in
+    let glyph : WholeGlyph = record { text = text; negative = negative } in
+    let one : IsGlyph glyph = record { utf8 = can.utf8; one = can.glyph } in
+    let news : List Col = columns_of glyph in
+    let len : length news ≡ length (run_columns false text) = run_length negative false text in
+    let below : r < g.height = omega (arith, can.inside) in
+    let room : k + length news ≤ g.width = omega (arith, can.room, len) in
+    let blanks : AreBlank (r * g.width + k) (length news) g.columns = rw len can.blank in
+    let fits : r * g.width + k + length news ≤ length g.columns = span_inside r k (length news) g.height g.width (length g.columns) is.sized.each below room in
     record {
-      sized = record {
-        low = g.sized.low;
-        high = g.sized.high;
-        narrow = g.sized.narrow;
-        wide = g.sized.wide;
-        each = ap length (map-set seen items k x) ∙ length-set (all_seen items) k (seen x) ∙ g.sized.each;
-      };
-      plain = rw map-set (plain_set (all_seen items) k (seen x) g.plain e);
+      sized = record { low = is.sized.low; high = is.sized.high; narrow = is.sized.narrow; wide = is.sized.wide; each = length-paste g.columns news (r * g.width + k) fits ∙ is.sized.each };
+      rows = rows_paste g.height g.width r k g.columns news is.sized.each below room (columns_some glyph one) blanks (whole_glyph glyph one) is.rows;
     }
 
-pub one_byte : (text : List ℕ) → is_printable_text text ≡ true → get_or text 0 0 ∷ [] ≡ text
-one_byte [] h = absurd (cc h)
-one_byte (b ∷ []) h = refl
-one_byte (b ∷ c ∷ rest) h = absurd (cc h)
+-- ---- the letters of a grid, and a row of it
+
+letters_of_blanks : (n : ℕ) → letters_of (replicate n blank) ≡ replicate n 32
+letters_of_blanks zero = refl
+letters_of_blanks (suc n) = ap (λ ls. 32 ∷ ls) (letters_of_blanks n)
+
+pub blank_letters : (letters : List ℕ) (columns : List Col) (n : ℕ) → letters ≡ replicate n 32 → columns ≡ replicate n blank → letters ≡ letters_of columns
+blank_letters letters columns n e f = e ∙ sym (letters_of_blanks n) ∙ sym (ap letters_of f)
+
+pub row_seen : (row width : ℕ) (columns : List Column) → all_seen (take (row * width + width - row * width) (drop (row * width) columns)) ≡ take width (drop (row * width) (all_seen columns))
+row_seen row width columns =
+    let e : row * width + width - row * width ≡ width = omega arith in
+    ap (λ n. all_seen (take n (drop (row * width) columns))) e ∙ sym (take-map seen width (drop (row * width) columns)) ∙ ap (take width) (sym (drop-map seen (row * width) columns))
+
+part_letters : (count from : ℕ) (columns : List Col) (letters : List ℕ) → letters ≡ letters_of columns → take count (drop from letters) ≡ letters_of (take count (drop from columns))
+part_letters count from columns letters e =
+    ap (λ ls. take count (drop from ls)) e ∙ ap (take count) (drop-map letter_of from columns) ∙ take-map letter_of count (drop from columns)
+
+pub row_letters : (count from : ℕ) (columns : List Column) (letters : List ℕ) → letters ≡ letters_of (all_seen columns) → take count (drop from letters) ≡ letters_of (all_seen (take count (drop from columns)))
+row_letters count from columns letters e =
+    part_letters count from (all_seen columns) letters e
+    ∙ ap letters_of (ap (take count) (drop-map seen from columns) ∙ take-map seen count (drop from columns))
+
+pub put_fits : (g : Cells) (line column : ℕ) (text : List ℕ) (n : ℕ) → IsGrid g.height g.width g.columns → CanPut g line column text → n ≡ length (run_columns false text)
+    → (line - 1) * g.width + (column - 1) + n ≤ length g.columns
+put_fits g line column text n is can e =
+    span_inside (line - 1) (column - 1) n g.height g.width (length g.columns) is.sized.each (omega (arith, can.inside)) (omega (arith, can.room, e))
+
+pub letter_set : (items : List Column) (letters : List ℕ) (k byte letter : ℕ) (negative : Bool) → letter ≡ letter_of (Glyph (byte ∷ []) 1 0 negative) → letters ≡ letters_of (all_seen items)
+    → set letters k letter ≡ letters_of (all_seen (set items k (Ascii byte negative)))
+letter_set items letters k byte letter negative e h =
+    ap (λ l. set letters k l) e ∙ ap (λ ls. set ls k (letter_of (Glyph (byte ∷ []) 1 0 negative))) h
+    ∙ sym (map-set letter_of (all_seen items) k (Glyph (byte ∷ []) 1 0 negative))
+    ∙ ap letters_of (sym (map-set seen items k (Ascii byte negative)))

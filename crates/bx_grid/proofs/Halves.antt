@@ -1,12 +1,12 @@
 -- What half-read bytes look like, and what their token does.
-use Rattle.std.proofs.Common.{◌≡◌, ℕ, ◌<◌, ◌≤◌, Bool, true, false, cond, nat_le, nat_eq, min, List, [], ◌∷◌, ◌++◌, length, drop, get_or, Result, Ok, Err, OnOk, inl, inr, refl, ap, sym, ◌∙◌, arith}
+use Rattle.std.proofs.Common.{◌≡◌, ℕ, ◌≤◌, Bool, true, false, cond, nat_le, min, List, [], ◌∷◌, ◌++◌, drop, get_or, Result, Ok, Err, OnOk, inl, inr, refl, ap, sym, ◌∙◌, arith}
 use Rattle.std.proofs.lemmas.Bool.{cases_lt}
 use Rattle.std.proofs.lemmas.Bool.Decides.{nat_tests}
 use Rattle.bx_grid.proofs.Reading.{at}
 use Rattle.std.proofs.Math.Bool.{and-false}
 use Rattle.bx_grid.specs.Capped.{capped}
-use Rattle.bx_grid.specs.Tokens.{is_final, after_params, after_intermediates, final_fate, escape_fate, fate, command}
-use Rattle.bx_grid.specs.Terminal.{Terminal, moved, obeyed, token_read, byte_read, read_after, went_on}
+use Rattle.bx_grid.specs.Tokens.{command}
+use Rattle.bx_grid.specs.Terminal.{Terminal, moved, obeyed, token_read}
 use Rattle.bx_bytes.specs.declared.fate.Fate.TheVariants.{Waits, Ends, Breaks}
 use Rattle.bx_bytes.specs.Fate.{fate_in}
 use Rattle.bx_bytes.specs.Utf8.{characters, is_character, begins_character}
@@ -18,53 +18,12 @@ use Rattle.std.proofs.lemmas.List.{append-nil}
 use Rattle.bx_grid.specs.declared.token.Command.{Command}
 use Rattle.bx_grid.specs.declared.token.Command.TheVariants.{Move, Clear, Erase, Render, Other}
 
--- a test that was true, from what an `if` gave
-went_first : {A : Type 0} (t : Bool) (x y z : A) → cond t x y ≡ z → (x ≡ z → ⊥) → (t ≡ false) × (y ≡ z)
-went_first true x y z e h = absurd (h e)
-went_first false x y z e h = (refl, e)
-
-went_second : {A : Type 0} (t : Bool) (x y z : A) → cond t x y ≡ z → (y ≡ z → ⊥) → (t ≡ true) × (x ≡ z)
-went_second true x y z e h = (refl, e)
-went_second false x y z e h = absurd (h e)
-
 never : {A : Type 0} (t : Bool) (x y z : A) → (x ≡ z → ⊥) → (y ≡ z → ⊥) → cond t x y ≡ z → ⊥
 never true x y z nx ny e = nx e
 never false x y z nx ny e = ny e
 
-pub final_waits : (xs : List ℕ) → final_fate xs ≡ Waits → xs ≡ []
-final_waits [] h = refl
-final_waits (b ∷ []) h = absurd (never (is_final b) Ends Breaks Waits (λ (w : Ends ≡ Waits). cc w) (λ (w : Breaks ≡ Waits). cc w) h)
-final_waits (b ∷ c ∷ rest) h = absurd (cc h)
-
-pub escape_shape : (y : ℕ) (body : List ℕ) → escape_fate (y ∷ body) ≡ Waits → (nat_eq y 0x5B ≡ true) × (after_intermediates (after_params body) ≡ [])
-escape_shape y body h =
-    let g = went_second (nat_eq y 0x5B) (final_fate (after_intermediates (after_params body))) Breaks Waits h (λ (w : Breaks ≡ Waits). cc w) in
-    (g.0, final_waits (after_intermediates (after_params body)) g.1)
-
 run_never_ends : (t : Bool) → cond t Waits Breaks ≡ Ends → ⊥
 run_never_ends t h = never t Waits Breaks Ends (λ (w : Waits ≡ Ends). cc w) (λ (w : Breaks ≡ Ends). cc w) h
-
-escape_ends : (rest : List ℕ) (b : ℕ) → escape_fate (rest ++ b ∷ []) ≡ Ends → (body : List ℕ) × (rest ≡ 0x5B ∷ body)
-escape_ends [] b h = absurd (run_never_ends (nat_eq b 0x5B) h)
-escape_ends (y ∷ body) b h =
-    let g = went_second (nat_eq y 0x5B) (final_fate (after_intermediates (after_params (body ++ b ∷ [])))) Breaks Ends h (λ (w : Breaks ≡ Ends). cc w) in
-    let t : nat_eq y 0x5B ≡ true = g.0 in
-    let e : y ≡ 0x5B = grind (arith, nat_tests) in
-    (body, rw e refl)
-
--- a whole sequence, and a whole character
-pub sequence_shape : (first : ℕ) (rest : List ℕ) (b : ℕ) → nat_eq first 0x1B ≡ true → fate (first ∷ rest ++ b ∷ []) ≡ Ends
-    → first ∷ rest ++ b ∷ [] ≡ 0x1B ∷ 0x5B ∷ drop 2 (first ∷ rest ++ b ∷ [])
-sequence_shape first rest b t h =
-    let e : first ≡ 0x1B = grind (arith, nat_tests) in
-    let g : escape_fate (rest ++ b ∷ []) ≡ Ends = rw t at h in
-    let r = escape_ends rest b g in
-    let is : rest ≡ 0x5B ∷ r.0 = r.1 in
-    rw (e, is) refl
-
-pub character_shape : (first : ℕ) (rest : List ℕ) (b : ℕ) → nat_eq first 0x1B ≡ false → fate (first ∷ rest ++ b ∷ []) ≡ Ends
-    → fate_in characters (first ∷ rest ++ b ∷ []) ≡ Ends
-character_shape first rest b t h = rw t at h
 
 -- ---- commands
 
@@ -109,11 +68,6 @@ end_read t b rest h e hh ww =
     obeyed_capped (at t []) (command rest) hh ww
     ∙ ap (λ r. obeyed (at t []) (command r)) e
     ∙ ap (token_read t) (sym h)
-
--- a byte after the beginning of a token
-pub read_on : (t : Terminal) (b : ℕ) (half : List ℕ) → half ≡ t.half → 0 < length t.half → byte_read t b ≡ went_on t b (fate (t.half ++ b ∷ []))
-read_on t b [] e h = absurd (let n : 0 ≡ length t.half = ap length e in omega arith)
-read_on t b (x ∷ half) e h = ap (read_after t b) (sym e) ∙ ap (λ xs. went_on t b (fate (xs ++ b ∷ []))) e
 
 -- ---- characters
 

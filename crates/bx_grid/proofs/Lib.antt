@@ -11,3 +11,9 @@ pub mod Equal
 pub mod Doing
 pub mod RunEnds
 pub mod Texts
+pub mod Lettered
+pub mod Whole
+pub mod Pasted
+pub mod Laid
+pub mod Blanks
+pub mod Shared

@@ -1,12 +1,11 @@
--- What reading sequences and runs does to a terminal.
-use Rattle.std.proofs.Common.{◌≡◌, ℕ, ◌<◌, Bool, true, false, ◌&&◌, nat_eq, List, [], ◌∷◌, ◌++◌, length, Some, refl, ap, sym, ◌∙◌, append_assoc, arith, ◌^◌}
+-- Reading in parts, and the parts of what is read: characters from SPACE to TILDE, sequences and their numbers.
+use Rattle.std.proofs.Common.{◌≡◌, ℕ, ◌<◌, Bool, true, false, ◌&&◌, nat_eq, List, [], ◌∷◌, ◌++◌, length, Some, refl, ap, ◌∙◌, arith, ◌^◌}
 use Rattle.std.specs.List.{list_all}
 use Rattle.std.specs.Fmt.{decimal}
 use Rattle.std.specs.Str.{all_ascii_digits}
 use Rattle.std.specs.Char.{is_ascii_digit}
 use Rattle.std.specs.Str.Parse.{digits_value}
 use Rattle.std.proofs.lemmas.Bool.Decides.{nat_tests}
-use Rattle.std.proofs.lemmas.List.{append-nil}
 use Rattle.std.proofs.lemmas.Str.Parse.{IsNumeralModel, numerals_by_value, tells_all_ascii_digits}
 use Rattle.std.proofs.lemmas.Fmt.{digits_decimal, digits_value-decimal, decimal_nonempty}
 use Rattle.bx_bytes.specs.declared.fate.Fate.TheVariants.{Ends}
@@ -15,7 +14,7 @@ use Rattle.bx_bytes.specs.Utf8.{characters, is_control, are_printable}
 use Rattle.bx_bytes.proofs.Codes.{chars_of_one}
 use Rattle.bx_grid.specs.declared.token.Command.TheVariants.{Move}
 use Rattle.bx_grid.specs.Tokens.{is_printable, is_param, is_intermediate, is_final, params, after_params, command_of, number, before_semicolon, after_semicolon}
-use Rattle.bx_grid.specs.Terminal.{Terminal, reads, byte_read, read_after, begun, run_ended, obeyed}
+use Rattle.bx_grid.specs.Terminal.{Terminal, reads, byte_read}
 
 pub reads-append : (t : Terminal) (xs ys : List ℕ) → reads t (xs ++ ys) ≡ reads (reads t xs) ys
 reads-append t [] ys = refl
@@ -33,14 +32,7 @@ pub and_right : (a b : Bool) → a && b ≡ true → b ≡ true
 and_right true b h = h
 and_right false b h = absurd (cc h)
 
--- an escape ends a run, which then takes effect
-pub escape_begins : (t : Terminal) → t.half ≡ [] → byte_read t 0x1B ≡ at (run_ended t) (0x1B ∷ [])
-escape_begins t h = ap (read_after t 0x1B) h
-
 -- ---- a character from SPACE to TILDE
-
-pub not_escape : (b : ℕ) → is_printable b ≡ true → nat_eq b 0x1B ≡ false
-not_escape b h = grind (arith, nat_tests)
 
 pub ends_alone : (b : ℕ) → is_printable b ≡ true → fate_in characters (b ∷ []) ≡ Ends
 ends_alone b h = grind (arith, nat_tests)
@@ -50,13 +42,6 @@ no_control b h = grind (arith, nat_tests)
 
 pub prints : (b : ℕ) → is_printable b ≡ true → are_printable (b ∷ []) ≡ true
 prints b h = rw (chars_of_one b (ends_alone b h), no_control b h) refl
-
-pub printable_begins : (t : Terminal) (b : ℕ) → is_printable b ≡ true → begun t b ≡ record t { run = t.run ++ b ∷ []; half = [] }
-printable_begins t b h = rw (not_escape b h, ends_alone b h, not_escape b h, prints b h) refl
-
--- it goes on with a run, or begins one
-pub printable_read : (t : Terminal) (b : ℕ) → t.half ≡ [] → is_printable b ≡ true → byte_read t b ≡ record t { run = t.run ++ b ∷ []; half = [] }
-printable_read t b h e = ap (read_after t b) h ∙ printable_begins t b e
 
 -- ---- a sequence
 
@@ -78,36 +63,11 @@ all-push p [] q h g = rw g refl
 all-push p (x ∷ qs) q h g =
     rw (and_left (p x) (list_all p qs) h) (all-push p qs q (and_right (p x) (list_all p qs) h) g)
 
-params_read : (t : Terminal) (qs ps : List ℕ) → list_all is_param qs ≡ true → list_all is_param ps ≡ true
-    → reads (at t (0x1B ∷ 0x5B ∷ qs)) ps ≡ at t (0x1B ∷ 0x5B ∷ (qs ++ ps))
-params_read t qs [] h g = ap (λ rest. at t (0x1B ∷ 0x5B ∷ rest)) (sym (append-nil qs))
-params_read t qs (p ∷ ps) h g =
-    let here : is_param p ≡ true = and_left (is_param p) (list_all is_param ps) g in
-    let more : list_all is_param (qs ++ p ∷ []) ≡ true = all-push is_param qs p h here in
-    rw (params_all (qs ++ p ∷ []) more)
-    (params_read t (qs ++ p ∷ []) ps more (and_right (is_param p) (list_all is_param ps) g)
-    ∙ ap (λ rest. at t (0x1B ∷ 0x5B ∷ rest)) (append_assoc qs (p ∷ []) ps))
-
 -- a final byte, which is neither a parameter nor an intermediate byte
 pub record IsFinal (f : ℕ) : Type 0 where
   pub ends : is_final f ≡ true
   pub no_param : is_param f ≡ false
   pub no_intermediate : is_intermediate f ≡ false
-
-final_read : (t : Terminal) (ps : List ℕ) (f : ℕ) → list_all is_param ps ≡ true → IsFinal f
-    → byte_read (at t (0x1B ∷ 0x5B ∷ ps)) f ≡ obeyed (at t []) (command_of ps f)
-final_read t ps f h e =
-    let split = params_then ps f h e.no_param in
-    rw (split.1, e.no_intermediate, e.ends, split.0, split.1) refl
-
--- a sequence that follows a run
-pub sequence_read_after : (t : Terminal) (ps : List ℕ) (f : ℕ) → t.half ≡ [] → list_all is_param ps ≡ true → IsFinal f
-    → reads t (0x1B ∷ 0x5B ∷ (ps ++ f ∷ [])) ≡ obeyed (at (run_ended t) []) (command_of ps f)
-sequence_read_after t ps f r h e =
-    ap (λ u. reads u (0x5B ∷ (ps ++ f ∷ []))) (escape_begins t r)
-    ∙ (reads-append (at (run_ended t) (0x1B ∷ 0x5B ∷ [])) ps (f ∷ [])
-    ∙ ap (λ u. reads u (f ∷ [])) (params_read (run_ended t) [] ps refl h)
-    ∙ final_read (run_ended t) ps f h e)
 
 -- ---- numbers
 

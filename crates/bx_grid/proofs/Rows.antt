@@ -3,8 +3,11 @@ use Rattle.std.proofs.Common.{◌≡◌, ℕ, true, false, List, [], ◌∷◌, 
 use Rattle.std.specs.Prelude.{codes, ◌*◌}
 use Rattle.std.specs.Str.{chars}
 use Rattle.unicode_width.proofs.Computing.{unicode_width}
-use Rattle.bx_grid.specs.Columns.{Col, Unknown, Glyph, blank}
+use Rattle.bx_grid.specs.Columns.{Col, Unknown, Glyph, blank, paste, run_columns, AreBlank}
+use Rattle.bx_grid.specs.Glyphs.{WholeGlyph, IsGlyph, columns_of, all_columns, is_one_glyph, AreWhole, AreWholeRows}
+use Rattle.bx_grid.specs.Picture.{Image, Shows}
 use Rattle.bx_grid.specs.Terminal.{Terminal, reads, resized}
+use Rattle.bx_grid.proofs.Whole.{whole-append, whole_glyph, whole_blanks, whole_head}
 
 -- nothing is known of it
 abbrev fresh : ℕ → ℕ → Terminal
@@ -89,3 +92,91 @@ pub escape_ends_a_run : reads (record { height = 1; width = 1; columns = blank �
     ≡ record { height = 1; width = 1; columns = g 0x61 ∷ []; position = None; negative = Some false; run = []; half = 0x1B ∷ [] }
 unfolding chars
 escape_ends_a_run = refl
+
+-- ---- whole glyphs
+
+abbrev letter : WholeGlyph
+letter = record { text = 0x61 ∷ []; negative = false }
+
+-- U+4E16, negative
+abbrev dark : WholeGlyph
+dark = record { text = wide; negative = true }
+
+pub one_after_another : all_columns (letter ∷ dark ∷ []) ≡ g 0x61 ∷ Glyph wide 2 0 true ∷ Glyph wide 2 1 true ∷ []
+unfolding chars unicode_width
+one_after_another = refl
+
+pub wide_alone : is_one_glyph wide ≡ true
+unfolding chars unicode_width
+wide_alone = refl
+
+-- two letters are two glyphs
+pub two_letters : is_one_glyph (0x61 ∷ 0x62 ∷ []) ≡ false
+unfolding chars unicode_width
+two_letters = refl
+
+-- a letter with U+0301 is one, and the mark alone takes no column
+pub letter_with_mark : is_one_glyph (0x61 ∷ 0xCC ∷ 0x81 ∷ []) ≡ true
+unfolding chars unicode_width
+letter_with_mark = refl
+
+pub mark_alone : is_one_glyph (0xCC ∷ 0x81 ∷ []) ≡ false
+unfolding chars unicode_width
+mark_alone = refl
+
+-- ---- glyphs put into a grid
+
+pub wide_in_four : paste (replicate 4 blank) 0 (run_columns false wide) ≡ Glyph wide 2 0 false ∷ Glyph wide 2 1 false ∷ blank ∷ blank ∷ []
+unfolding chars unicode_width
+wide_in_four = refl
+
+-- e with U+0301 has one column
+pub marked_letter : run_columns true (0x65 ∷ 0xCC ∷ 0x81 ∷ []) ≡ Glyph (0x65 ∷ 0xCC ∷ 0x81 ∷ []) 1 0 true ∷ []
+unfolding chars unicode_width
+marked_letter = refl
+
+-- nothing goes over the second column of a wide glyph
+pub no_blank_there : AreBlank 1 1 (paste (replicate 4 blank) 0 (run_columns false wide)) → ⊥
+unfolding chars unicode_width
+no_blank_there h = cc h
+
+abbrev four : List Col → Image
+four columns = record { height = 1; width = 4; columns = columns; row = 0; column = 0 }
+
+abbrev wide_row : List Col
+wide_row = Glyph wide 2 0 false ∷ Glyph wide 2 1 false ∷ blank ∷ blank ∷ []
+
+pub wide_shown : Shows (reads (fresh 1 4) (codes "\u{1b}[0m\u{1b}[2J\u{1b}[1;1H" ++ (wide ++ codes "\u{1b}[1;1H"))) (four wide_row)
+unfolding chars unicode_width
+wide_shown = record {
+  nothing_half_read = record { no_run = refl; no_token = refl };
+  same_height = refl;
+  same_width = refl;
+  same_columns = refl;
+  normal = refl;
+  at_cursor = refl;
+}
+
+abbrev light : WholeGlyph
+light = record { text = wide; negative = false }
+
+light_is : IsGlyph light
+unfolding chars unicode_width lib.Utf8.encode
+light_is = record { utf8 = (0x4E16 ∷ [], (refl, refl)); one = refl }
+
+wide_whole : AreWhole wide_row
+unfolding chars unicode_width
+wide_whole = whole-append (columns_of light) (replicate 2 blank) (whole_glyph light light_is) (whole_blanks 2)
+
+pub wide_rows : AreWholeRows 1 4 wide_row
+wide_rows = (wide_whole, tt)
+
+-- half a glyph is none
+pub half_a_glyph : AreWhole (Glyph wide 2 0 false ∷ blank ∷ []) → ⊥
+unfolding chars unicode_width
+half_a_glyph a = let h = whole_head wide 2 false (blank ∷ []) a in let e = h.are in cc e
+
+-- nor does one go on in the next row
+pub over_the_edge : AreWholeRows 2 1 (Glyph wide 2 0 false ∷ Glyph wide 2 1 false ∷ []) → ⊥
+unfolding chars unicode_width
+over_the_edge rows = let h = whole_head wide 2 false [] rows.0 in let e = h.are in cc e

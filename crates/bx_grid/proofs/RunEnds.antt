@@ -66,16 +66,8 @@ unplaced : (t : Terminal) (negative : Option Bool) (run : List ℕ) → 0 < leng
 unplaced t negative [] h = absurd (omega arith)
 unplaced t negative (b ∷ bs) h = refl
 
-unrendered : (t : Terminal) (p : ℕ × ℕ) (run : List ℕ) → 0 < length run → run_put t (Some p) None run ≡ all_unknown t
-unrendered t p [] h = absurd (omega arith)
-unrendered t p (b ∷ bs) h = refl
-
 pub ends_unplaced : (t : Terminal) → t.position ≡ None → 0 < length t.run → run_ended t ≡ all_unknown t
 ends_unplaced t e some = ap (λ q. run_put t q t.negative t.run) e ∙ unplaced t t.negative t.run some
-
-pub ends_unrendered : (t : Terminal) (p : ℕ × ℕ) → t.position ≡ Some p → t.negative ≡ None → 0 < length t.run → run_ended t ≡ all_unknown t
-ends_unrendered t p ep en some =
-    ap (λ q. run_put t q t.negative t.run) ep ∙ ap (λ n. run_put t (Some p) n t.run) en ∙ unrendered t p t.run some
 
 put_half : (t : Terminal) (p : ℕ × ℕ) (fits : Bool) (new : List Col) → t.half ≡ [] → nat_le 1 (length new) && nat_le (p.1 + length new) t.width ≡ fits → (glyphs_put t p new).half ≡ []
 put_half t p true new h e = rw e h
@@ -99,11 +91,6 @@ pub character_is : (u : Terminal) (bs : List ℕ) (c : ℕ) (run half : List ℕ
 character_is u bs c run half spells fine bytes er eh =
     let printed : are_printable bs ≡ true = rw (spells, fine) refl in
     rw (er, eh, printed, bytes) refl
-
-pub control_is : (u : Terminal) (bs : List ℕ) (c : ℕ) → chars bs ≡ c ∷ [] → is_control c ≡ true → character_read u bs ≡ all_unknown u
-control_is u bs c spells control =
-    let printed : are_printable bs ≡ false = rw (spells, control) refl in
-    rw printed refl
 
 pub escape_begun : (u t : Terminal) (b : ℕ) (half : List ℕ) → u ≡ run_ended t → b ≡ 0x1B → half ≡ b ∷ [] → record u { half = half } ≡ begun t b
 escape_begun u t b half e is eh =

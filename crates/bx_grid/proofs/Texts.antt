@@ -1,5 +1,5 @@
 -- A text of printable characters is a run: what reading it does, byte by byte.
-use Rattle.std.proofs.Common.{◌≡◌, ℕ, ◌<◌, Bool, true, false, not, nat_eq, List, [], ◌∷◌, ◌++◌, refl, ap, sym, ◌∙◌, append_assoc, arith}
+use Rattle.std.proofs.Common.{◌≡◌, ℕ, ◌<◌, Bool, true, false, not, ◌&&◌, ◌||◌, nat_eq, nat_le, List, [], ◌∷◌, ◌++◌, refl, ap, sym, ◌∙◌, append_assoc, arith}
 use Rattle.std.specs.List.{list_all}
 use Rattle.std.specs.Char.{IsScalar, encode_utf8}
 use lib.Utf8.{scalar}
@@ -14,11 +14,15 @@ use Rattle.bx_bytes.specs.declared.fate.Fate.TheVariants.{Waits, Ends, Breaks}
 use Rattle.bx_bytes.proofs.Codes.{after_low, chars_of_one}
 use Rattle.bx_bytes.proofs.Encoded.{are_encodings}
 use Rattle.bx_bytes.proofs.Patterns.{matches_any_begins, begins_any_front, none_begins_longer}
+use Rattle.unicode_width.specs.Width.{str_width}
+use Rattle.bx_grid.specs.Columns.{is_printable_text}
 use Rattle.bx_grid.specs.Deeds.{Deed, deeds_after}
+use Rattle.bx_grid.specs.Glyphs.{WholeGlyph, IsGlyph}
 use Rattle.bx_grid.specs.Terminal.{Terminal, read_after, reads}
+use Rattle.bx_grid.specs.Tokens.{is_printable}
 use Rattle.bx_grid.proofs.Doing.{run, run_step, run-append, run_is}
 use Rattle.bx_grid.proofs.Halves.{is_whole, chars_of, head_is}
-use Rattle.bx_grid.proofs.Reading.{at, and_left, and_right}
+use Rattle.bx_grid.proofs.Reading.{at, and_left, and_right, prints}
 
 -- ---- the beginning of a character
 
@@ -154,3 +158,22 @@ text_does t log text utf8 printed idle =
 
 pub text_read : (t : Terminal) (text : List ℕ) → IsUtf8 text → are_printable text ≡ true → t.half ≡ [] → reads t text ≡ record t { run = t.run ++ text; half = [] }
 text_read t text utf8 printed idle = ap (λ (w : Terminal × List Deed). w.0) (sym (run_is t [] text) ∙ text_does t [] text utf8 printed idle)
+
+-- ---- a glyph's text
+
+one_prints : (text : List ℕ) → is_printable_text text ≡ true → are_printable text ≡ true
+one_prints [] h = absurd (cc h)
+one_prints (b ∷ []) h = prints b h
+one_prints (b ∷ c ∷ rest) h = absurd (cc h)
+
+glyph_prints : (one : Bool) (text : List ℕ) → is_printable_text text ≡ one
+    → one || ((are_printable text && not (list_all is_printable text)) && nat_le 1 (str_width false (chars text))) ≡ true → are_printable text ≡ true
+glyph_prints true text e h = one_prints text e
+glyph_prints false text e h =
+    and_left (are_printable text) (not (list_all is_printable text))
+    (and_left (are_printable text && not (list_all is_printable text)) (nat_le 1 (str_width false (chars text))) h)
+
+-- a glyph's text is a run too
+pub glyph_does : (t : Terminal) (log : List Deed) (g : WholeGlyph) → IsGlyph g → t.half ≡ []
+    → run (t, log) g.text ≡ (record t { run = t.run ++ g.text; half = [] }, log)
+glyph_does t log g h idle = text_does t log g.text h.utf8 (glyph_prints (is_printable_text g.text) g.text refl h.one) idle

@@ -3,7 +3,7 @@ use Rattle.bx_grid.specs.Tokens.{is_printable, is_only}
 use Rattle.std.specs.Str.{bytes_eq}
 use Rattle.std.specs.List.{list_all}
 use Rattle.unicode_width.specs.Width.{str_width}
-use Rattle.std.specs.Prelude.{ℕ, zero, suc, chars, ◌+◌, ◌-◌, ◌*◌, nat_lt, if◌then◌else◌, Bool, true, false, ◌&&◌, ◌==◌, not, List, [], ◌∷◌, ◌++◌, length, map, take, drop}
+use Rattle.std.specs.Prelude.{◌≡◌, replicate, ℕ, zero, suc, chars, ◌+◌, ◌-◌, ◌*◌, nat_lt, if◌then◌else◌, Bool, true, false, ◌&&◌, ◌==◌, not, List, [], ◌∷◌, ◌++◌, length, map, take, drop}
 
 pub data Col : Type 0 where
   Unknown : Col
@@ -36,6 +36,15 @@ right_of d (x ∷ xs) = (if nat_lt d (columns_before x) then Unknown else x) ∷
 abbrev pub paste : List Col → ℕ → List Col → List Col
 paste columns k new = take k columns ++ new ++ drop (k + length new) columns
 
+-- so many columns from a place on are blanks
+abbrev pub AreBlank : ℕ → ℕ → List Col → Type 0
+AreBlank k count columns = take count (drop k columns) ≡ replicate count blank
+
+-- columns differ at most in so many from a place on
+pub record AreSameAround (k count : ℕ) (old new : List Col) : Type 0 where
+  pub before : take k new ≡ take k old
+  pub after : drop (k + count) new ≡ drop (k + count) old
+
 -- a row with these put from a column on
 abbrev pub put_in_row : List Col → ℕ → List Col → List Col
 put_in_row row k new = left_of (take k row) ++ new ++ right_of 0 (drop (k + length new) row)
@@ -51,10 +60,6 @@ abbrev pub is_printable_text : List ℕ → Bool
 is_printable_text [] = false
 is_printable_text (b ∷ []) = is_printable b
 is_printable_text (b ∷ c ∷ rest) = false
-
-abbrev pub is_plain : Col → Bool
-is_plain Unknown = false
-is_plain (Glyph text columns offset negative) = is_printable_text text && (columns == 1) && (offset == 0)
 
 abbrev pub is_blank : Col → Bool
 is_blank Unknown = false

@@ -1,7 +1,7 @@
 -- Pictures, and a terminal that shows one.
-use Rattle.std.specs.Prelude.{◌≡◌, ℕ, ◌*◌, ◌≤◌, ◌<◌, Bool, true, false, ◌&&◌, nat_le, List, [], Some, length}
-use Rattle.std.specs.List.{list_all}
-use Rattle.bx_grid.specs.Columns.{Col, is_plain}
+use Rattle.std.specs.Prelude.{◌≡◌, ℕ, ◌+◌, ◌-◌, ◌*◌, ◌≤◌, ◌<◌, Bool, false, ◌&&◌, nat_le, List, [], Some, length}
+use Rattle.bx_grid.specs.Columns.{Col, AreBlank}
+use Rattle.bx_grid.specs.Glyphs.{AreWholeRows}
 use Rattle.bx_grid.specs.Terminal.{Terminal}
 
 -- what a grid shows, row by row
@@ -40,10 +40,10 @@ pub record IsSized (height width columns : ℕ) : Type 0 where
   pub wide : width ≤ 500
   pub each : columns ≡ height * width
 
--- a grid's columns are all known, and each is a glyph of one column that a run of characters from SPACE to TILDE puts
+-- a grid's columns are all known, and each row is glyphs that a printable run can put, with all their columns
 pub record IsGrid (height width : ℕ) (columns : List Col) : Type 0 where
   pub sized : IsSized height width (length columns)
-  pub plain : list_all is_plain columns ≡ true
+  pub rows : AreWholeRows height width columns
 
 abbrev pub is_size : ℕ → ℕ → Bool
 is_size height width = (nat_le 1 height && nat_le height 500) && (nat_le 1 width && nat_le width 500)
@@ -54,6 +54,11 @@ pub record IsWithin (height width line column : ℕ) : Type 0 where
   pub bottom : line ≤ height
   pub left : 1 ≤ column
   pub right : column ≤ width
+
+-- so many columns from a cell on are in its row, and all are blanks
+pub record HasRoom (g : Cells) (line column count : ℕ) : Type 0 where
+  pub fits : column - 1 + count ≤ g.width
+  pub blank : AreBlank ((line - 1) * g.width + (column - 1)) count g.columns
 
 -- a picture is a grid and a cursor inside
 pub record IsPicture (p : Image) : Type 0 where

@@ -1,9 +1,9 @@
 //! Lists of columns: filling, putting, and forgetting what is left of a glyph.
 
-ghost use Rattle.std.specs.Prelude.{◌≡◌, ℕ, ◌+◌, ◌≤◌, [], ◌∷◌, length, replicate, ◌-◌, ◌*◌, ◌<◌, true, nat_le, ◌&&◌, false, IfOk, OnOk};
+ghost use Rattle.std.specs.Prelude.{◌≡◌, ℕ, ◌+◌, ◌≤◌, [], ◌∷◌, length, replicate, ◌-◌, ◌*◌, ◌<◌, true, nat_le, ◌&&◌, false, IfOk, OnOk, OnErr, IsTrue, ◌↔◌};
 ghost use Rattle.std.specs.List.{list_all};
 ghost use Rattle.bx_grid.specs.Tokens.{is_printable};
-ghost use Rattle.bx_grid.specs.Columns.{blank, put, paste, put_in_row, left_of, right_of, columns_after, columns_before, plain_columns, glyph_columns, run_columns};
+ghost use Rattle.bx_grid.specs.Columns.{blank, is_blank, put, paste, AreBlank, AreSameAround, put_in_row, left_of, right_of, columns_after, columns_before, plain_columns, glyph_columns, run_columns};
 ghost use Rattle.bx_grid.specs.Columns as spec;
 ghost use Rattle.bx_grid.specs.Seen.{seen, all_seen};
 
@@ -85,7 +85,7 @@ fn put_run(columns: &mut [Column], from: usize, run: &[u8], negative: bool)
     }
 }
 
-/// Puts a glyph of so many columns. Where memory runs out some of it is written.
+/// Puts a glyph of so many columns. Where memory runs out some of it is written, and nothing else.
 fn put_glyph(
     alloc: Global,
     columns: &mut [Column],
@@ -95,7 +95,8 @@ fn put_glyph(
     negative: bool,
 ) -> Result<(), AllocError>
     requires inside { from + count ≤ length columns.old }
-    ensures { OnOk result (all_seen columns.new ≡ paste (all_seen columns.old) from (glyph_columns text.now count negative)) }
+    ensures ok { OnOk result (all_seen columns.new ≡ paste (all_seen columns.old) from (glyph_columns text.now count negative)) }
+    ensures err { OnErr result (AreSameAround from count (all_seen columns.old) (all_seen columns.new)) }
 {
     for offset in 0..count {
         columns[from + offset as usize] = Column::Glyph {
@@ -108,13 +109,13 @@ fn put_glyph(
     Ok(())
 }
 
-fn is_plain_run(run: &str) -> bool
+pub fn is_plain_run(run: &str) -> bool
     ensures { result ≡ list_all is_printable run.now }
 {
     run.as_bytes().iter().all(|b| printable(*b))
 }
 
-/// How many columns a run takes.
+/// How many columns a run of printable characters takes.
 pub fn run_width(run: &str) -> usize
     ensures { result ≡ length (run_columns false run.now) }
 {
@@ -125,7 +126,7 @@ pub fn run_width(run: &str) -> usize
     }
 }
 
-/// Puts a run, whose columns are counted. Where memory runs out some of it is written.
+/// Puts a run, whose columns are counted. Where memory runs out some of it is written, and nothing else.
 fn put_glyphs(
     alloc: Global,
     columns: &mut [Column],
@@ -136,13 +137,55 @@ fn put_glyphs(
 ) -> Result<(), AllocError>
     requires counted { count ≡ length (run_columns false run.now) }
     requires inside { from + count ≤ length columns.old }
-    ensures { OnOk result (all_seen columns.new ≡ paste (all_seen columns.old) from (run_columns negative run.now)) }
+    ensures ok { OnOk result (all_seen columns.new ≡ paste (all_seen columns.old) from (run_columns negative run.now)) }
+    ensures err { OnErr result (AreSameAround from count (all_seen columns.old) (all_seen columns.new)) }
 {
     if is_plain_run(run) {
         put_run(columns, from, run.as_bytes(), negative);
         return Ok(());
     }
     put_glyph(alloc, columns, from, run, count, negative)
+}
+
+/// Whether all of these are blanks.
+#[tactic(auto, using(crate::proofs::Blanks::blanks_told))]
+pub fn are_blank(columns: &[Column]) -> bool
+    ensures { IsTrue result ↔ (all_seen columns.now ≡ replicate (length columns.now) blank) }
+{
+    all_blank(columns)
+}
+
+fn all_blank(columns: &[Column]) -> bool
+    ensures { result ≡ list_all is_blank (all_seen columns.now) }
+{
+    for column in columns {
+        if !column.is_blank() {
+            return false;
+        }
+    }
+    true
+}
+
+/// Puts a run over blanks. Where memory runs out they are blanks again.
+pub fn put_over_blanks(
+    alloc: Global,
+    columns: &mut [Column],
+    from: usize,
+    run: &str,
+    count: u16,
+    negative: bool,
+) -> Result<(), AllocError>
+    requires counted { count ≡ length (run_columns false run.now) }
+    requires inside { from + count ≤ length columns.old }
+    requires blank { AreBlank from count (all_seen columns.old) }
+    ensures ok { OnOk result (all_seen columns.new ≡ paste (all_seen columns.old) from (run_columns negative run.now)) }
+    ensures err { OnErr result (all_seen columns.new ≡ all_seen columns.old) }
+{
+    let put = put_glyphs(alloc, columns, from, run, count, negative);
+    if put.is_err() {
+        fill_blank(columns, from, from + count as usize);
+    }
+    put
 }
 
 impl Column {

@@ -1,37 +1,52 @@
 //! A grid of columns that are all known.
 
-ghost use Rattle.std.specs.Prelude.{◌≡◌, ℕ, ◌*◌, ◌+◌, ◌-◌, ◌<◌, ◌≤◌, ◌↔◌, List, [], ◌∷◌, ◌++◌, length, replicate, IfOk, OnOk, OnErr, IfErr, IsErrOf, true, false};
-ghost use Rattle.std.specs.List.{list_all};
-ghost use Rattle.bx_grid.specs.Columns as spec;
-ghost use Rattle.bx_grid.specs.Columns.{blank, is_plain, is_printable_text, paste};
+ghost use Rattle.std.specs.Prelude.{◌≡◌, ℕ, ◌*◌, ◌+◌, ◌-◌, ◌<◌, ◌≤◌, ◌↔◌, List, [], ◌∷◌, ◌++◌, length, replicate, take, drop, IfOk, OnOk, OnErr, IfErr, IsErrOf, IsOk, IsTrue, MatchOption, true, false};
+ghost use Rattle.bx_grid.specs.Columns.{blank, is_printable_text, paste, run_columns, AreBlank};
+ghost use Rattle.bx_grid.specs.Glyphs.{is_one_glyph};
+ghost use Rattle.bx_grid.specs.Tokens.{is_printable};
 ghost use Rattle.bx_grid.specs.Seen.{seen, all_seen};
-ghost use Rattle.bx_grid.specs.Picture.{Cells, IsGrid, IsWithin, is_size};
+ghost use Rattle.bx_grid.specs.Picture.{Cells, HasRoom, IsGrid, IsWithin, is_size};
 
 use crate::cell::Cell;
 use crate::column::Column;
-use crate::columns::{blank_columns, is_side};
+use crate::columns::{are_blank, blank_columns, is_side, put_over_blanks, run_width};
 use crate::error::GridError;
+use crate::letters::{blank_letters, letter, note_letters};
+use crate::row::Row;
+use crate::token::printable;
 use std::alloc::{AllocError, Global};
 use std::marker::Model;
 
-/// A grid of columns, row by row: each holds one character from SPACE to TILDE.
+/// A grid of columns, row by row: each row is glyphs with all their columns.
 #[derive(Drop)]
 pub struct Grid {
     height: u16,
     width: u16,
     columns: Vec<Column>,
+    letters: Vec<u8>,
 }
 
 impl Model for Grid {
     ghost use Rattle.std.specs.Prelude.{◌≡◌, ◌*◌, ◌≤◌, length};
     ghost use Rattle.bx_grid.specs.Picture.{Cells, IsGrid};
+    ghost use Rattle.bx_grid.specs.Letters.{letters_of};
     ghost use Rattle.bx_grid.specs.Seen.{all_seen};
 
     ghost Value = { Cells };
 
     ghost view = { λ g. record { height = g.height; width = g.width; columns = all_seen g.columns.items } };
 
-    ghost invariant = { λ g. IsGrid g.height g.width (all_seen g.columns.items) };
+    ghost invariant = { λ g. IsGrid g.height g.width (all_seen g.columns.items) × (g.letters.items ≡ letters_of (all_seen g.columns.items)) };
+}
+
+/// The byte of a text that is one character from SPACE to TILDE.
+fn plain_byte(text: &str) -> Option<u8>
+    ensures { MatchOption result (is_printable_text text.now ≡ false) (λ byte. (text.now ≡ byte ∷ []) × (is_printable byte ≡ true)) }
+{
+    match text.as_bytes() {
+        [byte] if printable(*byte) => Some(*byte),
+        _ => None,
+    }
 }
 
 impl Grid {
@@ -46,30 +61,70 @@ impl Grid {
         if !is_side(height) || !is_side(width) {
             return Err(GridError::SizeOutOfRange);
         }
-        let columns = blank_columns(alloc, height as usize * width as usize)?;
+        let count = height as usize * width as usize;
+        let columns = blank_columns(alloc, count)?;
+        let letters = blank_letters(alloc, count)?;
         Ok(Grid {
             height,
             width,
             columns,
+            letters,
         })
     }
 
-    /// Puts a glyph at a cell: one character from SPACE to TILDE.
+    /// Puts a glyph at a cell, over blanks. A glyph is one character from SPACE to TILDE, which takes one column and no
+    /// memory, or other text that a terminal shows as one piece: characters that are no controls and that take a column
+    /// or more together (`run_width`), not all of them from SPACE to TILDE.
     ///
     /// Errors: `OutOfMemory`, and nothing has changed.
     pub fn put(&mut self, cell: Cell, text: &str, negative: bool) -> Result<(), GridError>
         requires inside { IsWithin self.old.height self.old.width cell.line cell.column }
-        requires glyph { is_printable_text text.now ≡ true }
-        ensures ok { OnOk result (self.new ≡ record self.old { columns = paste self.old.columns ((cell.line - 1) * self.old.width + (cell.column - 1)) (spec.Glyph text.now 1 0 negative ∷ []) }) }
+        requires glyph { is_one_glyph text.now ≡ true }
+        requires room { cell.column - 1 + length (run_columns false text.now) ≤ self.old.width }
+        requires blank { AreBlank ((cell.line - 1) * self.old.width + (cell.column - 1)) (length (run_columns false text.now)) self.old.columns }
+        ensures ok { OnOk result (self.new ≡ record self.old { columns = paste self.old.columns ((cell.line - 1) * self.old.width + (cell.column - 1)) (run_columns negative text.now) }) }
         ensures err { OnErr result (self.new ≡ self.old) }
         ensures memory { OnErr result (result ≡ Err GridError.OutOfMemory) }
+        ensures plain { is_printable_text text.now ≡ true → IsOk result }
     {
         let place = (cell.line - 1) as usize * self.width as usize + (cell.column - 1) as usize;
-        self.columns[place] = Column::Ascii {
-            byte: text.as_bytes()[0],
+        if let Some(byte) = plain_byte(text) {
+            let letter = letter(byte, negative);
+            self.columns[place] = Column::Ascii { byte, negative };
+            self.letters[place] = letter;
+            return Ok(());
+        }
+        let alloc = *self.columns.allocator();
+        let count = run_width(text) as u16;
+        put_over_blanks(
+            alloc,
+            self.columns.as_mut_slice(),
+            place,
+            text,
+            count,
             negative,
-        };
+        )?;
+        note_letters(
+            self.letters.as_mut_slice(),
+            &self.columns,
+            place,
+            place + count as usize,
+        );
         Ok(())
+    }
+
+    /// Whether a glyph of so many columns may be put at a cell: they are there, and all of them are blanks.
+    pub fn has_room(&self, cell: Cell, count: usize) -> bool
+        requires inside { IsWithin self.now.height self.now.width cell.line cell.column }
+        ensures { IsTrue result ↔ HasRoom self.now cell.line cell.column count }
+    {
+        let column = (cell.column - 1) as usize;
+        let width = self.width as usize;
+        if count > width - column {
+            return false;
+        }
+        let place = (cell.line - 1) as usize * width + column;
+        are_blank(&self.columns[place..place + count])
     }
 
     /// The columns, row by row.
@@ -79,6 +134,18 @@ impl Grid {
         ensures grid { IsGrid self.now.height self.now.width self.now.columns }
     {
         self.columns.as_slice()
+    }
+
+    /// A row, from 0.
+    pub fn row(&self, row: u16) -> Row<'_>
+        requires { row < self.now.height }
+        ensures row { result ≡ take self.now.width (drop (row * self.now.width) self.now.columns) }
+        ensures width { length result ≡ self.now.width }
+        ensures wide { length result ≤ 500 }
+    {
+        let start = row as usize * self.width as usize;
+        let stop = start + self.width as usize;
+        Row::new(&self.columns[start..stop], &self.letters[start..stop])
     }
 
     /// How many rows, from 1 to 500.

@@ -4,23 +4,31 @@
 ghost use Rattle.std.specs.Prelude.{◌≡◌, ℕ, List, [], ◌++◌, true};
 ghost use Rattle.std.specs.Str.{IsUtf8};
 ghost use Rattle.bx_bytes.specs.Utf8.{are_printable};
+ghost use Rattle.bx_grid.specs.Glyphs.{ShareWholeGlyphs, DifferInWholeGlyphs};
+ghost use Rattle.bx_grid.specs.Picture.{Image, IsPicture};
 ghost use Rattle.bx_grid.specs.Terminal.{Terminal, reads, resized};
 
 mod cell;
 mod column;
 mod columns;
 mod error;
+mod glyph;
 mod grid;
+mod letters;
 mod live;
 mod picture;
+mod row;
 mod screen;
 mod token;
 
 pub use cell::Cell;
 pub use column::{Column, all_same};
+pub use columns::run_width;
 pub use error::GridError;
+pub use glyph::is_glyph;
 pub use grid::Grid;
 pub use picture::Picture;
+pub use row::Row;
 pub use screen::Screen;
 pub use token::printable;
 
@@ -38,6 +46,14 @@ pub fn window_keeps_what_is_half_read()
 /// characters have.
 pub fn text_goes_on_with_the_run()
     ensures { (t : Terminal) (text : List ℕ) → IsUtf8 text → are_printable text ≡ true → t.half ≡ [] → reads t text ≡ record t { run = t.run ++ text } }
+{}
+
+/// Two pictures of one size differ in whole glyphs: a column that both have is one of a glyph that both have with all
+/// its columns, and where a column differs, so do all columns of the glyph that either has there.
+pub fn pictures_differ_in_whole_glyphs()
+    ensures common { (p q : Image) → IsPicture p → IsPicture q → p.height ≡ q.height → p.width ≡ q.width → ShareWholeGlyphs p.columns q.columns }
+    ensures differing { (p q : Image) → IsPicture p → IsPicture q → p.height ≡ q.height → p.width ≡ q.width
+        → DifferInWholeGlyphs p.columns q.columns × DifferInWholeGlyphs q.columns p.columns }
 {}
 
 #[cfg(test)]

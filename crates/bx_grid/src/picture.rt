@@ -1,7 +1,7 @@
 //! A picture: a grid and a cursor in it.
 
 ghost use Rattle.std.specs.Prelude.{◌≡◌, ◌+◌, ◌-◌, ◌*◌, ◌≤◌, ◌<◌, length};
-ghost use Rattle.bx_grid.specs.Picture.{Cells, Image, IsWithin};
+ghost use Rattle.bx_grid.specs.Picture.{Cells, Image, IsPicture, IsWithin};
 
 use crate::cell::Cell;
 use crate::grid::Grid;
@@ -36,8 +36,11 @@ impl Picture {
 
     /// What stands in each column.
     pub fn grid(&self) -> &Grid
-        ensures { result.now ≡ record { height = self.now.height; width = self.now.width; columns = self.now.columns } }
+        ensures grid { result.now ≡ record { height = self.now.height; width = self.now.width; columns = self.now.columns } }
+        ensures picture { IsPicture self.now }
     {
+        // whose contract says what holds of every grid
+        let _columns = self.grid.columns();
         &self.grid
     }
 

@@ -1,6 +1,6 @@
 //! A screen that reads what a painter would send.
 
-use crate::{Cell, Column, Grid, GridError, Picture, Screen};
+use crate::{Cell, Column, Grid, GridError, Picture, Screen, run_width};
 use std::alloc::Global;
 use std::test::Fail;
 
@@ -132,5 +132,70 @@ fn half_a_character_is_broken_off(rt: HostRuntime) -> Result<(), Fail> {
     assert!(rt; !screen.shows(&picture));
     screen.read(b"\x1b[0m\x1b[1;1H")?;
     assert!(rt; !screen.shows(&picture), "all is unknown");
+    Ok(())
+}
+
+/// A row of four columns that begins with U+4E16.
+fn picture_of_wide(alloc: Global) -> Result<Picture, GridError> {
+    let mut grid = Grid::blank(alloc, 1, 4)?;
+    grid.put(Cell { line: 1, column: 1 }, "\u{4E16}", false)?;
+    Ok(Picture::new(grid, Cell { line: 1, column: 1 }))
+}
+
+#[test]
+fn shows_a_wide_glyph(rt: HostRuntime) -> Result<(), Fail> {
+    let picture = picture_of_wide(rt.alloc())?;
+    let mut screen = Screen::new(rt.alloc(), 1, 4)?;
+    screen.read(b"\x1b[0m\x1b[2J\x1b[1;1H\xE4\xB8\x96\x1b[1;1H")?;
+    assert!(rt; screen.shows(&picture));
+    screen.read(b"\x1b[1;2H \x1b[1;1H")?;
+    assert!(rt; !screen.shows(&picture), "a blank on its second column");
+    Ok(())
+}
+
+#[test]
+fn a_wide_glyph_stands_in_two_columns(rt: HostRuntime) -> Result<(), Fail> {
+    let picture = picture_of_wide(rt.alloc())?;
+    let columns = picture.grid().columns();
+    assert_eq!(rt; columns.len(), 4);
+    for place in 0..2 {
+        let half = Column::Glyph {
+            text: String::from_str(rt.alloc(), "\u{4E16}")?,
+            columns: 2,
+            offset: place as u16,
+            negative: false,
+        };
+        assert!(rt; columns[place].same(&half), "column {place}");
+        assert!(rt; columns[place + 2].is_blank());
+    }
+    Ok(())
+}
+
+/// A row of four columns: `e` with U+0301, a negative `I`, and U+4E16.
+fn picture_of_three(alloc: Global, marked: bool) -> Result<Picture, GridError> {
+    let mut grid = Grid::blank(alloc, 1, 4)?;
+    grid.put(Cell { line: 1, column: 3 }, "\u{4E16}", false)?;
+    grid.put(Cell { line: 1, column: 1 }, "e\u{301}", false)?;
+    grid.put(Cell { line: 1, column: 2 }, "I", marked)?;
+    Ok(Picture::new(grid, Cell { line: 1, column: 1 }))
+}
+
+#[test]
+fn shows_a_letter_with_its_mark_and_a_negative_one(rt: HostRuntime) -> Result<(), Fail> {
+    let picture = picture_of_three(rt.alloc(), true)?;
+    let mut screen = Screen::new(rt.alloc(), 1, 4)?;
+    screen.read(b"\x1b[0m\x1b[2J\x1b[1;1He\xCC\x81\x1b[7m\x1b[1;2HI")?;
+    screen.read(b"\x1b[0m\x1b[1;3H\xE4\xB8\x96\x1b[1;1H")?;
+    assert!(rt; screen.shows(&picture));
+    assert!(rt; !screen.shows(&picture_of_three(rt.alloc(), false)?));
+    Ok(())
+}
+
+#[test]
+fn widths_of_runs(rt: HostRuntime) -> Result<(), Fail> {
+    assert_eq!(rt; run_width("ab"), 2);
+    assert_eq!(rt; run_width("\u{4E16}"), 2);
+    assert_eq!(rt; run_width("e\u{301}"), 1);
+    assert_eq!(rt; run_width("\u{301}"), 0, "a mark alone is no glyph");
     Ok(())
 }

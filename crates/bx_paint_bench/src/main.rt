@@ -6,7 +6,8 @@
 //! in TIMES.
 #![tactic(auto)]
 
-ghost use Rattle.std.specs.Prelude.{◌≡◌, IfOk};
+ghost use Rattle.std.specs.Prelude.{◌≡◌, true, IfOk};
+ghost use Rattle.bx_grid.specs.Columns.{is_printable_text};
 
 use anyhow::{Context, Result};
 use bx_grid::{Cell, Grid, GridError, Picture, Screen};
@@ -14,25 +15,23 @@ use bx_paint::{changes, whole};
 use std::alloc::Global;
 use std::env;
 
-/// A picture full of letters, but for five blanks at each row's end.
+/// What stands in a cell.
+fn letter(marked: bool) -> &'static str
+    ensures { is_printable_text result.now ≡ true }
+{
+    if marked { "x" } else { "a" }
+}
+
+/// A picture full of letters, but for five blanks at each row's end. One of them may be marked.
 fn full(alloc: Global, marked: bool) -> Result<Picture, GridError>
     ensures { IfOk result (λ p. (p.height ≡ 24) × (p.width ≡ 80)) }
 {
     let mut grid = Grid::blank(alloc, 24, 80)?;
     for line in 1..25 {
         for column in 1..76 {
-            grid.put(Cell { line, column }, "a", false)?;
+            let here = marked && line == 12 && column == 40;
+            grid.put(Cell { line, column }, letter(here), here)?;
         }
-    }
-    if marked {
-        grid.put(
-            Cell {
-                line: 12,
-                column: 40,
-            },
-            "x",
-            true,
-        )?;
     }
     Ok(Picture::new(
         grid,

@@ -1,13 +1,14 @@
 -- Characters put one after another in a grid of blanks, and the rows that they make.
 use Rattle.std.proofs.Common.{◌≡◌, ℕ, ◌+◌, ◌-◌, ◌*◌, ◌/◌, ◌%◌, ◌<◌, ◌≤◌, Bool, true, false, nat_le, List, [], ◌∷◌, ◌++◌, length, take, drop, replicate, get_or, zero, suc, refl, ap, sym, ◌∙◌, append_assoc, length-append, arith, if◌then◌else◌, ◌⊎◌, inl, inr}
 use Rattle.std.specs.List.{list_all}
-use Rattle.std.proofs.Math.Seq.{take-add, drop-append-add}
+use Rattle.std.proofs.Math.Seq.{take-add}
 use Rattle.std.proofs.Math.Nat.{div-add-mod}
 use Rattle.std.proofs.lemmas.Bool.Decides.{nat_tests}
-use Rattle.std.proofs.lemmas.List.{take_at, map_more, map-append, length-map, length-take, length-take-le, append-nil, replicate-append-replicate, take_all, drop_all}
-use Rattle.bx_grid.specs.Columns.{Col, Glyph, blank, paste, plain_columns}
+use Rattle.std.proofs.lemmas.List.{map_more, map-append, length-map, length-take, length-take-le, append-nil, replicate-append-replicate, take_all, drop_all}
+use Rattle.bx_grid.specs.Columns.{Col, Glyph, blank, paste, plain_columns, run_columns, AreBlank}
 use Rattle.bx_grid.specs.Picture.{Image, is_size}
 use Rattle.bx_grid.specs.Tokens.{is_printable}
+use Rattle.bx_grid.proofs.Laid.{plain_is_one, blank_next, laid_next}
 use Rattle.bx_grid.proofs.Reading.{and_left, and_right}
 use Rattle.bx_session.specs.Editor.{EditorState}
 use Rattle.bx_session.specs.Rows.{filled, rows_columns, row_columns, shown_height, picture, blank_image, text_image}
@@ -20,24 +21,25 @@ blanks n = replicate n blank
 abbrev run : List ℕ → List Col
 run text = plain_columns false text
 
--- one more glyph where the blanks begin
-paste_next : (done : List Col) (k m : ℕ) (y : Col) → length done ≡ k → paste (done ++ blanks (suc m)) k (y ∷ []) ≡ (done ++ y ∷ []) ++ blanks m
-paste_next done k m y e =
-    let front : take k (done ++ blanks (suc m)) ≡ done = take_at done (blanks (suc m)) k e in
-    let back : drop (k + 1) (done ++ blanks (suc m)) ≡ blanks m =
-    ap (λ n. drop (n + 1) (done ++ blanks (suc m))) (sym e) ∙ drop-append-add done (blanks (suc m)) 1 in
-    rw (front, back) refl
+length-run : (i : ℕ) (text : List ℕ) → i ≤ length text → length (run (take i text)) ≡ i
+length-run i text inside = length-map (take i text) (λ b. Glyph (b ∷ []) 1 0 false) ∙ length-take-le i text inside
 
-pub drawn : (total i k : ℕ) (text bytes : List ℕ) → i < length text → length text ≤ total → k ≡ i → bytes ≡ get_or text i 0 ∷ []
-    → paste (run (take i text) ++ blanks (total - i)) k (Glyph bytes 1 0 false ∷ []) ≡ run (take (i + 1) text) ++ blanks (total - (i + 1))
-drawn total i k text bytes inside room at is =
-    let glyph = λ (b : ℕ). Glyph (b ∷ []) 1 0 false in
-    let count : length (run (take i text)) ≡ i = length-map (take i text) glyph ∙ length-take-le i text (omega arith) in
-    let left : total - i ≡ suc (total - (i + 1)) = omega arith in
-    ap (λ n. paste (run (take i text) ++ blanks n) k (Glyph bytes 1 0 false ∷ [])) left
-    ∙ paste_next (run (take i text)) k (total - (i + 1)) (Glyph bytes 1 0 false) (count ∙ sym at)
-    ∙ ap (λ (b : List ℕ). (run (take i text) ++ Glyph b 1 0 false ∷ []) ++ blanks (total - (i + 1))) is
-    ∙ ap (λ xs. xs ++ blanks (total - (i + 1))) (sym (map_more glyph text i 0 inside))
+-- the next character covers a blank
+pub next_is_blank : (total i k : ℕ) (text bytes : List ℕ) → i < length text → length text ≤ total → k ≡ i → length (run_columns false bytes) ≡ 1
+    → AreBlank k (length (run_columns false bytes)) (run (take i text) ++ blanks (total - i))
+next_is_blank total i k text bytes inside room at one =
+    let count : length (run (take i text)) ≡ i = length-run i text (omega arith) in
+    blank_next (run (take i text)) k (length (run_columns false bytes)) (total - i) (at ∙ sym count) (omega (arith, one))
+
+pub drawn : (total i k : ℕ) (text bytes : List ℕ) → i < length text → length text ≤ total → k ≡ i → bytes ≡ get_or text i 0 ∷ [] → is_printable (get_or text i 0) ≡ true
+    → paste (run (take i text) ++ blanks (total - i)) k (run_columns false bytes) ≡ run (take (i + 1) text) ++ blanks (total - (i + 1))
+drawn total i k text bytes inside room at is printed =
+    let b = get_or text i 0 in
+    let count : length (run (take i text)) ≡ i = length-run i text (omega arith) in
+    let left : total - i ≡ 1 + (total - (i + 1)) = omega arith in
+    ap (paste (run (take i text) ++ blanks (total - i)) k) (plain_is_one false bytes b is printed)
+    ∙ laid_next (run (take i text)) (Glyph (b ∷ []) 1 0 false ∷ []) k (total - i) (total - (i + 1)) (at ∙ sym count) left
+    ∙ ap (λ xs. xs ++ blanks (total - (i + 1))) (sym (map_more (λ c. Glyph (c ∷ []) 1 0 false) text i 0 inside))
 
 pub printable_at : (xs : List ℕ) (i : ℕ) → list_all is_printable xs ≡ true → i < length xs → is_printable (get_or xs i 0) ≡ true
 printable_at [] i h inside = absurd (omega arith)

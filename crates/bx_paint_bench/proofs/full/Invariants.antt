@@ -1,10 +1,12 @@
 use Rattle.std.proofs.Common.{◌≡◌, ◌≤◌}
+use Rattle.bx_paint_bench.proofs.Laying.{IsLaid}
 use Rattle.bx_paint_bench.proofs.full.Given as goal
 
 abbrev pub invariant-loop-line : goal.invariant-loop-line
 invariant-loop-line l = record {
   tall : l.grid.height ≡ 24;
   wide : l.grid.width ≡ 80;
+  laid : IsLaid l.line 1 l.grid.columns;
 }
 
 abbrev pub invariant-loop-column : goal.invariant-loop-column
@@ -13,4 +15,5 @@ invariant-loop-column l = record {
   wide : l.grid.width ≡ 80;
   low : 1 ≤ l.line;
   high : l.line ≤ 24;
+  laid : IsLaid l.line l.column l.grid.columns;
 }

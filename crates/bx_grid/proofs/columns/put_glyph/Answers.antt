@@ -1,9 +1,10 @@
-use Rattle.std.proofs.Common.{ap, List, ℕ, arith}
+use Rattle.std.proofs.Common.{ap, sym, List, ℕ, arith, ◌≤◌, length, subst}
 use Rattle.std.proofs.lemmas.List.{length-map}
 use Rattle.bx_grid.specs.Columns as spec
 use Rattle.bx_grid.specs.Seen.{seen, all_seen}
 use Rattle.bx_grid.specs.declared.column.Column.TheVariants.{Glyph}
-use Rattle.bx_grid.proofs.Puts.{glyph_put}
+use Rattle.bx_grid.proofs.Puts.{glyph_put, length-glyph}
+use Rattle.bx_grid.proofs.Pasted.{paste_around, err_always}
 use Rattle.bx_grid.proofs.columns.put_glyph.Goals as goal
 
 pub loop-offset-preserved : goal.loop-offset-preserved
@@ -12,3 +13,11 @@ loop-offset-preserved c =
     (Glyph c.in_ok-from_str.field-0 c.args.count c.loop-offset.offset c.args.negative)
     (omega (arith, length-map c.args.columns.now seen)) c.loop-offset.invariant
     (ap (λ (bytes : List ℕ). spec.Glyph bytes c.args.count c.loop-offset.offset c.args.negative) c.in_ok-from_str.ensures.ok)
+
+pub returns-in_err-from_str-clause-err : goal.returns-in_err-from_str-clause-err
+returns-in_err-from_str-clause-err c =
+    let old = all_seen c.args.columns.now in
+    let some = spec.glyph_columns_from c.args.text.now c.args.count c.args.negative 0 c.loop-offset.offset in
+    let few : length some ≤ c.args.count = omega (arith, length-glyph c.args.text.now c.args.count 0 c.loop-offset.offset c.args.negative) in
+    err_always _ _ (subst (λ (cs : List spec.Col). spec.AreSameAround c.args.from c.args.count old cs) (sym c.loop-offset.invariant)
+    (paste_around old some c.args.from c.args.count few (omega (arith, length-map c.args.columns.now seen))))

@@ -10,4 +10,4 @@ returns c =
     on_ok c.put_glyphs.result _ _
     (λ e. e ∙ row_shown c.args.row.now c.forget_left.new.row c.forget_right.new.row c.args.from c.args.count (run_columns c.args.negative c.args.run.now)
     (run_length c.args.negative false c.args.run.now ∙ sym c.requires.counted) c.requires.inside c.forget_left.ensures c.forget_right.ensures)
-    c.put_glyphs.ensures
+    c.put_glyphs.ensures.ok

@@ -1,29 +1,60 @@
-use Rattle.std.proofs.Common.{◌≡◌, ◌*◌, ◌+◌, ◌-◌, ◌<◌, ◌∙◌, ◌∷◌, [], ap, arith, ℕ, true, get_or, refl, List}
-use Rattle.bx_grid.specs.Tokens.{is_printable}
-use Rattle.bx_grid.specs.declared.column.Column.TheVariants.{Ascii}
-use Rattle.bx_grid.specs.Columns.{Col, Glyph, paste, is_printable_text}
-use Rattle.bx_grid.specs.Picture.{Cells}
-use Rattle.bx_grid.proofs.Grids.{set_seen, cell_inside, put_kept, one_byte}
+use Rattle.std.proofs.Common.{◌≡◌, ◌∙◌, ◌*◌, ◌+◌, ◌-◌, ◌≤◌, List, ap, sym, subst, refl, length, false, arith}
+use Rattle.std.proofs.lemmas.List.{take_at}
+use Rattle.bx_grid.specs.Columns.{Col, paste, run_columns}
+use Rattle.bx_grid.specs.Letters.{letters_of}
+use Rattle.bx_grid.specs.Picture.{Cells, IsGrid}
+use Rattle.bx_grid.specs.Seen.{all_seen}
+use Rattle.bx_grid.proofs.Grids.{CanPut, can_along, letter_set, plain_seen, put_kept, put_fits}
+use Rattle.bx_grid.proofs.Lettered.{noted}
+use Rattle.bx_grid.proofs.Puts.{run_length}
 use Rattle.bx_grid.proofs.grid.Grid.put.Goals as goal
 
-text_is : (text : List ℕ) (bytes : List ℕ) → is_printable_text text ≡ true → bytes ≡ text → get_or bytes 0 0 ∷ [] ≡ text
-text_is text bytes h e = ap (λ xs. get_or xs 0 0 ∷ []) e ∙ one_byte text h
-
-printed : (text : List ℕ) (bytes : List ℕ) → is_printable_text text ≡ true → bytes ≡ text → is_printable (get_or bytes 0 0) ≡ true
-printed text bytes h e = ap is_printable_text (text_is text bytes h e) ∙ h
+-- ---- a character from SPACE to TILDE
 
 pub invariant_of-self : goal.invariant_of-self
-invariant_of-self c = put_kept c.self.inside.height c.self.inside.width _ c.self.inside.columns.items _ c.self.invariant (rw (printed c.args.text.now c.as_bytes.result.now c.requires.glyph c.as_bytes.ensures.value) refl)
+invariant_of-self c =
+    let g : Cells = record { height = c.self.inside.height; width = c.self.inside.width; columns = all_seen c.self.inside.columns.items } in
+    let cell = c.args.cell in
+    let text = c.args.text.now in
+    let can : CanPut g cell.line cell.column text = can_along g c.args.self.now cell.line cell.column text c.self.view_is
+    (record { inside = c.requires.inside; glyph = c.requires.glyph; utf8 = c.utf8.text; room = c.requires.room; blank = c.requires.blank }) in (
+      subst (λ (cs : List Col). IsGrid g.height g.width cs)
+          (sym (plain_seen g c.self.inside.columns.items cell.line cell.column text c.in-Some.byte c.args.negative refl c.in-Some.ensures.0 c.in-Some.ensures.1 c.self.invariant.0 can))
+          (put_kept g cell.line cell.column text c.args.negative c.self.invariant.0 can),
+      letter_set c.self.inside.columns.items c.self.inside.letters.items _ c.in-Some.byte c.letter-letter.result c.args.negative c.letter-letter.ensures c.self.invariant.1,
+    )
 
-pub returns-clause-ok : goal.returns-clause-ok
-returns-clause-ok c =
-    let g = c.self.inside in
-    let k = (c.args.cell.line - 1) * g.width + (c.args.cell.column - 1) in
-    let y : Col = Glyph c.args.text.now 1 0 c.args.negative in
-    let high : g.height ≡ c.args.self.now.height = ap (λ (x : Cells). x.height) c.self.view_is in
-    let wide : g.width ≡ c.args.self.now.width = ap (λ (x : Cells). x.width) c.self.view_is in
-    let in_grid : (c.args.cell.line - 1) * g.width + (c.args.cell.column - 1) < g.height * g.width =
-    cell_inside (c.args.cell.line - 1) (c.args.cell.column - 1) g.height g.width (omega (arith, c.requires.inside, high)) (omega (arith, c.requires.inside, wide)) in
+pub returns-in-Some-clause-ok : goal.returns-in-Some-clause-ok
+returns-in-Some-clause-ok c =
+    let g : Cells = record { height = c.self.inside.height; width = c.self.inside.width; columns = all_seen c.self.inside.columns.items } in
+    let cell = c.args.cell in
+    let text = c.args.text.now in
+    let can : CanPut g cell.line cell.column text = can_along g c.args.self.now cell.line cell.column text c.self.view_is
+    (record { inside = c.requires.inside; glyph = c.requires.glyph; utf8 = c.utf8.text; room = c.requires.room; blank = c.requires.blank }) in
     ap (λ (cs : List Col). record { height = g.height; width = g.width; columns = cs })
-    (set_seen g.columns.items k (Ascii (get_or c.as_bytes.result.now 0 0) c.args.negative) y (ap (λ (b : List ℕ). Glyph b 1 0 c.args.negative) (text_is c.args.text.now c.as_bytes.result.now c.requires.glyph c.as_bytes.ensures.value)) (omega (arith, in_grid, c.self.invariant.sized.each)))
-    ∙ ap (λ (x : Cells). record { height = x.height; width = x.width; columns = paste x.columns ((c.args.cell.line - 1) * x.width + (c.args.cell.column - 1)) (y ∷ []) }) c.self.view_is
+    (plain_seen g c.self.inside.columns.items cell.line cell.column text c.in-Some.byte c.args.negative refl c.in-Some.ensures.0 c.in-Some.ensures.1 c.self.invariant.0 can)
+    ∙ ap (λ (x : Cells). record { height = x.height; width = x.width; columns = paste x.columns ((cell.line - 1) * x.width + (cell.column - 1)) (run_columns c.args.negative text) }) c.self.view_is
+
+-- ---- any other glyph
+
+pub invariant_of-self-2 : goal.invariant_of-self-2
+invariant_of-self-2 c =
+    let g : Cells = record { height = c.self.inside.height; width = c.self.inside.width; columns = all_seen c.self.inside.columns.items } in
+    let cell = c.args.cell in
+    let text = c.args.text.now in
+    let news = run_columns c.args.negative text in
+    let can : CanPut g cell.line cell.column text = can_along g c.args.self.now cell.line cell.column text c.self.view_is
+    (record { inside = c.requires.inside; glyph = c.requires.glyph; utf8 = c.utf8.text; room = c.requires.room; blank = c.requires.blank }) in
+    let place = (cell.line - 1) * g.width + (cell.column - 1) in
+    let new : all_seen c.put_over_blanks.new.columns ≡ paste g.columns place news =
+    c.in_ok-put_over_blanks.ensures.ok ∙ ap (λ xs. paste (all_seen xs) place news) c.as_mut_slice.ensures.value in
+    let columns = take_at c.put_over_blanks.new.columns _ c.self.inside.columns.len (c.put_over_blanks.auto.columns ∙ c.as_mut_slice.ensures.len) in
+    let now = ap all_seen columns ∙ new in
+    let count : length news ≡ c.run_width-count.result = run_length c.args.negative false text ∙ sym c.run_width-count.ensures in
+    let fits : place + c.run_width-count.result ≤ length g.columns = put_fits g cell.line cell.column text c.run_width-count.result c.self.invariant.0 can c.run_width-count.ensures in (
+      subst (λ (cs : List Col). IsGrid g.height g.width cs) (sym now) (put_kept g cell.line cell.column text c.args.negative c.self.invariant.0 can),
+      take_at c.note_letters.new.letters _ c.self.inside.letters.len (c.note_letters.auto.letters ∙ c.as_mut_slice-2.ensures.len)
+          ∙ noted g.columns (all_seen c.deref.result.now) news c.as_mut_slice-2.result.now c.note_letters.new.letters place (place + c.run_width-count.result) c.run_width-count.result
+          (c.as_mut_slice-2.ensures.value ∙ c.self.invariant.1) (ap all_seen c.deref.ensures.value ∙ now) count (omega arith) fits c.note_letters.ensures
+          ∙ ap (λ cs. letters_of (all_seen cs)) c.deref.ensures.value,
+    )

@@ -1,0 +1,74 @@
+-- Glyphs put one after another over blanks: what a caller's loop keeps.
+use Rattle.std.proofs.Common.{◌≡◌, ℕ, ◌+◌, ◌-◌, ◌≤◌, Bool, true, List, [], ◌∷◌, ◌++◌, length, take, drop, replicate, refl, ap, sym, ◌∙◌, arith}
+use Rattle.std.proofs.Math.Seq.{take-append-add, drop-append-add}
+use Rattle.std.proofs.lemmas.List.{append-nil, drop-drop, drop-replicate, take-replicate, length-replicate}
+use Rattle.bx_grid.specs.Columns.{Col, Glyph, blank, is_printable_text, run_columns, paste, AreBlank}
+use Rattle.bx_grid.specs.Glyphs.{is_one_glyph}
+use Rattle.bx_grid.specs.Tokens.{is_printable}
+use Rattle.bx_grid.proofs.Pasted.{length-paste, paste_around}
+
+-- ---- a character from SPACE to TILDE is a glyph of one column
+
+pub plain_text : (byte : ℕ) (text : List ℕ) → text ≡ byte ∷ [] → is_printable byte ≡ true → is_printable_text text ≡ true
+plain_text byte text e h = ap is_printable_text e ∙ h
+
+pub plain_glyph : (text : List ℕ) → is_printable_text text ≡ true → is_one_glyph text ≡ true
+plain_glyph text h = rw h refl
+
+pub plain_is_one : (negative : Bool) (text : List ℕ) (byte : ℕ) → text ≡ byte ∷ [] → is_printable byte ≡ true → run_columns negative text ≡ Glyph (byte ∷ []) 1 0 negative ∷ []
+plain_is_one negative text byte e h = rw (e, h) refl
+
+pub plain_width : (negative : Bool) (text : List ℕ) → is_printable_text text ≡ true → length (run_columns negative text) ≡ 1
+plain_width negative [] h = absurd (cc h)
+plain_width negative (b ∷ []) h = rw h refl
+plain_width negative (b ∷ c ∷ rest) h = absurd (cc h)
+
+-- ---- what is put so far, and then blanks
+
+pub blank_next : (done : List Col) (k n m : ℕ) → k ≡ length done → n ≤ m → AreBlank k n (done ++ replicate m blank)
+blank_next done k n m at fits =
+    let there : k ≡ length done + 0 = omega (arith, at) in
+    ap (λ l. take n (drop l (done ++ replicate m blank))) there
+    ∙ ap (take n) (drop-append-add done (replicate m blank) 0)
+    ∙ take-replicate n m blank fits
+
+pub laid_next : (done news : List Col) (k m rest : ℕ) → k ≡ length done → m ≡ length news + rest
+    → paste (done ++ replicate m blank) k news ≡ (done ++ news) ++ replicate rest blank
+laid_next done news k m rest at split =
+    let cs : List Col = done ++ replicate m blank in
+    let start : k ≡ length done + 0 = omega (arith, at) in
+    let end : k + length news ≡ length done + length news = omega (arith, at) in
+    let front : take k cs ≡ done = ap (λ l. take l cs) start ∙ take-append-add done (replicate m blank) 0 ∙ append-nil done in
+    let few : length news ≤ m = omega (arith, split) in
+    let left : m - length news ≡ rest = omega (arith, split) in
+    let back : drop (k + length news) cs ≡ replicate rest blank =
+    ap (λ l. drop l cs) end ∙ drop-append-add done (replicate m blank) (length news) ∙ drop-replicate (length news) m blank ∙ ap (λ l. replicate l blank) left in
+    rw (front, back) refl
+
+-- ---- all from a place on are blanks
+
+abbrev pub RestIsBlank : ℕ → List Col → Type 0
+RestIsBlank k columns = drop k columns ≡ replicate (length columns - k) blank
+
+pub rest_blank : (count : ℕ) → RestIsBlank 0 (replicate count blank)
+rest_blank count =
+    let all : length (replicate count blank) - 0 ≡ count = omega (arith, length-replicate count blank) in
+    rw all refl
+
+pub rest_later : (k m : ℕ) (columns : List Col) → k ≤ m → RestIsBlank k columns → RestIsBlank m columns
+rest_later k m columns low h =
+    let split : k + (m - k) ≡ m = omega arith in
+    let left : length columns - k - (m - k) ≡ length columns - m = omega arith in
+    sym (drop-drop (m - k) k columns ∙ ap (λ l. drop l columns) split)
+    ∙ ap (drop (m - k)) h
+    ∙ drop-replicate (m - k) (length columns - k) blank
+    ∙ ap (λ l. replicate l blank) left
+
+-- the rest after a glyph that was put there
+pub rest_after : (k : ℕ) (columns news : List Col) → k + length news ≤ length columns → RestIsBlank k columns → RestIsBlank (k + length news) (paste columns k news)
+rest_after k columns news fits h =
+    let n = length news in
+    let len : length (paste columns k news) ≡ length columns = length-paste columns news k fits in
+    (paste_around columns news k n (omega arith) fits).after
+    ∙ rest_later k (k + n) columns (omega arith) h
+    ∙ ap (λ l. replicate (l - (k + n)) blank) (sym len)

@@ -1,0 +1,73 @@
+-- Whole glyphs: columns that are glyphs, each with all its columns.
+use Rattle.std.specs.Prelude.{◌≡◌, ◌≢◌, ◌+◌, ◌-◌, ◌<◌, ◌≤◌, length, slice_index_or, ℕ, zero, suc, Bool, true, false, not, ◌&&◌, ◌||◌, nat_le, List, [], ◌∷◌, ◌++◌, take, drop, chars, All}
+use Rattle.std.specs.List.{list_all}
+use Rattle.std.specs.Str.{IsUtf8}
+use Rattle.unicode_width.specs.Width.{str_width}
+use Rattle.bx_bytes.specs.Utf8.{are_printable}
+use Rattle.bx_grid.specs.Columns.{Col, Unknown, Glyph, is_printable_text, run_columns}
+use Rattle.bx_grid.specs.Tokens.{is_printable}
+
+-- a printable run of this text puts one glyph: it is a character from SPACE to TILDE, or printable characters that are not
+-- all of those and that take a column
+abbrev pub is_one_glyph : List ℕ → Bool
+is_one_glyph text =
+    is_printable_text text || ((are_printable text && not (list_all is_printable text)) && nat_le 1 (str_width false (chars text)))
+
+-- a glyph by its text and its rendition
+pub record WholeGlyph : Type 0 where
+  pub text : List ℕ
+  pub negative : Bool
+
+-- one that a printable run can put
+pub record IsGlyph (g : WholeGlyph) : Type 0 where
+  pub utf8 : IsUtf8 g.text
+  pub one : is_one_glyph g.text ≡ true
+
+-- all its columns
+abbrev pub columns_of : WholeGlyph → List Col
+columns_of g = run_columns g.negative g.text
+
+-- the columns of glyphs, one after another
+abbrev pub all_columns : List WholeGlyph → List Col
+all_columns [] = []
+all_columns (g ∷ gs) = columns_of g ++ all_columns gs
+
+-- these columns are whole glyphs
+pub record AreWhole (columns : List Col) : Type 0 where
+  pub glyphs : List WholeGlyph
+  pub each : All IsGlyph glyphs
+  pub are : all_columns glyphs ≡ columns
+
+-- so are those of each of so many rows of this width
+abbrev pub AreWholeRows : ℕ → ℕ → List Col → Type 0
+AreWholeRows zero width columns = Unit {0}
+AreWholeRows (suc rows) width columns = AreWhole (take width columns) × AreWholeRows rows width (drop width columns)
+
+-- ---- two lists of columns
+
+-- a column at a place is one of a glyph that stands there with all its columns
+pub record StandsWhole (text : List ℕ) (count offset : ℕ) (negative : Bool) (place : ℕ) (columns : List Col) : Type 0 where
+  pub glyph : IsGlyph (record { text = text; negative = negative })
+  pub counted : count ≡ length (run_columns negative text)
+  pub within : offset < count
+  pub begun : offset ≤ place
+  pub all : take count (drop (place - offset) columns) ≡ run_columns negative text
+
+abbrev pub IsWholeAt : Col → ℕ → List Col → Type 0
+IsWholeAt Unknown place columns = ⊥
+IsWholeAt (Glyph text count offset negative) place columns = StandsWhole text count offset negative place columns
+
+-- a column that both have at a place is one of a glyph that both have there with all its columns
+abbrev pub ShareWholeGlyphs : List Col → List Col → Type 0
+ShareWholeGlyphs old new = (i : ℕ) → i < length old → slice_index_or old i Unknown ≡ slice_index_or new i Unknown
+    → IsWholeAt (slice_index_or old i Unknown) i old × IsWholeAt (slice_index_or old i Unknown) i new
+
+-- another place has a column of the glyph of which this column stands at a place
+abbrev pub IsOfGlyph : Col → ℕ → ℕ → Type 0
+IsOfGlyph Unknown place other = ⊥
+IsOfGlyph (Glyph text count offset negative) place other = (place ≤ other + offset) × (other + offset < place + count)
+
+-- where a column differs, so do all columns of its glyph
+abbrev pub DifferInWholeGlyphs : List Col → List Col → Type 0
+DifferInWholeGlyphs old new = (i k : ℕ) → i < length old → IsOfGlyph (slice_index_or old i Unknown) i k
+    → slice_index_or old i Unknown ≢ slice_index_or new i Unknown → slice_index_or old k Unknown ≢ slice_index_or new k Unknown

@@ -1,0 +1,56 @@
+//! A row of a grid, lent.
+
+ghost use Rattle.std.specs.Prelude.{◌≡◌, length};
+ghost use Rattle.bx_grid.specs.Columns.{are_equal};
+ghost use Rattle.bx_grid.specs.Letters.{letters_of};
+ghost use Rattle.bx_grid.specs.Seen.{all_seen};
+
+use crate::column::Column;
+use crate::letters::are_same;
+use std::marker::Model;
+
+/// The columns of one row of a grid.
+#[derive(Drop)]
+pub struct Row<'g> {
+    columns: &'g [Column],
+    letters: &'g [u8],
+}
+
+// Clauses see what the columns show.
+impl<'g> Model for Row<'g> {
+    ghost use Rattle.std.specs.Prelude.{◌≡◌, List};
+    ghost use Rattle.bx_grid.specs.Columns.{Col};
+    ghost use Rattle.bx_grid.specs.Letters.{letters_of};
+    ghost use Rattle.bx_grid.specs.Seen.{all_seen};
+
+    ghost Value = { List Col };
+
+    ghost view = { λ r. all_seen r.columns.now };
+
+    ghost invariant = { λ r. r.letters.now ≡ letters_of (all_seen r.columns.now) };
+}
+
+impl<'g> Row<'g> {
+    /// The row of these columns, whose letters these are.
+    pub fn new(columns: &'g [Column], letters: &'g [u8]) -> Row<'g>
+        requires { letters.now ≡ letters_of (all_seen columns.now) }
+        ensures { result ≡ all_seen columns.now }
+    {
+        Row { columns, letters }
+    }
+
+    /// What stands in its columns, from the left.
+    pub fn columns(&self) -> &'g [Column]
+        ensures { all_seen result.now ≡ self.now }
+    {
+        self.columns
+    }
+
+    /// Whether both rows show the same.
+    pub fn is_same(&self, other: &Row<'_>) -> bool
+        requires { length self.now ≡ length other.now }
+        ensures { result ≡ are_equal self.now other.now }
+    {
+        are_same(self.columns, self.letters, other.columns, other.letters)
+    }
+}
