@@ -1,7 +1,8 @@
 #!/bin/sh
-# Feeds paintings to tmux, in a pane of the picture's size, and reads the pane and its cursor back: the model of the
-# terminal against a real one. The bytes are those of the worked rows of bx_grid and bx_paint, and others of their form.
-# It stands beside the gate, and skips where there is no tmux and none can be installed from Debian's packages.
+# Feeds the painter's bytes to tmux, in a pane of the picture's size, and reads the pane and its cursor back: the model of
+# the terminal against a real one. The bytes are those that crates/paint_glyphs prints, the first picture of a case painted
+# whole and each later one by what changed. It stands beside the gate, and skips where there is no tmux and none can be
+# installed from Debian's packages.
 set -u
 
 if ! command -v tmux > /dev/null 2>&1; then
@@ -14,17 +15,21 @@ if ! command -v tmux > /dev/null 2>&1; then
     exit 0
 fi
 
+cd "$(dirname "$0")/../crates/paint_glyphs"
+rt run -- 1 1 1 1 > /dev/null 2>&1 || exit 1
+
 folder=$(mktemp -d)
 socket="bx$$"
 export LC_ALL=C.UTF-8
 failed=0
 trap 'tmux -L "$socket" kill-server 2> /dev/null; rm -rf "$folder"' EXIT
 
-# NAME HEIGHT WIDTH BYTES ROWS CURSOR: what the pane shows, its rows joined by '|' without the blanks at their ends, a
-# negative part between '<' and '>', and the cursor's column and row from 0.
+# NAME HEIGHT WIDTH ROWS CURSOR PICTURES..: what the pane shows after these pictures, its rows joined by '|' without the
+# blanks at their ends, a negative part between '<' and '>', and the cursor's column and row from 0.
 check() {
-    name=$1 height=$2 width=$3 bytes=$4 rows=$5 cursor=$6
-    printf "$bytes" > "$folder/bytes"
+    name=$1 height=$2 width=$3 rows=$4 cursor=$5
+    shift 5
+    out/paint_glyphs "$height" "$width" "$@" > "$folder/bytes" || { echo "NOT PAINTED $name"; failed=1; return; }
     printf 'cat "%s/bytes"; sleep 30\n' "$folder" > "$folder/run"
     tmux -u -f /dev/null -L "$socket" new-session -d -s "$name" -x "$width" -y "$height" "sh $folder/run" \; set -g status off
     tmux -L "$socket" resize-window -t "$name" -x "$width" -y "$height" 2> /dev/null
@@ -40,7 +45,6 @@ check() {
     fi
 }
 
-start='\033[0m\033[2J'
 wide=$(printf '\344\270\226')
 alef=$(printf '\327\220')
 bet=$(printf '\327\221')
@@ -48,16 +52,24 @@ acute=$(printf 'e\314\201')
 
 tmux -u -f /dev/null -L "$socket" new-session -d -s keep -x 80 -y 24 'sleep 600'
 
-check ascii 2 10 "$start"'\033[2;1H-\033[2;3H1:1\033[1;1H' '|- 1:1' 0,0
-check inserted 1 5 "$start"'\033[1;1Hab\033[1;1H\033[1;1Hxab\033[1;2H' 'xab' 1,0
-check erased 1 5 "$start"'\033[1;1Hxab\033[1;2H\033[1;1Hab\033[1;3H\033[0K\033[1;1H' 'ab' 0,0
-check negative_mark 1 3 "$start"'\033[1;1Ha\033[7mI\033[0mb\033[1;1H' 'a<I>b' 0,0
-check to_the_edge 2 3 "$start"'\033[1;1Habc\033[2;1Hd\033[1;3H' 'abc|d' 2,0
-check wide 1 4 "$start"'\033[1;1H'"$wide"'\033[1;1H' "$wide" 0,0
-check before_a_wide_glyph 1 4 "$start"'\033[1;1H'"$wide"'\033[1;1H\033[1;1Hx\033[1;2H'"$wide"'\033[1;2H' "x$wide" 1,0
-check wide_covered_and_painted 1 4 "$start"'\033[1;1H'"$wide"'\033[1;1H\033[1;1Ha\033[1;2Hb\033[1;1H' 'ab' 0,0
-check combining_mark 1 4 "$start"'\033[1;1H'"$acute"'\033[1;2Hb\033[1;1H' "${acute}b" 0,0
-check hebrew 1 4 "$start"'\033[1;1H'"$bet"'\033[1;2H'"$alef"'\033[1;1H' "$bet$alef" 0,0
+check ascii 2 10 '|- 1:1' 0,0 1 1 2 1 +- 2 3 +1 2 4 +: 2 5 +1
+check inserted 1 5 'xab' 1,0 1 1 1 1 +a 1 2 +b then 1 2 1 1 +x 1 2 +a 1 3 +b
+check erased 1 5 'ab' 0,0 1 2 1 1 +x 1 2 +a 1 3 +b then 1 1 1 1 +a 1 2 +b
+check cursor_alone 1 5 'ab' 3,0 1 1 1 1 +a 1 2 +b then 1 4 1 1 +a 1 2 +b
+check negative_mark 1 3 'a<I>b' 0,0 1 1 1 1 +a 1 2 -I 1 3 +b
+check negative_gone 1 3 'aIb' 2,0 1 1 1 1 +a 1 2 -I 1 3 +b then 1 3 1 1 +a 1 2 +I 1 3 +b
+check to_the_edge 2 3 'abc|d' 2,0 1 3 1 1 +a 1 2 +b 1 3 +c 2 1 +d
+check wide 1 4 "$wide" 0,0 1 1 1 1 "+$wide"
+check wide_negative 1 4 "<$wide>b" 0,0 1 1 1 1 "-$wide" 1 3 +b
+check before_a_wide_glyph 1 4 "x$wide" 1,0 1 1 1 1 "+$wide" then 1 2 1 1 +x 1 2 "+$wide"
+check wide_covered 1 4 'ab' 0,0 1 1 1 1 "+$wide" then 1 1 1 1 +a 1 2 +b
+check first_half_covered 1 4 'a' 0,0 1 1 1 1 "+$wide" then 1 1 1 1 +a
+check second_half_covered 1 4 ' b' 0,0 1 1 1 1 "+$wide" then 1 1 1 2 +b
+check wide_moved 1 4 " $wide" 0,0 1 1 1 1 "+$wide" then 1 1 1 2 "+$wide"
+check wide_to_the_edge 1 4 "ab$wide" 0,0 1 1 1 1 +a 1 2 +b 1 3 "+$wide"
+check combining_mark 1 4 "${acute}b" 0,0 1 1 1 1 "+$acute" 1 2 +b
+check mark_gone 1 4 'eb' 0,0 1 1 1 1 "+$acute" 1 2 +b then 1 1 1 1 +e 1 2 +b
+check hebrew 1 4 "$bet$alef" 0,0 1 1 1 1 "+$bet" 1 2 "+$alef"
 
 [ "$failed" = 0 ] && echo "all as the model says"
 exit "$failed"

@@ -1,20 +1,19 @@
 -- How much is sent: nothing where nothing differs, and never more glyphs and erasures than columns that differ.
 use Rattle.std.proofs.Common.{◌≡◌, ℕ, ◌+◌, ◌*◌, ◌-◌, ◌≤◌, Bool, true, false, ◌&&◌, nat_eq, List, [], ◌∷◌, ◌++◌, length, take, drop, replicate, zero, suc, refl, ap, sym, ◌∙◌, length-append, arith}
-use Rattle.std.specs.List.{list_all}
+use Rattle.std.specs.List.{list_all, All}
 use Rattle.std.proofs.lemmas.Bool.Decides.{nat_tests}
 use Rattle.std.proofs.lemmas.List.{take-append-drop, take_at, drop_at, length-take-le, length-drop}
 use Rattle.std.proofs.Math.Bool.{and-false}
-use Rattle.bx_grid.specs.Columns.{Col, Unknown, Glyph, blank, is_blank, is_plain, col_eq}
-use Rattle.bx_grid.specs.Picture.{Image}
+use Rattle.std.proofs.lemmas.List.Elements.{All-head, All-tail}
+use Rattle.bx_grid.specs.Columns.{Col, Unknown, Glyph, blank, is_blank, col_eq, are_equal}
+use Rattle.bx_grid.specs.Glyphs.{WholeGlyph, IsGlyph, columns_of, all_columns, AreWhole, AreWholeRows}
+use Rattle.bx_grid.specs.Picture.{Image, IsGrid}
+use Rattle.bx_grid.proofs.Blanks.{blanks_pass}
 use Rattle.bx_grid.proofs.Equal.{col_is, are_equal_refl}
-use Rattle.bx_grid.proofs.Plain.{plain_is}
-use Rattle.bx_grid.proofs.Reading.{and_left, and_right}
 use Rattle.bx_paint.specs.Painting.{Sent, Step, nothing_sent, then_sent, before_tail, is_sent, column_sent, columns_sent, tail_sent, row_sent, rows_sent, changes_bytes}
 use Rattle.bx_paint.specs.Changed.{glyphs_changed, tail_changed, row_changed, rows_changed, changed, differing}
-use Rattle.bx_paint.proofs.Over.{plain-take, plain-drop}
-use Rattle.bx_paint.proofs.Painted.{front_le, front_blanks, plain_front, sent_is}
-use Rattle.bx_paint.proofs.Shown.{g}
-use Rattle.bx_paint.proofs.Law.{IsPlainGrid}
+use Rattle.bx_paint.proofs.Glyphs.{glyph_deed, by_glyph}
+use Rattle.bx_paint.proofs.Tails.{front_le, front_blanks, whole_front}
 
 -- ---- a row's parts
 
@@ -27,10 +26,6 @@ tail_blanks : (xs : List Col) → drop (length (before_tail xs)) xs ≡ replicat
 tail_blanks xs =
     ap (drop (length (before_tail xs))) (sym (front_blanks xs))
     ∙ drop_at (before_tail xs) (replicate (length xs - length (before_tail xs)) blank) (length (before_tail xs)) refl
-
-blank_blanks : (n : ℕ) → list_all is_blank (replicate n blank) ≡ true
-blank_blanks zero = refl
-blank_blanks (suc n) = blank_blanks n
 
 -- ---- nothing, where nothing differs
 
@@ -55,7 +50,7 @@ row_same r negative xs =
     let f = length (before_tail xs) in
     let first : columns_sent r 0 false negative (take f xs) (before_tail xs) ≡ none_after negative =
     ap (λ ys. columns_sent r 0 false negative ys (before_tail xs)) (front_first xs) ∙ columns_same r 0 false negative (before_tail xs) in
-    let blanks : list_all is_blank (drop f xs) ≡ true = ap (list_all is_blank) (tail_blanks xs) ∙ blank_blanks (length xs - f) in
+    let blanks : list_all is_blank (drop f xs) ≡ true = ap (list_all is_blank) (tail_blanks xs) ∙ blanks_pass (length xs - f) in
     let after : Sent → Sent = λ s. then_sent s.bytes (tail_sent r f s.negative (drop f xs)) in
     ap after first ∙ rw blanks refl
 
@@ -79,25 +74,42 @@ differing-append [] ys (u ∷ us) vs e = absurd (omega (arith, e))
 differing-append (x ∷ xs) ys [] vs e = absurd (omega (arith, e))
 differing-append (x ∷ xs) ys (u ∷ us) vs e = omega (arith, differing-append xs ys us vs (omega (arith, e)))
 
-glyphs_by : (t : Bool) (place b : ℕ) (inverse : Bool) (o : Col) (os xs : List Col) → col_eq o (g b inverse) ≡ t
-    → length (glyphs_changed (place + 1) os xs) ≤ differing os xs
-    → length (glyphs_changed place (o ∷ os) (g b inverse ∷ xs)) ≤ differing (o ∷ os) (g b inverse ∷ xs)
-glyphs_by true place b inverse o os xs e more =
-    let same : is_sent (o ∷ os) (g b inverse ∷ xs) ≡ false = sent_is o os b inverse xs ∙ rw e refl in
-    rw (same, e) (omega (arith, more))
-glyphs_by false place b inverse o os xs e more =
-    let other : is_sent (o ∷ os) (g b inverse ∷ xs) ≡ true = sent_is o os b inverse xs ∙ rw e refl in
-    rw (other, e) (omega (arith, more))
+differ_by : (t : Bool) (x y : Col) (xs ys : List Col) → col_eq x y ≡ t → (are_equal xs ys ≡ false → 1 ≤ differing xs ys)
+    → are_equal (x ∷ xs) (y ∷ ys) ≡ false → 1 ≤ differing (x ∷ xs) (y ∷ ys)
+differ_by true x y xs ys e more h = let rest : are_equal xs ys ≡ false = rw e at h in rw e (omega (arith, more rest))
+differ_by false x y xs ys e more h = rw e (omega arith)
 
-glyphs_few : (place : ℕ) (olds news : List Col) → list_all is_plain news ≡ true → length olds ≡ length news → length (glyphs_changed place olds news) ≤ differing olds news
-glyphs_few place [] [] plain same = omega arith
-glyphs_few place [] (x ∷ xs) plain same = absurd (omega (arith, same))
-glyphs_few place (o ∷ os) [] plain same = absurd (omega (arith, same))
-glyphs_few place (o ∷ os) (x ∷ xs) plain same =
-    let h = plain_is x (and_left (is_plain x) (list_all is_plain xs) plain) in
-    let is : x ≡ g h.0 h.1 = h.2.is in
-    rw is (glyphs_by (col_eq o (g h.0 h.1)) place h.0 h.1 o os xs refl
-    (glyphs_few (place + 1) os xs (and_right (is_plain x) (list_all is_plain xs) plain) (omega (arith, same))))
+-- columns that do not show the same differ in one
+one_differs : (xs ys : List Col) → length xs ≡ length ys → are_equal xs ys ≡ false → 1 ≤ differing xs ys
+one_differs [] [] same h = absurd (cc h)
+one_differs [] (y ∷ ys) same h = absurd (omega (arith, same))
+one_differs (x ∷ xs) [] same h = absurd (omega (arith, same))
+one_differs (x ∷ xs) (y ∷ ys) same h = differ_by (col_eq x y) x y xs ys refl (one_differs xs ys (omega (arith, same))) h
+
+deed_by : (t : Bool) (place : ℕ) (g : WholeGlyph) (olds : List Col) → length olds ≡ length (columns_of g) → are_equal olds (columns_of g) ≡ t
+    → length (glyph_deed place t g) ≤ differing olds (columns_of g)
+deed_by true place g olds same e = omega arith
+deed_by false place g olds same e = one_differs olds (columns_of g) same e
+
+glyphs_few : (place : ℕ) (gs : List WholeGlyph) (olds : List Col) → All IsGlyph gs → length olds ≡ length (all_columns gs)
+    → length (glyphs_changed place olds (all_columns gs)) ≤ differing olds (all_columns gs)
+glyphs_few place [] olds each same = omega arith
+glyphs_few place (g ∷ gs) olds each same =
+    let cg = columns_of g in
+    let n = length cg in
+    let xs = all_columns gs in
+    let count : length olds ≡ n + length xs = same ∙ length-append cg xs in
+    let first : length (take n olds) ≡ n = length-take-le n olds (omega (arith, count)) in
+    let alike = are_equal (take n olds) cg in
+    let by = (by_glyph alike g olds xs (All-head IsGlyph g gs each) refl).changed place in
+    let one = deed_by alike place g (take n olds) first refl in
+    let rest = glyphs_few (place + n) gs (drop n olds) (All-tail IsGlyph g gs each) (length-drop n olds ∙ omega (arith, count)) in
+    let both : differing olds (cg ++ xs) ≡ differing (take n olds) cg + differing (drop n olds) xs =
+    ap (λ ys. differing ys (cg ++ xs)) (sym (take-append-drop n olds)) ∙ differing-append (take n olds) (drop n olds) cg xs first in
+    rw (by, both) (omega (arith, one, rest, length-append (glyph_deed place alike g) (glyphs_changed (place + n) (drop n olds) xs)))
+
+front_few : (place : ℕ) (olds front : List Col) → AreWhole front → length olds ≡ length front → length (glyphs_changed place olds front) ≤ differing olds front
+front_few place olds front whole same = rw whole.are at (glyphs_few place whole.glyphs olds whole.each (same ∙ ap length (sym whole.are)))
 
 one_by : (t : Bool) (c : Col) (cs : List Col) → col_eq c blank ≡ t → (list_all is_blank cs ≡ false → 1 ≤ differing cs (replicate (length cs) blank))
     → list_all is_blank (c ∷ cs) ≡ false → 1 ≤ differing (c ∷ cs) (replicate (length (c ∷ cs)) blank)
@@ -115,8 +127,8 @@ tail_by : (t : Bool) (place : ℕ) (olds : List Col) → list_all is_blank olds 
 tail_by true place olds e = rw e (omega arith)
 tail_by false place olds e = rw e (some_differ olds e)
 
-row_few : (place : ℕ) (old new : List Col) → list_all is_plain new ≡ true → length old ≡ length new → length (row_changed place old new) ≤ differing old new
-row_few place old new plain same =
+row_few : (place : ℕ) (old new : List Col) → AreWhole new → length old ≡ length new → length (row_changed place old new) ≤ differing old new
+row_few place old new whole same =
     let front = before_tail new in
     let f = length front in
     let olds = take f old in
@@ -127,14 +139,14 @@ row_few place old new plain same =
     ap (λ xs. differing xs new) (sym (take-append-drop f old))
     ∙ ap (differing (olds ++ rest)) (sym (front_blanks new) ∙ ap (λ n. front ++ replicate n blank) (sym rlen))
     ∙ differing-append olds rest front (replicate (length rest) blank) olen in
-    let glyphs = glyphs_few place olds front (plain_front new plain) olen in
+    let glyphs = front_few place olds front (whole_front new whole) olen in
     let tail = tail_by (list_all is_blank rest) (place + f) rest refl in
     omega (arith, both, glyphs, tail, length-append (glyphs_changed place olds front) (tail_changed (place + f) rest))
 
-rows_few : (count width place : ℕ) (old new : List Col) → list_all is_plain new ≡ true → length old ≡ count * width → length new ≡ count * width
+rows_few : (count width place : ℕ) (old new : List Col) → AreWholeRows count width new → length old ≡ count * width → length new ≡ count * width
     → length (rows_changed count width place old new) ≤ differing old new
-rows_few zero width place old new plain tall tall' = omega arith
-rows_few (suc count) width place old new plain tall tall' =
+rows_few zero width place old new whole tall tall' = omega arith
+rows_few (suc count) width place old new whole tall tall' =
     let more : suc count * width ≡ width + count * width = omega arith in
     let olds = take width old in
     let news = take width new in
@@ -144,10 +156,12 @@ rows_few (suc count) width place old new plain tall tall' =
     ap (λ xs. differing xs new) (sym (take-append-drop width old))
     ∙ ap (differing (olds ++ drop width old)) (sym (take-append-drop width new))
     ∙ differing-append olds (drop width old) news (drop width new) (olen ∙ sym nlen) in
-    let row = row_few place olds news (plain-take width new plain) (olen ∙ sym nlen) in
-    let rest = rows_few count width (place + width) (drop width old) (drop width new) (plain-drop width new plain)
+    let row = row_few place olds news whole.0 (olen ∙ sym nlen) in
+    let rest = rows_few count width (place + width) (drop width old) (drop width new) whole.1
     (length-drop width old ∙ omega (arith, tall, more)) (length-drop width new ∙ omega (arith, tall', more)) in
     omega (arith, both, row, rest, length-append (row_changed place olds news) (rows_changed count width (place + width) (drop width old) (drop width new)))
 
-pub few_changes : (old new : Image) → IsPlainGrid old → IsPlainGrid new → old.height ≡ new.height → old.width ≡ new.width → length (changed old new) ≤ differing old.columns new.columns
-few_changes old new a b eh ew = rows_few new.height new.width 0 old.columns new.columns b.plain (a.size ∙ rw (eh, ew) refl) b.size
+pub few_changes : (old new : Image) → IsGrid old.height old.width old.columns → IsGrid new.height new.width new.columns → old.height ≡ new.height → old.width ≡ new.width
+    → length (changed old new) ≤ differing old.columns new.columns
+few_changes old new a b eh ew =
+    rows_few new.height new.width 0 old.columns new.columns b.rows (a.sized.each ∙ rw (eh, ew) refl) b.sized.each

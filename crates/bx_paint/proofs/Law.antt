@@ -1,9 +1,9 @@
 -- A terminal that reads what is sent shows the picture, and does no more than was to be done.
 use Rattle.std.proofs.Common.{◌≡◌, ℕ, ◌*◌, Bool, true, false, ◌&&◌, nat_eq, List, [], ◌∷◌, ◌++◌, length, replicate, Option, Some, None, refl, ap, sym, ◌∙◌, arith}
-use Rattle.std.specs.List.{list_all}
 use Rattle.std.proofs.lemmas.Bool.Decides.{nat_tests}
 use Rattle.std.proofs.lemmas.List.{length-replicate}
-use Rattle.bx_grid.specs.Columns.{Col, blank, is_plain}
+use Rattle.bx_grid.specs.Columns.{Col, blank}
+use Rattle.bx_grid.specs.Glyphs.{AreWholeRows}
 use Rattle.bx_grid.specs.Deeds.{Deed, Clears, run_deeds, pending_deeds, clear_deeds, deeds}
 use Rattle.bx_grid.specs.Terminal.{Terminal, reads, run_put, run_ended, rendered, cleared}
 use Rattle.bx_grid.specs.Picture.{Image, IsGrid, IsIdle, IsPicture, Shows}
@@ -11,27 +11,13 @@ use Rattle.bx_grid.proofs.Doing.{run, run-append, run_is, sequence_does}
 use Rattle.bx_grid.proofs.Reading.{at, IsFinal, and_left, and_right}
 use Rattle.bx_paint.specs.Painting.{columns_changed, ended, is_none, is_at_cursor_of, changes_bytes, whole_bytes, move_bytes, render_bytes, render_change}
 use Rattle.bx_paint.specs.Changed.{changed, rows_changed}
-use Rattle.bx_paint.proofs.Over.{plain-replicate}
-use Rattle.bx_paint.proofs.Shown.{screen, Leaves, plain_leaves, Fits, moves, renders, final_m}
-use Rattle.bx_paint.proofs.Painted.{Comes, rows_do}
+use Rattle.bx_grid.proofs.Whole.{rows-blank}
+use Rattle.bx_paint.proofs.Sequences.{screen, Leaves, plain_leaves, Fits, moves, renders, final_m}
+use Rattle.bx_paint.proofs.Drawn.{Comes}
+use Rattle.bx_paint.proofs.Painted.{rows_do}
 
--- the columns of a picture are plain
-pub record IsPlainGrid (p : Image) : Type 0 where
-  pub size : length p.columns ≡ p.height * p.width
-  pub plain : list_all is_plain p.columns ≡ true
-
-pub grid_is : (p : Image) → IsGrid p.height p.width p.columns → IsPlainGrid p
-grid_is p h = record { size = h.sized.each; plain = h.plain }
-
-pub record IsPlain (p : Image) : Type 0 where
-  pub grid : IsPlainGrid p
-  pub fits : Fits p
-
-pub picture_is : (p : Image) → IsPicture p → IsPlain p
-picture_is p h = record {
-  grid = grid_is p h.grid;
-  fits = record { height = omega (arith, h.grid.sized.high); width = omega (arith, h.grid.sized.wide); row = h.row_inside; column = h.column_inside };
-}
+pub fits : (p : Image) → IsPicture p → Fits p
+fits p h = record { height = omega (arith, h.grid.sized.high); width = omega (arith, h.grid.sized.wide); row = h.row_inside; column = h.column_inside }
 
 abbrev made : ℕ → ℕ → List Col → Option (ℕ × ℕ) → Option Bool → List ℕ → List ℕ → Terminal
 made height width columns position negative half_read half = record {
@@ -62,21 +48,22 @@ at_end p w columns q false all fits leaves =
 
 -- all rows, and the end
 pub all_rows : (p : Image) (old : List Col) (w : Terminal × List Deed) (q : Option (ℕ × ℕ)) (all : List Deed)
-    → IsPlain p → length old ≡ p.height * p.width → list_all is_plain old ≡ true → Leaves p w old q false all
+    → IsPicture p → length old ≡ p.height * p.width → AreWholeRows p.height p.width old → Leaves p w old q false all
     → Comes p (run w (columns_changed old p).bytes) p.columns (columns_changed old p).negative (all ++ rows_changed p.height p.width 0 old p.columns)
-all_rows p old w q all is size plain leaves =
+all_rows p old w q all is size whole leaves =
     let none : 0 * p.width ≡ 0 = omega arith in
-    let rows = rows_do p p.height 0 false [] old p.columns w q all is.fits (omega arith) (sym none) size is.grid.size plain is.grid.plain leaves in
+    let rows = rows_do p p.height 0 false [] old p.columns w q all (fits p is) (omega arith) (sym none) size is.grid.sized.each whole
+    is.grid.rows leaves in
     rw none at rows
 
 painted : (p : Image) (old : List Col) (w : Terminal × List Deed) (q : Option (ℕ × ℕ)) (all : List Deed)
-    → IsPlain p → length old ≡ p.height * p.width → list_all is_plain old ≡ true → Leaves p w old q false all
+    → IsPicture p → length old ≡ p.height * p.width → AreWholeRows p.height p.width old → Leaves p w old q false all
     → run w (ended p (columns_changed old p)) ≡ (screen p p.columns (Some (p.row, p.column)) false [], all ++ rows_changed p.height p.width 0 old p.columns)
-painted p old w q all is size plain leaves =
+painted p old w q all is size whole leaves =
     let s = columns_changed old p in
-    let rows = all_rows p old w q all is size plain leaves in
+    let rows = all_rows p old w q all is size whole leaves in
     run-append w s.bytes (render_change s.negative false ++ move_bytes p.row p.column)
-    ∙ at_end p (run w s.bytes) p.columns rows.0 s.negative (all ++ rows_changed p.height p.width 0 old p.columns) is.fits rows.1
+    ∙ at_end p (run w s.bytes) p.columns rows.0 s.negative (all ++ rows_changed p.height p.width 0 old p.columns) (fits p is) rows.1
 
 shown : (p : Image) → Shows (screen p p.columns (Some (p.row, p.column)) false []) p
 shown p = record { nothing_half_read = record { no_run = refl; no_token = refl }; same_height = refl; same_width = refl; same_columns = refl; normal = refl; at_cursor = refl }
@@ -103,7 +90,7 @@ opening p t idle height width =
     ∙ rw (height, width, idle.no_run) refl
 
 -- whatever its state, a terminal of the picture's size with nothing half read shows the picture once it has read the whole painting
-pub whole_shows : (p : Image) → IsPlain p → (t : Terminal) → IsIdle t → t.height ≡ p.height → t.width ≡ p.width → Shows (reads t (whole_bytes p)) p
+pub whole_shows : (p : Image) → IsPicture p → (t : Terminal) → IsIdle t → t.height ≡ p.height → t.width ≡ p.width → Shows (reads t (whole_bytes p)) p
 whole_shows p is t idle height width =
     let blanks = replicate (p.height * p.width) blank in
     let start = 0x1B ∷ 0x5B ∷ 0x30 ∷ 0x6D ∷ 0x1B ∷ 0x5B ∷ 0x32 ∷ 0x4A ∷ [] in
@@ -111,7 +98,7 @@ whole_shows p is t idle height width =
     let end : run (t, []) (whole_bytes p) ≡ (screen p p.columns (Some (p.row, p.column)) false [], (Clears ∷ []) ++ rows_changed p.height p.width 0 blanks p.columns) =
     run-append (t, []) start (ended p (columns_changed blanks p))
     ∙ ap (λ v. run v (ended p (columns_changed blanks p))) (opening p t idle height width)
-    ∙ painted p blanks w None (Clears ∷ []) is (length-replicate (p.height * p.width) blank) (plain-replicate (p.height * p.width)) (plain_leaves p blanks None false (Clears ∷ [])) in
+    ∙ painted p blanks w None (Clears ∷ []) is (length-replicate (p.height * p.width) blank) (rows-blank p.height p.width) (plain_leaves p blanks None false (Clears ∷ [])) in
     let state : reads t (whole_bytes p) ≡ screen p p.columns (Some (p.row, p.column)) false [] =
     ap (λ (v : Terminal × List Deed). v.0) (sym (run_is t [] (whole_bytes p)) ∙ end) in
     rw state (shown p)
@@ -168,21 +155,23 @@ leaves_after : (p : Image) (w : Terminal × List Deed) (bytes : List ℕ) (colum
     → bytes ≡ [] → Leaves p (run w bytes) columns q negative all → Leaves p w columns q negative all
 leaves_after p w bytes columns q negative all e h = let none : run w bytes ≡ w = ap (run w) e in rw none at h
 
-changes_by : (old new : Image) (t : Terminal) (none : Bool) → IsPlainGrid old → IsPlain new → old.height ≡ new.height → old.width ≡ new.width → Shows t old
+changes_by : (old new : Image) (t : Terminal) (none : Bool) → IsGrid old.height old.width old.columns → IsPicture new → old.height ≡ new.height → old.width ≡ new.width → Shows t old
     → is_none (columns_changed old.columns new).bytes && is_at_cursor_of old new ≡ none
     → Changes old new t (changes_bytes old new)
 changes_by old new t true a b eh ew h e =
     let s = columns_changed old.columns new in
     let empty : s.bytes ≡ [] = none_is s.bytes (and_left (is_none s.bytes) (is_at_cursor_of old new) e) in
-    let size : length old.columns ≡ new.height * new.width = a.size ∙ rw (eh, ew) refl in
-    let rows = all_rows new old.columns (t, []) (Some (old.row, old.column)) [] b size a.plain (showing old new t eh ew h) in
+    let size : length old.columns ≡ new.height * new.width = a.sized.each ∙ rw (eh, ew) refl in
+    let whole : AreWholeRows new.height new.width old.columns = rw (← eh, ← ew) a.rows in
+    let rows = all_rows new old.columns (t, []) (Some (old.row, old.column)) [] b size whole (showing old new t eh ew h) in
     let there : Leaves new (t, []) new.columns rows.0 s.negative (changed old new) = leaves_after new (t, []) s.bytes new.columns rows.0 s.negative (changed old new) empty rows.1 in
     rw e (none_sent old new t rows.0 s.negative h (and_right (is_none s.bytes) (is_at_cursor_of old new) e) there)
 changes_by old new t false a b eh ew h e =
-    let size : length old.columns ≡ new.height * new.width = a.size ∙ rw (eh, ew) refl in
+    let size : length old.columns ≡ new.height * new.width = a.sized.each ∙ rw (eh, ew) refl in
+    let whole : AreWholeRows new.height new.width old.columns = rw (← eh, ← ew) a.rows in
     rw e (by_bytes old new t (ended new (columns_changed old.columns new))
-    (painted new old.columns (t, []) (Some (old.row, old.column)) [] b size a.plain (showing old new t eh ew h)))
+    (painted new old.columns (t, []) (Some (old.row, old.column)) [] b size whole (showing old new t eh ew h)))
 
-pub changes_show : (old new : Image) → IsPlainGrid old → IsPlain new → old.height ≡ new.height → old.width ≡ new.width → (t : Terminal) → Shows t old
+pub changes_show : (old new : Image) → IsGrid old.height old.width old.columns → IsPicture new → old.height ≡ new.height → old.width ≡ new.width → (t : Terminal) → Shows t old
     → Changes old new t (changes_bytes old new)
 changes_show old new a b eh ew t h = changes_by old new t (is_none (columns_changed old.columns new).bytes && is_at_cursor_of old new) a b eh ew h refl

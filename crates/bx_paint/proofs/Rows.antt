@@ -3,6 +3,7 @@ use Rattle.std.proofs.Common.{◌≡◌, ℕ, true, false, List, [], ◌∷◌, 
 use Rattle.std.specs.Fmt.{digits}
 use Rattle.std.specs.Str.{chars}
 use Rattle.std.specs.Prelude.{codes}
+use Rattle.unicode_width.proofs.Computing.{unicode_width}
 use Rattle.bx_grid.specs.Columns.{Col, Glyph, blank}
 use Rattle.bx_grid.specs.Picture.{Image}
 use Rattle.bx_grid.specs.Terminal.{Terminal, reads}
@@ -96,3 +97,35 @@ done = refl
 
 pub was_to_be_done : changed xab ab ≡ Puts 0 (0x61 ∷ []) false ∷ Puts 1 (0x62 ∷ []) false ∷ Erases 2 ∷ []
 was_to_be_done = refl
+
+-- a wide glyph moves on by a column: none of its columns is left of where it stood
+abbrev before : Image
+before = four (wide ++ replicate 2 blank) 0
+
+abbrev after : Image
+after = four (g 0x78 ∷ wide ++ blank ∷ []) 1
+
+pub wide_shown : reads (showing before) (changes_bytes before after) ≡ showing after
+unfolding digits chars unicode_width
+wide_shown = refl
+
+pub wide_done : deeds (showing before) (changes_bytes before after) ≡ Puts 0 (0x78 ∷ []) false ∷ Puts 1 (0xE4 ∷ 0xB8 ∷ 0x96 ∷ []) false ∷ []
+unfolding digits chars unicode_width
+wide_done = refl
+
+-- of the wide glyph that stood one column on, the second column is in the tail, and is erased
+pub wide_back : reads (showing after) (changes_bytes after before) ≡ showing before
+unfolding digits chars unicode_width
+wide_back = refl
+
+pub wide_back_done : deeds (showing after) (changes_bytes after before) ≡ Puts 0 (0xE4 ∷ 0xB8 ∷ 0x96 ∷ []) false ∷ Erases 2 ∷ []
+unfolding digits chars unicode_width
+wide_back_done = refl
+
+-- `e` and U+0301, one glyph of one column, with a letter after it
+abbrev accented : Image
+accented = four (Glyph (0x65 ∷ 0xCC ∷ 0x81 ∷ []) 1 0 false ∷ g 0x78 ∷ replicate 2 blank) 0
+
+pub accent_shown : reads (showing before) (changes_bytes before accented) ≡ showing accented
+unfolding digits chars unicode_width
+accent_shown = refl

@@ -2,7 +2,7 @@
 use Rattle.std.proofs.Common.{◌≡◌, ℕ, ◌+◌, ◌*◌, ◌-◌, ◌<◌, ◌≤◌, Bool, true, false, min, get_or, List, [], ◌∷◌, ◌++◌, length, take, drop, suc, refl, ap, sym, ◌∙◌, inl, inr, append_assoc, arith}
 use Rattle.std.specs.List.{list_all}
 use Rattle.std.proofs.lemmas.Bool.{cases_lt}
-use Rattle.std.proofs.lemmas.List.{take_all, take_more, drop_more, drop-drop, drop-map, take-map, map-append}
+use Rattle.std.proofs.lemmas.List.{take_all, take_more, drop_more, drop-drop, drop-map, map-append}
 use Rattle.bx_grid.specs.Seen.{seen, all_seen}
 use Rattle.bx_grid.specs.declared.column.Column.{Column}
 use Rattle.std.proofs.lemmas.List.Folds.{list_all-append}
@@ -138,16 +138,10 @@ row_bytes row f negative after before tail front out out' out'' e a e' =
 
 -- ---- one row more
 
-row_seen : (row width : ℕ) (columns part : List Column) → part ≡ take ((row * width + width) - row * width) (drop (row * width) columns)
-    → all_seen part ≡ take width (all_seen (drop (row * width) columns))
-row_seen row width columns part h =
-    let e : (row * width + width) - row * width ≡ width = omega arith in
-    ap all_seen h ∙ ap (λ n. all_seen (take n (drop (row * width) columns))) e ∙ sym (take-map seen width (drop (row * width) columns))
-
-rest_seen : (row width : ℕ) (columns : List Column) → all_seen (drop ((row + 1) * width) columns) ≡ drop width (all_seen (drop (row * width) columns))
-rest_seen row width columns =
+rest_after : (row width : ℕ) (columns : List Col) → drop ((row + 1) * width) columns ≡ drop width (drop (row * width) columns)
+rest_after row width columns =
     let e : (row + 1) * width ≡ row * width + width = omega arith in
-    ap (λ n. all_seen (drop n columns)) e ∙ ap all_seen (sym (drop-drop width (row * width) columns)) ∙ sym (drop-map seen width (drop (row * width) columns))
+    ap (λ n. drop n columns) e ∙ sym (drop-drop width (row * width) columns)
 
 rows_more : (height row width : ℕ) (negative negative' : Bool) (old new old' new' po pn : List Col) (out out' : List ℕ) → row < height
     → po ≡ take width old → pn ≡ take width new → old' ≡ drop width old → new' ≡ drop width new
@@ -160,12 +154,11 @@ rows_more height row width negative negative' old new old' new' po pn out out' l
     let with_rest : List ℕ → Sent = λ bs. record { bytes = bs; negative = rest.negative } in
     rw (e, eg, eo, en, eo', en', count) (ap with_rest (append_assoc out s.bytes rest.bytes))
 
-pub row_more : (height row width : ℕ) (negative negative' : Bool) (old new po pn : List Column) (out out' : List ℕ) → row < height
-    → po ≡ take ((row * width + width) - row * width) (drop (row * width) old) → pn ≡ take ((row * width + width) - row * width) (drop (row * width) new)
-    → out' ≡ out ++ (row_sent row negative (all_seen po) (all_seen pn)).bytes → negative' ≡ (row_sent row negative (all_seen po) (all_seen pn)).negative
-    → then_sent out' (rows_sent (height - (row + 1)) (row + 1) width negative' (all_seen (drop ((row + 1) * width) old)) (all_seen (drop ((row + 1) * width) new)))
-    ≡ then_sent out (rows_sent (height - row) row width negative (all_seen (drop (row * width) old)) (all_seen (drop (row * width) new)))
+pub row_more : (height row width : ℕ) (negative negative' : Bool) (old new po pn : List Col) (out out' : List ℕ) → row < height
+    → po ≡ take width (drop (row * width) old) → pn ≡ take width (drop (row * width) new)
+    → out' ≡ out ++ (row_sent row negative po pn).bytes → negative' ≡ (row_sent row negative po pn).negative
+    → then_sent out' (rows_sent (height - (row + 1)) (row + 1) width negative' (drop ((row + 1) * width) old) (drop ((row + 1) * width) new))
+    ≡ then_sent out (rows_sent (height - row) row width negative (drop (row * width) old) (drop (row * width) new))
 row_more height row width negative negative' old new po pn out out' low eo en e eg =
-    rows_more height row width negative negative' (all_seen (drop (row * width) old)) (all_seen (drop (row * width) new))
-    (all_seen (drop ((row + 1) * width) old)) (all_seen (drop ((row + 1) * width) new)) (all_seen po) (all_seen pn) out out' low
-    (row_seen row width old po eo) (row_seen row width new pn en) (rest_seen row width old) (rest_seen row width new) e eg
+    rows_more height row width negative negative' (drop (row * width) old) (drop (row * width) new) (drop ((row + 1) * width) old) (drop ((row + 1) * width) new) po pn out out' low
+    eo en (rest_after row width old) (rest_after row width new) e eg

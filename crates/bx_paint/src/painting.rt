@@ -32,15 +32,12 @@ fn send_whole(alloc: Global, out: &mut Vec<u8>, picture: &Picture) -> Result<(),
     ensures picture { IsPicture picture.now }
 {
     let grid = picture.grid();
-    let height = grid.height();
-    let width = grid.width();
-    let columns = grid.columns();
     let cursor = picture.cursor();
-    let Ok(blank) = Grid::blank(alloc, height, width) else {
+    let Ok(blank) = Grid::blank(alloc, grid.height(), grid.width()) else {
         return Err(AllocError);
     };
     out.extend_from_slice(b"\x1b[0m\x1b[2J")?;
-    let negative = send_rows(out, height, width, blank.columns(), columns)?;
+    let negative = send_rows(out, &blank, grid)?;
     send_end(out, negative, cursor)
 }
 
@@ -53,11 +50,8 @@ fn send_changes(out: &mut Vec<u8>, old: &Picture, new: &Picture) -> Result<(), A
     ensures old { IsGrid old.now.height old.now.width old.now.columns }
     ensures new { IsPicture new.now }
 {
-    let from = old.grid().columns();
-    let grid = new.grid();
-    let to = grid.columns();
     let cursor = new.cursor();
-    let negative = send_rows(out, grid.height(), grid.width(), from, to)?;
+    let negative = send_rows(out, old.grid(), new.grid())?;
     if out.is_empty() && old.cursor() == cursor {
         return Ok(());
     }

@@ -6,7 +6,7 @@ ghost use Rattle.bx_grid.specs.Seen.{seen, all_seen};
 ghost use Rattle.bx_paint.specs.Painting as spec;
 ghost use Rattle.bx_paint.specs.Painting.{move_bytes, render_change, glyph_bytes, before_tail, leading_blanks, column_sent, columns_sent, tail_sent, row_sent, rows_sent};
 
-use bx_grid::{Column, all_same, printable};
+use bx_grid::{Column, Grid, Row, all_same, printable};
 use itoa::Buffer;
 use std::alloc::AllocError;
 
@@ -234,8 +234,8 @@ fn send_tail(
     Ok(false)
 }
 
-/// Sends what differs in a row.
-fn send_row(
+/// Sends what differs in the columns of a row, before its tail and in it.
+fn send_changed_row(
     out: &mut Vec<u8>,
     row: u16,
     negative: bool,
@@ -247,33 +247,40 @@ fn send_row(
     ensures bytes { OnOk result (out.new.items ≡ out.old.items ++ (row_sent row negative (all_seen old.now) (all_seen new.now)).bytes) }
     ensures rendition { IfOk result (λ after. after ≡ (row_sent row negative (all_seen old.now) (all_seen new.now)).negative) }
 {
-    if all_same(old, new) {
-        return Ok(negative);
-    }
     let front = front_len(new);
     let negative = send_columns(out, row, negative, &old[..front], &new[..front])?;
     send_tail(out, row, front as u16, negative, &old[front..])
 }
 
-/// Sends what differs in all rows.
-pub fn send_rows(
+/// Sends what differs in a row.
+fn send_row(
     out: &mut Vec<u8>,
-    height: u16,
-    width: u16,
-    old: &[Column],
-    new: &[Column],
+    row: u16,
+    negative: bool,
+    old: &Row<'_>,
+    new: &Row<'_>,
 ) -> Result<bool, AllocError>
-    requires small { (height ≤ 500) × (width ≤ 500) }
-    requires old { length old.now ≡ height * width }
-    requires new { length new.now ≡ height * width }
-    ensures bytes { OnOk result (out.new.items ≡ out.old.items ++ (rows_sent height 0 width false (all_seen old.now) (all_seen new.now)).bytes) }
-    ensures rendition { IfOk result (λ after. after ≡ (rows_sent height 0 width false (all_seen old.now) (all_seen new.now)).negative) }
+    requires small { (row < 65535) × (length new.now < 65535) }
+    requires same { length old.now ≡ length new.now }
+    ensures bytes { OnOk result (out.new.items ≡ out.old.items ++ (row_sent row negative old.now new.now).bytes) }
+    ensures rendition { IfOk result (λ after. after ≡ (row_sent row negative old.now new.now).negative) }
+{
+    if old.is_same(new) {
+        return Ok(negative);
+    }
+    send_changed_row(out, row, negative, old.columns(), new.columns())
+}
+
+/// Sends what differs in all rows of two grids of one size.
+pub fn send_rows(out: &mut Vec<u8>, old: &Grid, new: &Grid) -> Result<bool, AllocError>
+    requires height { old.now.height ≡ new.now.height }
+    requires width { old.now.width ≡ new.now.width }
+    ensures bytes { OnOk result (out.new.items ≡ out.old.items ++ (rows_sent new.now.height 0 new.now.width false old.now.columns new.now.columns).bytes) }
+    ensures rendition { IfOk result (λ after. after ≡ (rows_sent new.now.height 0 new.now.width false old.now.columns new.now.columns).negative) }
 {
     let mut negative = false;
-    for row in 0..height {
-        let start = row as usize * width as usize;
-        let stop = start + width as usize;
-        negative = send_row(out, row, negative, &old[start..stop], &new[start..stop])?;
+    for row in 0..new.height() {
+        negative = send_row(out, row, negative, &old.row(row), &new.row(row))?;
     }
     Ok(negative)
 }

@@ -69,3 +69,88 @@ fn nothing_where_nothing_differs(rt: HostRuntime) -> Result<(), Fail> {
     assert!(rt; changes(rt.alloc(), &old, &new)?.is_empty());
     Ok(())
 }
+
+/// A row of four columns that begins with U+4E16, with the cursor on its first.
+fn picture_of_wide(alloc: Global) -> Result<Picture, GridError>
+    ensures size { IfOk result (λ p. (p.height ≡ 1) × (p.width ≡ 4)) }
+{
+    let mut grid = Grid::blank(alloc, 1, 4)?;
+    grid.put(Cell { line: 1, column: 1 }, "\u{4e16}", false)?;
+    Ok(Picture::new(grid, Cell { line: 1, column: 1 }))
+}
+
+/// The same with an `x` before it, and the cursor on its second column.
+fn picture_of_x_and_wide(alloc: Global) -> Result<Picture, GridError>
+    ensures size { IfOk result (λ p. (p.height ≡ 1) × (p.width ≡ 4)) }
+{
+    let mut grid = Grid::blank(alloc, 1, 4)?;
+    grid.put(Cell { line: 1, column: 1 }, "x", false)?;
+    grid.put(Cell { line: 1, column: 2 }, "\u{4e16}", false)?;
+    Ok(Picture::new(grid, Cell { line: 1, column: 2 }))
+}
+
+/// A row of four columns: an `e`, to which U+0301 may be joined, and a negative `x`.
+fn picture_of_e(alloc: Global, accent: bool) -> Result<Picture, GridError>
+    ensures size { IfOk result (λ p. (p.height ≡ 1) × (p.width ≡ 4)) }
+{
+    let mut grid = Grid::blank(alloc, 1, 4)?;
+    grid.put(Cell { line: 1, column: 2 }, "x", true)?;
+    if accent {
+        grid.put(Cell { line: 1, column: 1 }, "e\u{301}", false)?;
+    } else {
+        grid.put(Cell { line: 1, column: 1 }, "e", false)?;
+    }
+    Ok(Picture::new(grid, Cell { line: 1, column: 1 }))
+}
+
+#[test]
+fn a_wide_glyph_is_sent_whole(rt: HostRuntime) -> Result<(), Fail> {
+    let old = picture_of_wide(rt.alloc())?;
+    let new = picture_of_x_and_wide(rt.alloc())?;
+    let mut screen = Screen::new(rt.alloc(), 1, 4)?;
+    let first = whole(rt.alloc(), &old)?;
+    assert_eq!(rt;
+        first.as_slice(),
+        b"\x1b[0m\x1b[2J\x1b[1;1H\xE4\xB8\x96\x1b[1;1H".as_slice()
+    );
+    screen.read(first.as_slice())?;
+    assert!(rt; screen.shows(&old));
+    let second = changes(rt.alloc(), &old, &new)?;
+    assert_eq!(rt;
+        second.as_slice(),
+        b"\x1b[1;1Hx\x1b[1;2H\xE4\xB8\x96\x1b[1;2H".as_slice()
+    );
+    screen.read(second.as_slice())?;
+    assert!(rt; screen.shows(&new));
+    let third = changes(rt.alloc(), &new, &old)?;
+    assert_eq!(rt;
+        third.as_slice(),
+        b"\x1b[1;1H\xE4\xB8\x96\x1b[1;3H\x1b[0K\x1b[1;1H".as_slice()
+    );
+    screen.read(third.as_slice())?;
+    assert!(rt; screen.shows(&old));
+    Ok(())
+}
+
+#[test]
+fn a_mark_is_sent_with_its_letter(rt: HostRuntime) -> Result<(), Fail> {
+    let old = picture_of_e(rt.alloc(), false)?;
+    let new = picture_of_e(rt.alloc(), true)?;
+    let mut screen = Screen::new(rt.alloc(), 1, 4)?;
+    let first = whole(rt.alloc(), &new)?;
+    assert_eq!(rt;
+        first.as_slice(),
+        b"\x1b[0m\x1b[2J\x1b[1;1He\xCC\x81\x1b[1;2H\x1b[7mx\x1b[0m\x1b[1;1H".as_slice()
+    );
+    screen.read(first.as_slice())?;
+    assert!(rt; screen.shows(&new));
+    let second = changes(rt.alloc(), &new, &old)?;
+    assert_eq!(rt; second.as_slice(), b"\x1b[1;1He\x1b[1;1H".as_slice());
+    screen.read(second.as_slice())?;
+    assert!(rt; screen.shows(&old));
+    let third = changes(rt.alloc(), &old, &new)?;
+    assert_eq!(rt; third.as_slice(), b"\x1b[1;1He\xCC\x81\x1b[1;1H".as_slice());
+    screen.read(third.as_slice())?;
+    assert!(rt; screen.shows(&new));
+    Ok(())
+}

@@ -3,14 +3,14 @@ use Rattle.bx_grid.specs.Deeds.{deeds}
 use Rattle.bx_grid.specs.Picture.{Shows}
 use Rattle.bx_grid.specs.Terminal.{Terminal}
 use Rattle.bx_paint.specs.Painting.{changes_bytes}
-use Rattle.bx_paint.proofs.Law.{grid_is, picture_is, Changes, changes_show}
+use Rattle.bx_paint.proofs.Law.{Changes, changes_show}
 use Rattle.bx_paint.proofs.Few.{no_changes, few_changes}
 use Rattle.bx_paint.proofs.painting.changes.Goals as goal
 
 changed_by : (c : goal.In_ok-send_changes) (t : Terminal) → Shows t c.args.old.now → Changes c.args.old.now c.args.new.now t (changes_bytes c.args.old.now c.args.new.now)
 changed_by c t h =
     let sent = c.in_ok-send_changes.ensures in
-    changes_show c.args.old.now c.args.new.now (grid_is c.args.old.now sent.old) (picture_is c.args.new.now sent.new) c.requires.height c.requires.width t h
+    changes_show c.args.old.now c.args.new.now sent.old sent.new c.requires.height c.requires.width t h
 
 pub returns-clause-shows : goal.returns-clause-shows
 returns-clause-shows c t h = rw (c.in_ok-send_changes.ensures.bytes) (changed_by c t h).shows
@@ -21,7 +21,7 @@ returns-clause-sends c t h = ap (deeds t) c.in_ok-send_changes.ensures.bytes ∙
 pub returns-clause-few : goal.returns-clause-few
 returns-clause-few c =
     let sent = c.in_ok-send_changes.ensures in
-    few_changes c.args.old.now c.args.new.now (grid_is c.args.old.now sent.old) (grid_is c.args.new.now sent.new.grid) c.requires.height c.requires.width
+    few_changes c.args.old.now c.args.new.now sent.old sent.new.grid c.requires.height c.requires.width
 
 pub returns-clause-nothing : goal.returns-clause-nothing
 returns-clause-nothing c same =

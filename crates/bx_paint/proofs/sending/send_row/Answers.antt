@@ -1,59 +1,17 @@
-use Rattle.std.proofs.Common.{[], ◌≡◌, ◌++◌, Result, Ok, Err, IfOk, length, ◌-◌, take, drop, false, ap, sym, ◌∙◌}
-use Rattle.std.proofs.lemmas.List.{length-map, length-take-le, take-map, drop-map, take_rest, append-nil}
-use Rattle.bx_grid.proofs.Halves.{on_ok}
-use Rattle.bx_grid.specs.Seen.{seen, all_seen}
-use Rattle.bx_paint.specs.Painting.{Sent, before_tail, columns_sent, tail_sent, tail_after, row_sent}
+use Rattle.std.proofs.Common.{[], ◌≡◌, ◌++◌, ap, sym, ◌∙◌}
+use Rattle.std.proofs.lemmas.List.{append-nil}
+use Rattle.bx_grid.proofs.Equal.{lists_are}
+use Rattle.bx_paint.specs.Painting.{Sent, row_sent}
 use Rattle.bx_paint.proofs.Few.{row_same}
-use Rattle.bx_paint.proofs.Sent.{row_by, row_bytes}
 use Rattle.bx_paint.proofs.sending.send_row.Goals as goal
 
--- the row's definition, at the parts that the code takes
-parts : (c : goal.After-send_tail) → row_sent c.args.row c.args.negative (all_seen c.args.old.now) (all_seen c.args.new.now)
-    ≡ tail_after c.args.row c.front_len-front.result (all_seen (take (length c.args.old.now - c.front_len-front.result) (drop c.front_len-front.result c.args.old.now)))
-    (columns_sent c.args.row 0 false c.args.negative (all_seen (take c.front_len-front.result c.args.old.now)) (all_seen (take c.front_len-front.result c.args.new.now)))
-parts c =
-    let old = c.args.old.now in
-    let new = c.args.new.now in
-    let f = c.front_len-front.result in
-    let count : f ≡ length (before_tail (all_seen new)) =
-    sym (length-take-le f new c.front_len-front.ensures.within) ∙ sym (length-map (take f new) seen) ∙ ap length c.front_len-front.ensures.front in
-    row_by c.args.row f c.args.negative (all_seen old) (all_seen new) _ _ _ c.front_len-front.ensures.front count
-    (sym (take-map seen f old) ∙ ap (λ n. take n (all_seen old)) count)
-    (ap all_seen (take_rest old f) ∙ sym (drop-map seen f old) ∙ ap (λ n. drop n (all_seen old)) count)
-
-pub returns-clause-bytes : goal.returns-clause-bytes
-returns-clause-bytes c =
-    let out = c.args.out.now.items in
-    let f = c.front_len-front.result in
-    let old = c.args.old.now in
-    let before = all_seen (take f old) in
-    let tail = all_seen (take (length old - f) (drop f old)) in
-    let front = all_seen (take f c.args.new.now) in
-    on_ok c.send_tail.result (c.send_tail.new.out.items ≡ c.send_columns.new.out.items ++ (tail_sent c.args.row f c.in_ok-negative.negative tail).bytes) _
-    (λ sent. row_bytes c.args.row f c.args.negative c.in_ok-negative.negative before tail front out c.send_columns.new.out.items c.send_tail.new.out.items
-    c.in_ok-negative.ensures.bytes c.in_ok-negative.ensures.rendition sent ∙ ap (λ (s : Sent). out ++ s.bytes) (sym (parts c)))
-    c.send_tail.ensures.bytes
-
-if_ok : {T E : Type 0} (r : Result T E) (P Q : T → Type 0) → ((x : T) → P x → Q x) → IfOk r P → IfOk r Q
-if_ok (Ok x) P Q f h = f x h
-if_ok (Err e) P Q f h = h
-
-pub returns-clause-rendition : goal.returns-clause-rendition
-returns-clause-rendition c =
-    let f = c.front_len-front.result in
-    let old = c.args.old.now in
-    let tail = all_seen (take (length old - f) (drop f old)) in
-    if_ok c.send_tail.result (λ after. after ≡ (tail_sent c.args.row f c.in_ok-negative.negative tail).negative) _
-    (λ after is. is ∙ ap (λ n. (tail_sent c.args.row f n tail).negative) c.in_ok-negative.ensures.rendition ∙ ap (λ (s : Sent). s.negative) (sym (parts c)))
-    c.send_tail.ensures.rendition
-
-same_rows : (c : goal.Then-all_same) → row_sent c.args.row c.args.negative (all_seen c.args.old.now) (all_seen c.args.new.now) ≡ record { bytes = []; negative = c.args.negative }
+same_rows : (c : goal.Then-is_same) → row_sent c.args.row c.args.negative c.args.old.now c.args.new.now ≡ record { bytes = []; negative = c.args.negative }
 same_rows c =
-    let same : all_seen c.args.old.now ≡ all_seen c.args.new.now = c.all_same.ensures.same.0 c.if-all_same.true in
-    ap (λ xs. row_sent c.args.row c.args.negative xs (all_seen c.args.new.now)) same ∙ row_same c.args.row c.args.negative (all_seen c.args.new.now)
+    let same : c.args.old.now ≡ c.args.new.now = lists_are c.args.old.now c.args.new.now (sym c.is_same.ensures ∙ c.if-is_same.true) in
+    ap (λ xs. row_sent c.args.row c.args.negative xs c.args.new.now) same ∙ row_same c.args.row c.args.negative c.args.new.now
 
-pub returns-then-all_same-clause-bytes : goal.returns-then-all_same-clause-bytes
-returns-then-all_same-clause-bytes c = sym (append-nil c.args.out.now.items) ∙ ap (λ (s : Sent). c.args.out.now.items ++ s.bytes) (sym (same_rows c))
+pub returns-then-is_same-clause-bytes : goal.returns-then-is_same-clause-bytes
+returns-then-is_same-clause-bytes c = sym (append-nil c.args.out.now.items) ∙ ap (λ (s : Sent). c.args.out.now.items ++ s.bytes) (sym (same_rows c))
 
-pub returns-then-all_same-clause-rendition : goal.returns-then-all_same-clause-rendition
-returns-then-all_same-clause-rendition c = ap (λ (s : Sent). s.negative) (sym (same_rows c))
+pub returns-then-is_same-clause-rendition : goal.returns-then-is_same-clause-rendition
+returns-then-is_same-clause-rendition c = ap (λ (s : Sent). s.negative) (sym (same_rows c))

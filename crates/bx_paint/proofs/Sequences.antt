@@ -1,0 +1,118 @@
+-- A terminal that reads the sequences of a painting: a place, a rendition, an erasure.
+use Rattle.std.proofs.Common.{◌≡◌, ℕ, ◌+◌, ◌*◌, ◌<◌, ◌^◌, Bool, true, false, nat_le, List, [], ◌∷◌, ◌++◌, replicate, ◌-◌, Option, Some, None, refl, ap, ◌∙◌, arith}
+use Rattle.std.specs.List.{list_all}
+use Rattle.std.proofs.lemmas.Bool.Decides.{nat_tests}
+use Rattle.std.proofs.lemmas.List.{append-nil}
+use Rattle.bx_grid.specs.Columns.{Col, blank, put}
+use Rattle.bx_grid.specs.declared.token.Command.{Command}
+use Rattle.bx_grid.specs.declared.token.Command.TheVariants.{Move}
+use Rattle.bx_grid.specs.Tokens.{is_param, command_of}
+use Rattle.bx_grid.specs.Deeds.{Deed, Erases, pending_deeds, command_deeds}
+use Rattle.bx_grid.specs.Terminal.{Terminal, run_ended, obeyed}
+use Rattle.bx_grid.specs.Picture.{Image}
+use Rattle.bx_grid.proofs.Reading.{at, IsFinal, place_params, place_params_fit, command_of-place}
+use Rattle.bx_grid.proofs.Doing.{run, sequence_does}
+use Rattle.bx_paint.specs.Painting.{move_bytes, render_bytes, render_change, erase_bytes}
+
+-- a terminal of the picture's size, of which at most a run is half read
+abbrev pub screen : Image → List Col → Option (ℕ × ℕ) → Bool → List ℕ → Terminal
+screen p columns position negative half_read = record {
+  height = p.height;
+  width = p.width;
+  columns = columns;
+  position = position;
+  negative = Some negative;
+  run = half_read;
+  half = [];
+}
+
+-- a terminal whose run, once it has taken effect, leaves these columns, and whose deeds are then these
+pub record Leaves (p : Image) (w : Terminal × List Deed) (columns : List Col) (q : Option (ℕ × ℕ)) (negative : Bool) (all : List Deed) : Type 0 where
+  pub no_token : w.0.half ≡ []
+  pub effect : run_ended w.0 ≡ screen p columns q negative []
+  pub told : w.1 ++ pending_deeds w.0 ≡ all
+
+-- one that has nothing half read
+pub plain_leaves : (p : Image) (columns : List Col) (q : Option (ℕ × ℕ)) (negative : Bool) (all : List Deed)
+    → Leaves p (screen p columns q negative [], all) columns q negative all
+plain_leaves p columns q negative all = record { no_token = refl; effect = refl; told = append-nil all }
+
+-- ---- sequences
+
+final_H : IsFinal 0x48
+final_H = record { ends = refl; no_param = refl; no_intermediate = refl }
+
+pub final_m : IsFinal 0x6D
+final_m = record { ends = refl; no_param = refl; no_intermediate = refl }
+
+final_K : IsFinal 0x4B
+final_K = record { ends = refl; no_param = refl; no_intermediate = refl }
+
+abbrev pair : Terminal → List Deed → Terminal × List Deed
+pair t deeds = (t, deeds)
+
+moved_is : (p : Image) (columns : List Col) (q : Option (ℕ × ℕ)) (negative : Bool) (half : List ℕ) (all : List Deed) (r c : ℕ)
+    → r < p.height → c < p.width
+    → pair (obeyed (screen p columns q negative []) (Move (r + 1) (c + 1))) (all ++ command_deeds (at (screen p columns q negative []) half) (Move (r + 1) (c + 1)))
+    ≡ pair (screen p columns (Some (r, c)) negative []) all
+moved_is p columns q negative half all r c h w =
+    let t1 : nat_le 1 (r + 1) ≡ true = grind (arith, nat_tests) in
+    let t2 : nat_le (r + 1) p.height ≡ true = grind (arith, nat_tests) in
+    let t3 : nat_le 1 (c + 1) ≡ true = grind (arith, nat_tests) in
+    let t4 : nat_le (c + 1) p.width ≡ true = grind (arith, nat_tests) in
+    let e1 : (r + 1) - 1 ≡ r = omega arith in
+    let e2 : (c + 1) - 1 ≡ c = omega arith in
+    rw (t1, t2, t3, t4, e1, e2, append-nil all) refl
+
+-- a sequence, where a run that is half read takes effect first
+obeys : (p : Image) (w : Terminal × List Deed) (columns : List Col) (q : Option (ℕ × ℕ)) (negative : Bool) (all : List Deed) (ps : List ℕ) (f : ℕ) (command : Command)
+    → Leaves p w columns q negative all → list_all is_param ps ≡ true → IsFinal f → command_of ps f ≡ command
+    → run w (0x1B ∷ 0x5B ∷ (ps ++ f ∷ []))
+    ≡ (obeyed (screen p columns q negative []) command, all ++ command_deeds (at (screen p columns q negative []) (0x1B ∷ 0x5B ∷ ps)) command)
+obeys p w columns q negative all ps f command h fit final is =
+    let half = 0x1B ∷ 0x5B ∷ ps in
+    let after : Terminal → List Deed → Command → Terminal × List Deed = λ u log k. (obeyed (at u []) k, log ++ command_deeds (at u half) k) in
+    let u : Terminal = run_ended w.0 in
+    let done : List Deed = w.1 ++ pending_deeds w.0 in
+    sequence_does w.0 w.1 ps f h.no_token fit final
+    ∙ ap (after u done) is
+    ∙ ap (λ v. after v done command) h.effect
+    ∙ ap (λ log. after (screen p columns q negative []) log command) h.told
+
+pub moves : (p : Image) (w : Terminal × List Deed) (columns : List Col) (q : Option (ℕ × ℕ)) (negative : Bool) (all : List Deed) (r c : ℕ)
+    → Leaves p w columns q negative all → r < p.height → c < p.width → p.height < 2 ^ 16 → p.width < 2 ^ 16
+    → run w (move_bytes r c) ≡ (screen p columns (Some (r, c)) negative [], all)
+moves p w columns q negative all r c h rh cw ph pw =
+    let r64 : r + 1 < 2 ^ 64 = omega arith in
+    let c64 : c + 1 < 2 ^ 64 = omega arith in
+    obeys p w columns q negative all (place_params (r + 1) (c + 1)) 0x48 (Move (r + 1) (c + 1)) h
+    (place_params_fit (r + 1) (c + 1) r64 c64) final_H (command_of-place (r + 1) (c + 1) r64 c64)
+    ∙ moved_is p columns q negative (0x1B ∷ 0x5B ∷ place_params (r + 1) (c + 1)) all r c rh cw
+
+pub renders : (p : Image) (w : Terminal × List Deed) (columns : List Col) (q : Option (ℕ × ℕ)) (negative inverse : Bool) (all : List Deed)
+    → Leaves p w columns q negative all
+    → run w (render_bytes inverse) ≡ (screen p columns q inverse [], all)
+renders p w columns q negative true all h =
+    obeys p w columns q negative all (0x37 ∷ []) 0x6D _ h refl final_m refl ∙ ap (λ log. (screen p columns q true [], log)) (append-nil all)
+renders p w columns q negative false all h =
+    obeys p w columns q negative all (0x30 ∷ []) 0x6D _ h refl final_m refl ∙ ap (λ log. (screen p columns q false [], log)) (append-nil all)
+
+pub turned : (p : Image) (columns : List Col) (q : Option (ℕ × ℕ)) (negative inverse : Bool) (all : List Deed)
+    → run (screen p columns q negative [], all) (render_change negative inverse) ≡ (screen p columns q inverse [], all)
+turned p columns q true true all = refl
+turned p columns q true false all = renders p (screen p columns q true [], all) columns q true false all (plain_leaves p columns q true all)
+turned p columns q false true all = renders p (screen p columns q false [], all) columns q false true all (plain_leaves p columns q false all)
+turned p columns q false false all = refl
+
+pub erases : (p : Image) (columns : List Col) (r c : ℕ) (all : List Deed)
+    → run (screen p columns (Some (r, c)) false [], all) erase_bytes
+    ≡ (screen p (put p.width columns r c (replicate (p.width - c) blank)) None false [], all ++ Erases (r * p.width + c) ∷ [])
+erases p columns r c all =
+    obeys p (screen p columns (Some (r, c)) false [], all) columns (Some (r, c)) false all (0x30 ∷ []) 0x4B _ (plain_leaves p columns (Some (r, c)) false all) refl final_K refl
+
+-- the cursor has a place, and each place has few digits
+pub record Fits (p : Image) : Type 0 where
+  pub height : p.height < 2 ^ 16
+  pub width : p.width < 2 ^ 16
+  pub row : p.row < p.height
+  pub column : p.column < p.width
