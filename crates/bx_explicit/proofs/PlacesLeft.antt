@@ -66,3 +66,7 @@ links_to cs rs next n k (Some m) l e =
 
 pub links_low : (cs : List Class) (rs : List Run) (next : List (Option ℕ)) → AreNext cs rs next → (k : ℕ) (d : Option ℕ) → k < length next → IfSome (get_or next k d) (λ m. m < length next)
 links_low cs rs next n k d l = subst (λ o. IfSome o (λ m. m < length next)) (sym (get_or_default next k d None l)) (links_to cs rs next n k (get_or next k None) l refl)
+
+-- what is read of a link
+pub link_read : (next : List (Option ℕ)) (k : ℕ) (x r : Option ℕ) → k < length next → x ≡ get_or next k x → r ≡ x → get_or next k None ≡ r
+link_read next k x r l e s = sym (get_or_default next k x None l) ∙ sym e ∙ sym s

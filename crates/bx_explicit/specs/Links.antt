@@ -5,7 +5,7 @@ use Rattle.bx_ucd.specs.declared.class.Class.{Class}
 use Rattle.bx_ucd.specs.declared.class.Class.TheVariants.{L, R, AL, LRI, RLI, FSI, PDI}
 use Rattle.bx_ucd.specs.Class.{is_initiator}
 use Rattle.std.specs.List.{list_any}
-use Rattle.std.proofs.Common.{zero, suc}
+use Rattle.std.proofs.Common.{zero, suc, refl}
 use Rattle.bx_explicit.specs.declared.runs.Run.{Run}
 use Rattle.bx_explicit.specs.declared.chaining.Cursor.{Cursor}
 use Rattle.bx_explicit.specs.Matching.{match_of}
@@ -62,6 +62,19 @@ waiting_before i _ ps = ps
 -- the first of them is the match of an initiator
 abbrev pub match_by : Class → List ℕ → Option ℕ
 match_by c ps = elim (is_initiator c) [ true ↦ first_place ps | false ↦ None ]
+
+-- the last of so many runs, if there is one
+abbrev pub last_of : ℕ → Option ℕ
+last_of zero = None
+last_of (suc k) = Some k
+
+abbrev pub count_of : Option ℕ → ℕ
+count_of None = 0
+count_of (Some k) = suc k
+
+pub count_of_last : (n : ℕ) → count_of (last_of n) ≡ n
+count_of_last zero = refl
+count_of_last (suc n) = refl
 
 -- the same for the runs that the waiting PDIs begin, where the character more begins the run `begun`, if any
 abbrev pub rest_runs : List (Option ℕ) → List (Option ℕ)

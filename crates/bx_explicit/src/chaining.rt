@@ -8,7 +8,7 @@ ghost use Rattle.bx_explicit.specs.Links.{AreLinked, places_left, IsOnChain, fir
 use crate::ends::{end_class, start_class};
 use crate::entry::{Explicit, Kept};
 use crate::error::ExplicitError;
-use crate::linking::{followers, next_runs};
+use crate::linking::{NextRun, followers, next_runs};
 use crate::runs::{Run, runs};
 use bx_ucd::Class;
 use std::alloc::Global;
@@ -20,7 +20,7 @@ use std::marker::Model;
 pub struct Chains<'e> {
     explicit: &'e Explicit,
     runs: Vec<Run>,
-    next: Vec<Option<usize>>,
+    next: Vec<NextRun>,
     joined: Vec<bool>,
 }
 
@@ -88,7 +88,7 @@ impl<'e> Chains<'e> {
         ensures { result ≡ end_class self.now.level self.now.classes.items self.now.kept.items (last_of_chain self.now.classes.items self.now.kept.items i) }
     {
         let mut at = i;
-        while let Some(k) = self.next[at] {
+        while let Some(k) = self.next[at].run() {
             at = k;
         }
         end_class(self.explicit, self.runs[at])
@@ -141,7 +141,7 @@ fn first_kept(kept: &[Option<Kept>], from: usize, to: usize) -> usize
 fn take_place(
     explicit: &Explicit,
     runs: &[Run],
-    next: &[Option<usize>],
+    next: &[NextRun],
     at: Cursor,
 ) -> (Option<usize>, Cursor)
     requires { IsOnChain explicit.now.classes.items explicit.now.kept.items runs.now next.now at }
@@ -159,7 +159,7 @@ fn take_place(
             };
             return (Some(place), after);
         }
-        match next[at.run] {
+        match next[at.run].run() {
             Some(k) => {
                 let run = runs[k];
                 at = Cursor {
@@ -178,7 +178,7 @@ fn take_place(
 pub struct ChainPlaces<'c> {
     explicit: &'c Explicit,
     runs: &'c [Run],
-    next: &'c [Option<usize>],
+    next: &'c [NextRun],
     at: Cursor,
 }
 

@@ -1,17 +1,63 @@
 //! The run that each run is joined to (BD9, BD13), in one scan from the end.
-ghost use Rattle.std.specs.Prelude.{◌≡◌, ℕ, ◌≤◌, List, Option, [], ◌∷◌, IfOk, IfSome, OnOk, All, ◌<◌, reverse, length};
+ghost use Rattle.std.proofs.Common.{ap};
+ghost use Rattle.std.specs.Prelude.{◌≡◌, ℕ, ◌≤◌, List, Option, None, [], ◌∷◌, IfOk, IfSome, OnOk, All, ◌<◌, reverse, length};
 ghost use Rattle.bx_explicit.specs.Runs.{IsRunWithin, AreRising};
-ghost use Rattle.bx_explicit.specs.Links.{AreNext, AreLeads, begun_at, with_link, linked_by, runs_before, first_run, rest_runs, with_mark};
+ghost use Rattle.bx_explicit.specs.Links.{last_of, count_of, count_of_last, AreNext, AreLeads, begun_at, with_link, linked_by, runs_before, first_run, rest_runs, with_mark};
 
 use crate::runs::Run;
 use bx_ucd::Class;
 use std::alloc::{AllocError, Global};
 use std::marker::Model;
 
+/// A run, if there is one, in one word.
+#[derive(Clone, Copy)]
+pub struct NextRun {
+    /// How many runs there are up to it, or 0 for none.
+    count: usize,
+}
+
+// Clauses see the run.
+impl Model for NextRun {
+    ghost Value = { Option ℕ };
+
+    ghost view = { λ l. last_of l.count };
+
+    ghost inverse = { λ r. record { count = count_of r } };
+
+    ghost inverse_ok = { λ l h. ap (λ n. record { count = n }) (count_of_last l.count) };
+}
+
+impl NextRun {
+    /// No run.
+    fn none() -> Self
+        ensures { result ≡ None }
+    {
+        NextRun { count: 0 }
+    }
+
+    /// The last of so many runs, if there is one.
+    fn last_of(count: usize) -> Self
+        ensures { result ≡ last_of count }
+    {
+        NextRun { count }
+    }
+
+    /// The run.
+    pub fn run(self) -> Option<usize>
+        ensures { result ≡ self }
+    {
+        if self.count > 0 {
+            Some(self.count - 1)
+        } else {
+            None
+        }
+    }
+}
+
 /// For each PDI that matches no initiator in the text read so far, the run that it begins, if it begins one.
 #[derive(Drop)]
 struct WaitingRuns {
-    runs: Vec<Option<usize>>,
+    runs: Vec<NextRun>,
 }
 
 // Clauses see the runs in the order of the PDIs.
@@ -32,7 +78,7 @@ impl WaitingRuns {
     }
 
     /// Takes a PDI before the text, and the run that it begins.
-    fn push(&mut self, begun: Option<usize>) -> Result<(), AllocError>
+    fn push(&mut self, begun: NextRun) -> Result<(), AllocError>
         ensures { OnOk result (self.new ≡ begun ∷ self.old) }
     {
         self.runs.push(begun)?;
@@ -40,31 +86,31 @@ impl WaitingRuns {
     }
 
     /// Takes an initiator before the text: the run that its matching PDI begins.
-    fn pop(&mut self) -> Option<usize>
+    fn pop(&mut self) -> NextRun
         ensures joined { result ≡ first_run self.old }
         ensures rest { self.new ≡ rest_runs self.old }
     {
         match self.runs.pop() {
             Some(run) => run,
-            None => None,
+            None => NextRun::none(),
         }
     }
 }
 
 /// The run before run `k`, if it begins at a place.
-fn begun_at(runs: &[Run], k: usize, place: usize) -> Option<usize>
+fn begun_at(runs: &[Run], k: usize, place: usize) -> NextRun
     requires { k ≤ length runs.now }
     ensures { result ≡ begun_at runs.now k place }
 {
     if k > 0 && runs[k - 1].first == place {
-        Some(k - 1)
+        NextRun::last_of(k)
     } else {
-        None
+        NextRun::none()
     }
 }
 
 /// Writes what the run before run `k` is joined to, if it ends at a place.
-fn link(next: &mut Vec<Option<usize>>, runs: &[Run], k: usize, place: usize, joined: Option<usize>)
+fn link(next: &mut Vec<NextRun>, runs: &[Run], k: usize, place: usize, joined: NextRun)
     requires few { k ≤ length runs.now }
     requires as_long { length next.old.items ≡ length runs.now }
     ensures { next.new.items ≡ with_link runs.now k place joined next.old.items }
@@ -76,13 +122,13 @@ fn link(next: &mut Vec<Option<usize>>, runs: &[Run], k: usize, place: usize, joi
 
 /// Takes one character more, before the text. Only an initiator joins the run that it ends, if it ends one.
 fn meet(
-    next: &mut Vec<Option<usize>>,
+    next: &mut Vec<NextRun>,
     waiting: &mut WaitingRuns,
     runs: &[Run],
     class: Class,
     k: usize,
     place: usize,
-    begun: Option<usize>,
+    begun: NextRun,
 ) -> Result<(), AllocError>
     requires few { k ≤ length runs.now }
     requires as_long { length next.old.items ≡ length runs.now }
@@ -101,16 +147,12 @@ fn meet(
 }
 
 /// For each run the one that it is joined to.
-pub fn next_runs(
-    alloc: Global,
-    classes: &[Class],
-    runs: &[Run],
-) -> Result<Vec<Option<usize>>, AllocError>
+pub fn next_runs(alloc: Global, classes: &[Class], runs: &[Run]) -> Result<Vec<NextRun>, AllocError>
     requires rising { AreRising runs.now }
     requires within { All (IsRunWithin 0 (length classes.now)) runs.now }
     ensures { IfOk result (λ v. AreNext classes.now runs.now v.items) }
 {
-    let mut next = vec![in alloc; None; runs.len()]?;
+    let mut next = vec![in alloc; NextRun::none(); runs.len()]?;
     let mut waiting = WaitingRuns::new(alloc);
     let mut k = runs.len();
     let mut i = classes.len();
@@ -118,7 +160,7 @@ pub fn next_runs(
         i -= 1;
         let begun = begun_at(runs, k, i);
         meet(&mut next, &mut waiting, runs, classes[i], k, i, begun)?;
-        k = begun.unwrap_or(k);
+        k = begun.run().unwrap_or(k);
     }
     Ok(next)
 }
@@ -134,13 +176,13 @@ fn mark(marks: &mut Vec<bool>, run: Option<usize>)
 }
 
 /// Which runs another is joined to.
-pub fn followers(alloc: Global, next: &[Option<usize>]) -> Result<Vec<bool>, AllocError>
+pub fn followers(alloc: Global, next: &[NextRun]) -> Result<Vec<bool>, AllocError>
     requires { All (λ n. IfSome n (λ k. k < length next.now)) next.now }
     ensures { IfOk result (λ v. AreLeads next.now v.items) }
 {
     let mut marks = vec![in alloc; false; next.len()]?;
     for run in next {
-        mark(&mut marks, *run);
+        mark(&mut marks, run.run());
     }
     Ok(marks)
 }

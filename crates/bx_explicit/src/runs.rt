@@ -17,6 +17,17 @@ pub struct Run {
     pub last: usize,
 }
 
+/// Makes room for a run more. A text may have a run every few characters, so the room grows by a quarter.
+fn make_room(runs: &mut Vec<Run>) -> Result<(), AllocError>
+    ensures { OnOk result (runs.new.items ≡ runs.old.items) }
+{
+    let count = runs.len();
+    if count == runs.capacity() {
+        runs.reserve_exact(count / 4 + 8)?;
+    }
+    Ok(())
+}
+
 /// Adds a kept character before the runs, of which the first stands last.
 #[tactic(auto, using(crate::proofs::LevelRuns::reverse_last, crate::proofs::LevelRuns::reverse_set, crate::proofs::LevelRuns::reverse_one))]
 fn join_run(runs: &mut Vec<Run>, k: usize, level: u8) -> Result<(), AllocError>
@@ -31,6 +42,7 @@ fn join_run(runs: &mut Vec<Run>, k: usize, level: u8) -> Result<(), AllocError>
             last,
         };
     } else {
+        make_room(runs)?;
         runs.push(Run {
             level,
             first: k,

@@ -23,13 +23,13 @@ struct Room {
 }
 
 impl Room {
-    /// Room for sequences of up to so many characters, with none in it.
-    fn new(alloc: Global, count: usize) -> Result<Self, AllocError> {
-        Ok(Room {
-            chars: Vec::with_capacity(alloc, count)?,
-            types: Vec::with_capacity(alloc, count)?,
+    /// Room with nothing in it.
+    fn new(alloc: Global) -> Self {
+        Room {
+            chars: Vec::new(alloc),
+            types: Vec::new(alloc),
             scratch: Scratch::new(alloc),
-        })
+        }
     }
 
     /// Takes the characters of a sequence and their types after overrides.
@@ -135,7 +135,7 @@ fn each_level<D: BidiData>(
 {
     let chains = Chains::new(alloc, explicit)?;
     let mut each = vec![in alloc; None; chars.len()]?;
-    let mut room = Room::new(alloc, chars.len())?;
+    let mut room = Room::new(alloc);
     for i in 0..chains.len() {
         if chains.begins(i) {
             write_chain(

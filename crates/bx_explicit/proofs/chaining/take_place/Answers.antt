@@ -4,7 +4,7 @@ use Rattle.bx_explicit.specs.declared.entry.Kept.{Kept}
 use Rattle.bx_explicit.specs.declared.runs.Run.{Run}
 use Rattle.bx_explicit.specs.declared.chaining.Cursor.{Cursor}
 use Rattle.bx_explicit.specs.Links.{IsOnChain, first_of, rest_of, next_of}
-use Rattle.bx_explicit.proofs.PlacesLeft.{range, take_more, take_next, take_end, left_end, next_run, on_next}
+use Rattle.bx_explicit.proofs.PlacesLeft.{range, link_read, take_more, take_next, take_end, left_end, next_run, on_next}
 use Rattle.bx_explicit.proofs.chaining.take_place.Goals as goal
 
 -- the first kept place from the cursor's place on
@@ -29,16 +29,16 @@ returns-then-place-at-clause-rest c =
 
 pub offset_bounds-runs-k : goal.offset_bounds-runs-k
 offset_bounds-runs-k c =
-    let w : (c.loop-at.at.run < c.in-Some.k) × (c.in-Some.k < length c.args.runs.now) = next_run c.args.explicit.now.classes.items c.args.explicit.now.kept.items c.args.runs.now c.args.next.now c.loop-at.at c.in-Some.k c.loop-at.invariant.on c.in-Some.is in
+    let w : (c.loop-at.at.run < c.in-Some.k) × (c.in-Some.k < length c.args.runs.now) = next_run c.args.explicit.now.classes.items c.args.explicit.now.kept.items c.args.runs.now c.args.next.now c.loop-at.at c.in-Some.k c.loop-at.invariant.on (link_read c.args.next.now c.loop-at.at.run c.index-next-at.result c.run.result (omega (arith, c.loop-at.invariant.on.linked.as_long, c.loop-at.invariant.on.is_run)) c.index-next-at.is c.run.ensures ∙ c.in-Some.is) in
     let l : c.in-Some.k < length c.args.runs.now = w.1 in
     search rules
 
 pub bounds-runs-k : goal.bounds-runs-k
-bounds-runs-k c = (next_run c.args.explicit.now.classes.items c.args.explicit.now.kept.items c.args.runs.now c.args.next.now c.loop-at.at c.in-Some.k c.loop-at.invariant.on c.in-Some.is).1
+bounds-runs-k c = (next_run c.args.explicit.now.classes.items c.args.explicit.now.kept.items c.args.runs.now c.args.next.now c.loop-at.at c.in-Some.k c.loop-at.invariant.on (link_read c.args.next.now c.loop-at.at.run c.index-next-at.result c.run.result (omega (arith, c.loop-at.invariant.on.linked.as_long, c.loop-at.invariant.on.is_run)) c.index-next-at.is c.run.ensures ∙ c.in-Some.is)).1
 
 pub loop-at-smaller : goal.loop-at-smaller
 loop-at-smaller c =
-    let w : (c.loop-at.at.run < c.in-Some.k) × (c.in-Some.k < length c.args.runs.now) = next_run c.args.explicit.now.classes.items c.args.explicit.now.kept.items c.args.runs.now c.args.next.now c.loop-at.at c.in-Some.k c.loop-at.invariant.on c.in-Some.is in
+    let w : (c.loop-at.at.run < c.in-Some.k) × (c.in-Some.k < length c.args.runs.now) = next_run c.args.explicit.now.classes.items c.args.explicit.now.kept.items c.args.runs.now c.args.next.now c.loop-at.at c.in-Some.k c.loop-at.invariant.on (link_read c.args.next.now c.loop-at.at.run c.index-next-at.result c.run.result (omega (arith, c.loop-at.invariant.on.linked.as_long, c.loop-at.invariant.on.is_run)) c.index-next-at.is c.run.ensures ∙ c.in-Some.is) in
     let a : c.loop-at.at.run < c.in-Some.k = w.0 in
     let b : c.in-Some.k < length c.args.runs.now = w.1 in
     omega arith
@@ -49,9 +49,9 @@ loop-at-preserved c =
     let kept : List (Option Kept) = c.args.explicit.now.kept.items in
     let rs : List Run = c.args.runs.now in
     let on : IsOnChain cs kept rs c.args.next.now c.loop-at.at = c.loop-at.invariant.on in
-    let w : (c.loop-at.at.run < c.in-Some.k) × (c.in-Some.k < length rs) = next_run cs kept rs c.args.next.now c.loop-at.at c.in-Some.k on c.in-Some.is in
+    let w : (c.loop-at.at.run < c.in-Some.k) × (c.in-Some.k < length rs) = next_run cs kept rs c.args.next.now c.loop-at.at c.in-Some.k on (link_read c.args.next.now c.loop-at.at.run c.index-next-at.result c.run.result (omega (arith, c.loop-at.invariant.on.linked.as_long, c.loop-at.invariant.on.is_run)) c.index-next-at.is c.run.ensures ∙ c.in-Some.is) in
     let skips : Skips kept c.loop-at.at c.first_kept-place.result = subst (λ g. Skips g c.loop-at.at c.first_kept-place.result) c.deref.ensures.value c.first_kept-place.ensures.places in
-    let found : next_of cs rs c.loop-at.at.run ≡ Some c.in-Some.k = sym (on.linked.found c.loop-at.at.run on.is_run) ∙ c.in-Some.is in
+    let found : next_of cs rs c.loop-at.at.run ≡ Some c.in-Some.k = sym (on.linked.found c.loop-at.at.run on.is_run) ∙ (link_read c.args.next.now c.loop-at.at.run c.index-next-at.result c.run.result (omega (arith, c.loop-at.invariant.on.linked.as_long, c.loop-at.invariant.on.is_run)) c.index-next-at.is c.run.ensures ∙ c.in-Some.is) in
     record {
       on = on_next cs kept rs c.args.next.now c.loop-at.at c.in-Some.k on w.1;
       left = c.loop-at.invariant.left ∙ take_next cs kept rs c.loop-at.at c.first_kept-place.result skips c.in-Some.k c.if-place-at.false on.is_run found;
@@ -64,7 +64,7 @@ returns-in-None-clause-first c =
     let rs : List Run = c.args.runs.now in
     let on : IsOnChain cs kept rs c.args.next.now c.loop-at.at = c.loop-at.invariant.on in
     let skips : Skips kept c.loop-at.at c.first_kept-place.result = subst (λ g. Skips g c.loop-at.at c.first_kept-place.result) c.deref.ensures.value c.first_kept-place.ensures.places in
-    let found : next_of cs rs c.loop-at.at.run ≡ None = sym (on.linked.found c.loop-at.at.run on.is_run) ∙ c.in-None.is in
+    let found : next_of cs rs c.loop-at.at.run ≡ None = sym (on.linked.found c.loop-at.at.run on.is_run) ∙ (link_read c.args.next.now c.loop-at.at.run c.index-next-at.result c.run.result (omega (arith, c.loop-at.invariant.on.linked.as_long, c.loop-at.invariant.on.is_run)) c.index-next-at.is c.run.ensures ∙ c.in-None.is) in
     sym (ap first_of (c.loop-at.invariant.left ∙ take_end cs kept rs c.loop-at.at c.first_kept-place.result skips c.if-place-at.false on.is_run found))
 
 pub returns-in-None-clause-rest : goal.returns-in-None-clause-rest
@@ -74,5 +74,5 @@ returns-in-None-clause-rest c =
     let rs : List Run = c.args.runs.now in
     let on : IsOnChain cs kept rs c.args.next.now c.loop-at.at = c.loop-at.invariant.on in
     let skips : Skips kept c.loop-at.at c.first_kept-place.result = subst (λ g. Skips g c.loop-at.at c.first_kept-place.result) c.deref.ensures.value c.first_kept-place.ensures.places in
-    let found : next_of cs rs c.loop-at.at.run ≡ None = sym (on.linked.found c.loop-at.at.run on.is_run) ∙ c.in-None.is in
+    let found : next_of cs rs c.loop-at.at.run ≡ None = sym (on.linked.found c.loop-at.at.run on.is_run) ∙ (link_read c.args.next.now c.loop-at.at.run c.index-next-at.result c.run.result (omega (arith, c.loop-at.invariant.on.linked.as_long, c.loop-at.invariant.on.is_run)) c.index-next-at.is c.run.ensures ∙ c.in-None.is) in
     left_end cs kept rs c.loop-at.at c.first_kept-place.result skips c.if-place-at.false on.is_run found ∙ sym (ap rest_of (c.loop-at.invariant.left ∙ take_end cs kept rs c.loop-at.at c.first_kept-place.result skips c.if-place-at.false on.is_run found))

@@ -17,7 +17,7 @@ loop-i-preserved c =
     let e : p + 1 ≡ c.loop-i.i = omega arith in
     let low : p < length cs = omega (arith, c.loop-i.invariant.few) in
     let begun : (begun_at rs k p ≡ index_in rs p) × IsSplit rs p (unwrap_or (begun_at rs k p) k) = begun_is rs c.requires.rising c.loop-i.i p k e c.loop-i.invariant.split in
-    let at : c.unwrap_or-k.result ≡ unwrap_or (begun_at rs k p) k = c.unwrap_or-k.ensures ∙ ap (λ b. unwrap_or b k) c.begun_at-begun.ensures in
+    let at : c.unwrap_or-k.result ≡ unwrap_or (begun_at rs k p) k = c.unwrap_or-k.ensures ∙ ap (λ b. unwrap_or b k) (c.run.ensures ∙ c.begun_at-begun.ensures) in
     record {
       few = omega (arith, c.loop-i.invariant.few);
       split = subst (IsSplit rs p) (sym at) begun.1;
