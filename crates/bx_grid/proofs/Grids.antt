@@ -11,7 +11,7 @@ use Rattle.bx_grid.specs.Seen.{seen, all_seen}
 use Rattle.bx_grid.specs.declared.column.Column.{Column}
 use Rattle.bx_grid.specs.declared.column.Column.TheVariants.{Ascii}
 use Rattle.bx_grid.specs.Tokens.{is_printable}
-use Rattle.bx_grid.specs.Picture.{Cells, IsGrid, IsWithin}
+use Rattle.bx_grid.specs.Picture.{Cells, HasRoom, IsGrid, IsWithin}
 use Rattle.bx_grid.proofs.Laid.{plain_is_one}
 use Rattle.bx_grid.proofs.Pasted.{length-paste, rows_paste}
 use Rattle.bx_grid.proofs.Puts.{run_length}
@@ -60,8 +60,7 @@ pub record CanPut (g : Cells) (line column : ℕ) (text : List ℕ) : Type 0 whe
   pub inside : IsWithin g.height g.width line column
   pub glyph : is_one_glyph text ≡ true
   pub utf8 : IsUtf8 text
-  pub room : column - 1 + length (run_columns false text) ≤ g.width
-  pub blank : AreBlank ((line - 1) * g.width + (column - 1)) (length (run_columns false text)) g.columns
+  pub room : HasRoom g line column (length (run_columns false text))
 
 pub can_along : (g old : Cells) (line column : ℕ) (text : List ℕ) → g ≡ old → CanPut old line column text → CanPut g line column text
 can_along g old line column text e can = subst (λ (x : Cells). CanPut x line column text) (sym e) can
@@ -90,8 +89,8 @@ put_kept g line column text negative is can =
     let news : List Col = columns_of glyph in
     let len : length news ≡ length (run_columns false text) = run_length negative false text in
     let below : r < g.height = omega (arith, can.inside) in
-    let room : k + length news ≤ g.width = omega (arith, can.room, len) in
-    let blanks : AreBlank (r * g.width + k) (length news) g.columns = rw len can.blank in
+    let room : k + length news ≤ g.width = omega (arith, can.room.fits, len) in
+    let blanks : AreBlank (r * g.width + k) (length news) g.columns = rw len can.room.blank in
     let fits : r * g.width + k + length news ≤ length g.columns = span_inside r k (length news) g.height g.width (length g.columns) is.sized.each below room in
     record {
       sized = record { low = is.sized.low; high = is.sized.high; narrow = is.sized.narrow; wide = is.sized.wide; each = length-paste g.columns news (r * g.width + k) fits ∙ is.sized.each };
@@ -124,7 +123,7 @@ row_letters count from columns letters e =
 pub put_fits : (g : Cells) (line column : ℕ) (text : List ℕ) (n : ℕ) → IsGrid g.height g.width g.columns → CanPut g line column text → n ≡ length (run_columns false text)
     → (line - 1) * g.width + (column - 1) + n ≤ length g.columns
 put_fits g line column text n is can e =
-    span_inside (line - 1) (column - 1) n g.height g.width (length g.columns) is.sized.each (omega (arith, can.inside)) (omega (arith, can.room, e))
+    span_inside (line - 1) (column - 1) n g.height g.width (length g.columns) is.sized.each (omega (arith, can.inside)) (omega (arith, can.room.fits, e))
 
 pub letter_set : (items : List Column) (letters : List ℕ) (k byte letter : ℕ) (negative : Bool) → letter ≡ letter_of (Glyph (byte ∷ []) 1 0 negative) → letters ≡ letters_of (all_seen items)
     → set letters k letter ≡ letters_of (all_seen (set items k (Ascii byte negative)))

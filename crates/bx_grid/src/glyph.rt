@@ -1,9 +1,10 @@
 //! Glyphs: which texts a printable run puts as one.
 
-ghost use Rattle.std.specs.Prelude.{◌≡◌};
+ghost use Rattle.std.specs.Prelude.{◌≡◌, [], ◌∷◌, MatchOption, true, false};
 ghost use Rattle.bx_bytes.specs.Utf8.{are_printable};
 ghost use Rattle.bx_grid.specs.Columns.{is_printable_text};
 ghost use Rattle.bx_grid.specs.Glyphs.{is_one_glyph};
+ghost use Rattle.bx_grid.specs.Tokens.{is_printable};
 
 use crate::columns::{is_plain_run, run_width};
 use crate::token::{is_control, printable};
@@ -13,6 +14,16 @@ fn are_printable(text: &str) -> bool
     ensures { result ≡ are_printable text.now }
 {
     text.chars().all(|c| !is_control(c))
+}
+
+/// The byte of a glyph that is one character from SPACE to TILDE, and none for any other text.
+pub fn ascii_glyph(text: &str) -> Option<u8>
+    ensures { MatchOption result (is_printable_text text.now ≡ false) (λ byte. (text.now ≡ byte ∷ []) × (is_printable byte ≡ true)) }
+{
+    match text.as_bytes() {
+        [byte] if printable(*byte) => Some(*byte),
+        _ => None,
+    }
 }
 
 /// Whether a terminal shows a text as one glyph: a character from SPACE to TILDE, or characters that are no controls, not

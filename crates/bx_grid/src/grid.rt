@@ -1,9 +1,8 @@
 //! A grid of columns that are all known.
 
-ghost use Rattle.std.specs.Prelude.{◌≡◌, ℕ, ◌*◌, ◌+◌, ◌-◌, ◌<◌, ◌≤◌, ◌↔◌, List, [], ◌∷◌, ◌++◌, length, replicate, take, drop, IfOk, OnOk, OnErr, IfErr, IsErrOf, IsOk, IsTrue, MatchOption, true, false};
-ghost use Rattle.bx_grid.specs.Columns.{blank, is_printable_text, paste, run_columns, AreBlank};
+ghost use Rattle.std.specs.Prelude.{◌≡◌, ℕ, ◌*◌, ◌+◌, ◌-◌, ◌<◌, ◌≤◌, ◌↔◌, List, ◌++◌, length, replicate, take, drop, IfOk, OnOk, OnErr, IfErr, IsErrOf, IsOk, IsTrue, true, false};
+ghost use Rattle.bx_grid.specs.Columns.{blank, is_printable_text, paste, run_columns};
 ghost use Rattle.bx_grid.specs.Glyphs.{is_one_glyph};
-ghost use Rattle.bx_grid.specs.Tokens.{is_printable};
 ghost use Rattle.bx_grid.specs.Seen.{seen, all_seen};
 ghost use Rattle.bx_grid.specs.Picture.{Cells, HasRoom, IsGrid, IsWithin, is_size};
 
@@ -11,9 +10,9 @@ use crate::cell::Cell;
 use crate::column::Column;
 use crate::columns::{are_blank, blank_columns, is_side, put_over_blanks, run_width};
 use crate::error::GridError;
+use crate::glyph::ascii_glyph;
 use crate::letters::{blank_letters, letter, note_letters};
 use crate::row::Row;
-use crate::token::printable;
 use std::alloc::{AllocError, Global};
 use std::marker::Model;
 
@@ -37,16 +36,6 @@ impl Model for Grid {
     ghost view = { λ g. record { height = g.height; width = g.width; columns = all_seen g.columns.items } };
 
     ghost invariant = { λ g. IsGrid g.height g.width (all_seen g.columns.items) × (g.letters.items ≡ letters_of (all_seen g.columns.items)) };
-}
-
-/// The byte of a text that is one character from SPACE to TILDE.
-fn plain_byte(text: &str) -> Option<u8>
-    ensures { MatchOption result (is_printable_text text.now ≡ false) (λ byte. (text.now ≡ byte ∷ []) × (is_printable byte ≡ true)) }
-{
-    match text.as_bytes() {
-        [byte] if printable(*byte) => Some(*byte),
-        _ => None,
-    }
 }
 
 impl Grid {
@@ -80,15 +69,14 @@ impl Grid {
     pub fn put(&mut self, cell: Cell, text: &str, negative: bool) -> Result<(), GridError>
         requires inside { IsWithin self.old.height self.old.width cell.line cell.column }
         requires glyph { is_one_glyph text.now ≡ true }
-        requires room { cell.column - 1 + length (run_columns false text.now) ≤ self.old.width }
-        requires blank { AreBlank ((cell.line - 1) * self.old.width + (cell.column - 1)) (length (run_columns false text.now)) self.old.columns }
+        requires room { HasRoom self.old cell.line cell.column (length (run_columns false text.now)) }
         ensures ok { OnOk result (self.new ≡ record self.old { columns = paste self.old.columns ((cell.line - 1) * self.old.width + (cell.column - 1)) (run_columns negative text.now) }) }
         ensures err { OnErr result (self.new ≡ self.old) }
         ensures memory { OnErr result (result ≡ Err GridError.OutOfMemory) }
         ensures plain { is_printable_text text.now ≡ true → IsOk result }
     {
         let place = (cell.line - 1) as usize * self.width as usize + (cell.column - 1) as usize;
-        if let Some(byte) = plain_byte(text) {
+        if let Some(byte) = ascii_glyph(text) {
             let letter = letter(byte, negative);
             self.columns[place] = Column::Ascii { byte, negative };
             self.letters[place] = letter;

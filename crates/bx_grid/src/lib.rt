@@ -25,7 +25,7 @@ pub use cell::Cell;
 pub use column::{Column, all_same};
 pub use columns::run_width;
 pub use error::GridError;
-pub use glyph::is_glyph;
+pub use glyph::{ascii_glyph, is_glyph};
 pub use grid::Grid;
 pub use picture::Picture;
 pub use row::Row;

@@ -1,14 +1,30 @@
 //! A screen that reads what a painter would send.
 
-use crate::{Cell, Column, Grid, GridError, Picture, Screen, run_width};
+ghost use Rattle.std.specs.Prelude.{◌≡◌, OnOk};
+ghost use Rattle.bx_grid.specs.Picture.{IsWithin};
+
+use crate::{Cell, Column, Grid, GridError, Picture, Screen, ascii_glyph, is_glyph, run_width};
 use std::alloc::Global;
 use std::test::Fail;
 
+/// Puts a glyph. Whether the text is one, with room for it, is asked when the test runs, so that no proof computes widths.
+fn put(grid: &mut Grid, cell: Cell, text: &str, negative: bool) -> Result<(), Fail>
+    requires { IsWithin grid.old.height grid.old.width cell.line cell.column }
+    ensures height { OnOk result (grid.new.height ≡ grid.old.height) }
+    ensures width { OnOk result (grid.new.width ≡ grid.old.width) }
+{
+    if !is_glyph(text) || !grid.has_room(cell, run_width(text)) {
+        return Err(Fail::new("no glyph, or no room for it"));
+    }
+    grid.put(cell, text, negative)?;
+    Ok(())
+}
+
 /// The row `ab` of five columns, with the cursor on its first.
-fn picture_of_ab(alloc: Global) -> Result<Picture, GridError> {
+fn picture_of_ab(alloc: Global) -> Result<Picture, Fail> {
     let mut grid = Grid::blank(alloc, 1, 5)?;
-    grid.put(Cell { line: 1, column: 1 }, "a", false)?;
-    grid.put(Cell { line: 1, column: 2 }, "b", false)?;
+    put(&mut grid, Cell { line: 1, column: 1 }, "a", false)?;
+    put(&mut grid, Cell { line: 1, column: 2 }, "b", false)?;
     Ok(Picture::new(grid, Cell { line: 1, column: 1 }))
 }
 
@@ -104,9 +120,9 @@ fn a_blank_is_a_space_in_normal_rendition(rt: HostRuntime) -> Result<(), Fail> {
 }
 
 /// A row of four columns, with an `x` in its second.
-fn picture_of_x(alloc: Global) -> Result<Picture, GridError> {
+fn picture_of_x(alloc: Global) -> Result<Picture, Fail> {
     let mut grid = Grid::blank(alloc, 1, 4)?;
-    grid.put(Cell { line: 1, column: 2 }, "x", false)?;
+    put(&mut grid, Cell { line: 1, column: 2 }, "x", false)?;
     Ok(Picture::new(grid, Cell { line: 1, column: 1 }))
 }
 
@@ -136,9 +152,9 @@ fn half_a_character_is_broken_off(rt: HostRuntime) -> Result<(), Fail> {
 }
 
 /// A row of four columns that begins with U+4E16.
-fn picture_of_wide(alloc: Global) -> Result<Picture, GridError> {
+fn picture_of_wide(alloc: Global) -> Result<Picture, Fail> {
     let mut grid = Grid::blank(alloc, 1, 4)?;
-    grid.put(Cell { line: 1, column: 1 }, "\u{4E16}", false)?;
+    put(&mut grid, Cell { line: 1, column: 1 }, "\u{4E16}", false)?;
     Ok(Picture::new(grid, Cell { line: 1, column: 1 }))
 }
 
@@ -172,11 +188,11 @@ fn a_wide_glyph_stands_in_two_columns(rt: HostRuntime) -> Result<(), Fail> {
 }
 
 /// A row of four columns: `e` with U+0301, a negative `I`, and U+4E16.
-fn picture_of_three(alloc: Global, marked: bool) -> Result<Picture, GridError> {
+fn picture_of_three(alloc: Global, marked: bool) -> Result<Picture, Fail> {
     let mut grid = Grid::blank(alloc, 1, 4)?;
-    grid.put(Cell { line: 1, column: 3 }, "\u{4E16}", false)?;
-    grid.put(Cell { line: 1, column: 1 }, "e\u{301}", false)?;
-    grid.put(Cell { line: 1, column: 2 }, "I", marked)?;
+    put(&mut grid, Cell { line: 1, column: 3 }, "\u{4E16}", false)?;
+    put(&mut grid, Cell { line: 1, column: 1 }, "e\u{301}", false)?;
+    put(&mut grid, Cell { line: 1, column: 2 }, "I", marked)?;
     Ok(Picture::new(grid, Cell { line: 1, column: 1 }))
 }
 
@@ -188,6 +204,14 @@ fn shows_a_letter_with_its_mark_and_a_negative_one(rt: HostRuntime) -> Result<()
     screen.read(b"\x1b[0m\x1b[1;3H\xE4\xB8\x96\x1b[1;1H")?;
     assert!(rt; screen.shows(&picture));
     assert!(rt; !screen.shows(&picture_of_three(rt.alloc(), false)?));
+    Ok(())
+}
+
+#[test]
+fn ascii_glyphs(rt: HostRuntime) -> Result<(), Fail> {
+    assert_eq!(rt; ascii_glyph("~"), Some(b'~'));
+    assert_eq!(rt; ascii_glyph("\u{4E16}"), None);
+    assert_eq!(rt; ascii_glyph("ab"), None);
     Ok(())
 }
 

@@ -1,12 +1,12 @@
 //! The bytes of a painting, written one after another.
 
 ghost use Rattle.std.specs.Prelude.{◌≡◌, ℕ, ◌+◌, ◌*◌, ◌<◌, ◌≤◌, ◌^◌, [], ◌∷◌, ◌++◌, length, true, false, IfOk, OnOk, OnErr, string_bytes, take, drop};
-ghost use Rattle.bx_grid.specs.Columns.{is_printable_text, are_equal};
+ghost use Rattle.bx_grid.specs.Columns.{are_equal};
 ghost use Rattle.bx_grid.specs.Seen.{seen, all_seen};
 ghost use Rattle.bx_paint.specs.Painting as spec;
 ghost use Rattle.bx_paint.specs.Painting.{move_bytes, render_change, glyph_bytes, before_tail, leading_blanks, column_sent, columns_sent, tail_sent, row_sent, rows_sent};
 
-use bx_grid::{Column, Grid, Row, all_same, printable};
+use bx_grid::{Column, Grid, Row, all_same, ascii_glyph, printable};
 use itoa::Buffer;
 use std::alloc::AllocError;
 
@@ -45,16 +45,6 @@ struct Pen {
     negative: bool,
 }
 
-/// Whether a text is one character from SPACE to TILDE.
-fn is_plain_text(text: &str) -> bool
-    ensures { result ≡ is_printable_text text.now }
-{
-    match text.as_bytes() {
-        [byte] => printable(*byte),
-        _ => false,
-    }
-}
-
 /// Sends a glyph of one byte.
 fn send_byte(
     out: &mut Vec<u8>,
@@ -87,7 +77,7 @@ fn send_glyph(
     requires small { (row < 65535) × (column < 65535) }
     ensures { OnOk result (out.new.items ≡ out.old.items ++ glyph_bytes row column pen.near pen.negative text.now inverse) }
 {
-    if !(pen.near && is_plain_text(text)) {
+    if !(pen.near && ascii_glyph(text).is_some()) {
         send_move(out, row, column)?;
     }
     send_rendition(out, pen.negative, inverse)?;
@@ -151,7 +141,7 @@ fn send_column(
         Some(Column::Glyph { text, negative, .. }) if sent => {
             send_glyph(out, row, column, pen, text, *negative)?;
             Ok(Pen {
-                near: is_plain_text(text),
+                near: ascii_glyph(text).is_some(),
                 negative: *negative,
             })
         }

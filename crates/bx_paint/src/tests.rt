@@ -1,30 +1,44 @@
 //! What is sent for small pictures, and what a screen shows that reads it.
 
-ghost use Rattle.std.specs.Prelude.{◌≡◌, IfOk};
+ghost use Rattle.std.specs.Prelude.{◌≡◌, IfOk, OnOk};
+ghost use Rattle.bx_grid.specs.Picture.{IsWithin};
 
 use crate::{changes, whole};
-use bx_grid::{Cell, Grid, GridError, Picture, Screen};
+use bx_grid::{Cell, Grid, Picture, Screen, is_glyph, run_width};
 use std::alloc::Global;
 use std::test::Fail;
 
+/// Puts a glyph. Whether the text is one, with room for it, is asked when the test runs, so that no proof computes widths.
+fn put(grid: &mut Grid, cell: Cell, text: &str, negative: bool) -> Result<(), Fail>
+    requires { IsWithin grid.old.height grid.old.width cell.line cell.column }
+    ensures height { OnOk result (grid.new.height ≡ grid.old.height) }
+    ensures width { OnOk result (grid.new.width ≡ grid.old.width) }
+{
+    if !is_glyph(text) || !grid.has_room(cell, run_width(text)) {
+        return Err(Fail::new("no glyph, or no room for it"));
+    }
+    grid.put(cell, text, negative)?;
+    Ok(())
+}
+
 /// The row `ab` of five columns, with the cursor on its first.
-fn picture_of_ab(alloc: Global) -> Result<Picture, GridError>
+fn picture_of_ab(alloc: Global) -> Result<Picture, Fail>
     ensures size { IfOk result (λ p. (p.height ≡ 1) × (p.width ≡ 5)) }
 {
     let mut grid = Grid::blank(alloc, 1, 5)?;
-    grid.put(Cell { line: 1, column: 1 }, "a", false)?;
-    grid.put(Cell { line: 1, column: 2 }, "b", false)?;
+    put(&mut grid, Cell { line: 1, column: 1 }, "a", false)?;
+    put(&mut grid, Cell { line: 1, column: 2 }, "b", false)?;
     Ok(Picture::new(grid, Cell { line: 1, column: 1 }))
 }
 
 /// The row `xab`, of which the `x` is negative, with the cursor on its second column.
-fn picture_of_xab(alloc: Global) -> Result<Picture, GridError>
+fn picture_of_xab(alloc: Global) -> Result<Picture, Fail>
     ensures size { IfOk result (λ p. (p.height ≡ 1) × (p.width ≡ 5)) }
 {
     let mut grid = Grid::blank(alloc, 1, 5)?;
-    grid.put(Cell { line: 1, column: 1 }, "x", true)?;
-    grid.put(Cell { line: 1, column: 2 }, "a", false)?;
-    grid.put(Cell { line: 1, column: 3 }, "b", false)?;
+    put(&mut grid, Cell { line: 1, column: 1 }, "x", true)?;
+    put(&mut grid, Cell { line: 1, column: 2 }, "a", false)?;
+    put(&mut grid, Cell { line: 1, column: 3 }, "b", false)?;
     Ok(Picture::new(grid, Cell { line: 1, column: 2 }))
 }
 
@@ -71,34 +85,34 @@ fn nothing_where_nothing_differs(rt: HostRuntime) -> Result<(), Fail> {
 }
 
 /// A row of four columns that begins with U+4E16, with the cursor on its first.
-fn picture_of_wide(alloc: Global) -> Result<Picture, GridError>
+fn picture_of_wide(alloc: Global) -> Result<Picture, Fail>
     ensures size { IfOk result (λ p. (p.height ≡ 1) × (p.width ≡ 4)) }
 {
     let mut grid = Grid::blank(alloc, 1, 4)?;
-    grid.put(Cell { line: 1, column: 1 }, "\u{4e16}", false)?;
+    put(&mut grid, Cell { line: 1, column: 1 }, "\u{4e16}", false)?;
     Ok(Picture::new(grid, Cell { line: 1, column: 1 }))
 }
 
 /// The same with an `x` before it, and the cursor on its second column.
-fn picture_of_x_and_wide(alloc: Global) -> Result<Picture, GridError>
+fn picture_of_x_and_wide(alloc: Global) -> Result<Picture, Fail>
     ensures size { IfOk result (λ p. (p.height ≡ 1) × (p.width ≡ 4)) }
 {
     let mut grid = Grid::blank(alloc, 1, 4)?;
-    grid.put(Cell { line: 1, column: 1 }, "x", false)?;
-    grid.put(Cell { line: 1, column: 2 }, "\u{4e16}", false)?;
+    put(&mut grid, Cell { line: 1, column: 1 }, "x", false)?;
+    put(&mut grid, Cell { line: 1, column: 2 }, "\u{4e16}", false)?;
     Ok(Picture::new(grid, Cell { line: 1, column: 2 }))
 }
 
 /// A row of four columns: an `e`, to which U+0301 may be joined, and a negative `x`.
-fn picture_of_e(alloc: Global, accent: bool) -> Result<Picture, GridError>
+fn picture_of_e(alloc: Global, accent: bool) -> Result<Picture, Fail>
     ensures size { IfOk result (λ p. (p.height ≡ 1) × (p.width ≡ 4)) }
 {
     let mut grid = Grid::blank(alloc, 1, 4)?;
-    grid.put(Cell { line: 1, column: 2 }, "x", true)?;
+    put(&mut grid, Cell { line: 1, column: 2 }, "x", true)?;
     if accent {
-        grid.put(Cell { line: 1, column: 1 }, "e\u{301}", false)?;
+        put(&mut grid, Cell { line: 1, column: 1 }, "e\u{301}", false)?;
     } else {
-        grid.put(Cell { line: 1, column: 1 }, "e", false)?;
+        put(&mut grid, Cell { line: 1, column: 1 }, "e", false)?;
     }
     Ok(Picture::new(grid, Cell { line: 1, column: 1 }))
 }

@@ -23,16 +23,15 @@ pub put-requires-clause-room : goal.put-requires-clause-room
 put-requires-clause-room c =
     let wide : c.loop-i.grid.width ≡ c.args.width = ap (λ (g : Cells). g.width) c.loop-i.invariant in
     let low = (size_is c.args.height c.args.width c.requires.sized).width_low in
-    omega (arith, plain_width false c.encode_utf8.result.now (plain c))
-
-pub put-requires-clause-blank : goal.put-requires-clause-blank
-put-requires-clause-blank c =
     let i = c.loop-i.i in
     let w = c.args.width in
     let bytes = c.encode_utf8.result.now in
-    subst (λ (g : Cells). AreBlank ((i / w + 1 - 1) * g.width + (i % w + 1 - 1)) (length (run_columns false bytes)) g.columns) (sym c.loop-i.invariant)
-    (next_is_blank (c.args.height * w) i ((i / w + 1 - 1) * w + (i % w + 1 - 1)) c.args.text.now bytes (omega arith) c.requires.room
-    (cell_at i w (size_is c.args.height w c.requires.sized).width_low) (plain_width false bytes (plain c)))
+    record {
+      fits = omega (arith, plain_width false bytes (plain c));
+      blank = subst (λ (g : Cells). AreBlank ((i / w + 1 - 1) * g.width + (i % w + 1 - 1)) (length (run_columns false bytes)) g.columns) (sym c.loop-i.invariant)
+          (next_is_blank (c.args.height * w) i ((i / w + 1 - 1) * w + (i % w + 1 - 1)) c.args.text.now bytes (omega arith) c.requires.room
+          (cell_at i w (size_is c.args.height w c.requires.sized).width_low) (plain_width false bytes (plain c)));
+    }
 
 pub loop-i-preserved : goal.loop-i-preserved
 loop-i-preserved c =

@@ -17,7 +17,7 @@ invariant_of-self c =
     let cell = c.args.cell in
     let text = c.args.text.now in
     let can : CanPut g cell.line cell.column text = can_along g c.args.self.now cell.line cell.column text c.self.view_is
-    (record { inside = c.requires.inside; glyph = c.requires.glyph; utf8 = c.utf8.text; room = c.requires.room; blank = c.requires.blank }) in (
+    (record { inside = c.requires.inside; glyph = c.requires.glyph; utf8 = c.utf8.text; room = c.requires.room }) in (
       subst (λ (cs : List Col). IsGrid g.height g.width cs)
           (sym (plain_seen g c.self.inside.columns.items cell.line cell.column text c.in-Some.byte c.args.negative refl c.in-Some.ensures.0 c.in-Some.ensures.1 c.self.invariant.0 can))
           (put_kept g cell.line cell.column text c.args.negative c.self.invariant.0 can),
@@ -30,7 +30,7 @@ returns-in-Some-clause-ok c =
     let cell = c.args.cell in
     let text = c.args.text.now in
     let can : CanPut g cell.line cell.column text = can_along g c.args.self.now cell.line cell.column text c.self.view_is
-    (record { inside = c.requires.inside; glyph = c.requires.glyph; utf8 = c.utf8.text; room = c.requires.room; blank = c.requires.blank }) in
+    (record { inside = c.requires.inside; glyph = c.requires.glyph; utf8 = c.utf8.text; room = c.requires.room }) in
     ap (λ (cs : List Col). record { height = g.height; width = g.width; columns = cs })
     (plain_seen g c.self.inside.columns.items cell.line cell.column text c.in-Some.byte c.args.negative refl c.in-Some.ensures.0 c.in-Some.ensures.1 c.self.invariant.0 can)
     ∙ ap (λ (x : Cells). record { height = x.height; width = x.width; columns = paste x.columns ((cell.line - 1) * x.width + (cell.column - 1)) (run_columns c.args.negative text) }) c.self.view_is
@@ -44,7 +44,7 @@ invariant_of-self-2 c =
     let text = c.args.text.now in
     let news = run_columns c.args.negative text in
     let can : CanPut g cell.line cell.column text = can_along g c.args.self.now cell.line cell.column text c.self.view_is
-    (record { inside = c.requires.inside; glyph = c.requires.glyph; utf8 = c.utf8.text; room = c.requires.room; blank = c.requires.blank }) in
+    (record { inside = c.requires.inside; glyph = c.requires.glyph; utf8 = c.utf8.text; room = c.requires.room }) in
     let place = (cell.line - 1) * g.width + (cell.column - 1) in
     let new : all_seen c.put_over_blanks.new.columns ≡ paste g.columns place news =
     c.in_ok-put_over_blanks.ensures.ok ∙ ap (λ xs. paste (all_seen xs) place news) c.as_mut_slice.ensures.value in
