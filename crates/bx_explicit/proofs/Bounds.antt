@@ -19,7 +19,7 @@ use Rattle.bx_explicit.proofs.Rising.{rising_top}
 use Rattle.bx_explicit.proofs.Steps.{rising_next}
 use Rattle.bx_explicit.proofs.LevelRuns.{all_within}
 
-abbrev IsLow : Option Kept → Type 0
+abbrev pub IsLow : Option Kept → Type 0
 IsLow k = level_or_0 k ≤ 125
 
 kept_low : (r : Role) (c : Class) (s t : State) → IsRising s.stack → IsRising t.stack → IsLow (kept_by r c s t)
@@ -46,7 +46,7 @@ explicit_low s (c ∷ cs) h =
 pub levels_low : (level : ℕ) (cs : List Class) → level ≤ 125 → All IsLow (explicit_levels level cs)
 levels_low level cs h = explicit_low (start level) cs (h, tt, tt)
 
-abbrev IsLowRun : Run → Type 0
+abbrev pub IsLowRun : Run → Type 0
 IsLowRun r = r.level ≤ 125
 
 join_low : (k level : ℕ) (rs : List Run) → level ≤ 125 → All IsLowRun rs → All IsLowRun (join_run k level rs)
@@ -57,7 +57,7 @@ join_low k level (r ∷ rs) h a =
       | false ↦ All-cons IsLowRun (run level k k) (r ∷ rs) h a
     ]
 
-runs_low : (k : ℕ) (g : List (Option Kept)) → All IsLow g → All IsLowRun (runs_from k g)
+pub runs_low : (k : ℕ) (g : List (Option Kept)) → All IsLow g → All IsLowRun (runs_from k g)
 runs_low k [] a = All-nil IsLowRun
 runs_low k (None ∷ g) a = runs_low (k + 1) g (All-tail IsLow None g a)
 runs_low k (Some c ∷ g) a = join_low k c.level (runs_from (k + 1) g) (All-head IsLow (Some c) g a) (runs_low (k + 1) g (All-tail IsLow (Some c) g a))

@@ -10,23 +10,23 @@ use Rattle.std.specs.Prelude.{All, ◌==◌}
 use Rattle.std.proofs.lemmas.List.Elements.{All-cons, All-nil, All-head, All-tail}
 
 -- the last of a list is the first of its reverse
-take_whole : (rs : List Run) (n : ℕ) → length rs ≡ n → take n rs ≡ rs
+take_whole : {A : Type 0} (rs : List A) (n : ℕ) → length rs ≡ n → take n rs ≡ rs
 take_whole rs n e = subst (λ k. take k rs ≡ rs) e (take-length rs)
 
-pub reverse_last : (rs : List Run) (d : Run) → 0 < length rs → reverse rs ≡ get_or rs (length rs - 1) d ∷ reverse (take (length rs - 1) rs)
+pub reverse_last : {A : Type 0} (rs : List A) (d : A) → 0 < length rs → reverse rs ≡ get_or rs (length rs - 1) d ∷ reverse (take (length rs - 1) rs)
 reverse_last rs d h =
     let a : take (length rs - 1 + 1) rs ≡ take (length rs - 1) rs ++ get_or rs (length rs - 1) d ∷ [] = take_more rs (length rs - 1) d (omega arith) in
     let b : take (length rs - 1 + 1) rs ≡ rs = take_whole rs (length rs - 1 + 1) (omega arith) in
     ap reverse (sym b ∙ a) ∙ reverse-append (take (length rs - 1) rs) (get_or rs (length rs - 1) d ∷ [])
 
-pub reverse_set : (rs : List Run) (r : Run) → 0 < length rs → reverse (set rs (length rs - 1) r) ≡ r ∷ reverse (take (length rs - 1) rs)
+pub reverse_set : {A : Type 0} (rs : List A) (r : A) → 0 < length rs → reverse (set rs (length rs - 1) r) ≡ r ∷ reverse (take (length rs - 1) rs)
 reverse_set rs r h =
     let a : take (length rs - 1 + 1) (set rs (length rs - 1) r) ≡ take (length rs - 1) rs ++ r ∷ [] = take_more_set rs (length rs - 1) r (omega arith) in
     let l : length (set rs (length rs - 1) r) ≡ length rs = length-set rs (length rs - 1) r in
     let b : take (length rs - 1 + 1) (set rs (length rs - 1) r) ≡ set rs (length rs - 1) r = take_whole (set rs (length rs - 1) r) (length rs - 1 + 1) (omega arith) in
     ap reverse (sym b ∙ a) ∙ reverse-append (take (length rs - 1) rs) (r ∷ [])
 
-pub reverse_one : (rs : List Run) (r : Run) → reverse (rs ++ r ∷ []) ≡ r ∷ reverse rs
+pub reverse_one : {A : Type 0} (rs : List A) (r : A) → reverse (rs ++ r ∷ []) ≡ r ∷ reverse rs
 reverse_one rs r = reverse-append rs (r ∷ [])
 
 runs_at_none : (k : ℕ) (o : Option Kept) (g : List (Option Kept)) → o ≡ None → runs_from k (o ∷ g) ≡ runs_from (k + 1) g
@@ -79,10 +79,10 @@ within_join k n level (r ∷ rs) h a =
       | false ↦ All-cons (IsRunWithin k n) (run level k k) (r ∷ rs) (record { starts = omega arith; ordered = omega arith; ends = h }) (widen_all k n (r ∷ rs) a)
     ]
 
-within_eq : (k a b : ℕ) (rs : List Run) → a ≡ b → All (IsRunWithin k a) rs → All (IsRunWithin k b) rs
+pub within_eq : (k a b : ℕ) (rs : List Run) → a ≡ b → All (IsRunWithin k a) rs → All (IsRunWithin k b) rs
 within_eq k a b rs e h = subst (λ n. All (IsRunWithin k n) rs) e h
 
-runs_within : (k : ℕ) (g : List (Option Kept)) → All (IsRunWithin k (k + length g)) (runs_from k g)
+pub runs_within : (k : ℕ) (g : List (Option Kept)) → All (IsRunWithin k (k + length g)) (runs_from k g)
 runs_within k [] = All-nil (IsRunWithin k (k + 0))
 runs_within k (None ∷ g) = within_eq k (k + 1 + length g) (k + suc (length g)) (runs_from (k + 1) g) (omega arith) (widen_all k (k + 1 + length g) (runs_from (k + 1) g) (runs_within (k + 1) g))
 runs_within k (Some r ∷ g) = within_eq k (k + 1 + length g) (k + suc (length g)) (join_run k r.level (runs_from (k + 1) g)) (omega arith) (within_join k (k + 1 + length g) r.level (runs_from (k + 1) g) (omega arith) (runs_within (k + 1) g))
@@ -103,7 +103,7 @@ rising_join k n level (r ∷ rs) a h =
       | false ↦ (omega arith, after_all k n (r ∷ rs) a, h)
     ]
 
-runs_rising : (k : ℕ) (g : List (Option Kept)) → AreRising (runs_from k g)
+pub runs_rising : (k : ℕ) (g : List (Option Kept)) → AreRising (runs_from k g)
 runs_rising k [] = tt
 runs_rising k (None ∷ g) = runs_rising (k + 1) g
 runs_rising k (Some r ∷ g) = rising_join k (k + 1 + length g) r.level (runs_from (k + 1) g) (runs_within (k + 1) g) (runs_rising (k + 1) g)

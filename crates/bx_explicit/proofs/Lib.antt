@@ -12,3 +12,12 @@ pub mod Joined
 pub mod Nearest
 pub mod PlacesLeft
 pub mod Bounds
+pub mod RunsAt
+pub mod RunWalk
+pub mod Newest
+pub mod Taken
+pub mod FirstLow
+pub mod RunEnd
+pub mod Inside
+pub mod Overflown
+pub mod Resumed

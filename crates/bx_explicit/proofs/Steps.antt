@@ -83,7 +83,7 @@ rising_valid : (s : State) (l : ℕ) (o : Override) (i b : Bool) → is_valid s 
 rising_valid s l o i true e r h = rising_push s.stack (entry l o i) r (valid_low s l e) h
 rising_valid s l o i false e r h = r
 
-embed_stack : (s : State) (l : ℕ) (o : Override) → (embed s l o).stack ≡ elim (is_valid s l) [ true ↦ entry l o false ∷ s.stack | false ↦ s.stack ]
+pub embed_stack : (s : State) (l : ℕ) (o : Override) → (embed s l o).stack ≡ elim (is_valid s l) [ true ↦ entry l o false ∷ s.stack | false ↦ s.stack ]
 embed_stack s l o = elim (is_valid s l) as (λ b. (elim b as (λ x. State) [ true ↦ record s { stack = entry l o false ∷ s.stack } | false ↦ record s { overflow_embeddings = elim (s.overflow_isolates) [ zero ↦ s.overflow_embeddings + 1 | suc n ↦ s.overflow_embeddings ] } ]).stack ≡ elim b as (λ x. List Entry) [ true ↦ entry l o false ∷ s.stack | false ↦ s.stack ]) [ true ↦ refl | false ↦ refl ]
 
 rising_embed : (s : State) (l : ℕ) (o : Override) → IsRising s.stack → (top_of s.stack).level < l → IsRising (embed s l o).stack
@@ -113,7 +113,7 @@ rising_end_embedding s r = elim (s.overflow_isolates) as (λ n. IsRising (elim n
   | zero ↦ elim (s.overflow_embeddings) as (λ n. IsRising (elim n as (λ x. State) [ suc n ↦ record s { overflow_embeddings = n } | zero ↦ record s { stack = after_embedding s.stack } ]).stack) [ zero ↦ rising_after_embedding s.stack r | suc n ↦ r ]
 ]
 
-first_higher : (first n : ℕ) → n < first_above first n
+pub first_higher : (first n : ℕ) → n < first_above first n
 first_higher zero n = omega arith
 first_higher (suc m) n = omega arith
 

@@ -38,7 +38,7 @@ first_place-at : (ps : List ℕ) → first_place ps ≡ place_at ps 0
 first_place-at [] = refl
 first_place-at (p ∷ ps) = refl
 
-matched : (i : ℕ) (b : Option ℕ) → further (i + 1) b ≡ elim b [ None ↦ None | Some k ↦ Some (i + 1 + k) ]
+pub matched : (i : ℕ) (b : Option ℕ) → further (i + 1) b ≡ elim b [ None ↦ None | Some k ↦ Some (i + 1 + k) ]
 matched i None = refl
 matched i (Some k) = refl
 

@@ -1,8 +1,13 @@
 -- What the explicit rules give a character, as a level.
-use Rattle.std.specs.Prelude.{ℕ, Option, Some, None}
+use Rattle.std.specs.Prelude.{◌≡◌, ℕ, Option, Some, None}
 use Rattle.bx_explicit.specs.declared.entry.Kept.{Kept}
 
 -- the level of a kept character, or 0
 abbrev pub level_or_0 : Option Kept → ℕ
 level_or_0 None = 0
 level_or_0 (Some k) = k.level
+
+-- a kept character of a level
+abbrev pub HasLevel : ℕ → Option Kept → Type 0
+HasLevel level None = ⊥
+HasLevel level (Some k) = k.level ≡ level

@@ -7,3 +7,6 @@ pub mod Kept
 pub mod Runs
 pub mod Sequences
 pub mod Links
+pub mod OpenChains
+pub mod Stacked
+pub mod LevelPlaces

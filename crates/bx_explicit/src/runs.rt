@@ -1,6 +1,8 @@
 //! Level runs (BD7).
-ghost use Rattle.std.specs.Prelude.{◌≡◌, IfOk, OnOk, All, length, reverse};
-ghost use Rattle.bx_explicit.specs.Runs.{join_run, runs_from, IsRunWithin, AreRising};
+ghost use Rattle.std.specs.Prelude.{◌≡◌, ◌+◌, ◌<◌, ◌≤◌, IfOk, IfNone, IfSome, OnOk, OnErr, All, [], ◌∷◌, drop, length, reverse, Some, slice_index_or, vec_len, vec_capacity};
+ghost use Rattle.bx_explicit.specs.Kept.{HasLevel};
+ghost use Rattle.bx_explicit.specs.OpenChains.{run_at};
+ghost use Rattle.bx_explicit.specs.Runs.{run, join_run, runs_from, IsRunWithin, AreRising};
 
 use crate::entry::Kept;
 use smallvec::SmallVec;
@@ -17,13 +19,16 @@ pub struct Run {
     pub last: usize,
 }
 
-/// Makes room for a run more. A text may have a run every few characters, so the room grows by a quarter.
-fn make_room(runs: &mut Vec<Run>) -> Result<(), AllocError>
-    ensures { OnOk result (runs.new.items ≡ runs.old.items) }
+/// Makes room for one more, of what there is for each run. A text may have a run every few characters, so the room grows
+/// by a quarter.
+pub fn make_room<T>(items: &mut Vec<T>) -> Result<(), AllocError>
+    ensures same { items.new.items ≡ items.old.items }
+    ensures len { vec_len items.new ≡ vec_len items.old }
+    ensures room { OnOk result (vec_len items.new < vec_capacity items.new) }
 {
-    let count = runs.len();
-    if count == runs.capacity() {
-        runs.reserve_exact(count / 4 + 8)?;
+    let count = items.len();
+    if count >= items.capacity() {
+        items.reserve_exact(count / 4 + 8)?;
     }
     Ok(())
 }
@@ -69,4 +74,51 @@ pub fn runs(alloc: Global, kept: &[Option<Kept>]) -> Result<Vec<Run>, AllocError
     }
     runs.reverse();
     Ok(runs)
+}
+
+/// The last place of the run of a level that begins at a place.
+#[tactic(auto, using(crate::proofs::RunsAt::begins_at, crate::proofs::RunsAt::goes_on, crate::proofs::RunsAt::ends_before, crate::proofs::RunsAt::ends_last, crate::proofs::LevelRuns::runs_none))]
+fn last_of_run(kept: &[Option<Kept>], first: usize, level: u8) -> usize
+    requires within { first < length kept.now }
+    requires kept { HasLevel level (slice_index_or kept.now first None) }
+    ensures run { runs_from first (drop first kept.now) ≡ run level first result ∷ runs_from (result + 1) (drop (result + 1) kept.now) }
+    ensures ordered { first ≤ result }
+    ensures within { result < length kept.now }
+{
+    let mut last = first;
+    let mut k = first + 1;
+    while k < kept.len() {
+        if let Some(c) = kept[k] {
+            if c.level != level {
+                return last;
+            }
+            last = k;
+        }
+        k += 1;
+    }
+    last
+}
+
+/// The first level run of the characters from a place on.
+#[tactic(auto, using(crate::proofs::LevelRuns::runs_none, crate::proofs::RunsAt::no_more, crate::proofs::RunsAt::level_of_some))]
+pub fn next_run(kept: &[Option<Kept>], from: usize) -> Option<Run>
+    requires { from ≤ length kept.now }
+    ensures none { IfNone result (runs_from from (drop from kept.now) ≡ []) }
+    ensures some { IfSome result (λ r. runs_from from (drop from kept.now) ≡ r ∷ runs_from (r.last + 1) (drop (r.last + 1) kept.now)) }
+    ensures within { IfSome result (IsRunWithin from (length kept.now)) }
+    ensures own { IfSome result (λ r. r ≡ run_at kept.now r.first) }
+{
+    let mut first = from;
+    while first < kept.len() {
+        if let Some(c) = kept[first] {
+            let last = last_of_run(kept, first, c.level);
+            return Some(Run {
+                level: c.level,
+                first,
+                last,
+            });
+        }
+        first += 1;
+    }
+    None
 }

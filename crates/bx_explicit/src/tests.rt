@@ -1,5 +1,5 @@
 //! The worked examples, and each call once with ample memory.
-use crate::{Base, Kept, base_level, explicit, paragraph_level, sequences};
+use crate::{Base, Kept, OpenChains, base_level, explicit, next_run, paragraph_level, sequences};
 use bx_ucd::Class;
 use std::test::Fail;
 
@@ -45,5 +45,29 @@ fn removed_characters_and_bases(rt: HostRuntime) -> Result<(), Fail> {
         explicit.kept.as_slice(),
         [None, Some(kept), None].as_slice()
     );
+    Ok(())
+}
+
+#[test]
+fn a_chain_waits_for_its_isolate(rt: HostRuntime) -> Result<(), Fail> {
+    let classes = [Class::RLI, Class::R, Class::PDI];
+    let explicit = explicit(rt.alloc(), &classes, 0)?;
+    let mut chains = OpenChains::new(rt.alloc(), &explicit);
+    assert!(rt; chains.is_empty());
+    let outer = next_run(&explicit.kept, 0).expect(&rt, "a run");
+    chains.take(outer)?;
+    let inner = next_run(&explicit.kept, outer.last + 1).expect(&rt, "a run");
+    assert!(rt; !chains.is_over(inner));
+    chains.take(inner)?;
+    let after = next_run(&explicit.kept, inner.last + 1).expect(&rt, "a run");
+    assert!(rt; chains.is_over(after));
+    chains.drop_newest();
+    assert!(rt; !chains.is_over(after));
+    chains.take(after)?;
+    assert!(rt; !chains.is_empty());
+    let (level, sos, eos) = (chains.level(), chains.sos(), chains.eos());
+    let firsts = chains.firsts();
+    let shown = format!(in rt.alloc(); "{level} {sos:?} {eos:?} {firsts:?}")?;
+    assert_eq!(rt; shown.as_str(), "0 L L [0, 2]");
     Ok(())
 }

@@ -1,18 +1,63 @@
 //! The levels of a paragraph body with formatting characters, sequence by sequence.
-ghost use Rattle.std.specs.Prelude.{◌≡◌, ◌≤◌, ◌<◌, IfOk, OnOk, All, None, length, map, replicate};
-ghost use Rattle.bx_explicit.specs.Runs.{runs_from};
-ghost use Rattle.bx_explicit.specs.Sequences.{sequence_at, sequences};
+ghost use Rattle.std.specs.Prelude.{◌≡◌, ◌≤◌, ◌<◌, ◌++◌, IfOk, OnOk, None, false, [], drop, length, map, replicate};
+ghost use Rattle.bx_explicit.specs.Explicit.{explicit_levels};
+ghost use Rattle.bx_explicit.specs.LevelPlaces.{level_places, places_from};
+ghost use Rattle.bx_explicit.specs.OpenChains.{is_over, newest_sequence};
+ghost use Rattle.bx_explicit.specs.Sequences.{sequences};
 ghost use Rattle.bx_resolve.specs.Neutral.{implicit};
 ghost use Rattle.bx_resolve.specs.Levels.{chars_at, types_at, sequence_levels, levels_in, with_levels, with_sequences, paragraph_levels};
+ghost use Rattle.bx_resolve.specs.Walk.{runs_with, KeepsWalk, WritesRun};
 
 use crate::answer::Levels;
-use crate::by_rules::type_at;
 use crate::error::ResolveError;
 use crate::neutral::implicit_at;
 use crate::scratch::{Ends, Scratch};
-use bx_explicit::{ChainPlaces, Chains, Explicit, Kept, explicit_from};
+use bx_explicit::{Explicit, Kept, OpenChains, Run, explicit_from, next_run};
 use bx_ucd::{BidiData, Class};
 use std::alloc::{AllocError, Global};
+
+/// Makes room for one character more and its type, of at most `left` to come. Doubling may leave half of the room unused:
+/// so it grows by a quarter.
+fn make_room(found: &mut Vec<char>, types: &mut Vec<Class>, left: usize) -> Result<(), AllocError>
+    ensures found { found.new.items ≡ found.old.items }
+    ensures types { types.new.items ≡ types.old.items }
+{
+    let count = found.len();
+    if count >= found.capacity() {
+        let more = (count / 4 + 8).min(left);
+        found.reserve_exact(more)?;
+        types.reserve_exact(more)?;
+    }
+    Ok(())
+}
+
+/// Takes the characters and types of a run of a level, from its first place on.
+fn gather_run(
+    found: &mut Vec<char>,
+    types: &mut Vec<Class>,
+    chars: &[char],
+    kept: &[Option<Kept>],
+    level: u8,
+    first: usize,
+) -> Result<(), AllocError>
+    requires as_long { length chars.now ≡ length kept.now }
+    ensures chars { OnOk result (found.new.items ≡ found.old.items ++ chars_at chars.now (level_places level first (drop first kept.now))) }
+    ensures types { OnOk result (types.new.items ≡ types.old.items ++ types_at kept.now (level_places level first (drop first kept.now))) }
+{
+    let mut k = first;
+    while k < kept.len() {
+        if let Some(c) = kept[k] {
+            if c.level != level {
+                return Ok(());
+            }
+            make_room(found, types, kept.len() - k)?;
+            found.push(chars[k])?;
+            types.push(c.class)?;
+        }
+        k += 1;
+    }
+    Ok(())
+}
 
 /// What a sequence is resolved in. Later sequences use it again.
 #[derive(Drop)]
@@ -32,123 +77,203 @@ impl Room {
         }
     }
 
-    /// Takes the characters of a sequence and their types after overrides.
+    /// Takes the characters of a sequence and their types after overrides, from the first places of its runs.
     fn gather(
         &mut self,
         chars: &[char],
         kept: &[Option<Kept>],
-        places: ChainPlaces<'_>,
+        firsts: &[usize],
+        level: u8,
     ) -> Result<(), AllocError>
-        requires within { All (λ p. p < length kept.now) places }
         requires as_long { length chars.now ≡ length kept.now }
-        ensures chars { OnOk result (self.new.chars.items ≡ chars_at chars.now places.entry) }
-        ensures types { OnOk result (self.new.types.items ≡ types_at kept.now places.entry) }
+        ensures chars { OnOk result (self.new.chars.items ≡ chars_at chars.now (places_from level kept.now firsts.now)) }
+        ensures types { OnOk result (self.new.types.items ≡ types_at kept.now (places_from level kept.now firsts.now)) }
     {
-        let mut places = places;
         self.chars.clear();
         self.types.clear();
-        while let Some(p) = places.take_first() {
-            self.chars.push(chars[p])?;
-            self.types.push(type_at(kept, p))?;
+        for first in firsts {
+            gather_run(&mut self.chars, &mut self.types, chars, kept, level, *first)?;
         }
         Ok(())
     }
 }
 
-/// Writes the levels of resolved types at their places.
-fn write_levels(each: &mut Vec<Option<u8>>, places: ChainPlaces<'_>, types: &[Class], level: u8)
+/// Writes the levels of a run's resolved types, from its first place on, where so many types are written already. It
+/// says how many are written then.
+fn write_run(
+    each: &mut Vec<Option<u8>>,
+    kept: &[Option<Kept>],
+    level: u8,
+    first: usize,
+    types: &[Class],
+    written: usize,
+) -> usize
     requires low { level ≤ 125 }
-    requires within { All (λ p. p < length each.old.items) places }
-    ensures { each.new.items ≡ with_levels places.entry (implicit level types.now) each.old.items }
+    requires all { length each.old.items ≡ length kept.now }
+    ensures all { length each.new.items ≡ length kept.now }
+    ensures written { WritesRun (level_places level first (drop first kept.now)) (implicit level (drop written types.now)) each.old.items (implicit level (drop result types.now)) each.new.items }
 {
-    let mut places = places;
-    for t in types {
-        match places.take_first() {
-            Some(p) => each[p] = Some(implicit_at(level, *t)),
-            None => return,
+    let mut written = written;
+    let mut k = first;
+    while k < kept.len() && written < types.len() {
+        if let Some(c) = kept[k] {
+            if c.level != level {
+                return written;
+            }
+            each[k] = Some(implicit_at(level, types[written]));
+            written += 1;
         }
+        k += 1;
+    }
+    written
+}
+
+/// Writes the levels of resolved types at the places of runs that begin at some places.
+fn write_levels(
+    each: &mut Vec<Option<u8>>,
+    kept: &[Option<Kept>],
+    firsts: &[usize],
+    level: u8,
+    types: &[Class],
+)
+    requires low { level ≤ 125 }
+    requires all { length each.old.items ≡ length kept.now }
+    ensures { each.new.items ≡ with_levels (places_from level kept.now firsts.now) (implicit level types.now) each.old.items }
+{
+    let mut written = 0;
+    for first in firsts {
+        written = write_run(each, kept, level, *first, types, written);
     }
 }
 
-/// Writes the levels of a sequence's characters at their places.
+/// Writes the levels of the newest chain's characters at their places.
 fn write_sequence<D: BidiData>(
     each: &mut Vec<Option<u8>>,
     scratch: &mut Scratch,
     source: &D,
     chars: &[char],
     types: &mut [Class],
-    places: ChainPlaces<'_>,
-    ends: Ends,
+    chains: &OpenChains<'_>,
+    kept: &[Option<Kept>],
 ) -> Result<(), ResolveError>
+    requires some { 0 < length chains.now.chains }
+    requires same { kept.now ≡ chains.now.explicit.kept.items }
     requires as_long { length chars.now ≡ length types.old }
-    requires low { ends.level ≤ 125 }
-    requires within { All (λ p. p < length each.old.items) places }
-    ensures { OnOk result (each.new.items ≡ with_levels places.entry (sequence_levels (D.bracket_of source.now) ends.level ends.sos ends.eos chars.now types.old) each.old.items) }
+    requires all { length each.old.items ≡ length kept.now }
+    ensures { OnOk result (each.new.items ≡ with_levels (newest_sequence chains.now).places (sequence_levels (D.bracket_of source.now) (newest_sequence chains.now).level (newest_sequence chains.now).sos (newest_sequence chains.now).eos chars.now types.old) each.old.items) }
 {
+    let ends = Ends {
+        level: chains.level(),
+        sos: chains.sos(),
+        eos: chains.eos(),
+    };
     scratch.resolve(source, chars, types, ends)?;
-    write_levels(each, places, types, ends.level);
+    write_levels(each, kept, chains.firsts(), ends.level, types);
     Ok(())
 }
 
-/// Writes the levels of the sequence that begins with run `i`.
-fn write_chain<D: BidiData>(
+/// Writes the levels of the newest chain.
+fn write_newest<D: BidiData>(
     each: &mut Vec<Option<u8>>,
     room: &mut Room,
     chars: &[char],
     source: &D,
-    chains: &Chains<'_>,
+    chains: &OpenChains<'_>,
     kept: &[Option<Kept>],
-    i: usize,
 ) -> Result<(), ResolveError>
-    requires run { i < length (runs_from 0 chains.now.kept.items) }
-    requires same { kept.now ≡ chains.now.kept.items }
+    requires some { 0 < length chains.now.chains }
+    requires same { kept.now ≡ chains.now.explicit.kept.items }
     requires as_long { length chars.now ≡ length kept.now }
     requires all { length each.old.items ≡ length kept.now }
-    ensures { OnOk result (each.new.items ≡ with_levels (sequence_at chains.now.level chains.now.classes.items chains.now.kept.items i).places (levels_in (D.bracket_of source.now) chars.now chains.now.kept.items (sequence_at chains.now.level chains.now.classes.items chains.now.kept.items i)) each.old.items) }
+    ensures { OnOk result (each.new.items ≡ with_levels (newest_sequence chains.now).places (levels_in (D.bracket_of source.now) chars.now kept.now (newest_sequence chains.now)) each.old.items) }
 {
-    room.gather(chars, kept, chains.places(i))?;
-    let ends = Ends {
-        level: chains.level(i),
-        sos: chains.sos(i),
-        eos: chains.eos(i),
-    };
+    room.gather(chars, kept, chains.firsts(), chains.level())?;
     write_sequence(
         each,
         &mut room.scratch,
         source,
         &room.chars,
         &mut room.types,
-        chains.places(i),
-        ends,
+        chains,
+        kept,
     )
 }
 
-/// The levels of all characters, each at its place.
+/// Writes the chains that end before a run.
+fn write_over<D: BidiData>(
+    each: &mut Vec<Option<u8>>,
+    room: &mut Room,
+    chars: &[char],
+    source: &D,
+    chains: &mut OpenChains<'_>,
+    explicit: &Explicit,
+    run: Run,
+) -> Result<(), ResolveError>
+    requires own { chains.old.explicit ≡ explicit.now }
+    requires as_long { length chars.now ≡ length explicit.now.kept.items }
+    requires all { length each.old.items ≡ length chars.now }
+    ensures own { chains.new.explicit ≡ explicit.now }
+    ensures over { OnOk result (is_over explicit.now.classes.items chains.new.chains run ≡ false) }
+    ensures kept { OnOk result (KeepsWalk (D.bracket_of source.now) chars.now explicit.now (runs_with explicit.now.kept.items run) chains.old.chains each.old.items chains.new.chains each.new.items) }
+{
+    while chains.is_over(run) {
+        write_newest(each, room, chars, source, chains, &explicit.kept)?;
+        chains.drop_newest();
+    }
+    Ok(())
+}
+
+/// Writes the chains that are left at the end.
+fn write_left<D: BidiData>(
+    each: &mut Vec<Option<u8>>,
+    room: &mut Room,
+    chars: &[char],
+    source: &D,
+    chains: &mut OpenChains<'_>,
+    explicit: &Explicit,
+) -> Result<(), ResolveError>
+    requires own { chains.old.explicit ≡ explicit.now }
+    requires as_long { length chars.now ≡ length explicit.now.kept.items }
+    requires all { length each.old.items ≡ length chars.now }
+    ensures kept { OnOk result (KeepsWalk (D.bracket_of source.now) chars.now explicit.now [] chains.old.chains each.old.items [] each.new.items) }
+{
+    while !chains.is_empty() {
+        write_newest(each, room, chars, source, chains, &explicit.kept)?;
+        chains.drop_newest();
+    }
+    Ok(())
+}
+
+/// The levels of all characters, each at its place. The chains that may go on wait until they end.
 fn each_level<D: BidiData>(
     alloc: Global,
     chars: &[char],
     source: &D,
     explicit: &Explicit,
 ) -> Result<Vec<Option<u8>>, ResolveError>
-    requires { length chars.now ≡ length explicit.now.classes.items }
+    requires as_long { length chars.now ≡ length explicit.now.classes.items }
+    requires low { explicit.now.level ≤ 1 }
+    requires levels { explicit.now.kept.items ≡ explicit_levels explicit.now.level explicit.now.classes.items }
     ensures { IfOk result (λ v. v.items ≡ with_sequences (D.bracket_of source.now) chars.now explicit.now.kept.items (sequences explicit.now.level explicit.now.classes.items explicit.now.kept.items) (replicate (length chars.now) None)) }
 {
-    let chains = Chains::new(alloc, explicit)?;
     let mut each = vec![in alloc; None; chars.len()]?;
     let mut room = Room::new(alloc);
-    for i in 0..chains.len() {
-        if chains.begins(i) {
-            write_chain(
-                &mut each,
-                &mut room,
-                chars,
-                source,
-                &chains,
-                &explicit.kept,
-                i,
-            )?;
-        }
+    let mut chains = OpenChains::new(alloc, explicit);
+    let mut from = 0;
+    while let Some(run) = next_run(&explicit.kept, from) {
+        write_over(
+            &mut each,
+            &mut room,
+            chars,
+            source,
+            &mut chains,
+            explicit,
+            run,
+        )?;
+        chains.take(run)?;
+        from = run.last + 1;
     }
+    write_left(&mut each, &mut room, chars, source, &mut chains, explicit)?;
     Ok(each)
 }
 

@@ -26,12 +26,15 @@ pub struct Scratch {
     search: PairSearch,
 }
 
-/// Notes which types are NSM.
+/// Notes which types are NSM. The room grows to what is needed, and by a quarter at least.
 fn note_marks(marks: &mut Vec<bool>, types: &[Class]) -> Result<(), AllocError>
     ensures { OnOk result (marks.new.items ≡ map is_nsm types.now) }
 {
     marks.clear();
-    marks.reserve(types.len())?;
+    let room = marks.capacity();
+    if types.len() > room {
+        marks.reserve_exact(types.len().max(room.saturating_add(room / 4)))?;
+    }
     for t in types {
         marks.push(matches!(*t, Class::NSM))?;
     }

@@ -1,54 +1,49 @@
-use Rattle.std.proofs.Common.{◌≡◌, ◌<◌, ◌+◌, ◌∙◌, ℕ, List, Option, Bool, ◌∷◌, refl, true, false, ap, sym, subst, drop, take, length}
-use Rattle.std.specs.Prelude.{not}
-use Rattle.bx_ucd.specs.declared.class.Class.{Class}
+use Rattle.std.proofs.Common.{◌≡◌, ◌∙◌, ◌+◌, ◌∷◌, [], ℕ, List, Option, ap, sym, subst, subst₂, arith, rules, length, drop, replicate, None}
 use Rattle.bx_ucd.specs.declared.data.Side.{Side}
-use Rattle.bx_explicit.specs.declared.entry.Kept.{Kept}
 use Rattle.bx_explicit.specs.declared.entry.Explicit.{Explicit}
+use Rattle.bx_explicit.specs.declared.entry.Kept.{Kept}
 use Rattle.bx_explicit.specs.declared.runs.Run.{Run}
-use Rattle.bx_explicit.specs.Runs.{runs_from, run_of}
-use Rattle.bx_explicit.specs.Sequences.{RunSequence, sequence_at, sequences_from, follows, begins}
-use Rattle.bx_explicit.proofs.Joined.{sequences_passed, sequences_more}
-use Rattle.bx_resolve.specs.Levels.{with_levels, with_sequences, levels_in}
-use Rattle.bx_resolve.proofs.Written.{levels_length}
+use Rattle.bx_explicit.specs.Runs.{runs_from, IsRunWithin}
+use Rattle.bx_resolve.specs.Walk.{runs_after, runs_with, IsWalked}
+use Rattle.bx_resolve.proofs.Walked.{started, taken, all_written}
 use Rattle.bx_resolve.proofs.formatted.each_level.Goals as goal
-use Rattle.bx_resolve.proofs.formatted.each_level.Goals.{then-begins+in_ok-write_chain, else-begins}
 
-not_true : (b : Bool) → not b ≡ true → b ≡ false
-not_true true e = absurd (cc)
-not_true false e = refl
+pub loop-run-init : goal.loop-run-init
+loop-run-init g c =
+    let bracket : ℕ → Option (Side × ℕ) = g.D.BidiData.bracket_of c.args.source.now in
+    let start : List (Option ℕ) = replicate (length c.args.chars.now) None in
+    let none : c.in_ok-each.each.items ≡ start = c.in_ok-each.ensures.items_if_clones_equal (λ y h. search rules) in
+    record {
+      own = c.new-chains.ensures.explicit;
+      within = omega arith;
+      walked = subst₂ (λ cs es. IsWalked bracket c.args.chars.now start c.args.explicit.now cs 0 es) (sym c.new-chains.ensures.none) (sym none) (started bracket c.args.chars.now start c.args.explicit.now c.requires.low c.requires.levels);
+    }
 
-not_false : (b : Bool) → not b ≡ false → b ≡ true
-not_false true e = refl
-not_false false e = absurd (cc)
-
-pub loop-i-preserved : goal.loop-i-preserved
-loop-i-preserved g c =
+pub loop-run-preserved : goal.loop-run-preserved
+loop-run-preserved g c =
     let bracket : ℕ → Option (Side × ℕ) = g.D.BidiData.bracket_of c.args.source.now in
     let chars : List ℕ = c.args.chars.now in
+    let start : List (Option ℕ) = replicate (length chars) None in
     let e : Explicit = c.args.explicit.now in
-    let cs : List Class = e.classes.items in
-    let kept : List (Option Kept) = e.kept.items in
-    let rs : List Run = runs_from 0 kept in
-    let i : ℕ = c.loop-i.i in
-    let same : c.in_ok-chains.chains ≡ e = c.in_ok-chains.ensures in
-    let low : i < length rs = subst (λ n. i < n) (c.len-i-end.ensures ∙ ap (λ (x : Explicit). length (runs_from 0 x.kept.items)) same) c.loop-i-test.true in
-    let test : c.begins.result ≡ begins cs kept i = c.begins.ensures ∙ ap (λ (x : Explicit). begins x.classes.items x.kept.items i) same in
-    let rest : List RunSequence = sequences_from e.level cs kept (take (i + 1) rs) (drop (i + 1) rs) in
-    elim c.if-begins.branch [
-      | then-begins+in_ok-write_chain w ↦
-          let s : RunSequence = sequence_at e.level cs kept i in
-          let first : follows cs (take i rs) (run_of kept i) ≡ false = not_true (follows cs (take i rs) (run_of kept i)) (sym test ∙ w.if-begins.true) in
-          let more : sequences_from e.level cs kept (take i rs) (drop i rs) ≡ s ∷ rest = sequences_more e.level cs kept rs i low first in
-          let new : w.write_chain.new.each.items ≡ with_levels s.places (levels_in bracket chars kept s) c.loop-i.each.items = w.in_ok-write_chain.ensures ∙ ap (λ (x : Explicit). with_levels (sequence_at x.level x.classes.items x.kept.items i).places (levels_in bracket chars x.kept.items (sequence_at x.level x.classes.items x.kept.items i)) c.loop-i.each.items) same in
-          rw w.each-is (record {
-            as_long = ap length new ∙ levels_length s.places (levels_in bracket chars kept s) c.loop-i.each.items ∙ c.loop-i.invariant.as_long;
-            written = c.loop-i.invariant.written ∙ ap (λ ss. with_sequences bracket chars kept ss c.loop-i.each.items) more ∙ ap (with_sequences bracket chars kept rest) (sym new);
-          })
-      | else-begins w ↦
-          let passed : follows cs (take i rs) (run_of kept i) ≡ true = not_false (follows cs (take i rs) (run_of kept i)) (sym test ∙ w.if-begins.false) in
-          let more : sequences_from e.level cs kept (take i rs) (drop i rs) ≡ rest = sequences_passed e.level cs kept rs i low passed in
-          rw w.each-is (record {
-            as_long = c.loop-i.invariant.as_long;
-            written = c.loop-i.invariant.written ∙ ap (λ ss. with_sequences bracket chars kept ss c.loop-i.each.items) more;
-          })
-    ]
+    let q : Run = c.in-Some.run' in
+    let from : ℕ = c.loop-run.from in
+    let each : List (Option ℕ) = c.write_over.new.each.items in
+    let long : length c.deref.result.now ≡ length e.kept.items = ap length c.deref.ensures.value in
+    let within : IsRunWithin from (length c.deref.result.now) q = c.in-Some.ensures.within in
+    let next : runs_after e.kept.items from ≡ runs_with e.kept.items q = subst (λ (ks : List (Option Kept)). runs_from from (drop from ks) ≡ q ∷ runs_from (q.last + 1) (drop (q.last + 1) ks)) c.deref.ensures.value c.in-Some.ensures.some in
+    let walked : IsWalked bracket chars start e c.write_over.new.chains.chains from each = c.in_ok-write_over.ensures.kept start from next c.loop-run.invariant.walked in
+    record {
+      own = c.take.ensures.explicit ∙ c.write_over.ensures.own;
+      within = omega (arith, within.ends, long);
+      walked = subst (λ cs. IsWalked bracket chars start e cs (q.last + 1) each) (sym c.in_ok-take.ensures.chains) (taken bracket chars start e from each q next (length c.deref.result.now) within c.write_over.new.chains.chains c.in_ok-write_over.ensures.over walked);
+    }
+
+pub returns : goal.returns
+returns g c =
+    let bracket : ℕ → Option (Side × ℕ) = g.D.BidiData.bracket_of c.args.source.now in
+    let chars : List ℕ = c.args.chars.now in
+    let start : List (Option ℕ) = replicate (length chars) None in
+    let e : Explicit = c.args.explicit.now in
+    let from : ℕ = c.loop-run.from in
+    let last : runs_after e.kept.items from ≡ [] = subst (λ (ks : List (Option Kept)). runs_from from (drop from ks) ≡ []) c.deref.ensures.value c.in_default.ensures.none in
+    sym (all_written bracket chars start e from c.write_left.new.each.items last (c.in_ok-write_left.ensures.kept start from last c.loop-run.invariant.walked))

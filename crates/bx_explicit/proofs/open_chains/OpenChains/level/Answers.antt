@@ -1,0 +1,26 @@
+use Rattle.std.proofs.Common.{◌≡◌, ◌≤◌, ◌-◌, ◌∙◌, ◌∷◌, ℕ, List, ap, sym, subst, length, reverse, take}
+use Rattle.bx_explicit.specs.declared.entry.Explicit.{Explicit}
+use Rattle.bx_explicit.specs.declared.open_chains.OpenChain.{OpenChain}
+use Rattle.bx_explicit.specs.OpenChains.{OpenRuns, newest_sequence}
+use Rattle.bx_explicit.specs.Stacked.{BeginsRun}
+use Rattle.bx_explicit.proofs.Newest.{level_is, newest_place, last_begins, opened}
+use Rattle.bx_explicit.proofs.RunWalk.{level_low}
+use Rattle.bx_explicit.proofs.open_chains.OpenChains.level.Goals as goal
+
+pub returns-clause-value : goal.returns-clause-value
+returns-clause-value c =
+    let x : Explicit = c.self.inside.explicit.now in
+    let os : List OpenChain = reverse c.self.inside.chains.items in
+    let rest : List OpenChain = reverse (take (length c.deref.result.now - 1) c.deref.result.now) in
+    let e : os ≡ c.newest.result ∷ rest = ap reverse (sym c.deref.ensures.value) ∙ c.newest.ensures in
+    subst (λ (v : OpenRuns). c.newest.result.level ≡ (newest_sequence v).level) c.self.view_is (level_is x os rest c.newest.result c.self.inside.firsts.items e c.self.invariant)
+
+pub returns-clause-low : goal.returns-clause-low
+returns-clause-low c =
+    let x : Explicit = c.self.inside.explicit.now in
+    let os : List OpenChain = reverse c.self.inside.chains.items in
+    let rest : List OpenChain = reverse (take (length c.deref.result.now - 1) c.deref.result.now) in
+    let ps : List ℕ = c.self.inside.firsts.items in
+    let e : os ≡ c.newest.result ∷ rest = ap reverse (sym c.deref.ensures.value) ∙ c.newest.ensures in
+    let b : BeginsRun x.kept.items c.newest.result.level (newest_place ps) = last_begins x.kept.items c.newest.result ps (opened x.kept.items os rest c.newest.result ps e c.self.invariant) in
+    subst (λ l. l ≤ 125) b.of_level (level_low x.kept.items (newest_place ps) x.low)

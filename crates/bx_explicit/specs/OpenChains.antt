@@ -1,0 +1,65 @@
+-- The chains of level runs that may go on, as the runs are met in order. A chain whose newest run ends in an initiator
+-- waits for the next run of its level; the higher runs that come before that one are inside the isolate.
+use Rattle.std.specs.Prelude.{◌==◌, ◌&&◌, ◌||◌, ℕ, nat_lt, Bool, true, false, not, List, [], ◌∷◌, Option, drop, reverse}
+use Rattle.bx_ucd.specs.declared.class.Class.{Class}
+use Rattle.bx_ucd.specs.declared.class.Class.TheVariants.{L}
+use Rattle.bx_explicit.specs.declared.entry.Explicit.{Explicit}
+use Rattle.bx_explicit.specs.declared.entry.Kept.{Kept}
+use Rattle.bx_explicit.specs.declared.runs.Run.{Run}
+use Rattle.bx_explicit.specs.Runs.{run, runs_from}
+use Rattle.bx_explicit.specs.Sequences.{RunSequence, starts_with_initiator, sequence_of}
+
+-- the run that begins at a place
+abbrev pub first_run_of : List Run → Run
+first_run_of [] = run 0 0 0
+first_run_of (r ∷ rs) = r
+
+abbrev pub run_at : List (Option Kept) → ℕ → Run
+run_at kept p = first_run_of (runs_from p (drop p kept))
+
+abbrev pub ends_in_initiator : List Class → Run → Bool
+ends_in_initiator cs r = starts_with_initiator (drop r.last cs)
+
+-- the runs of a list are above a level
+abbrev pub all_above : ℕ → List Run → Bool
+all_above level [] = true
+all_above level (r ∷ rs) = nat_lt level r.level && all_above level rs
+
+-- the run `q` is the first one after `r` that is not above it, and has its level, where `r` ends in an initiator
+abbrev pub is_resumed : List Class → Run → List Run → Run → Bool
+is_resumed cs r between q = ends_in_initiator cs r && (q.level == r.level) && all_above r.level between
+
+-- of chains, the newest first, each with its newest run first: whether the newest one ends before the run `q`
+abbrev pub is_over : List Class → List (List Run) → Run → Bool
+is_over cs [] q = false
+is_over cs ([] ∷ chains) q = true
+is_over cs ((r ∷ rs) ∷ chains) q = nat_lt q.level r.level || not (ends_in_initiator cs r)
+
+-- the chains after the run `q`, where the newest one does not end before it
+abbrev pub with_run : List (List Run) → Run → List (List Run)
+with_run [] q = (q ∷ []) ∷ []
+with_run ([] ∷ chains) q = (q ∷ []) ∷ [] ∷ chains
+with_run ((r ∷ rs) ∷ chains) q = elim (q.level == r.level) [ true ↦ (q ∷ r ∷ rs) ∷ chains | false ↦ (q ∷ []) ∷ (r ∷ rs) ∷ chains ]
+
+-- the newest chain, its newest run first, and the others
+abbrev pub newest : List (List Run) → List Run
+newest [] = []
+newest (c ∷ chains) = c
+
+abbrev pub others : List (List Run) → List (List Run)
+others [] = []
+others (c ∷ chains) = chains
+
+-- the sequence of the runs of a chain, in order
+abbrev pub sequence_of_runs : ℕ → List Class → List (Option Kept) → List Run → RunSequence
+sequence_of_runs paragraph cs kept [] = record { places = []; level = 0; sos = L; eos = L }
+sequence_of_runs paragraph cs kept (r ∷ rs) = sequence_of paragraph cs kept r rs
+
+-- what a paragraph body and its chains give
+pub record OpenRuns : Type 0 where
+  pub explicit : Explicit
+  pub chains : List (List Run)
+
+-- the sequence of the newest chain
+abbrev pub newest_sequence : OpenRuns → RunSequence
+newest_sequence o = sequence_of_runs o.explicit.level o.explicit.classes.items o.explicit.kept.items (reverse (newest o.chains))

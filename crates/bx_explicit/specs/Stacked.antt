@@ -1,0 +1,39 @@
+-- How the chains that may go on are kept: for each chain its level, the last place of its newest run and the number of
+-- runs before it, the newest chain first; and the first places of all runs, the oldest first.
+use Rattle.std.specs.Prelude.{◌≡◌, ◌<◌, ◌==◌, ◌-◌, ℕ, true, false, List, [], ◌∷◌, Option, All, length, take, drop, map, reverse, slice_index_or}
+use Rattle.bx_explicit.specs.declared.entry.Kept.{Kept}
+use Rattle.bx_explicit.specs.declared.open_chains.OpenChain.{OpenChain}
+use Rattle.bx_explicit.specs.declared.runs.Run.{Run}
+use Rattle.bx_explicit.specs.OpenChains.{run_at}
+
+abbrev pub open_chain : ℕ → ℕ → ℕ → OpenChain
+open_chain level last begin = record { level = level; last = last; begin = begin }
+
+-- the chains, each with its newest run first
+abbrev pub chains_of : List (Option Kept) → List OpenChain → List ℕ → List (List Run)
+chains_of kept [] ps = []
+chains_of kept (o ∷ os) ps = reverse (map (run_at kept) (drop o.begin ps)) ∷ chains_of kept os (take o.begin ps)
+
+-- a run of a level begins at a place
+pub record BeginsRun (kept : List (Option Kept)) (level p : ℕ) : Type 0 where
+  pub within : p < length kept
+  pub here : (run_at kept p).first ≡ p
+  pub of_level : (run_at kept p).level ≡ level
+
+-- what is kept of the newest chain is that of its runs
+pub record IsOpenChain (kept : List (Option Kept)) (o : OpenChain) (ps : List ℕ) : Type 0 where
+  pub begun : o.begin < length ps
+  pub runs : All (BeginsRun kept o.level) (drop o.begin ps)
+  pub ends : (run_at kept (slice_index_or ps (length ps - 1) 0)).last ≡ o.last
+
+abbrev pub AreOpen : List (Option Kept) → List OpenChain → List ℕ → Type 0
+AreOpen kept [] ps = ps ≡ []
+AreOpen kept (o ∷ os) ps = IsOpenChain kept o ps × AreOpen kept os (take o.begin ps)
+
+-- a run goes on with the newest chain, if that has its level, or begins a chain after so many runs
+abbrev pub open_with : Run → ℕ → List OpenChain → List OpenChain
+open_with r begin [] = open_chain r.level r.last begin ∷ []
+open_with r begin (o ∷ os) = elim (r.level == o.level) [
+  | true ↦ open_chain r.level r.last o.begin ∷ os
+  | false ↦ open_chain r.level r.last begin ∷ o ∷ os
+]
