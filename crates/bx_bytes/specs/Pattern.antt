@@ -1,14 +1,12 @@
 -- Patterns of bytes: ranges, one after another.
-use Rattle.std.specs.Prelude.{ℕ, Bool, true, false, ◌&&◌, nat_le, List, [], ◌∷◌, if◌then◌else◌}
+use Rattle.std.specs.Prelude.{ℕ, Bool, true, false, ◌&&◌, List, [], ◌∷◌, if◌then◌else◌}
 use Rattle.std.specs.List.{list_any}
+pub use Rattle.bx_terms.specs.Characters.{is_within}
 
 -- one byte of a range, or as many as stand there
 pub data Piece : Type 0 where
   One : (low high : ℕ) → Piece
   Many : (low high : ℕ) → Piece
-
-abbrev pub is_within : ℕ → ℕ → ℕ → Bool
-is_within low high b = nat_le low b && nat_le b high
 
 -- the bytes from the first on that is outside the range
 abbrev pub past : ℕ → ℕ → List ℕ → List ℕ

@@ -1,9 +1,8 @@
 -- Well-formed UTF-8 byte sequences (the Unicode Standard, table 3-7).
-use Rattle.std.specs.Prelude.{◌≡◌, ◌↔◌, ℕ, Bool, true, not, ◌||◌, List, [], ◌∷◌}
-use Rattle.std.specs.List.{list_all}
+use Rattle.std.specs.Prelude.{◌≡◌, ◌↔◌, ℕ, Bool, true, List, [], ◌∷◌}
 use Rattle.std.specs.Char.{IsScalar, encode_utf8}
-use Rattle.std.specs.Str.{chars}
-use Rattle.bx_bytes.specs.Pattern.{Piece, One, matches_any, begins_any, is_within}
+use Rattle.bx_bytes.specs.Pattern.{Piece, One, matches_any, begins_any}
+pub use Rattle.bx_terms.specs.Characters.{is_control, is_ascii_printable, are_printable}
 
 abbrev pub trail : Piece
 trail = One 0x80 0xBF
@@ -35,15 +34,3 @@ begins_character bs = begins_any characters bs
 -- the rows have the encodings of the Unicode scalar values, and nothing else
 abbrev pub AreEncodings : Type 0
 AreEncodings = (bs : List ℕ) → (is_character bs ≡ true) ↔ ((c : ℕ) × IsScalar c × (encode_utf8 c ≡ bs))
-
--- a control character of C0 or C1, DELETE, LINE SEPARATOR or PARAGRAPH SEPARATOR
-abbrev pub is_control : ℕ → Bool
-is_control c = (is_within 0x00 0x1F c || is_within 0x7F 0x9F c) || is_within 0x2028 0x2029 c
-
--- a character from SPACE to TILDE, or its byte
-abbrev pub is_ascii_printable : ℕ → Bool
-is_ascii_printable c = is_within 0x20 0x7E c
-
--- the characters that the bytes spell are all printable
-abbrev pub are_printable : List ℕ → Bool
-are_printable bs = list_all (λ c. not (is_control c)) (chars bs)

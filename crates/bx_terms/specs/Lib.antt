@@ -1,0 +1,3 @@
+pub mod Characters
+pub mod Glyphs
+pub mod Sizes

@@ -1,0 +1,42 @@
+//! Kinds of characters.
+
+ghost use Rattle.std.specs.Prelude.{◌≡◌, [], ◌∷◌, MatchOption, true, false};
+ghost use Rattle.bx_terms.specs.Characters.{are_ascii_printable, are_printable, is_ascii_glyph, is_ascii_printable, is_control};
+
+/// Whether a character is a control of C0 or C1, DELETE, LINE SEPARATOR or PARAGRAPH SEPARATOR.
+pub fn is_control(c: char) -> bool
+    ensures { result ≡ is_control c }
+{
+    c <= '\u{1F}' || ('\u{7F}' <= c && c <= '\u{9F}') || ('\u{2028}' <= c && c <= '\u{2029}')
+}
+
+/// Whether a byte is a character from SPACE to TILDE.
+pub fn is_ascii_printable(byte: u8) -> bool
+    ensures { result ≡ is_ascii_printable byte }
+{
+    0x20 <= byte && byte <= 0x7E
+}
+
+/// Whether all characters of a text are from SPACE to TILDE.
+pub fn are_ascii_printable(text: &str) -> bool
+    ensures { result ≡ are_ascii_printable text.now }
+{
+    text.as_bytes().iter().all(|b| is_ascii_printable(*b))
+}
+
+/// Whether no character of a text is a control.
+pub fn are_printable(text: &str) -> bool
+    ensures { result ≡ are_printable text.now }
+{
+    text.chars().all(|c| !is_control(c))
+}
+
+/// The byte of a text that is one character from SPACE to TILDE, and none for any other text.
+pub fn ascii_glyph(text: &str) -> Option<u8>
+    ensures { MatchOption result (is_ascii_glyph text.now ≡ false) (λ byte. (text.now ≡ byte ∷ []) × (is_ascii_printable byte ≡ true)) }
+{
+    match text.as_bytes() {
+        [byte] if is_ascii_printable(*byte) => Some(*byte),
+        _ => None,
+    }
+}

@@ -1,0 +1,10 @@
+//! Words that several layers share: kinds of characters, glyphs and their columns, the limits of a window and of a text.
+#![tactic(auto)]
+
+mod characters;
+mod glyphs;
+mod sizes;
+
+pub use characters::{are_ascii_printable, ascii_glyph, is_ascii_printable, is_control};
+pub use glyphs::{is_glyph, run_width};
+pub use sizes::{LARGEST_SIDE, LARGEST_TEXT, is_side};

@@ -1,0 +1,17 @@
+//! The limits of a window and of a text.
+
+ghost use Rattle.std.specs.Prelude.{◌≡◌};
+ghost use Rattle.bx_terms.specs.Sizes.{is_side};
+
+/// The most rows or columns of a window.
+pub const LARGEST_SIDE: u16 = 500;
+
+/// The most bytes of a text.
+pub const LARGEST_TEXT: usize = 16_777_216;
+
+/// Whether a window may have a side of so many rows or columns: from 1 to 500.
+pub fn is_side(side: u16) -> bool
+    ensures { result ≡ is_side side }
+{
+    1 <= side && side <= LARGEST_SIDE
+}
