@@ -76,6 +76,10 @@ refusal_from file n (Err cause ∷ ls) = Some (record { file = file; line = n; c
 abbrev pub first_refusal : {A : Type 0} → UcdFile → List (Line A) → Option UcdError
 first_refusal file ls = refusal_from file 1 ls
 
--- the error tells of the first refused line, or that there was no memory, of which line 0 is told
-abbrev pub TellsRefusal : UcdError → Option UcdError → Type 0
-TellsRefusal e refusal = (refusal ≡ Some e) ⊎ ((e.line ≡ 0) × (e.cause ≡ OutOfMemory))
+-- there was no memory while the file was read, of which line 0 is told
+abbrev pub no_memory_in : UcdFile → UcdError
+no_memory_in file = record { file = file; line = 0; cause = OutOfMemory }
+
+-- the error tells of the first refused line of a file, or that there was no memory while it was read
+abbrev pub TellsRefusal : UcdFile → UcdError → Option UcdError → Type 0
+TellsRefusal file e refusal = (refusal ≡ Some e) ⊎ (e ≡ no_memory_in file)

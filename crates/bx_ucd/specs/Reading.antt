@@ -1,13 +1,14 @@
 -- The three files read in their order.
-use Rattle.std.specs.Prelude.{ℕ, List, Option}
+use Rattle.std.specs.Prelude.{◌≡◌, ℕ, List, Option, None}
 use Rattle.std.specs.Option.{option_or}
-use Rattle.bx_ucd.specs.Lines.{entries, first_refusal}
+use Rattle.bx_ucd.specs.Lines.{entries, first_refusal, no_memory_in}
 use Rattle.bx_ucd.specs.ClassFile.{class_lines}
 use Rattle.bx_ucd.specs.BracketFile.{bracket_lines}
 use Rattle.bx_ucd.specs.MirroringFile.{mirror_lines}
 use Rattle.bx_ucd.specs.Answers.{class_by_lines, bracket_by_lines, mirror_by_lines}
 use Rattle.bx_ucd.specs.declared.class.Class.{Class}
 use Rattle.bx_ucd.specs.declared.data.Side.{Side}
+use Rattle.bx_ucd.specs.declared.error.UcdFile.{UcdFile}
 use Rattle.bx_ucd.specs.declared.error.UcdFile.TheVariants.{Classes, Brackets, Mirroring}
 use Rattle.bx_ucd.specs.declared.error.UcdError.{UcdError}
 
@@ -16,6 +17,17 @@ abbrev pub refusal : List ℕ → List ℕ → List ℕ → Option UcdError
 refusal classes brackets mirroring =
     option_or (first_refusal Classes (class_lines classes))
     (option_or (first_refusal Brackets (bracket_lines brackets)) (first_refusal Mirroring (mirror_lines mirroring)))
+
+-- no line is refused of the files that are read before a file
+abbrev pub AcceptedBefore : UcdFile → List ℕ → List ℕ → Type 0
+AcceptedBefore Classes classes brackets = Unit {0}
+AcceptedBefore Brackets classes brackets = first_refusal Classes (class_lines classes) ≡ None
+AcceptedBefore Mirroring classes brackets =
+    (first_refusal Classes (class_lines classes) ≡ None) × (first_refusal Brackets (bracket_lines brackets) ≡ None)
+
+-- there was no memory while some file was read, before which no line is refused
+abbrev pub NoMemoryAfter : List ℕ → List ℕ → UcdError → Type 0
+NoMemoryAfter classes brackets e = (e ≡ no_memory_in e.file) × AcceptedBefore e.file classes brackets
 
 -- what the file's lines say of a code
 abbrev pub class_in_file : List ℕ → ℕ → Class

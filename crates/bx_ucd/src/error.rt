@@ -1,6 +1,7 @@
 //! Why a data file is refused.
 
 ghost use Rattle.std.specs.Prelude.{◌≡◌};
+ghost use Rattle.bx_ucd.specs.Lines.{no_memory_in};
 
 use std::{error, fmt};
 use thiserror::Error;
@@ -54,8 +55,7 @@ pub struct UcdError {
 impl UcdError {
     /// No memory while the file was read.
     pub(crate) fn out_of_memory(file: UcdFile) -> UcdError
-        ensures line { result.line ≡ 0 }
-        ensures cause { result.cause ≡ Cause.OutOfMemory }
+        ensures { result ≡ no_memory_in file }
     {
         UcdError {
             file,

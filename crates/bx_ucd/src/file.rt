@@ -25,7 +25,7 @@ pub fn read_entries<E: Entry>(
 ) -> Result<Vec<E>, UcdError>
     ensures accepted { IfOk result (λ _. first_refusal file (lines_by E.line_of bytes.now) ≡ None) }
     ensures entries { IfOk result (λ v. v.items ≡ entries (lines_by E.line_of bytes.now)) }
-    ensures refused { IfErr result (λ e. TellsRefusal e (first_refusal file (lines_by E.line_of bytes.now))) }
+    ensures refused { IfErr result (λ e. TellsRefusal file e (first_refusal file (lines_by E.line_of bytes.now))) }
 {
     let mut entries = Vec::new(alloc);
     let mut rest = bytes;

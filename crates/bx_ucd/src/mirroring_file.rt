@@ -1,7 +1,6 @@
 //! The file of mirrored characters, BidiMirroring.txt.
 
 ghost use Rattle.std.specs.Prelude.{◌≡◌};
-ghost use Rattle.bx_ucd.specs.Control.{is_control};
 ghost use Rattle.bx_ucd.specs.Lines.{fields};
 ghost use Rattle.bx_ucd.specs.MirroringFile.{mirror_entry, mirror_line};
 
@@ -10,19 +9,13 @@ use crate::error::Cause;
 use crate::file::Entry;
 use crate::lines::{before_comment, is_all_blank, trimmed};
 use crate::parts::{Parts, cut};
+use bx_terms::is_control;
 
 /// A character, and the one that it is mirrored to.
 #[derive(Clone, Copy, PartialEq, Eq, Debug)]
 pub struct MirrorEntry {
     pub character: char,
     pub mirror: char,
-}
-
-/// Whether the character is a control, a line separator or a paragraph separator.
-fn is_control(c: char) -> bool
-    ensures { result ≡ is_control c }
-{
-    matches!(c, '\u{0}'..='\u{1F}' | '\u{7F}'..='\u{9F}' | '\u{2028}'..='\u{2029}')
 }
 
 /// Two fields: two characters, neither a control.

@@ -1,6 +1,6 @@
 //! The tables that Unicode's three files make.
 
-ghost use Rattle.std.specs.Prelude.{◌≡◌, ℕ, ◌<◌, false, None, IfOk, IfErr};
+ghost use Rattle.std.specs.Prelude.{◌≡◌, ℕ, ◌<◌, ◌⊎◌, false, None, Some, IfOk, IfErr};
 ghost use Rattle.std.specs.Option.{ForSome};
 ghost use Rattle.std.specs.Ordering.{nat_cmp};
 ghost use Rattle.std.specs.BTreeMap.{get};
@@ -11,7 +11,7 @@ ghost use Rattle.bx_ucd.specs.BracketFile.{bracket_lines};
 ghost use Rattle.bx_ucd.specs.Control.{is_control, no_control_if_some};
 ghost use Rattle.bx_ucd.specs.Lines.{first_refusal, TellsRefusal};
 ghost use Rattle.bx_ucd.specs.MirroringFile.{mirror_lines};
-ghost use Rattle.bx_ucd.specs.Reading.{refusal, class_in_file, bracket_in_file, mirror_in_file};
+ghost use Rattle.bx_ucd.specs.Reading.{refusal, NoMemoryAfter, class_in_file, bracket_in_file, mirror_in_file};
 
 use crate::blocks::painted_blocks;
 use crate::bracket_file::BracketEntry;
@@ -71,7 +71,7 @@ fn mirror_map(alloc: Global, entries: &[MirrorEntry]) -> Result<BTreeMap<char, c
 fn read_classes(alloc: Global, bytes: &[u8]) -> Result<ClassTable, UcdError>
     ensures accepted { IfOk result (λ _. first_refusal UcdFile.Classes (class_lines bytes.now) ≡ None) }
     ensures answers { IfOk result (λ t. (code : ℕ) → class_in_table t code ≡ class_in_file bytes.now code) }
-    ensures refused { IfErr result (λ e. TellsRefusal e (first_refusal UcdFile.Classes (class_lines bytes.now))) }
+    ensures refused { IfErr result (λ e. TellsRefusal UcdFile.Classes e (first_refusal UcdFile.Classes (class_lines bytes.now))) }
 {
     let entries = read_entries::<ClassEntry>(alloc, UcdFile::Classes, bytes)?;
     match class_table(alloc, &entries) {
@@ -84,7 +84,7 @@ fn read_classes(alloc: Global, bytes: &[u8]) -> Result<ClassTable, UcdError>
 fn read_brackets(alloc: Global, bytes: &[u8]) -> Result<BTreeMap<char, (Side, char)>, UcdError>
     ensures accepted { IfOk result (λ _. first_refusal UcdFile.Brackets (bracket_lines bytes.now) ≡ None) }
     ensures answers { IfOk result (λ m. (code : ℕ) → get nat_cmp m code ≡ bracket_in_file bytes.now code) }
-    ensures refused { IfErr result (λ e. TellsRefusal e (first_refusal UcdFile.Brackets (bracket_lines bytes.now))) }
+    ensures refused { IfErr result (λ e. TellsRefusal UcdFile.Brackets e (first_refusal UcdFile.Brackets (bracket_lines bytes.now))) }
 {
     let entries = read_entries::<BracketEntry>(alloc, UcdFile::Brackets, bytes)?;
     match bracket_map(alloc, &entries) {
@@ -97,7 +97,7 @@ fn read_brackets(alloc: Global, bytes: &[u8]) -> Result<BTreeMap<char, (Side, ch
 fn read_mirrors(alloc: Global, bytes: &[u8]) -> Result<BTreeMap<char, char>, UcdError>
     ensures accepted { IfOk result (λ _. first_refusal UcdFile.Mirroring (mirror_lines bytes.now) ≡ None) }
     ensures answers { IfOk result (λ m. (code : ℕ) → get nat_cmp m code ≡ mirror_in_file bytes.now code) }
-    ensures refused { IfErr result (λ e. TellsRefusal e (first_refusal UcdFile.Mirroring (mirror_lines bytes.now))) }
+    ensures refused { IfErr result (λ e. TellsRefusal UcdFile.Mirroring e (first_refusal UcdFile.Mirroring (mirror_lines bytes.now))) }
 {
     let entries = read_entries::<MirrorEntry>(alloc, UcdFile::Mirroring, bytes)?;
     match mirror_map(alloc, &entries) {
@@ -108,7 +108,8 @@ fn read_mirrors(alloc: Global, bytes: &[u8]) -> Result<BTreeMap<char, char>, Ucd
 
 impl Tables {
     /// Reads the bytes of DerivedBidiClass.txt, BidiBrackets.txt and BidiMirroring.txt, in this order. The first line that
-    /// does not read well is refused. Want of memory may be told before a later such line is seen.
+    /// does not read well is refused. Want of memory is told of the file that was being read, and may come before a later
+    /// such line is seen.
     pub fn read(
         alloc: Global,
         classes: &[u8],
@@ -119,7 +120,7 @@ impl Tables {
         ensures classes { IfOk result (λ t. (code : ℕ) → ⟦<Tables as BidiData>⟧.class_of t code ≡ class_in_file classes.now code) }
         ensures brackets { IfOk result (λ t. (code : ℕ) → ⟦<Tables as BidiData>⟧.bracket_of t code ≡ bracket_in_file brackets.now code) }
         ensures mirrors { IfOk result (λ t. (code : ℕ) → ⟦<Tables as BidiData>⟧.mirror_of t code ≡ mirror_in_file mirroring.now code) }
-        ensures refused { IfErr result (λ e. TellsRefusal e (refusal classes.now brackets.now mirroring.now)) }
+        ensures refused { IfErr result (λ e. (refusal classes.now brackets.now mirroring.now ≡ Some e) ⊎ NoMemoryAfter classes.now brackets.now e) }
     {
         Ok(Tables {
             classes: read_classes(alloc, classes)?,
