@@ -1,16 +1,17 @@
 -- Grids: their sizes, a grid of blanks, and what putting one more glyph keeps.
-use Rattle.std.proofs.Common.{◌≡◌, ℕ, ◌+◌, ◌*◌, ◌-◌, ◌<◌, ◌≤◌, nat_le, Bool, true, false, ◌&&◌, List, [], ◌∷◌, ◌++◌, length, map, take, drop, set, get_or, replicate, zero, suc, refl, subst, ap, sym, ◌∙◌, append_assoc, arith}
+use Rattle.std.proofs.Common.{◌≡◌, ℕ, ◌+◌, ◌*◌, ◌-◌, ◌<◌, ◌≤◌, nat_le, Bool, true, ◌&&◌, List, [], ◌∷◌, ◌++◌, length, map, take, drop, set, get_or, replicate, zero, suc, refl, subst, ap, sym, ◌∙◌, append_assoc, arith}
 use Rattle.std.specs.Str.{IsUtf8}
 use Rattle.std.proofs.lemmas.List.{get_or-map, map-set, set_at, drop_more, length-take-le, length-replicate, take-append-drop, take-map, drop-map}
 use Rattle.std.proofs.lemmas.Bool.Decides.{nat_tests}
 use Rattle.std.proofs.Math.Nat.{mul-le-mul_right}
-use Rattle.bx_grid.specs.Columns.{Col, Glyph, blank, paste, run_columns, AreBlank}
-use Rattle.bx_grid.specs.Glyphs.{WholeGlyph, IsGlyph, columns_of, is_one_glyph}
+use Rattle.bx_grid.specs.Columns.{Col, Glyph, blank, paste, run_columns, AreBlank, run_width}
+use Rattle.bx_grid.specs.Columns.{is_one_glyph}
+use Rattle.bx_grid.specs.Glyphs.{WholeGlyph, IsGlyph, columns_of}
 use Rattle.bx_grid.specs.Letters.{letter_of, letters_of}
 use Rattle.bx_grid.specs.Seen.{seen, all_seen}
 use Rattle.bx_grid.specs.declared.column.Column.{Column}
 use Rattle.bx_grid.specs.declared.column.Column.TheVariants.{Ascii}
-use Rattle.bx_grid.specs.Tokens.{is_printable}
+use Rattle.bx_grid.specs.Columns.{is_ascii_printable}
 use Rattle.bx_grid.specs.Picture.{Cells, HasRoom, IsGrid, IsWithin}
 use Rattle.bx_grid.proofs.Laid.{plain_is_one}
 use Rattle.bx_grid.proofs.Pasted.{length-paste, rows_paste}
@@ -60,13 +61,13 @@ pub record CanPut (g : Cells) (line column : ℕ) (text : List ℕ) : Type 0 whe
   pub inside : IsWithin g.height g.width line column
   pub glyph : is_one_glyph text ≡ true
   pub utf8 : IsUtf8 text
-  pub room : HasRoom g line column (length (run_columns false text))
+  pub room : HasRoom g line column (run_width text)
 
 pub can_along : (g old : Cells) (line column : ℕ) (text : List ℕ) → g ≡ old → CanPut old line column text → CanPut g line column text
 can_along g old line column text e can = subst (λ (x : Cells). CanPut x line column text) (sym e) can
 
 pub plain_seen : (g : Cells) (items : List Column) (line column : ℕ) (text : List ℕ) (byte : ℕ) (negative : Bool) → g.columns ≡ all_seen items
-    → text ≡ byte ∷ [] → is_printable byte ≡ true → IsGrid g.height g.width g.columns → CanPut g line column text
+    → text ≡ byte ∷ [] → is_ascii_printable byte ≡ true → IsGrid g.height g.width g.columns → CanPut g line column text
     → all_seen (set items ((line - 1) * g.width + (column - 1)) (Ascii byte negative)) ≡ paste g.columns ((line - 1) * g.width + (column - 1)) (run_columns negative text)
 plain_seen g items line column text byte negative seen_as e h is can =
     let r = line - 1 in
@@ -87,7 +88,7 @@ put_kept g line column text negative is can =
     let glyph : WholeGlyph = record { text = text; negative = negative } in
     let one : IsGlyph glyph = record { utf8 = can.utf8; one = can.glyph } in
     let news : List Col = columns_of glyph in
-    let len : length news ≡ length (run_columns false text) = run_length negative false text in
+    let len : length news ≡ run_width text = run_length negative text in
     let below : r < g.height = omega (arith, can.inside) in
     let room : k + length news ≤ g.width = omega (arith, can.room.fits, len) in
     let blanks : AreBlank (r * g.width + k) (length news) g.columns = rw len can.room.blank in
@@ -120,7 +121,7 @@ row_letters count from columns letters e =
     part_letters count from (all_seen columns) letters e
     ∙ ap letters_of (ap (take count) (drop-map seen from columns) ∙ take-map seen count (drop from columns))
 
-pub put_fits : (g : Cells) (line column : ℕ) (text : List ℕ) (n : ℕ) → IsGrid g.height g.width g.columns → CanPut g line column text → n ≡ length (run_columns false text)
+pub put_fits : (g : Cells) (line column : ℕ) (text : List ℕ) (n : ℕ) → IsGrid g.height g.width g.columns → CanPut g line column text → n ≡ run_width text
     → (line - 1) * g.width + (column - 1) + n ≤ length g.columns
 put_fits g line column text n is can e =
     span_inside (line - 1) (column - 1) n g.height g.width (length g.columns) is.sized.each (omega (arith, can.inside)) (omega (arith, can.room.fits, e))

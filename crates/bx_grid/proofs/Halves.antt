@@ -6,7 +6,7 @@ use Rattle.bx_grid.proofs.Reading.{at}
 use Rattle.std.proofs.Math.Bool.{and-false}
 use Rattle.bx_grid.specs.Capped.{capped}
 use Rattle.bx_grid.specs.Tokens.{command}
-use Rattle.bx_grid.specs.Terminal.{Terminal, moved, obeyed, token_read}
+use Rattle.bx_grid.specs.Terminal.{Terminal, after_move, after_command, token_read}
 use Rattle.bx_bytes.specs.declared.fate.Fate.TheVariants.{Waits, Ends, Breaks}
 use Rattle.bx_bytes.specs.Fate.{fate_in}
 use Rattle.bx_bytes.specs.Utf8.{characters, is_character, begins_character}
@@ -27,7 +27,7 @@ run_never_ends t h = never t Waits Breaks Ends (λ (w : Waits ≡ Ends). cc w) (
 
 -- ---- commands
 
-columns_capped : (t : Terminal) (line column : ℕ) → t.height ≤ 500 → t.width ≤ 500 → moved t line (min 1000 column) ≡ moved t line column
+columns_capped : (t : Terminal) (line column : ℕ) → t.height ≤ 500 → t.width ≤ 500 → after_move t line (min 1000 column) ≡ after_move t line column
 columns_capped t line column h w = elim (cases_lt 1000 column) [
   | inl big ↦ (
       let a : nat_le 1 column ≡ true = grind (arith, nat_tests) in
@@ -40,7 +40,7 @@ columns_capped t line column h w = elim (cases_lt 1000 column) [
       rw c refl)
 ]
 
-moved_capped : (t : Terminal) (line column : ℕ) → t.height ≤ 500 → t.width ≤ 500 → moved t (min 1000 line) (min 1000 column) ≡ moved t line column
+moved_capped : (t : Terminal) (line column : ℕ) → t.height ≤ 500 → t.width ≤ 500 → after_move t (min 1000 line) (min 1000 column) ≡ after_move t line column
 moved_capped t line column h w = elim (cases_lt 1000 line) [
   | inl big ↦ (
       let a : nat_le 1 line ≡ true = grind (arith, nat_tests) in
@@ -53,7 +53,7 @@ moved_capped t line column h w = elim (cases_lt 1000 line) [
       rw c (columns_capped t line column h w))
 ]
 
-pub obeyed_capped : (t : Terminal) (c : Command) → t.height ≤ 500 → t.width ≤ 500 → obeyed t (capped c) ≡ obeyed t c
+pub obeyed_capped : (t : Terminal) (c : Command) → t.height ≤ 500 → t.width ≤ 500 → after_command t (capped c) ≡ after_command t c
 obeyed_capped t (Move line column) h w = moved_capped t line column h w
 obeyed_capped t Clear h w = refl
 obeyed_capped t Erase h w = refl
@@ -61,12 +61,12 @@ obeyed_capped t (Render negative) h w = refl
 obeyed_capped t Other h w = refl
 
 -- the last byte of a sequence
-pub end_read : (t : Terminal) (b : ℕ) (rest : List ℕ) → t.half ++ b ∷ [] ≡ 0x1B ∷ 0x5B ∷ drop 2 (t.half ++ b ∷ []) → rest ≡ drop 2 (t.half ++ b ∷ [])
+pub end_read : (t : Terminal) (b : ℕ) (rest : List ℕ) → t.half_read ++ b ∷ [] ≡ 0x1B ∷ 0x5B ∷ drop 2 (t.half_read ++ b ∷ []) → rest ≡ drop 2 (t.half_read ++ b ∷ [])
     → t.height ≤ 500 → t.width ≤ 500
-    → obeyed (at t []) (capped (command rest)) ≡ token_read t (t.half ++ b ∷ [])
+    → after_command (at t []) (capped (command rest)) ≡ token_read t (t.half_read ++ b ∷ [])
 end_read t b rest h e hh ww =
     obeyed_capped (at t []) (command rest) hh ww
-    ∙ ap (λ r. obeyed (at t []) (command r)) e
+    ∙ ap (λ r. after_command (at t []) (command r)) e
     ∙ ap (token_read t) (sym h)
 
 -- ---- characters

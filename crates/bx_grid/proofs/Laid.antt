@@ -2,23 +2,28 @@
 use Rattle.std.proofs.Common.{◌≡◌, ℕ, ◌+◌, ◌-◌, ◌≤◌, Bool, true, List, [], ◌∷◌, ◌++◌, length, take, drop, replicate, refl, ap, sym, ◌∙◌, arith}
 use Rattle.std.proofs.Math.Seq.{take-append-add, drop-append-add}
 use Rattle.std.proofs.lemmas.List.{append-nil, drop-drop, drop-replicate, take-replicate, length-replicate}
-use Rattle.bx_grid.specs.Columns.{Col, Glyph, blank, is_printable_text, run_columns, paste, AreBlank}
-use Rattle.bx_grid.specs.Glyphs.{is_one_glyph}
-use Rattle.bx_grid.specs.Tokens.{is_printable}
+use Rattle.bx_grid.specs.Columns.{Col, Glyph, blank, is_ascii_glyph, run_columns, paste, AreBlank, run_width}
+use Rattle.bx_grid.specs.Columns.{is_one_glyph}
+use Rattle.bx_grid.specs.Columns.{is_ascii_printable}
 use Rattle.bx_grid.proofs.Pasted.{length-paste, paste_around}
 
 -- ---- a character from SPACE to TILDE is a glyph of one column
 
-pub plain_text : (byte : ℕ) (text : List ℕ) → text ≡ byte ∷ [] → is_printable byte ≡ true → is_printable_text text ≡ true
-plain_text byte text e h = ap is_printable_text e ∙ h
+pub plain_text : (byte : ℕ) (text : List ℕ) → text ≡ byte ∷ [] → is_ascii_printable byte ≡ true → is_ascii_glyph text ≡ true
+plain_text byte text e h = ap is_ascii_glyph e ∙ h
 
-pub plain_glyph : (text : List ℕ) → is_printable_text text ≡ true → is_one_glyph text ≡ true
+pub plain_glyph : (text : List ℕ) → is_ascii_glyph text ≡ true → is_one_glyph text ≡ true
 plain_glyph text h = rw h refl
 
-pub plain_is_one : (negative : Bool) (text : List ℕ) (byte : ℕ) → text ≡ byte ∷ [] → is_printable byte ≡ true → run_columns negative text ≡ Glyph (byte ∷ []) 1 0 negative ∷ []
+pub plain_is_one : (negative : Bool) (text : List ℕ) (byte : ℕ) → text ≡ byte ∷ [] → is_ascii_printable byte ≡ true → run_columns negative text ≡ Glyph (byte ∷ []) 1 0 negative ∷ []
 plain_is_one negative text byte e h = rw (e, h) refl
 
-pub plain_width : (negative : Bool) (text : List ℕ) → is_printable_text text ≡ true → length (run_columns negative text) ≡ 1
+pub plain_run_width : (text : List ℕ) → is_ascii_glyph text ≡ true → run_width text ≡ 1
+plain_run_width [] h = absurd (cc h)
+plain_run_width (b ∷ []) h = rw h refl
+plain_run_width (b ∷ c ∷ rest) h = absurd (cc h)
+
+pub plain_width : (negative : Bool) (text : List ℕ) → is_ascii_glyph text ≡ true → length (run_columns negative text) ≡ 1
 plain_width negative [] h = absurd (cc h)
 plain_width negative (b ∷ []) h = rw h refl
 plain_width negative (b ∷ c ∷ rest) h = absurd (cc h)

@@ -2,14 +2,14 @@
 use Rattle.std.proofs.Common.{◌≡◌, ℕ, ◌+◌, ◌*◌, ◌-◌, ◌≤◌, List, [], ◌++◌, length, take, drop, replicate, refl, ap, sym, ◌∙◌, append_assoc, length-append, arith}
 use Rattle.std.proofs.lemmas.List.{length-take-le, take-append-drop, take_at, drop_at, drop-drop, take_rest, drop_all, append-nil, map-append, take-map, drop-map, length-map, length-drop, take-take, length-replicate}
 use borrow.Rule.Slice.PartMut.{put_mid}
-use Rattle.bx_grid.specs.Columns.{Col, left_of, right_of, paste, put, put_in_row}
+use Rattle.bx_grid.specs.Columns.{Col, cut_before, cut_after, paste, put, put_in_row}
 use Rattle.bx_grid.specs.Seen.{seen, all_seen}
 use Rattle.bx_grid.specs.declared.column.Column.{Column}
-use Rattle.bx_grid.proofs.Spoils.{length-left_of-seen}
+use Rattle.bx_grid.proofs.Spoils.{length-cut_before-seen}
 
-left_len : (row L : List Column) (k : ℕ) → k ≤ length row → all_seen L ≡ left_of (all_seen (take k row)) → length L ≡ k
+left_len : (row L : List Column) (k : ℕ) → k ≤ length row → all_seen L ≡ cut_before (all_seen (take k row)) → length L ≡ k
 left_len row L k fits hl =
-    sym (length-map L seen) ∙ ap length hl ∙ length-left_of-seen (take k row) ∙ length-map (take k row) seen ∙ length-take-le k row fits
+    sym (length-map L seen) ∙ ap length hl ∙ length-cut_before-seen (take k row) ∙ length-map (take k row) seen ∙ length-take-le k row fits
 
 drop_base : (row L : List Column) (k n : ℕ) → length L ≡ k → drop (k + n) (L ++ drop k row) ≡ drop (k + n) row
 drop_base row L k n len =
@@ -23,14 +23,14 @@ paste_three a m z news k ea em =
     rw (front, back) refl
 
 pub row_shown : (row L R : List Column) (k n : ℕ) (news : List Col) → length news ≡ n → k + n ≤ length row
-    → all_seen L ≡ left_of (all_seen (take k row))
-    → all_seen R ≡ right_of 0 (all_seen (take (length (L ++ drop k row) - (k + n)) (drop (k + n) (L ++ drop k row))))
+    → all_seen L ≡ cut_before (all_seen (take k row))
+    → all_seen R ≡ cut_after 0 (all_seen (take (length (L ++ drop k row) - (k + n)) (drop (k + n) (L ++ drop k row))))
     → paste (all_seen (put_mid (k + n) (length (L ++ drop k row) - (k + n)) (L ++ drop k row) R)) k news ≡ put_in_row (all_seen row) k news
 row_shown row L R k n news count fits hl hr =
     let base : List Column = L ++ drop k row in
     let len : length L ≡ k = left_len row L k (omega arith) hl in
     let rest : drop (k + n) base ≡ drop (k + n) row = drop_base row L k n len in
-    let right : all_seen R ≡ right_of 0 (all_seen (drop (k + n) row)) = hr ∙ ap (λ xs. right_of 0 (all_seen xs)) (take_rest base (k + n) ∙ rest) in
+    let right : all_seen R ≡ cut_after 0 (all_seen (drop (k + n) row)) = hr ∙ ap (λ xs. cut_after 0 (all_seen xs)) (take_rest base (k + n) ∙ rest) in
     let none : drop (length base - (k + n)) (drop (k + n) base) ≡ [] = drop_all (length base - (k + n)) (drop (k + n) base) (omega (arith, length-drop (k + n) base)) in
     let mid : List Column = drop k (take (k + n) base) in
     let base_len : length base ≡ length row = length-append L (drop k row) ∙ omega (arith, len, length-drop k row) in
@@ -51,7 +51,7 @@ paste_two a d news k ea ed =
     let back : drop (k + length news) (a ++ d) ≡ [] = drop_all (k + length news) (a ++ d) (omega (arith, length-append a d)) in
     rw (front, back) (append-nil (a ++ news))
 
-pub row_erased : (row L : List Column) (k : ℕ) (y : Col) → k ≤ length row → all_seen L ≡ left_of (all_seen (take k row))
+pub row_erased : (row L : List Column) (k : ℕ) (y : Col) → k ≤ length row → all_seen L ≡ cut_before (all_seen (take k row))
     → paste (all_seen (L ++ drop k row)) k (replicate (length (L ++ drop k row) - k) y) ≡ put_in_row (all_seen row) k (replicate (length row - k) y)
 row_erased row L k y fits hl =
     let len : length L ≡ k = left_len row L k fits hl in
@@ -62,7 +62,7 @@ row_erased row L k y fits hl =
     ∙ ap (λ xs. paste xs k (replicate (length row - k) y)) (map-append seen L (drop k row))
     ∙ paste_two (all_seen L) (all_seen (drop k row)) (replicate (length row - k) y) k (length-map L seen ∙ len)
     (omega (arith, length-map (drop k row) seen, length-drop k row, length-replicate (length row - k) y))
-    ∙ rw (hl, none, take-map seen k row) (sym (append-nil (left_of (all_seen (take k row)) ++ replicate (length row - k) y)))
+    ∙ rw (hl, none, take-map seen k row) (sym (append-nil (cut_before (all_seen (take k row)) ++ replicate (length row - k) y)))
 
 pub placed : (columns part : List Column) (w row k : ℕ) (news : List Col)
     → all_seen part ≡ put_in_row (all_seen (take ((row * w + w) - row * w) (drop (row * w) columns))) k news

@@ -1,9 +1,7 @@
 -- One more column paste.
 use Rattle.std.proofs.Common.{◌≡◌, ℕ, ◌+◌, ◌<◌, ◌≤◌, Bool, true, false, zero, suc, refl, List, [], ◌∷◌, ◌++◌, length, take, drop, set, replicate, get_or, ap, sym, ◌∙◌, append_assoc, length-append, arith}
 use Rattle.std.proofs.lemmas.List.{append-nil, set_at, drop_more, length-take-le, length_push, map-set, map_more, length-map, replicate_more, length-replicate, drop_all}
-use Rattle.bx_grid.specs.Columns.{Col, Glyph, paste, plain_columns, run_columns, glyph_columns_from}
-use Rattle.bx_grid.specs.Tokens.{is_printable}
-use Rattle.std.specs.List.{list_all}
+use Rattle.bx_grid.specs.Columns.{Col, Glyph, paste, plain_columns, run_columns, glyph_columns_from, are_ascii_printable, run_width}
 use Rattle.std.specs.Str.{chars}
 use Rattle.unicode_width.specs.Width.{str_width}
 use Rattle.bx_grid.specs.Seen.{seen, all_seen}
@@ -79,12 +77,10 @@ glyph_put columns start k i count text negative x fits before is =
     ∙ ap (paste start k) (sym (glyph_more text count 0 i negative))
     ∙ ap (λ n. paste start k (glyph_columns_from text count negative 0 n)) one
 
-run_length_by : (t n m : Bool) (run : List ℕ) → list_all is_printable run ≡ t → length (run_columns n run) ≡ length (run_columns m run)
-run_length_by true n m run e =
-    rw e (length-map run (λ b. Glyph (b ∷ []) 1 0 n) ∙ sym (length-map run (λ b. Glyph (b ∷ []) 1 0 m)))
-run_length_by false n m run e =
-    let w = str_width false (chars run) in
-    rw e (length-glyph run w 0 w n ∙ sym (length-glyph run w 0 w m))
+run_length_by : (t n : Bool) (run : List ℕ) → are_ascii_printable run ≡ t → length (run_columns n run) ≡ run_width run
+run_length_by true n run e = rw e (length-map run (λ b. Glyph (b ∷ []) 1 0 n))
+run_length_by false n run e = let w = str_width false (chars run) in rw e (length-glyph run w 0 w n)
 
-pub run_length : (n m : Bool) (run : List ℕ) → length (run_columns n run) ≡ length (run_columns m run)
-run_length n m run = run_length_by (list_all is_printable run) n m run refl
+-- a run has as many columns as it is wide
+pub run_length : (n : Bool) (run : List ℕ) → length (run_columns n run) ≡ run_width run
+run_length n run = run_length_by (are_ascii_printable run) n run refl

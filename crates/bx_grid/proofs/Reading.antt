@@ -13,7 +13,8 @@ use Rattle.bx_bytes.specs.Fate.{fate_in}
 use Rattle.bx_bytes.specs.Utf8.{characters, is_control, are_printable}
 use Rattle.bx_bytes.proofs.Codes.{chars_of_one}
 use Rattle.bx_grid.specs.declared.token.Command.TheVariants.{Move}
-use Rattle.bx_grid.specs.Tokens.{is_printable, is_param, is_intermediate, is_final, params, after_params, command_of, number, before_semicolon, after_semicolon}
+use Rattle.bx_grid.specs.Columns.{is_ascii_printable}
+use Rattle.bx_grid.specs.Tokens.{is_param, is_intermediate, is_final, params, after_params, command_of, number, before_semicolon, after_semicolon}
 use Rattle.bx_grid.specs.Terminal.{Terminal, reads, byte_read}
 
 pub reads-append : (t : Terminal) (xs ys : List ℕ) → reads t (xs ++ ys) ≡ reads (reads t xs) ys
@@ -22,7 +23,7 @@ reads-append t (x ∷ xs) ys = reads-append (byte_read t x) xs ys
 
 -- the terminal with these bytes half read
 abbrev pub at : Terminal → List ℕ → Terminal
-at t half = record t { half = half }
+at t half_read = record t { half_read = half_read }
 
 pub and_left : (a b : Bool) → a && b ≡ true → a ≡ true
 and_left true b h = refl
@@ -34,13 +35,13 @@ and_right false b h = absurd (cc h)
 
 -- ---- a character from SPACE to TILDE
 
-pub ends_alone : (b : ℕ) → is_printable b ≡ true → fate_in characters (b ∷ []) ≡ Ends
+pub ends_alone : (b : ℕ) → is_ascii_printable b ≡ true → fate_in characters (b ∷ []) ≡ Ends
 ends_alone b h = grind (arith, nat_tests)
 
-no_control : (b : ℕ) → is_printable b ≡ true → is_control b ≡ false
+no_control : (b : ℕ) → is_ascii_printable b ≡ true → is_control b ≡ false
 no_control b h = grind (arith, nat_tests)
 
-pub prints : (b : ℕ) → is_printable b ≡ true → are_printable (b ∷ []) ≡ true
+pub prints : (b : ℕ) → is_ascii_printable b ≡ true → are_printable (b ∷ []) ≡ true
 prints b h = rw (chars_of_one b (ends_alone b h), no_control b h) refl
 
 -- ---- a sequence

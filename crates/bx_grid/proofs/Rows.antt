@@ -4,18 +4,19 @@ use Rattle.std.specs.Prelude.{codes, ◌*◌}
 use Rattle.std.specs.Str.{chars}
 use Rattle.unicode_width.proofs.Computing.{unicode_width}
 use Rattle.bx_grid.specs.Columns.{Col, Unknown, Glyph, blank, paste, run_columns, AreBlank}
-use Rattle.bx_grid.specs.Glyphs.{WholeGlyph, IsGlyph, columns_of, all_columns, is_one_glyph, AreWhole, AreWholeRows}
+use Rattle.bx_grid.specs.Columns.{is_one_glyph}
+use Rattle.bx_grid.specs.Glyphs.{WholeGlyph, IsGlyph, columns_of, all_columns, AreWhole, AreWholeRows}
 use Rattle.bx_grid.specs.Picture.{Image, Shows}
-use Rattle.bx_grid.specs.Terminal.{Terminal, reads, resized}
+use Rattle.bx_grid.specs.Terminal.{Terminal, reads, after_resize}
 use Rattle.bx_grid.proofs.Whole.{whole-append, whole_glyph, whole_blanks, whole_head}
 
 -- nothing is known of it
 abbrev fresh : ℕ → ℕ → Terminal
-fresh h w = record { height = h; width = w; columns = replicate (h * w) Unknown; position = None; negative = None; run = []; half = [] }
+fresh h w = record { height = h; width = w; columns = replicate (h * w) Unknown; position = None; negative = None; run = []; half_read = [] }
 
 -- one row, with nothing half read
 abbrev row : ℕ → List Col → Option (ℕ × ℕ) → Terminal
-row w columns position = record { height = 1; width = w; columns = columns; position = position; negative = Some false; run = []; half = [] }
+row w columns position = record { height = 1; width = w; columns = columns; position = position; negative = Some false; run = []; half_read = [] }
 
 abbrev g : ℕ → Col
 g b = Glyph (b ∷ []) 1 0 false
@@ -30,12 +31,12 @@ opening = refl
 
 -- a run waits for the byte that ends it
 pub run_waits : reads (fresh 1 5) (codes "\u{1b}[0m\u{1b}[2J\u{1b}[1;1Hab")
-    ≡ record { height = 1; width = 5; columns = replicate 5 blank; position = Some (0, 0); negative = Some false; run = 0x61 ∷ 0x62 ∷ []; half = [] }
+    ≡ record { height = 1; width = 5; columns = replicate 5 blank; position = Some (0, 0); negative = Some false; run = 0x61 ∷ 0x62 ∷ []; half_read = [] }
 unfolding chars
 run_waits = refl
 
 pub negative_stays : reads (fresh 1 1) (codes "\u{1b}[0m\u{1b}[2J\u{1b}[1;1H\u{1b}[7m")
-    ≡ record { height = 1; width = 1; columns = blank ∷ []; position = Some (0, 0); negative = Some true; run = []; half = [] }
+    ≡ record { height = 1; width = 1; columns = blank ∷ []; position = Some (0, 0); negative = Some true; run = []; half_read = [] }
 unfolding chars
 negative_stays = refl
 
@@ -72,14 +73,14 @@ unfolding chars
 never_wraps = refl
 
 -- a change of the window within a sequence; then the whole painting of another size
-pub resized_within : reads (resized (reads (fresh 4 20) (codes "\u{1b}[0m\u{1b}[2J\u{1b}[")) 1 5) (codes "1;1Hab\u{1b}[0m\u{1b}[2J\u{1b}[1;1Hab\u{1b}[1;1H")
+pub resized_within : reads (after_resize (reads (fresh 4 20) (codes "\u{1b}[0m\u{1b}[2J\u{1b}[")) 1 5) (codes "1;1Hab\u{1b}[0m\u{1b}[2J\u{1b}[1;1Hab\u{1b}[1;1H")
     ≡ row 5 (g 0x61 ∷ g 0x62 ∷ replicate 3 blank) (Some (0, 0))
 unfolding chars
 resized_within = refl
 
 -- a character that is broken off, and what follows it in a run
-pub broken_off : reads (record { height = 1; width = 2; columns = blank ∷ blank ∷ []; position = Some (0, 0); negative = Some false; run = 0x61 ∷ []; half = 0xD7 ∷ [] }) (0x62 ∷ [])
-    ≡ record { height = 1; width = 2; columns = Unknown ∷ Unknown ∷ []; position = None; negative = None; run = 0x62 ∷ []; half = [] }
+pub broken_off : reads (record { height = 1; width = 2; columns = blank ∷ blank ∷ []; position = Some (0, 0); negative = Some false; run = 0x61 ∷ []; half_read = 0xD7 ∷ [] }) (0x62 ∷ [])
+    ≡ record { height = 1; width = 2; columns = Unknown ∷ Unknown ∷ []; position = None; negative = None; run = 0x62 ∷ []; half_read = [] }
 unfolding chars
 broken_off = refl
 
@@ -88,8 +89,8 @@ pub next_line_control : reads (row 1 (blank ∷ []) (Some (0, 0))) (0xC2 ∷ 0x8
 unfolding chars
 next_line_control = refl
 
-pub escape_ends_a_run : reads (record { height = 1; width = 1; columns = blank ∷ []; position = Some (0, 0); negative = Some false; run = 0x61 ∷ []; half = [] }) (0x1B ∷ [])
-    ≡ record { height = 1; width = 1; columns = g 0x61 ∷ []; position = None; negative = Some false; run = []; half = 0x1B ∷ [] }
+pub escape_ends_a_run : reads (record { height = 1; width = 1; columns = blank ∷ []; position = Some (0, 0); negative = Some false; run = 0x61 ∷ []; half_read = [] }) (0x1B ∷ [])
+    ≡ record { height = 1; width = 1; columns = g 0x61 ∷ []; position = None; negative = Some false; run = []; half_read = 0x1B ∷ [] }
 unfolding chars
 escape_ends_a_run = refl
 

@@ -1,28 +1,24 @@
 -- A run that takes effect, and a character that goes on with one.
 use Rattle.std.proofs.Common.{◌≡◌, ℕ, ◌+◌, ◌<◌, ◌≤◌, ◌⊎◌, Bool, true, false, ◌&&◌, nat_le, nat_lt, nat_eq, List, [], ◌∷◌, ◌++◌, length, Option, Some, None, inl, inr, refl, ap, sym, ◌∙◌, arith}
-use Rattle.std.specs.List.{list_all}
 use Rattle.std.specs.Str.{chars}
 use Rattle.std.specs.Char.{encode_utf8}
 use Rattle.std.proofs.Math.Bool.{and-false}
 use Rattle.std.proofs.lemmas.Bool.Decides.{nat_tests}
 use Rattle.unicode_width.specs.Width.{str_width}
 use Rattle.bx_bytes.specs.Utf8.{is_control, are_printable}
-use Rattle.bx_grid.specs.Columns.{Col, put, glyph_columns, run_columns}
-use Rattle.bx_grid.specs.Terminal.{Terminal, all_unknown, within, glyphs_put, run_put, run_ended, character_read, begun}
-use Rattle.bx_grid.specs.Tokens.{is_printable}
-use Rattle.bx_grid.proofs.Puts.{length-glyph, run_length}
+use Rattle.bx_grid.specs.Columns.{Col, put, glyph_columns, run_columns, are_ascii_printable, run_width}
+use Rattle.bx_grid.specs.Terminal.{Terminal, all_unknown, within, glyphs_put, run_put, run_ended, character_read, after_first_byte}
+use Rattle.bx_grid.proofs.Puts.{run_length}
 
 -- ---- runs that are one glyph
 
-pub glyph_width : (negative : Bool) (run : List ℕ) → list_all is_printable run ≡ false → length (run_columns negative run) ≡ str_width false (chars run)
-glyph_width negative run h =
-    let w = str_width false (chars run) in
-    rw h (length-glyph run w 0 w negative)
+glyph_width : (run : List ℕ) → are_ascii_printable run ≡ false → run_width run ≡ str_width false (chars run)
+glyph_width run h = rw h refl
 
-pub glyphs_of : (negative : Bool) (run : List ℕ) (count : ℕ) → list_all is_printable run ≡ false → count ≡ length (run_columns false run)
+pub glyphs_of : (negative : Bool) (run : List ℕ) (count : ℕ) → are_ascii_printable run ≡ false → count ≡ run_width run
     → glyph_columns run count negative ≡ run_columns negative run
 glyphs_of negative run count h e =
-    let is : count ≡ str_width false (chars run) = e ∙ glyph_width false run h in
+    let is : count ≡ str_width false (chars run) = e ∙ glyph_width run h in
     rw (h, is) refl
 
 -- ---- putting
@@ -42,11 +38,11 @@ pub within_past : (w r c : ℕ) → w ≤ c → within w r c ≡ None
 within_past w r c h = let test : nat_lt c w ≡ false = grind (arith, nat_tests) in rw test refl
 
 pub put_is : (u : Terminal) (row column count : ℕ) (negative : Bool) (columns : List Col) (position : Option (ℕ × ℕ)) (run : List ℕ)
-    → count ≡ length (run_columns false u.run) → 1 ≤ count → column + count ≤ u.width
+    → count ≡ run_width u.run → 1 ≤ count → column + count ≤ u.width
     → columns ≡ put u.width u.columns row column (run_columns negative u.run) → position ≡ within u.width row (column + count) → run ≡ []
     → record u { columns = columns; position = position; run = run } ≡ glyphs_put u (row, column) (run_columns negative u.run)
 put_is u row column count negative columns position run counted some fits ec ep er =
-    let len : length (run_columns negative u.run) ≡ count = run_length negative false u.run ∙ sym counted in
+    let len : length (run_columns negative u.run) ≡ count = run_length negative u.run ∙ sym counted in
     let a : nat_le 1 count ≡ true = grind (arith, nat_tests) in
     let b : nat_le (column + count) u.width ≡ true = grind (arith, nat_tests) in
     rw (ec, ep, er, len, a, b) refl
@@ -69,11 +65,11 @@ unplaced t negative (b ∷ bs) h = refl
 pub ends_unplaced : (t : Terminal) → t.position ≡ None → 0 < length t.run → run_ended t ≡ all_unknown t
 ends_unplaced t e some = ap (λ q. run_put t q t.negative t.run) e ∙ unplaced t t.negative t.run some
 
-put_half : (t : Terminal) (p : ℕ × ℕ) (fits : Bool) (new : List Col) → t.half ≡ [] → nat_le 1 (length new) && nat_le (p.1 + length new) t.width ≡ fits → (glyphs_put t p new).half ≡ []
+put_half : (t : Terminal) (p : ℕ × ℕ) (fits : Bool) (new : List Col) → t.half_read ≡ [] → nat_le 1 (length new) && nat_le (p.1 + length new) t.width ≡ fits → (glyphs_put t p new).half_read ≡ []
 put_half t p true new h e = rw e h
 put_half t p false new h e = rw e refl
 
-half_by : (t : Terminal) (q : Option (ℕ × ℕ)) (n : Option Bool) (run : List ℕ) → t.half ≡ [] → (run_put t q n run).half ≡ []
+half_by : (t : Terminal) (q : Option (ℕ × ℕ)) (n : Option Bool) (run : List ℕ) → t.half_read ≡ [] → (run_put t q n run).half_read ≡ []
 half_by t q n [] h = h
 half_by t (Some p) (Some negative) (b ∷ bs) h =
     let new = run_columns negative (b ∷ bs) in put_half t p (nat_le 1 (length new) && nat_le (p.1 + length new) t.width) new h refl
@@ -81,18 +77,18 @@ half_by t (Some p) None (b ∷ bs) h = refl
 half_by t None n (b ∷ bs) h = refl
 
 -- nothing is half read after it where nothing was
-pub half_ended : (t : Terminal) → t.half ≡ [] → (run_ended t).half ≡ []
+pub half_ended : (t : Terminal) → t.half_read ≡ [] → (run_ended t).half_read ≡ []
 half_ended t h = half_by t t.position t.negative t.run h
 
 -- ---- a whole character
 
-pub character_is : (u : Terminal) (bs : List ℕ) (c : ℕ) (run half : List ℕ) → chars bs ≡ c ∷ [] → is_control c ≡ false → encode_utf8 c ≡ bs
-    → run ≡ u.run ++ encode_utf8 c → half ≡ [] → record u { run = run; half = half } ≡ character_read u bs
-character_is u bs c run half spells fine bytes er eh =
+pub character_is : (u : Terminal) (bs : List ℕ) (c : ℕ) (run half_read : List ℕ) → chars bs ≡ c ∷ [] → is_control c ≡ false → encode_utf8 c ≡ bs
+    → run ≡ u.run ++ encode_utf8 c → half_read ≡ [] → record u { run = run; half_read = half_read } ≡ character_read u bs
+character_is u bs c run half_read spells fine bytes er eh =
     let printed : are_printable bs ≡ true = rw (spells, fine) refl in
     rw (er, eh, printed, bytes) refl
 
-pub escape_begun : (u t : Terminal) (b : ℕ) (half : List ℕ) → u ≡ run_ended t → b ≡ 0x1B → half ≡ b ∷ [] → record u { half = half } ≡ begun t b
-escape_begun u t b half e is eh =
+pub escape_begun : (u t : Terminal) (b : ℕ) (half_read : List ℕ) → u ≡ run_ended t → b ≡ 0x1B → half_read ≡ b ∷ [] → record u { half_read = half_read } ≡ after_first_byte t b
+escape_begun u t b half_read e is eh =
     let test : nat_eq b 0x1B ≡ true = grind (arith, nat_tests) in
     rw (e, eh, test) refl

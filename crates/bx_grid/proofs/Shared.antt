@@ -27,13 +27,13 @@ column_of text count i negative low = column_from text count count 0 i negative 
 later : (c : Col) (i j : ℕ) (front rest : List Col) → i ≡ length front + j → IsWholeAt c j rest → IsWholeAt c i (front ++ rest)
 later Unknown i j front rest e h = h
 later (Glyph text count offset negative) i j front rest e h =
-    let begun : offset ≤ j = h.begun in
-    let there : i - offset ≡ length front + (j - offset) = omega (arith, e, begun) in
+    let begins : offset ≤ j = h.begins in
+    let there : i - offset ≡ length front + (j - offset) = omega (arith, e, begins) in
     record {
       glyph = h.glyph;
       counted = h.counted;
       within = h.within;
-      begun = omega (arith, e, begun);
+      begins = omega (arith, e, begins);
       all = ap (λ k. take count (drop k (front ++ rest))) there ∙ ap (take count) (drop-append-add front rest (j - offset)) ∙ h.all;
     }
 
@@ -47,7 +47,7 @@ first g n i rest one form low =
       glyph = record { utf8 = one.utf8; one = one.one };
       counted = sym len;
       within = low;
-      begun = omega arith;
+      begins = omega arith;
       all = ap (λ k. take n (drop k (columns_of g ++ rest))) none ∙ take_at (columns_of g) rest n len;
     } in
     subst (λ (c : Col). IsWholeAt c i (columns_of g ++ rest)) (sym is) stands
@@ -86,7 +86,7 @@ of_glyph : (text : List ℕ) (count offset : ℕ) (negative : Bool) (i k : ℕ) 
 of_glyph text count offset negative i k columns h low high =
     let j = k + offset - i in
     let within : offset < count = h.within in
-    let begun : offset ≤ i = h.begun in
+    let begins : offset ≤ i = h.begins in
     let inside : j < count = omega arith in
     let there : i - offset + j ≡ k = omega arith in
     let g : WholeGlyph = record { text = text; negative = negative } in
@@ -105,7 +105,7 @@ inside_all : (text : List ℕ) (count offset : ℕ) (negative : Bool) (i k : ℕ
     → k + offset < i + count → k < length columns
 inside_all text count offset negative i k columns h high =
     let within : offset < count = h.within in
-    let begun : offset ≤ i = h.begun in
+    let begins : offset ≤ i = h.begins in
     let len : length (take count (drop (i - offset) columns)) ≡ count = ap length h.all ∙ sym h.counted in
     omega (arith, len, length-take count (drop (i - offset) columns), length-drop (i - offset) columns)
 
@@ -116,7 +116,7 @@ differ_at (Glyph text count offset negative) old new i k size b is h of e =
     let low : i ≤ k + offset = of.0 in
     let high : k + offset < i + count = of.1 in
     let within : offset < count = h.within in
-    let begun : offset ≤ i = h.begun in
+    let begins : offset ≤ i = h.begins in
     let here : at new k ≡ Glyph text count j negative = sym e ∙ of_glyph text count offset negative i k old h low high in
     let inside : k < length new = omega (arith, inside_all text count offset negative i k old h high, size) in
     let whole : StandsWhole text count j negative k new = subst (λ (c : Col). IsWholeAt c k new) here (stands_whole new b k inside) in

@@ -6,15 +6,15 @@ use Rattle.std.proofs.lemmas.Bool.Decides.{nat_tests}
 use Rattle.std.proofs.lemmas.List.{get_or-map, map-set, length-map}
 use Rattle.std.proofs.Common.{◌≡◌, ℕ, ◌+◌, ◌-◌, ◌<◌, ◌≤◌, true, false, cond, nat_lt, List, [], ◌∷◌, ◌++◌, length, take, drop, set, get_or, zero, suc, refl, ap, sym, ◌∙◌, append_assoc, arith}
 use Rattle.std.proofs.lemmas.List.{set_at, drop_more, take_more, get_or_at, length-take-le, append-nil, drop_all, take_all}
-use Rattle.bx_grid.specs.Columns.{Col, Unknown, columns_after, columns_before, left_of, right_of}
+use Rattle.bx_grid.specs.Columns.{Col, Unknown, columns_after, columns_before, cut_before, cut_after}
 
-length-left_of : (xs : List Col) → length (left_of xs) ≡ length xs
-length-left_of [] = refl
-length-left_of (x ∷ xs) = ap suc (length-left_of xs)
+length-cut_before : (xs : List Col) → length (cut_before xs) ≡ length xs
+length-cut_before [] = refl
+length-cut_before (x ∷ xs) = ap suc (length-cut_before xs)
 
-length-right_of : (d : ℕ) (xs : List Col) → length (right_of d xs) ≡ length xs
-length-right_of d [] = refl
-length-right_of d (x ∷ xs) = ap suc (length-right_of (d + 1) xs)
+length-cut_after : (d : ℕ) (xs : List Col) → length (cut_after d xs) ≡ length xs
+length-cut_after d [] = refl
+length-cut_after d (x ∷ xs) = ap suc (length-cut_after (d + 1) xs)
 
 -- the first i of ys, and then the rest of xs
 abbrev pub mixed : ℕ → List Col → List Col → List Col
@@ -35,7 +35,7 @@ mixed_more ys xs i y d same low is =
     ∙ ap (λ zs. zs ++ drop (i + 1) xs) (sym (take_more ys i d (omega arith)))
 
 pub left_of_at : (xs : List Col) (i : ℕ) (d : Col) → i < length xs
-    → get_or (left_of xs) i d ≡ cond (nat_lt (length xs - 1 - i) (columns_after (get_or xs i d))) Unknown (get_or xs i d)
+    → get_or (cut_before xs) i d ≡ cond (nat_lt (length xs - 1 - i) (columns_after (get_or xs i d))) Unknown (get_or xs i d)
 left_of_at [] i d low = absurd (omega arith)
 left_of_at (x ∷ xs) zero d low =
     let e : suc (length xs) - 1 - zero ≡ length xs = omega arith in rw e refl
@@ -44,7 +44,7 @@ left_of_at (x ∷ xs) (suc i) d low =
     rw e (left_of_at xs i d (omega arith))
 
 pub right_of_at : (e : ℕ) (xs : List Col) (i : ℕ) (d : Col) → i < length xs
-    → get_or (right_of e xs) i d ≡ cond (nat_lt (e + i) (columns_before (get_or xs i d))) Unknown (get_or xs i d)
+    → get_or (cut_after e xs) i d ≡ cond (nat_lt (e + i) (columns_before (get_or xs i d))) Unknown (get_or xs i d)
 right_of_at e [] i d low = absurd (omega arith)
 right_of_at e (x ∷ xs) zero d low = let z : e + zero ≡ e = omega arith in rw z refl
 right_of_at e (x ∷ xs) (suc i) d low =
@@ -76,43 +76,43 @@ kept ys start row i x d same low before is =
     ∙ mixed_more ys (all_seen start) i (seen (get_or row i x)) d (same ∙ sym (length-map start seen)) (omega (arith, length-map start seen)) is
 
 pub left_forgot : (start row : List Column) (i : ℕ) (x : Column) → i < length start → length row ≡ length start
-    → all_seen row ≡ mixed i (left_of (all_seen start)) (all_seen start) → length start - 1 - i < columns_after (seen (get_or row i x))
-    → all_seen (set row i column.Unknown) ≡ mixed (i + 1) (left_of (all_seen start)) (all_seen start)
+    → all_seen row ≡ mixed i (cut_before (all_seen start)) (all_seen start) → length start - 1 - i < columns_after (seen (get_or row i x))
+    → all_seen (set row i column.Unknown) ≡ mixed (i + 1) (cut_before (all_seen start)) (all_seen start)
 left_forgot start row i x low len before reach =
-    let ys : List Col = left_of (all_seen start) in
-    let same : length ys ≡ length start = length-left_of (all_seen start) ∙ length-map start seen in
+    let ys : List Col = cut_before (all_seen start) in
+    let same : length ys ≡ length start = length-cut_before (all_seen start) ∙ length-map start seen in
     let here : seen (get_or row i x) ≡ get_or (all_seen start) i Unknown = read_same ys start row i x Unknown same low before len in
     let test : nat_lt (length (all_seen start) - 1 - i) (columns_after (get_or (all_seen start) i Unknown)) ≡ true =
     rw (← here, length-map start seen) (grind (arith, nat_tests)) in
     forgot ys start row i Unknown same low before (sym (left_of_at (all_seen start) i Unknown (omega (arith, length-map start seen)) ∙ rw test refl))
 
 pub left_kept : (start row : List Column) (i : ℕ) (x : Column) → i < length start → length row ≡ length start
-    → all_seen row ≡ mixed i (left_of (all_seen start)) (all_seen start) → columns_after (seen (get_or row i x)) ≤ length start - 1 - i
-    → all_seen (set row i (get_or row i x)) ≡ mixed (i + 1) (left_of (all_seen start)) (all_seen start)
+    → all_seen row ≡ mixed i (cut_before (all_seen start)) (all_seen start) → columns_after (seen (get_or row i x)) ≤ length start - 1 - i
+    → all_seen (set row i (get_or row i x)) ≡ mixed (i + 1) (cut_before (all_seen start)) (all_seen start)
 left_kept start row i x low len before reach =
-    let ys : List Col = left_of (all_seen start) in
-    let same : length ys ≡ length start = length-left_of (all_seen start) ∙ length-map start seen in
+    let ys : List Col = cut_before (all_seen start) in
+    let same : length ys ≡ length start = length-cut_before (all_seen start) ∙ length-map start seen in
     let here : seen (get_or row i x) ≡ get_or (all_seen start) i Unknown = read_same ys start row i x Unknown same low before len in
     let test : nat_lt (length (all_seen start) - 1 - i) (columns_after (get_or (all_seen start) i Unknown)) ≡ false =
     rw (← here, length-map start seen) (grind (arith, nat_tests)) in
     kept ys start row i x Unknown same low before (here ∙ sym (left_of_at (all_seen start) i Unknown (omega (arith, length-map start seen)) ∙ rw test refl))
 
 pub right_forgot : (start row : List Column) (i : ℕ) (x : Column) → i < length start → length row ≡ length start
-    → all_seen row ≡ mixed i (right_of 0 (all_seen start)) (all_seen start) → i < columns_before (seen (get_or row i x))
-    → all_seen (set row i column.Unknown) ≡ mixed (i + 1) (right_of 0 (all_seen start)) (all_seen start)
+    → all_seen row ≡ mixed i (cut_after 0 (all_seen start)) (all_seen start) → i < columns_before (seen (get_or row i x))
+    → all_seen (set row i column.Unknown) ≡ mixed (i + 1) (cut_after 0 (all_seen start)) (all_seen start)
 right_forgot start row i x low len before reach =
-    let ys : List Col = right_of 0 (all_seen start) in
-    let same : length ys ≡ length start = length-right_of 0 (all_seen start) ∙ length-map start seen in
+    let ys : List Col = cut_after 0 (all_seen start) in
+    let same : length ys ≡ length start = length-cut_after 0 (all_seen start) ∙ length-map start seen in
     let here : seen (get_or row i x) ≡ get_or (all_seen start) i Unknown = read_same ys start row i x Unknown same low before len in
     let test : nat_lt (0 + i) (columns_before (get_or (all_seen start) i Unknown)) ≡ true = rw (← here) (grind (arith, nat_tests)) in
     forgot ys start row i Unknown same low before (sym (right_of_at 0 (all_seen start) i Unknown (omega (arith, length-map start seen)) ∙ rw test refl))
 
 pub right_kept : (start row : List Column) (i : ℕ) (x : Column) → i < length start → length row ≡ length start
-    → all_seen row ≡ mixed i (right_of 0 (all_seen start)) (all_seen start) → columns_before (seen (get_or row i x)) ≤ i
-    → all_seen (set row i (get_or row i x)) ≡ mixed (i + 1) (right_of 0 (all_seen start)) (all_seen start)
+    → all_seen row ≡ mixed i (cut_after 0 (all_seen start)) (all_seen start) → columns_before (seen (get_or row i x)) ≤ i
+    → all_seen (set row i (get_or row i x)) ≡ mixed (i + 1) (cut_after 0 (all_seen start)) (all_seen start)
 right_kept start row i x low len before reach =
-    let ys : List Col = right_of 0 (all_seen start) in
-    let same : length ys ≡ length start = length-right_of 0 (all_seen start) ∙ length-map start seen in
+    let ys : List Col = cut_after 0 (all_seen start) in
+    let same : length ys ≡ length start = length-cut_after 0 (all_seen start) ∙ length-map start seen in
     let here : seen (get_or row i x) ≡ get_or (all_seen start) i Unknown = read_same ys start row i x Unknown same low before len in
     let test : nat_lt (0 + i) (columns_before (get_or (all_seen start) i Unknown)) ≡ false = rw (← here) (grind (arith, nat_tests)) in
     kept ys start row i x Unknown same low before (here ∙ sym (right_of_at 0 (all_seen start) i Unknown (omega (arith, length-map start seen)) ∙ rw test refl))
@@ -122,8 +122,8 @@ pub mixed_all : (ys xs : List Col) (i : ℕ) → length ys ≡ length xs → len
 mixed_all ys xs i same past =
     ap (λ zs. take i ys ++ zs) (drop_all i xs past) ∙ append-nil (take i ys) ∙ take_all i ys (omega arith)
 
-pub length-left_of-seen : (start : List Column) → length (left_of (all_seen start)) ≡ length (all_seen start)
-length-left_of-seen start = length-left_of (all_seen start)
+pub length-cut_before-seen : (start : List Column) → length (cut_before (all_seen start)) ≡ length (all_seen start)
+length-cut_before-seen start = length-cut_before (all_seen start)
 
-pub length-right_of-seen : (start : List Column) → length (right_of 0 (all_seen start)) ≡ length (all_seen start)
-length-right_of-seen start = length-right_of 0 (all_seen start)
+pub length-cut_after-seen : (start : List Column) → length (cut_after 0 (all_seen start)) ≡ length (all_seen start)
+length-cut_after-seen start = length-cut_after 0 (all_seen start)

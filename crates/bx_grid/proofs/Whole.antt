@@ -7,10 +7,10 @@ use Rattle.std.proofs.lemmas.List.{append-nil, append_cancel_left, take-append-d
 use Rattle.std.proofs.lemmas.List.Elements.{All-nil, All-cons, All-head, All-tail, All-append}
 use Rattle.unicode_width.specs.Width.{str_width}
 use Rattle.bx_bytes.specs.Utf8.{are_printable}
-use Rattle.bx_grid.specs.Columns.{Col, Glyph, blank, is_printable_text, glyph_columns, glyph_columns_from, run_columns, left_of, right_of}
-use Rattle.bx_grid.specs.Deeds.{Puts, glyphs_at}
+use Rattle.bx_grid.specs.Columns.{Col, Glyph, blank, is_ascii_glyph, glyph_columns, glyph_columns_from, run_columns, cut_before, cut_after}
+use Rattle.bx_grid.specs.Effects.{Puts, glyphs_at}
 use Rattle.bx_grid.specs.Glyphs.{WholeGlyph, IsGlyph, columns_of, all_columns, AreWhole, AreWholeRows}
-use Rattle.bx_grid.specs.Tokens.{is_printable}
+use Rattle.bx_grid.specs.Columns.{is_ascii_printable}
 use Rattle.bx_grid.proofs.Puts.{length-glyph}
 use Rattle.bx_grid.proofs.Reading.{and_left, and_right}
 
@@ -20,25 +20,25 @@ not_false : (b : Bool) → not b ≡ true → b ≡ false
 not_false true h = sym h
 not_false false h = refl
 
-plain_form : (text : List ℕ) (negative : Bool) → is_printable_text text ≡ true → run_columns negative text ≡ glyph_columns text 1 negative
+plain_form : (text : List ℕ) (negative : Bool) → is_ascii_glyph text ≡ true → run_columns negative text ≡ glyph_columns text 1 negative
 plain_form [] negative h = absurd (cc h)
 plain_form (b ∷ []) negative h = rw h refl
 plain_form (b ∷ c ∷ rest) negative h = absurd (cc h)
 
-form_by : (one : Bool) (text : List ℕ) (negative : Bool) → is_printable_text text ≡ one
-    → one || ((are_printable text && not (list_all is_printable text)) && nat_le 1 (str_width false (chars text))) ≡ true
+form_by : (one : Bool) (text : List ℕ) (negative : Bool) → is_ascii_glyph text ≡ one
+    → one || ((are_printable text && not (list_all is_ascii_printable text)) && nat_le 1 (str_width false (chars text))) ≡ true
     → (n : ℕ) × (1 ≤ n) × (run_columns negative text ≡ glyph_columns text n negative)
 form_by true text negative e h = (1, omega arith, plain_form text negative e)
 form_by false text negative e h =
     let w = str_width false (chars text) in
-    let other : list_all is_printable text ≡ false =
-    not_false (list_all is_printable text) (and_right (are_printable text) (not (list_all is_printable text)) (and_left (are_printable text && not (list_all is_printable text)) (nat_le 1 w) h)) in
-    let wide : nat_le 1 w ≡ true = and_right (are_printable text && not (list_all is_printable text)) (nat_le 1 w) h in
+    let other : list_all is_ascii_printable text ≡ false =
+    not_false (list_all is_ascii_printable text) (and_right (are_printable text) (not (list_all is_ascii_printable text)) (and_left (are_printable text && not (list_all is_ascii_printable text)) (nat_le 1 w) h)) in
+    let wide : nat_le 1 w ≡ true = and_right (are_printable text && not (list_all is_ascii_printable text)) (nat_le 1 w) h in
     (w, grind (arith, nat_tests), rw other refl)
 
 -- a glyph has one column or more, which differ in their offsets alone
 pub columns_form : (g : WholeGlyph) → IsGlyph g → (n : ℕ) × (1 ≤ n) × (columns_of g ≡ glyph_columns g.text n g.negative)
-columns_form g h = form_by (is_printable_text g.text) g.text g.negative refl h.one
+columns_form g h = form_by (is_ascii_glyph g.text) g.text g.negative refl h.one
 
 pub columns_some : (g : WholeGlyph) → IsGlyph g → 1 ≤ length (columns_of g)
 columns_some g h =
@@ -165,8 +165,8 @@ whole_after g ys h a =
 
 -- ---- putting glyphs beside whole ones spoils nothing
 
-left_from : (text : List ℕ) (count n offset : ℕ) (negative : Bool) (later : List Col) → offset + n ≡ count → left_of later ≡ later
-    → left_of (glyph_columns_from text count negative offset n ++ later) ≡ glyph_columns_from text count negative offset n ++ later
+left_from : (text : List ℕ) (count n offset : ℕ) (negative : Bool) (later : List Col) → offset + n ≡ count → cut_before later ≡ later
+    → cut_before (glyph_columns_from text count negative offset n ++ later) ≡ glyph_columns_from text count negative offset n ++ later
 left_from text count zero offset negative later e kept = kept
 left_from text count (suc n) offset negative later e kept =
     let rest = glyph_columns_from text count negative (offset + 1) n ++ later in
@@ -175,29 +175,29 @@ left_from text count (suc n) offset negative later e kept =
     let test : nat_lt (length rest) (count - (offset + 1)) ≡ false = let low : count - (offset + 1) ≤ length rest = omega arith in grind (arith, nat_tests) in
     rw test (ap (λ cs. Glyph text count offset negative ∷ cs) (left_from text count n (offset + 1) negative later (omega arith) kept))
 
-left_by : (gs : List WholeGlyph) → All IsGlyph gs → left_of (all_columns gs) ≡ all_columns gs
+left_by : (gs : List WholeGlyph) → All IsGlyph gs → cut_before (all_columns gs) ≡ all_columns gs
 left_by [] h = refl
 left_by (g ∷ gs) h =
     let f = columns_form g (All-head IsGlyph g gs h) in
     rw f.2 (left_from g.text f.0 f.0 0 g.negative (all_columns gs) (omega arith) (left_by gs (All-tail IsGlyph g gs h)))
 
-pub whole_left : (xs : List Col) → AreWhole xs → left_of xs ≡ xs
+pub whole_left : (xs : List Col) → AreWhole xs → cut_before xs ≡ xs
 whole_left xs a = rw (← a.are) (left_by a.glyphs a.each)
 
-right_from : (text : List ℕ) (count n offset d : ℕ) (negative : Bool) (later : List Col) → offset ≤ d → ((e : ℕ) → right_of e later ≡ later)
-    → right_of d (glyph_columns_from text count negative offset n ++ later) ≡ glyph_columns_from text count negative offset n ++ later
+right_from : (text : List ℕ) (count n offset d : ℕ) (negative : Bool) (later : List Col) → offset ≤ d → ((e : ℕ) → cut_after e later ≡ later)
+    → cut_after d (glyph_columns_from text count negative offset n ++ later) ≡ glyph_columns_from text count negative offset n ++ later
 right_from text count zero offset d negative later low kept = kept d
 right_from text count (suc n) offset d negative later low kept =
     let test : nat_lt d offset ≡ false = grind (arith, nat_tests) in
     rw test (ap (λ cs. Glyph text count offset negative ∷ cs) (right_from text count n (offset + 1) (d + 1) negative later (omega arith) kept))
 
-right_by : (gs : List WholeGlyph) → All IsGlyph gs → (d : ℕ) → right_of d (all_columns gs) ≡ all_columns gs
+right_by : (gs : List WholeGlyph) → All IsGlyph gs → (d : ℕ) → cut_after d (all_columns gs) ≡ all_columns gs
 right_by [] h d = refl
 right_by (g ∷ gs) h d =
     let f = columns_form g (All-head IsGlyph g gs h) in
     rw f.2 (right_from g.text f.0 f.0 0 d g.negative (all_columns gs) (omega arith) (right_by gs (All-tail IsGlyph g gs h)))
 
-pub whole_right : (d : ℕ) (xs : List Col) → AreWhole xs → right_of d xs ≡ xs
+pub whole_right : (d : ℕ) (xs : List Col) → AreWhole xs → cut_after d xs ≡ xs
 whole_right d xs a = rw (← a.are) (right_by a.glyphs a.each d)
 
 -- ---- blanks and rows
@@ -234,17 +234,17 @@ rows-blank (suc h) w =
 
 -- ---- what a terminal does for a glyph
 
-deeds_past : (place : ℕ) (text : List ℕ) (count n offset : ℕ) (negative : Bool) → 1 ≤ offset → glyphs_at place (glyph_columns_from text count negative offset n) ≡ []
-deeds_past place text count zero offset negative low = refl
-deeds_past place text count (suc n) offset negative low =
+effects_past : (place : ℕ) (text : List ℕ) (count n offset : ℕ) (negative : Bool) → 1 ≤ offset → glyphs_at place (glyph_columns_from text count negative offset n) ≡ []
+effects_past place text count zero offset negative low = refl
+effects_past place text count (suc n) offset negative low =
     let other : nat_eq offset 0 ≡ false = grind (arith, nat_tests) in
-    rw other (deeds_past (place + 1) text count n (offset + 1) negative (omega arith))
+    rw other (effects_past (place + 1) text count n (offset + 1) negative (omega arith))
 
-deeds_by : (place : ℕ) (text : List ℕ) (n : ℕ) (negative : Bool) → 1 ≤ n → glyphs_at place (glyph_columns text n negative) ≡ Puts place text negative ∷ []
-deeds_by place text zero negative low = absurd (omega arith)
-deeds_by place text (suc n) negative low = ap (λ ds. Puts place text negative ∷ ds) (deeds_past (place + 1) text (suc n) n 1 negative (omega arith))
+effects_by : (place : ℕ) (text : List ℕ) (n : ℕ) (negative : Bool) → 1 ≤ n → glyphs_at place (glyph_columns text n negative) ≡ Puts place text negative ∷ []
+effects_by place text zero negative low = absurd (omega arith)
+effects_by place text (suc n) negative low = ap (λ ds. Puts place text negative ∷ ds) (effects_past (place + 1) text (suc n) n 1 negative (omega arith))
 
-pub glyph_deeds : (place : ℕ) (g : WholeGlyph) → IsGlyph g → glyphs_at place (columns_of g) ≡ Puts place g.text g.negative ∷ []
-glyph_deeds place g h =
+pub glyph_effects : (place : ℕ) (g : WholeGlyph) → IsGlyph g → glyphs_at place (columns_of g) ≡ Puts place g.text g.negative ∷ []
+glyph_effects place g h =
     let f = columns_form g h in
-    ap (glyphs_at place) f.2 ∙ deeds_by place g.text f.0 g.negative f.1
+    ap (glyphs_at place) f.2 ∙ effects_by place g.text f.0 g.negative f.1

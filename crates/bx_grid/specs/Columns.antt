@@ -1,7 +1,8 @@
 -- What a column of a grid shows, and what putting a run of columns leaves.
-use Rattle.bx_grid.specs.Tokens.{is_printable, is_only}
+use Rattle.bx_grid.specs.Tokens.{is_only}
+pub use Rattle.bx_terms.specs.Characters.{is_ascii_printable, are_ascii_printable, is_ascii_glyph}
+pub use Rattle.bx_terms.specs.Glyphs.{run_width, is_one_glyph}
 use Rattle.std.specs.Str.{bytes_eq}
-use Rattle.std.specs.List.{list_all}
 use Rattle.unicode_width.specs.Width.{str_width}
 use Rattle.std.specs.Prelude.{◌≡◌, replicate, ℕ, zero, suc, chars, ◌+◌, ◌-◌, ◌*◌, nat_lt, if◌then◌else◌, Bool, true, false, ◌&&◌, ◌==◌, not, List, [], ◌∷◌, ◌++◌, length, map, take, drop}
 
@@ -23,14 +24,14 @@ columns_before Unknown = 0
 columns_before (Glyph text columns offset negative) = offset
 
 -- what is left of a row's columns before a place from which others are put: nothing is known of a glyph that reached it
-abbrev pub left_of : List Col → List Col
-left_of [] = []
-left_of (x ∷ xs) = (if nat_lt (length xs) (columns_after x) then Unknown else x) ∷ left_of xs
+abbrev pub cut_before : List Col → List Col
+cut_before [] = []
+cut_before (x ∷ xs) = (if nat_lt (length xs) (columns_after x) then Unknown else x) ∷ cut_before xs
 
 -- the same of the columns after it, where d of them have been looked at
-abbrev pub right_of : ℕ → List Col → List Col
-right_of d [] = []
-right_of d (x ∷ xs) = (if nat_lt d (columns_before x) then Unknown else x) ∷ right_of (d + 1) xs
+abbrev pub cut_after : ℕ → List Col → List Col
+cut_after d [] = []
+cut_after d (x ∷ xs) = (if nat_lt d (columns_before x) then Unknown else x) ∷ cut_after (d + 1) xs
 
 -- these in the place of others, which are lost
 abbrev pub paste : List Col → ℕ → List Col → List Col
@@ -47,19 +48,13 @@ pub record AreSameAround (k count : ℕ) (old new : List Col) : Type 0 where
 
 -- a row with these put from a column on
 abbrev pub put_in_row : List Col → ℕ → List Col → List Col
-put_in_row row k new = left_of (take k row) ++ new ++ right_of 0 (drop (k + length new) row)
+put_in_row row k new = cut_before (take k row) ++ new ++ cut_after 0 (drop (k + length new) row)
 
 -- all columns, with these put in a row from a column on
 abbrev pub put : ℕ → List Col → ℕ → ℕ → List Col → List Col
 put width columns row column new =
     take (row * width) columns
     ++ (put_in_row (take width (drop (row * width) columns)) column new ++ drop width (drop (row * width) columns))
-
--- one printable ASCII character, of one column
-abbrev pub is_printable_text : List ℕ → Bool
-is_printable_text [] = false
-is_printable_text (b ∷ []) = is_printable b
-is_printable_text (b ∷ c ∷ rest) = false
 
 abbrev pub is_blank : Col → Bool
 is_blank Unknown = false
@@ -101,4 +96,4 @@ plain_columns negative run = map (λ b. Glyph (b ∷ []) 1 0 negative) run
 -- the columns of a run: characters from SPACE to TILDE are a glyph each, any other run is one glyph
 abbrev pub run_columns : Bool → List ℕ → List Col
 run_columns negative run =
-    if list_all is_printable run then plain_columns negative run else glyph_columns run (str_width false (chars run)) negative
+    if are_ascii_printable run then plain_columns negative run else glyph_columns run (str_width false (chars run)) negative

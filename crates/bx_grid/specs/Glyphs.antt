@@ -1,17 +1,7 @@
 -- Whole glyphs: columns that are glyphs, each with all its columns.
-use Rattle.std.specs.Prelude.{◌≡◌, ◌≢◌, ◌+◌, ◌-◌, ◌<◌, ◌≤◌, length, slice_index_or, ℕ, zero, suc, Bool, true, false, not, ◌&&◌, ◌||◌, nat_le, List, [], ◌∷◌, ◌++◌, take, drop, chars, All}
-use Rattle.std.specs.List.{list_all}
+use Rattle.std.specs.Prelude.{◌≡◌, ◌≢◌, ◌+◌, ◌-◌, ◌<◌, ◌≤◌, length, slice_index_or, ℕ, zero, suc, Bool, true, List, [], ◌∷◌, ◌++◌, take, drop, All}
 use Rattle.std.specs.Str.{IsUtf8}
-use Rattle.unicode_width.specs.Width.{str_width}
-use Rattle.bx_bytes.specs.Utf8.{are_printable}
-use Rattle.bx_grid.specs.Columns.{Col, Unknown, Glyph, is_printable_text, run_columns}
-use Rattle.bx_grid.specs.Tokens.{is_printable}
-
--- a printable run of this text puts one glyph: it is a character from SPACE to TILDE, or printable characters that are not
--- all of those and that take a column
-abbrev pub is_one_glyph : List ℕ → Bool
-is_one_glyph text =
-    is_printable_text text || ((are_printable text && not (list_all is_printable text)) && nat_le 1 (str_width false (chars text)))
+use Rattle.bx_grid.specs.Columns.{Col, Unknown, Glyph, is_one_glyph, run_columns}
 
 -- a glyph by its text and its rendition
 pub record WholeGlyph : Type 0 where
@@ -50,7 +40,7 @@ pub record StandsWhole (text : List ℕ) (count offset : ℕ) (negative : Bool) 
   pub glyph : IsGlyph (record { text = text; negative = negative })
   pub counted : count ≡ length (run_columns negative text)
   pub within : offset < count
-  pub begun : offset ≤ place
+  pub begins : offset ≤ place
   pub all : take count (drop (place - offset) columns) ≡ run_columns negative text
 
 abbrev pub IsWholeAt : Col → ℕ → List Col → Type 0

@@ -15,10 +15,10 @@ terminal_of s = record {
   position = s.position;
   negative = s.negative;
   run = string_bytes s.run;
-  half = s.half.items;
+  half_read = s.half_read.items;
 }
 
 pub record IsLive (s : Inside) : Type 0 where
   pub sized : IsSized s.height s.width (length s.columns.items)
   pub placed : IfSome s.position (λ p. (p.0 < s.height) × (p.1 < s.width))
-  pub waits : fate s.half.items ≡ Waits
+  pub waits : fate s.half_read.items ≡ Waits

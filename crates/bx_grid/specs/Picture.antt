@@ -1,7 +1,8 @@
 -- Pictures, and a terminal that shows one.
-use Rattle.std.specs.Prelude.{◌≡◌, ℕ, ◌+◌, ◌-◌, ◌*◌, ◌≤◌, ◌<◌, Bool, false, ◌&&◌, nat_le, List, [], Some, length}
+use Rattle.std.specs.Prelude.{◌≡◌, ℕ, ◌+◌, ◌-◌, ◌*◌, ◌≤◌, ◌<◌, Bool, false, ◌&&◌, List, [], Some, length}
 use Rattle.bx_grid.specs.Columns.{Col, AreBlank}
 use Rattle.bx_grid.specs.Glyphs.{AreWholeRows}
+use Rattle.bx_terms.specs.Sizes.{is_side}
 use Rattle.bx_grid.specs.Terminal.{Terminal}
 
 -- what a grid shows, row by row
@@ -21,7 +22,7 @@ pub record Image : Type 0 where
 -- nothing is half read: no run, and no token
 pub record IsIdle (t : Terminal) : Type 0 where
   pub no_run : t.run ≡ []
-  pub no_token : t.half ≡ []
+  pub no_token : t.half_read ≡ []
 
 -- the terminal shows the picture
 pub record Shows (t : Terminal) (p : Image) : Type 0 where
@@ -46,7 +47,7 @@ pub record IsGrid (height width : ℕ) (columns : List Col) : Type 0 where
   pub rows : AreWholeRows height width columns
 
 abbrev pub is_size : ℕ → ℕ → Bool
-is_size height width = (nat_le 1 height && nat_le height 500) && (nat_le 1 width && nat_le width 500)
+is_size height width = is_side height && is_side width
 
 -- a cell, from line 1 and column 1, stands in a grid of this size
 pub record IsWithin (height width line column : ℕ) : Type 0 where

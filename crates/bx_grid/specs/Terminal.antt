@@ -20,7 +20,7 @@ pub record Terminal : Type 0 where
   -- the characters of a printable run that may go on
   pub run : List ℕ
   -- the bytes of a character or a sequence that is half read
-  pub half : List ℕ
+  pub half_read : List ℕ
 
 abbrev pub all_unknown : Terminal → Terminal
 all_unknown t = record {
@@ -30,37 +30,37 @@ all_unknown t = record {
   position = None;
   negative = None;
   run = [];
-  half = [];
+  half_read = [];
 }
 
 -- ---- what sequences do
 
-abbrev pub moved : Terminal → ℕ → ℕ → Terminal
-moved t line column =
+abbrev pub after_move : Terminal → ℕ → ℕ → Terminal
+after_move t line column =
     if nat_le 1 line && nat_le line t.height && nat_le 1 column && nat_le column t.width
     then record t { position = Some (line - 1, column - 1) }
     else all_unknown t
 
-abbrev pub cleared : Terminal → Option Bool → Terminal
-cleared t (Some false) = record t { columns = replicate (t.height * t.width) blank; position = None }
-cleared t (Some true) = all_unknown t
-cleared t None = all_unknown t
+abbrev pub after_clear : Terminal → Option Bool → Terminal
+after_clear t (Some false) = record t { columns = replicate (t.height * t.width) blank; position = None }
+after_clear t (Some true) = all_unknown t
+after_clear t None = all_unknown t
 
-abbrev pub erased : Terminal → Option (ℕ × ℕ) → Option Bool → Terminal
-erased t (Some p) (Some false) = record t { columns = put t.width t.columns p.0 p.1 (replicate (t.width - p.1) blank); position = None }
-erased t (Some p) (Some true) = all_unknown t
-erased t (Some p) None = all_unknown t
-erased t None negative = all_unknown t
+abbrev pub after_erase : Terminal → Option (ℕ × ℕ) → Option Bool → Terminal
+after_erase t (Some p) (Some false) = record t { columns = put t.width t.columns p.0 p.1 (replicate (t.width - p.1) blank); position = None }
+after_erase t (Some p) (Some true) = all_unknown t
+after_erase t (Some p) None = all_unknown t
+after_erase t None negative = all_unknown t
 
-abbrev pub rendered : Terminal → Bool → Terminal
-rendered t negative = record t { negative = Some negative }
+abbrev pub after_rendition : Terminal → Bool → Terminal
+after_rendition t negative = record t { negative = Some negative }
 
-abbrev pub obeyed : Terminal → Command → Terminal
-obeyed t (Move line column) = moved t line column
-obeyed t Clear = cleared t t.negative
-obeyed t Erase = erased t t.position t.negative
-obeyed t (Render negative) = rendered t negative
-obeyed t Other = all_unknown t
+abbrev pub after_command : Terminal → Command → Terminal
+after_command t (Move line column) = after_move t line column
+after_command t Clear = after_clear t t.negative
+after_command t Erase = after_erase t t.position t.negative
+after_command t (Render negative) = after_rendition t negative
+after_command t Other = all_unknown t
 
 -- ---- what a printable run does
 
@@ -89,47 +89,47 @@ run_ended t = run_put t t.position t.negative t.run
 
 -- a whole character goes on with the run, or ends it and is a token of its own, which makes all unknown
 abbrev pub character_read : Terminal → List ℕ → Terminal
-character_read t bs = if are_printable bs then record t { run = t.run ++ bs; half = [] } else all_unknown t
+character_read t bs = if are_printable bs then record t { run = t.run ++ bs; half_read = [] } else all_unknown t
 
 -- a whole character, or a whole sequence
 abbrev pub token_read : Terminal → List ℕ → Terminal
 token_read t [] = t
-token_read t (b ∷ rest) = if b == 0x1B then obeyed (record t { half = [] }) (command (drop 1 rest)) else character_read t (b ∷ rest)
+token_read t (b ∷ rest) = if b == 0x1B then after_command (record t { half_read = [] }) (command (drop 1 rest)) else character_read t (b ∷ rest)
 
-abbrev pub begun_as : Terminal → ℕ → Fate → Terminal
-begun_as t b Waits = record t { half = b ∷ [] }
-begun_as t b Ends = token_read t (b ∷ [])
-begun_as t b Breaks = all_unknown t
+abbrev pub after_first_byte_as : Terminal → ℕ → Fate → Terminal
+after_first_byte_as t b Waits = record t { half_read = b ∷ [] }
+after_first_byte_as t b Ends = token_read t (b ∷ [])
+after_first_byte_as t b Breaks = all_unknown t
 
 -- a byte where no token is half read; an escape ends a run
-abbrev pub begun : Terminal → ℕ → Terminal
-begun t b = if b == 0x1B then record (run_ended t) { half = b ∷ [] } else begun_as t b (fate (b ∷ []))
+abbrev pub after_first_byte : Terminal → ℕ → Terminal
+after_first_byte t b = if b == 0x1B then record (run_ended t) { half_read = b ∷ [] } else after_first_byte_as t b (fate (b ∷ []))
 
 -- a byte that breaks a token off: that token makes all unknown, and the byte is read afresh
-abbrev pub went_on : Terminal → ℕ → Fate → Terminal
-went_on t b Waits = record t { half = t.half ++ b ∷ [] }
-went_on t b Ends = token_read t (t.half ++ b ∷ [])
-went_on t b Breaks = begun (all_unknown t) b
+abbrev pub after_next_byte : Terminal → ℕ → Fate → Terminal
+after_next_byte t b Waits = record t { half_read = t.half_read ++ b ∷ [] }
+after_next_byte t b Ends = token_read t (t.half_read ++ b ∷ [])
+after_next_byte t b Breaks = after_first_byte (all_unknown t) b
 
 abbrev pub read_after : Terminal → ℕ → List ℕ → Terminal
-read_after t b [] = begun t b
-read_after t b (h ∷ half) = went_on t b (fate (h ∷ half ++ b ∷ []))
+read_after t b [] = after_first_byte t b
+read_after t b (h ∷ half_read) = after_next_byte t b (fate (h ∷ half_read ++ b ∷ []))
 
 abbrev pub byte_read : Terminal → ℕ → Terminal
-byte_read t b = read_after t b t.half
+byte_read t b = read_after t b t.half_read
 
 abbrev pub reads : Terminal → List ℕ → Terminal
 reads t [] = t
 reads t (b ∷ bs) = reads (byte_read t b) bs
 
 -- a window of another size, in which nothing is known; what is half read stays
-abbrev pub resized : Terminal → ℕ → ℕ → Terminal
-resized t height width = record {
+abbrev pub after_resize : Terminal → ℕ → ℕ → Terminal
+after_resize t height width = record {
   height = height;
   width = width;
   columns = replicate (height * width) Unknown;
   position = None;
   negative = None;
   run = t.run;
-  half = t.half;
+  half_read = t.half_read;
 }

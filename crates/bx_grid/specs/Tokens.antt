@@ -2,16 +2,12 @@
 use Rattle.std.specs.Prelude.{ℕ, Bool, true, false, ◌&&◌, nat_le, ◌==◌, List, [], ◌∷◌, Option, Some, None, if◌then◌else◌}
 use Rattle.std.specs.Str.{all_ascii_digits}
 use Rattle.bx_bytes.specs.Fate.{fate_in}
-use Rattle.bx_bytes.specs.Utf8.{characters, is_ascii_printable}
+use Rattle.bx_bytes.specs.Utf8.{characters}
 use Rattle.bx_bytes.specs.declared.fate.Fate.{Fate}
 use Rattle.bx_bytes.specs.declared.fate.Fate.TheVariants.{Waits, Ends, Breaks}
 use Rattle.bx_grid.specs.declared.token.Command.{Command}
 use Rattle.bx_grid.specs.declared.token.Command.TheVariants.{Move, Clear, Erase, Render, Other}
 use Rattle.std.specs.Str.Parse.{digits_value}
-
--- a character from SPACE to TILDE
-abbrev pub is_printable : ℕ → Bool
-is_printable b = is_ascii_printable b
 
 abbrev pub is_param : ℕ → Bool
 is_param b = nat_le 0x30 b && nat_le b 0x3F

@@ -2,25 +2,13 @@
 
 ghost use Rattle.std.specs.Prelude.{◌≡◌, ℕ, ◌+◌, ◌≤◌, [], ◌∷◌, length, replicate, ◌-◌, ◌*◌, ◌<◌, true, nat_le, ◌&&◌, false, IfOk, OnOk, OnErr, IsTrue, ◌↔◌};
 ghost use Rattle.std.specs.List.{list_all};
-ghost use Rattle.bx_grid.specs.Tokens.{is_printable};
-ghost use Rattle.bx_grid.specs.Columns.{blank, is_blank, put, paste, AreBlank, AreSameAround, put_in_row, left_of, right_of, columns_after, columns_before, plain_columns, glyph_columns, run_columns};
+ghost use Rattle.bx_grid.specs.Columns.{are_ascii_printable, run_width, blank, is_blank, put, paste, AreBlank, AreSameAround, put_in_row, cut_before, cut_after, columns_after, columns_before, plain_columns, glyph_columns, run_columns};
 ghost use Rattle.bx_grid.specs.Columns as spec;
 ghost use Rattle.bx_grid.specs.Seen.{seen, all_seen};
 
 use crate::column::Column;
-use crate::token::printable;
+use bx_terms::are_ascii_printable;
 use std::alloc::{AllocError, Global};
-use unicode_width::UnicodeWidthStr;
-
-/// The most rows or columns of a window.
-const LARGEST: u16 = 500;
-
-/// Whether a window may have a side of this many rows or columns.
-pub fn is_side(side: u16) -> bool
-    ensures { result ≡ (nat_le 1 side && nat_le side 500) }
-{
-    1 <= side && side <= LARGEST
-}
 
 /// A blank.
 fn blank_column() -> Column
@@ -74,7 +62,7 @@ pub fn fill_blank(columns: &mut [Column], from: usize, to: usize)
 /// Puts a run of characters from SPACE to TILDE.
 fn put_run(columns: &mut [Column], from: usize, run: &[u8], negative: bool)
     requires inside { from + length run.now ≤ length columns.old }
-    requires printable { list_all is_printable run.now ≡ true }
+    requires printable { are_ascii_printable run.now ≡ true }
     ensures { all_seen columns.new ≡ paste (all_seen columns.old) from (plain_columns negative run.now) }
 {
     for (i, byte) in run.iter().enumerate() {
@@ -109,23 +97,6 @@ fn put_glyph(
     Ok(())
 }
 
-pub fn is_plain_run(run: &str) -> bool
-    ensures { result ≡ list_all is_printable run.now }
-{
-    run.as_bytes().iter().all(|b| printable(*b))
-}
-
-/// How many columns a run of printable characters takes.
-pub fn run_width(run: &str) -> usize
-    ensures { result ≡ length (run_columns false run.now) }
-{
-    if is_plain_run(run) {
-        run.len()
-    } else {
-        run.width()
-    }
-}
-
 /// Puts a run, whose columns are counted. Where memory runs out some of it is written, and nothing else.
 fn put_glyphs(
     alloc: Global,
@@ -135,12 +106,12 @@ fn put_glyphs(
     count: u16,
     negative: bool,
 ) -> Result<(), AllocError>
-    requires counted { count ≡ length (run_columns false run.now) }
+    requires counted { count ≡ run_width run.now }
     requires inside { from + count ≤ length columns.old }
     ensures ok { OnOk result (all_seen columns.new ≡ paste (all_seen columns.old) from (run_columns negative run.now)) }
     ensures err { OnErr result (AreSameAround from count (all_seen columns.old) (all_seen columns.new)) }
 {
-    if is_plain_run(run) {
+    if are_ascii_printable(run) {
         put_run(columns, from, run.as_bytes(), negative);
         return Ok(());
     }
@@ -175,7 +146,7 @@ pub fn put_over_blanks(
     count: u16,
     negative: bool,
 ) -> Result<(), AllocError>
-    requires counted { count ≡ length (run_columns false run.now) }
+    requires counted { count ≡ run_width run.now }
     requires inside { from + count ≤ length columns.old }
     requires blank { AreBlank from count (all_seen columns.old) }
     ensures ok { OnOk result (all_seen columns.new ≡ paste (all_seen columns.old) from (run_columns negative run.now)) }
@@ -215,7 +186,7 @@ impl Column {
 
 /// Nothing is known of a glyph that goes on after these columns.
 fn forget_left(row: &mut [Column])
-    ensures { all_seen row.new ≡ left_of (all_seen row.old) }
+    ensures { all_seen row.new ≡ cut_before (all_seen row.old) }
 {
     let count = row.len();
     for (i, column) in row.iter_mut().enumerate() {
@@ -227,7 +198,7 @@ fn forget_left(row: &mut [Column])
 
 /// Nothing is known of a glyph that began before these columns.
 fn forget_right(row: &mut [Column])
-    ensures { all_seen row.new ≡ right_of 0 (all_seen row.old) }
+    ensures { all_seen row.new ≡ cut_after 0 (all_seen row.old) }
 {
     for (i, column) in row.iter_mut().enumerate() {
         if (column.before() as usize) > i {
@@ -245,7 +216,7 @@ pub fn show_in_row(
     count: u16,
     negative: bool,
 ) -> Result<(), AllocError>
-    requires counted { count ≡ length (run_columns false run.now) }
+    requires counted { count ≡ run_width run.now }
     requires inside { from + count ≤ length row.old }
     ensures { OnOk result (all_seen row.new ≡ put_in_row (all_seen row.old) from (run_columns negative run.now)) }
 {
@@ -276,7 +247,7 @@ pub fn show_at(
 ) -> Result<(), AllocError>
     requires small { (row < 500) × (width ≤ 500) }
     requires rows { row * width + width ≤ length columns.old }
-    requires counted { count ≡ length (run_columns false run.now) }
+    requires counted { count ≡ run_width run.now }
     requires inside { from + count ≤ width }
     ensures { OnOk result (all_seen columns.new ≡ put width (all_seen columns.old) row from (run_columns negative run.now)) }
 {

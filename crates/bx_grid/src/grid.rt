@@ -1,18 +1,17 @@
 //! A grid of columns that are all known.
 
 ghost use Rattle.std.specs.Prelude.{◌≡◌, ℕ, ◌*◌, ◌+◌, ◌-◌, ◌<◌, ◌≤◌, ◌↔◌, List, ◌++◌, length, replicate, take, drop, IfOk, OnOk, OnErr, IfErr, IsErrOf, IsOk, IsTrue, true, false};
-ghost use Rattle.bx_grid.specs.Columns.{blank, is_printable_text, paste, run_columns};
-ghost use Rattle.bx_grid.specs.Glyphs.{is_one_glyph};
+ghost use Rattle.bx_grid.specs.Columns.{blank, is_ascii_glyph, is_one_glyph, paste, run_columns, run_width};
 ghost use Rattle.bx_grid.specs.Seen.{seen, all_seen};
 ghost use Rattle.bx_grid.specs.Picture.{Cells, HasRoom, IsGrid, IsWithin, is_size};
 
 use crate::cell::Cell;
 use crate::column::Column;
-use crate::columns::{are_blank, blank_columns, is_side, put_over_blanks, run_width};
+use crate::columns::{are_blank, blank_columns, put_over_blanks};
 use crate::error::GridError;
-use crate::glyph::ascii_glyph;
 use crate::letters::{blank_letters, letter, note_letters};
 use crate::row::Row;
+use bx_terms::{ascii_glyph, is_side, run_width};
 use std::alloc::{AllocError, Global};
 use std::marker::Model;
 
@@ -69,11 +68,11 @@ impl Grid {
     pub fn put(&mut self, cell: Cell, text: &str, negative: bool) -> Result<(), GridError>
         requires inside { IsWithin self.old.height self.old.width cell.line cell.column }
         requires glyph { is_one_glyph text.now ≡ true }
-        requires room { HasRoom self.old cell.line cell.column (length (run_columns false text.now)) }
+        requires room { HasRoom self.old cell.line cell.column (run_width text.now) }
         ensures ok { OnOk result (self.new ≡ record self.old { columns = paste self.old.columns ((cell.line - 1) * self.old.width + (cell.column - 1)) (run_columns negative text.now) }) }
         ensures err { OnErr result (self.new ≡ self.old) }
         ensures memory { OnErr result (result ≡ Err GridError.OutOfMemory) }
-        ensures plain { is_printable_text text.now ≡ true → IsOk result }
+        ensures plain { is_ascii_glyph text.now ≡ true → IsOk result }
     {
         let place = (cell.line - 1) as usize * self.width as usize + (cell.column - 1) as usize;
         if let Some(byte) = ascii_glyph(text) {

@@ -6,13 +6,12 @@ ghost use Rattle.std.specs.Str.{IsUtf8};
 ghost use Rattle.bx_bytes.specs.Utf8.{are_printable};
 ghost use Rattle.bx_grid.specs.Glyphs.{ShareWholeGlyphs, DifferInWholeGlyphs};
 ghost use Rattle.bx_grid.specs.Picture.{Image, IsPicture};
-ghost use Rattle.bx_grid.specs.Terminal.{Terminal, reads, resized};
+ghost use Rattle.bx_grid.specs.Terminal.{Terminal, reads, after_resize};
 
 mod cell;
 mod column;
 mod columns;
 mod error;
-mod glyph;
 mod grid;
 mod letters;
 mod live;
@@ -23,14 +22,11 @@ mod token;
 
 pub use cell::Cell;
 pub use column::{Column, all_same};
-pub use columns::run_width;
 pub use error::GridError;
-pub use glyph::{ascii_glyph, is_glyph};
 pub use grid::Grid;
 pub use picture::Picture;
 pub use row::Row;
 pub use screen::Screen;
-pub use token::printable;
 
 /// However the bytes are cut, reading them piece by piece is reading them at once.
 pub fn in_any_pieces()
@@ -39,13 +35,13 @@ pub fn in_any_pieces()
 
 /// A change of the window keeps what is half read.
 pub fn window_keeps_what_is_half_read()
-    ensures { (t : Terminal) (height width : ℕ) → ((resized t height width).run ≡ t.run) × ((resized t height width).half ≡ t.half) }
+    ensures { (t : Terminal) (height width : ℕ) → ((after_resize t height width).run ≡ t.run) × ((after_resize t height width).half_read ≡ t.half_read) }
 {}
 
 /// A text of printable characters, read where no token is half read, goes on with the run, however many bytes its
 /// characters have.
 pub fn text_goes_on_with_the_run()
-    ensures { (t : Terminal) (text : List ℕ) → IsUtf8 text → are_printable text ≡ true → t.half ≡ [] → reads t text ≡ record t { run = t.run ++ text } }
+    ensures { (t : Terminal) (text : List ℕ) → IsUtf8 text → are_printable text ≡ true → t.half_read ≡ [] → reads t text ≡ record t { run = t.run ++ text } }
 {}
 
 /// Two pictures of one size differ in whole glyphs: a column that both have is one of a glyph that both have with all

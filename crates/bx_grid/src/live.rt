@@ -7,13 +7,14 @@ ghost use Rattle.bx_bytes.specs.Fate.{fate_in};
 ghost use Rattle.bx_bytes.specs.Utf8.{characters};
 ghost use Rattle.bx_grid.specs.Columns.{run_columns};
 ghost use Rattle.bx_grid.specs.Tokens.{fate};
-ghost use Rattle.bx_grid.specs.Terminal.{Terminal, all_unknown, moved, cleared, erased, rendered, obeyed, glyphs_put, run_ended, character_read, token_read, begun, went_on, byte_read, reads, resized};
+ghost use Rattle.bx_grid.specs.Terminal.{Terminal, all_unknown, after_move, after_clear, after_erase, after_rendition, after_command, glyphs_put, run_ended, character_read, token_read, after_first_byte, after_next_byte, byte_read, reads, after_resize};
 
 use crate::column::{Column, all_same};
-use crate::columns::{erase_at, fill_blank, fill_unknown, run_width, show_at, unknown_columns};
+use crate::columns::{erase_at, fill_blank, fill_unknown, show_at, unknown_columns};
 use crate::picture::Picture;
-use crate::token::{Command, ESCAPE, command_in, fate_of, is_control};
+use crate::token::{Command, ESCAPE, command_in, fate_of};
 use bx_bytes::{Fate, character};
+use bx_terms::{is_control, run_width};
 use std::alloc::{AllocError, Global};
 use std::marker::Model;
 
@@ -25,7 +26,7 @@ pub struct Live {
     position: Option<(u16, u16)>,
     negative: Option<bool>,
     run: String,
-    half: Vec<u8>,
+    half_read: Vec<u8>,
 }
 
 impl Model for Live {
@@ -44,7 +45,7 @@ impl Live {
     pub fn new(alloc: Global, height: u16, width: u16) -> Result<Live, AllocError>
         requires tall { (1 ≤ height) × (height ≤ 500) }
         requires wide { (1 ≤ width) × (width ≤ 500) }
-        ensures { IfOk result (λ t. t ≡ record { height = height; width = width; columns = replicate (height * width) spec.Unknown; position = None; negative = None; run = []; half = [] }) }
+        ensures { IfOk result (λ t. t ≡ record { height = height; width = width; columns = replicate (height * width) spec.Unknown; position = None; negative = None; run = []; half_read = [] }) }
     {
         let columns = unknown_columns(alloc, height as usize * width as usize)?;
         Ok(Live {
@@ -54,7 +55,7 @@ impl Live {
             position: None,
             negative: None,
             run: String::new(alloc),
-            half: Vec::new(alloc),
+            half_read: Vec::new(alloc),
         })
     }
 
@@ -66,17 +67,17 @@ impl Live {
         self.position = None;
         self.negative = None;
         self.run.clear();
-        self.half.clear();
+        self.half_read.clear();
     }
 
     fn render(&mut self, negative: bool)
-        ensures { self.new ≡ rendered self.old negative }
+        ensures { self.new ≡ after_rendition self.old negative }
     {
         self.negative = Some(negative);
     }
 
     fn go_to(&mut self, line: u16, column: u16)
-        ensures { self.new ≡ moved self.old line column }
+        ensures { self.new ≡ after_move self.old line column }
     {
         if 1 <= line && line <= self.height && 1 <= column && column <= self.width {
             self.position = Some((line - 1, column - 1));
@@ -86,7 +87,7 @@ impl Live {
     }
 
     fn clear(&mut self)
-        ensures { self.new ≡ cleared self.old self.old.negative }
+        ensures { self.new ≡ after_clear self.old self.old.negative }
     {
         if self.negative == Some(false) {
             let count = self.columns.len();
@@ -98,7 +99,7 @@ impl Live {
     }
 
     fn erase(&mut self)
-        ensures { self.new ≡ erased self.old self.old.position self.old.negative }
+        ensures { self.new ≡ after_erase self.old self.old.position self.old.negative }
     {
         match (self.position, self.negative) {
             (Some((row, column)), Some(false)) => {
@@ -116,7 +117,7 @@ impl Live {
     }
 
     fn obey(&mut self, command: Command)
-        ensures { self.new ≡ obeyed self.old command }
+        ensures { self.new ≡ after_command self.old command }
     {
         match command {
             Command::Move(line, column) => self.go_to(line, column),
@@ -183,14 +184,14 @@ impl Live {
 
     /// The last byte of a character.
     fn end_character(&mut self, byte: u8) -> Result<(), AllocError>
-        requires { fate_in characters (self.old.half ++ byte ∷ []) ≡ Fate.Ends }
-        ensures { OnOk result (self.new ≡ character_read self.old (self.old.half ++ byte ∷ [])) }
+        requires { fate_in characters (self.old.half_read ++ byte ∷ []) ≡ Fate.Ends }
+        ensures { OnOk result (self.new ≡ character_read self.old (self.old.half_read ++ byte ∷ [])) }
     {
-        let c = character(self.half.as_slice(), byte);
+        let c = character(self.half_read.as_slice(), byte);
         if is_control(c) {
             self.forget();
         } else {
-            self.half.clear();
+            self.half_read.clear();
             self.run.push(c)?;
         }
         Ok(())
@@ -198,28 +199,28 @@ impl Live {
 
     /// The last byte of a sequence.
     fn end_sequence(&mut self, byte: u8) -> Result<(), AllocError>
-        requires { self.old.half ++ byte ∷ [] ≡ 0x1B ∷ 0x5B ∷ drop 2 (self.old.half ++ byte ∷ []) }
-        ensures { OnOk result (self.new ≡ token_read self.old (self.old.half ++ byte ∷ [])) }
+        requires { self.old.half_read ++ byte ∷ [] ≡ 0x1B ∷ 0x5B ∷ drop 2 (self.old.half_read ++ byte ∷ []) }
+        ensures { OnOk result (self.new ≡ token_read self.old (self.old.half_read ++ byte ∷ [])) }
     {
-        self.half.push(byte)?;
-        let command = command_in(&self.half[2..]);
-        self.half.clear();
+        self.half_read.push(byte)?;
+        let command = command_in(&self.half_read[2..]);
+        self.half_read.clear();
         self.obey(command);
         Ok(())
     }
 
     /// A byte where no token is half read.
     fn begin(&mut self, byte: u8) -> Result<(), AllocError>
-        requires { self.old.half ≡ [] }
-        ensures { OnOk result (self.new ≡ begun self.old byte) }
+        requires { self.old.half_read ≡ [] }
+        ensures { OnOk result (self.new ≡ after_first_byte self.old byte) }
     {
         if byte == ESCAPE {
             self.end_run()?;
-            self.half.push(byte)?;
+            self.half_read.push(byte)?;
             return Ok(());
         }
         match fate_of(&[], byte) {
-            Fate::Waits => self.half.push(byte)?,
+            Fate::Waits => self.half_read.push(byte)?,
             Fate::Ends => self.end_character(byte)?,
             Fate::Breaks => self.forget(),
         }
@@ -228,13 +229,13 @@ impl Live {
 
     /// A byte after the beginning of a token.
     fn go_on(&mut self, byte: u8) -> Result<(), AllocError>
-        requires { 0 < length self.old.half }
-        ensures { OnOk result (self.new ≡ went_on self.old byte (fate (self.old.half ++ byte ∷ []))) }
+        requires { 0 < length self.old.half_read }
+        ensures { OnOk result (self.new ≡ after_next_byte self.old byte (fate (self.old.half_read ++ byte ∷ []))) }
     {
-        match fate_of(self.half.as_slice(), byte) {
-            Fate::Waits => self.half.push(byte)?,
+        match fate_of(self.half_read.as_slice(), byte) {
+            Fate::Waits => self.half_read.push(byte)?,
             Fate::Ends => {
-                if self.half[0] == ESCAPE {
+                if self.half_read[0] == ESCAPE {
                     self.end_sequence(byte)?;
                 } else {
                     self.end_character(byte)?;
@@ -251,7 +252,7 @@ impl Live {
     fn read_byte(&mut self, byte: u8) -> Result<(), AllocError>
         ensures { OnOk result (self.new ≡ byte_read self.old byte) }
     {
-        if self.half.is_empty() {
+        if self.half_read.is_empty() {
             self.begin(byte)
         } else {
             self.go_on(byte)
@@ -270,7 +271,7 @@ impl Live {
     pub fn resize(&mut self, height: u16, width: u16) -> Result<(), AllocError>
         requires tall { (1 ≤ height) × (height ≤ 500) }
         requires wide { (1 ≤ width) × (width ≤ 500) }
-        ensures { OnOk result (self.new ≡ resized self.old height width) }
+        ensures { OnOk result (self.new ≡ after_resize self.old height width) }
     {
         let alloc = *self.columns.allocator();
         let columns = unknown_columns(alloc, height as usize * width as usize)?;
@@ -288,7 +289,7 @@ impl Live {
     {
         let grid = picture.grid();
         let cursor = picture.cursor();
-        if !self.run.is_empty() || !self.half.is_empty() {
+        if !self.run.is_empty() || !self.half_read.is_empty() {
             return false;
         }
         if self.height != grid.height() || self.width != grid.width() {

@@ -32,7 +32,7 @@ impl<'g> Model for Row<'g> {
 
 impl<'g> Row<'g> {
     /// The row of these columns, whose letters these are.
-    pub fn new(columns: &'g [Column], letters: &'g [u8]) -> Row<'g>
+    pub(crate) fn new(columns: &'g [Column], letters: &'g [u8]) -> Row<'g>
         requires { letters.now ≡ letters_of (all_seen columns.now) }
         ensures { result ≡ all_seen columns.now }
     {

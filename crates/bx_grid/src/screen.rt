@@ -3,13 +3,13 @@
 ghost use Rattle.std.specs.Prelude.{◌≡◌, ◌*◌, ◌↔◌, [], List, length, replicate, true, false, IsTrue, Some, None, option_map, IsSome, IfOk, OnOk, OnErr, IsErrOf};
 ghost use Rattle.bx_grid.specs.Columns as spec;
 ghost use Rattle.bx_grid.specs.Picture.{is_size};
-ghost use Rattle.bx_grid.specs.Terminal.{Terminal, reads, resized};
+ghost use Rattle.bx_grid.specs.Terminal.{Terminal, reads, after_resize};
 ghost use Rattle.bx_grid.specs.Screens.{IfShown};
 
-use crate::columns::is_side;
 use crate::error::GridError;
 use crate::live::Live;
 use crate::picture::Picture;
+use bx_terms::is_side;
 use std::alloc::Global;
 use std::marker::Model;
 
@@ -34,7 +34,7 @@ impl Model for Screen {
 impl Screen {
     /// A terminal of this size, of which nothing is known.
     pub fn new(alloc: Global, height: u16, width: u16) -> Result<Screen, GridError>
-        ensures ok { IfOk result (λ s. s ≡ Some (record { height = height; width = width; columns = replicate (height * width) spec.Unknown; position = None; negative = None; run = []; half = [] })) }
+        ensures ok { IfOk result (λ s. s ≡ Some (record { height = height; width = width; columns = replicate (height * width) spec.Unknown; position = None; negative = None; run = []; half_read = [] })) }
         ensures sized { OnOk result (is_size height width ≡ true) }
         ensures refused { IsErrOf result GridError.SizeOutOfRange ↔ (is_size height width ≡ false) }
     {
@@ -67,18 +67,22 @@ impl Screen {
         }
     }
 
-    /// The window's size changes. A size out of range changes nothing.
+    /// The window's size changes, and nothing is known in it.
+    ///
+    /// Errors: `SizeOutOfRange` where a side is not from 1 to 500, and nothing has changed; `OutOfMemory`, and the terminal has
+    /// failed. One that has failed answers `OutOfMemory` whatever the size.
     pub fn window(&mut self, height: u16, width: u16) -> Result<(), GridError>
-        ensures ok { OnOk result (self.new ≡ option_map (λ t. resized t height width) self.old) }
+        ensures ok { OnOk result (self.new ≡ option_map (λ t. after_resize t height width) self.old) }
         ensures live { OnOk result (IsSome self.new) }
-        ensures refused { IsErrOf result GridError.SizeOutOfRange → (is_size height width ≡ false) × (self.new ≡ self.old) }
+        ensures refused { IsErrOf result GridError.SizeOutOfRange ↔ ((is_size height width ≡ false) × IsSome self.old) }
+        ensures unchanged { IsErrOf result GridError.SizeOutOfRange → self.new ≡ self.old }
         ensures memory { IsErrOf result GridError.OutOfMemory → self.new ≡ None }
-        ensures failed { self.old ≡ None → IsErrOf result GridError.OutOfMemory }
     {
         if self.failed {
             return Err(GridError::OutOfMemory);
         }
-        if !is_side(height) || !is_side(width) {
+        let in_range = is_side(height) && is_side(width);
+        if !in_range {
             return Err(GridError::SizeOutOfRange);
         }
         match self.live.resize(height, width) {

@@ -3,7 +3,8 @@
 ghost use Rattle.std.specs.Prelude.{◌≡◌, OnOk};
 ghost use Rattle.bx_grid.specs.Picture.{IsWithin};
 
-use crate::{Cell, Column, Grid, GridError, Picture, Screen, ascii_glyph, is_glyph, run_width};
+use crate::{Cell, Column, Grid, GridError, Picture, Screen};
+use bx_terms::{ascii_glyph, is_glyph, run_width};
 use std::alloc::Global;
 use std::test::Fail;
 

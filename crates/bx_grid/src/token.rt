@@ -2,8 +2,7 @@
 
 ghost use Rattle.std.specs.Prelude.{◌≡◌, ℕ, ◌+◌, ◌*◌, ◌<◌, ◌≤◌, Bool, true, false, ◌&&◌, ◌∷◌, [], ◌++◌, length, min, nat_le, option_map, take, drop};
 ghost use Rattle.std.specs.List.{list_all};
-ghost use Rattle.bx_grid.specs.Tokens.{is_printable, is_param, is_intermediate, is_final, fate, escape_fate, final_fate, after_params, after_intermediates, number, command, params, is_absent_or_zero, is_only, before_semicolon, after_semicolon, command_of};
-ghost use Rattle.bx_bytes.specs.Utf8.{is_control};
+ghost use Rattle.bx_grid.specs.Tokens.{is_param, is_intermediate, is_final, fate, escape_fate, final_fate, after_params, after_intermediates, number, command, params, is_absent_or_zero, is_only, before_semicolon, after_semicolon, command_of};
 ghost use Rattle.bx_grid.specs.Capped.{capped};
 
 use bx_bytes::{Fate, character_fate};
@@ -18,20 +17,6 @@ pub enum Command {
     Erase,
     Render(bool),
     Other,
-}
-
-/// Whether a byte is a character from SPACE to TILDE.
-pub fn printable(byte: u8) -> bool
-    ensures { result ≡ is_printable byte }
-{
-    0x20 <= byte && byte <= 0x7E
-}
-
-/// A control character of C0 or C1, DELETE, LINE SEPARATOR or PARAGRAPH SEPARATOR.
-pub fn is_control(c: char) -> bool
-    ensures { result ≡ is_control c }
-{
-    c <= '\u{1F}' || ('\u{7F}' <= c && c <= '\u{9F}') || ('\u{2028}' <= c && c <= '\u{2029}')
 }
 
 fn param(byte: u8) -> bool
@@ -75,11 +60,11 @@ fn fate_in_sequence(body: &[u8], byte: u8) -> Fate
 }
 
 /// What the byte makes of the bytes that are half read.
-pub fn fate_of(half: &[u8], byte: u8) -> Fate
-    requires { fate half.now ≡ Fate.Waits }
-    ensures { result ≡ fate (half.now ++ byte ∷ []) }
+pub fn fate_of(half_read: &[u8], byte: u8) -> Fate
+    requires { fate half_read.now ≡ Fate.Waits }
+    ensures { result ≡ fate (half_read.now ++ byte ∷ []) }
 {
-    match half {
+    match half_read {
         [] => {
             if byte == ESCAPE {
                 Fate::Waits
@@ -91,7 +76,7 @@ pub fn fate_of(half: &[u8], byte: u8) -> Fate
             if *first == ESCAPE {
                 fate_after_escape(rest, byte)
             } else {
-                character_fate(half, byte)
+                character_fate(half_read, byte)
             }
         }
     }

@@ -3,9 +3,9 @@ use Rattle.std.proofs.Common.{◌≡◌, ℕ, ◌+◌, ◌*◌, ◌<◌, ◌≤�
 use Rattle.std.specs.List.{list_all, All}
 use Rattle.std.proofs.lemmas.List.{append-nil, map-append, take-append-drop, length-drop, drop-append-le, nil_from_length}
 use Rattle.std.proofs.lemmas.List.Elements.{All-head, All-tail}
-use Rattle.bx_grid.specs.Columns.{Col, Glyph, is_printable_text, are_equal, right_of, run_columns}
-use Rattle.bx_grid.specs.Tokens.{is_printable}
-use Rattle.bx_grid.specs.Deeds.{Deed, Puts}
+use Rattle.bx_grid.specs.Columns.{Col, Glyph, is_ascii_glyph, are_equal, cut_after, run_columns}
+use Rattle.bx_grid.specs.Tokens.{is_ascii_printable}
+use Rattle.bx_grid.specs.Effects.{Effect, Puts}
 use Rattle.bx_grid.specs.Glyphs.{WholeGlyph, IsGlyph, columns_of, all_columns, AreWhole}
 use Rattle.bx_grid.specs.Terminal.{Terminal}
 use Rattle.bx_grid.specs.Picture.{Image}
@@ -14,7 +14,7 @@ use Rattle.bx_grid.proofs.Equal.{lists_are}
 use Rattle.bx_grid.proofs.Reading.{and_left, and_right, all-push}
 use Rattle.bx_grid.proofs.Whole.{columns_some, whole-append, whole_along, whole_glyph}
 use Rattle.bx_paint.proofs.Rest.{partly, IsPlace, kept}
-use Rattle.bx_paint.proofs.Glyphs.{glyph_sent, glyph_deed, by_glyph}
+use Rattle.bx_paint.proofs.Glyphs.{glyph_sent, glyph_effect, by_glyph}
 use Rattle.bx_paint.proofs.Sequences.{screen, Leaves, Fits, moves, turned, renders}
 use Rattle.bx_paint.proofs.Shown.{Ready, ready_leaves, place_ready, ready_text}
 use Rattle.bx_paint.specs.Painting.{Sent, then_sent, move_bytes, render_bytes, render_change, glyph_bytes, columns_sent}
@@ -22,34 +22,34 @@ use Rattle.bx_paint.specs.Changed.{glyphs_changed}
 
 -- ---- a text after a run
 
-joins_none : (negative : Bool) (half text : List ℕ) → half ≡ [] → run_columns negative (half ++ text) ≡ run_columns negative half ++ run_columns negative text
-joins_none negative half text e = rw e refl
+joins_none : (negative : Bool) (half_read text : List ℕ) → half_read ≡ [] → run_columns negative (half_read ++ text) ≡ run_columns negative half_read ++ run_columns negative text
+joins_none negative half_read text e = rw e refl
 
-plain_more : (half text : List ℕ) → list_all is_printable half ≡ true → is_printable_text text ≡ true → list_all is_printable (half ++ text) ≡ true
-plain_more half [] h e = absurd (cc e)
-plain_more half (b ∷ []) h e = all-push is_printable half b h e
-plain_more half (b ∷ c ∷ rest) h e = absurd (cc e)
+plain_more : (half_read text : List ℕ) → list_all is_ascii_printable half_read ≡ true → is_ascii_glyph text ≡ true → list_all is_ascii_printable (half_read ++ text) ≡ true
+plain_more half_read [] h e = absurd (cc e)
+plain_more half_read (b ∷ []) h e = all-push is_ascii_printable half_read b h e
+plain_more half_read (b ∷ c ∷ rest) h e = absurd (cc e)
 
-joins_near : (negative : Bool) (half text : List ℕ) → list_all is_printable half ≡ true → is_printable_text text ≡ true
-    → run_columns negative (half ++ text) ≡ run_columns negative half ++ run_columns negative text
-joins_near negative half [] h e = absurd (cc e)
-joins_near negative half (b ∷ []) h e = rw (all-push is_printable half b h e, h, e) (map-append (λ x. Glyph (x ∷ []) 1 0 negative) half (b ∷ []))
-joins_near negative half (b ∷ c ∷ rest) h e = absurd (cc e)
+joins_near : (negative : Bool) (half_read text : List ℕ) → list_all is_ascii_printable half_read ≡ true → is_ascii_glyph text ≡ true
+    → run_columns negative (half_read ++ text) ≡ run_columns negative half_read ++ run_columns negative text
+joins_near negative half_read [] h e = absurd (cc e)
+joins_near negative half_read (b ∷ []) h e = rw (all-push is_ascii_printable half_read b h e, h, e) (map-append (λ x. Glyph (x ∷ []) 1 0 negative) half_read (b ∷ []))
+joins_near negative half_read (b ∷ c ∷ rest) h e = absurd (cc e)
 
 -- ---- what stands while a row is painted
 
 -- a run of characters from SPACE to TILDE may go on
-pub record Near (p : Image) (w : Terminal × List Deed) (negative : Bool) (above done rest below : List Col) (r c : ℕ) (all : List Deed) : Type 0 where
+pub record Near (p : Image) (w : Terminal × List Effect) (negative : Bool) (above done rest below : List Col) (r c : ℕ) (all : List Effect) : Type 0 where
   pub ready : Ready p w negative above done rest below r c all
-  pub plain : list_all is_printable ready.half ≡ true
+  pub plain : list_all is_ascii_printable ready.half_read ≡ true
 
 -- the row is done up to column c; where the column before was just sent as a character from SPACE to TILDE, its run may go on
-pub record Stands (p : Image) (w : Terminal × List Deed) (near negative : Bool) (above done rest below : List Col) (r c : ℕ) (all : List Deed) : Type 0 where
+pub record Stands (p : Image) (w : Terminal × List Effect) (near negative : Bool) (above done rest below : List Col) (r c : ℕ) (all : List Effect) : Type 0 where
   pub position : Option (ℕ × ℕ)
   pub leaves : Leaves p w (partly above done rest below) position negative all
   pub near_by : near ≡ true → Near p w negative above done rest below r c all
 
-inverted : (p : Image) (w : Terminal × List Deed) (negative inverse : Bool) (above done rest below : List Col) (r c : ℕ) (all : List Deed)
+inverted : (p : Image) (w : Terminal × List Effect) (negative inverse : Bool) (above done rest below : List Col) (r c : ℕ) (all : List Effect)
     → IsPlace r c p.width above done rest → c < p.width → Near p w negative above done rest below r c all
     → Near p (run w (render_bytes inverse)) inverse above done rest below r c all
 inverted p w negative inverse above done rest below r c all place small n =
@@ -57,9 +57,9 @@ inverted p w negative inverse above done rest below r c all place small n =
     let l = ready_leaves p w negative above done rest below r c all n.ready in
     let h = place_ready p (run w (render_bytes inverse)) inverse above done rest below r c all place
     (renders p w columns l.0 negative inverse all l.1 ∙ ap (λ q. (screen p columns q inverse [], all)) (l.2 small)) in
-    record { ready = h.0; plain = ap (list_all is_printable) h.1 }
+    record { ready = h.0; plain = ap (list_all is_ascii_printable) h.1 }
 
-rendered : (p : Image) (w : Terminal × List Deed) (negative inverse : Bool) (above done rest below : List Col) (r c : ℕ) (all : List Deed)
+rendered : (p : Image) (w : Terminal × List Effect) (negative inverse : Bool) (above done rest below : List Col) (r c : ℕ) (all : List Effect)
     → IsPlace r c p.width above done rest → c < p.width → Near p w negative above done rest below r c all
     → Near p (run w (render_change negative inverse)) inverse above done rest below r c all
 rendered p w true true above done rest below r c all place small n = n
@@ -69,11 +69,11 @@ rendered p w false false above done rest below r c all place small n = n
 
 -- ---- a glyph
 
-text_stands : (p : Image) (w : Terminal × List Deed) (g : WholeGlyph) (above done rest below : List Col) (r c : ℕ) (all : List Deed)
+text_stands : (p : Image) (w : Terminal × List Effect) (g : WholeGlyph) (above done rest below : List Col) (r c : ℕ) (all : List Effect)
     → IsGlyph g → (h : Ready p w g.negative above done rest below r c all)
-    → run_columns g.negative (h.half ++ g.text) ≡ run_columns g.negative h.half ++ columns_of g → c + length (columns_of g) ≤ p.width
-    → list_all is_printable h.half ≡ true
-    → Stands p (run w g.text) (is_printable_text g.text) g.negative above (done ++ columns_of g) (drop (length (columns_of g)) rest) below r (c + length (columns_of g))
+    → run_columns g.negative (h.half_read ++ g.text) ≡ run_columns g.negative h.half_read ++ columns_of g → c + length (columns_of g) ≤ p.width
+    → list_all is_ascii_printable h.half_read ≡ true
+    → Stands p (run w g.text) (is_ascii_glyph g.text) g.negative above (done ++ columns_of g) (drop (length (columns_of g)) rest) below r (c + length (columns_of g))
     (all ++ Puts (r * p.width + c) g.text g.negative ∷ [])
 text_stands p w g above done rest below r c all is h joins fits plain =
     let k = ready_text p w g above done rest below r c all is h joins fits in
@@ -82,20 +82,20 @@ text_stands p w g above done rest below r c all is h joins fits plain =
     record {
       position = l.0;
       leaves = l.1;
-      near_by = λ e. record { ready = k.0; plain = ap (list_all is_printable) k.1 ∙ plain_more h.half g.text plain e };
+      near_by = λ e. record { ready = k.0; plain = ap (list_all is_ascii_printable) k.1 ∙ plain_more h.half_read g.text plain e };
     }
 
-drawn_by : (t : Bool) (p : Image) (w : Terminal × List Deed) (near negative : Bool) (g : WholeGlyph) (above done rest below : List Col) (r c : ℕ) (all : List Deed)
+drawn_by : (t : Bool) (p : Image) (w : Terminal × List Effect) (near negative : Bool) (g : WholeGlyph) (above done rest below : List Col) (r c : ℕ) (all : List Effect)
     → Fits p → r < p.height → IsGlyph g → IsPlace r c p.width above done rest → length (columns_of g) ≤ length rest
-    → near && is_printable_text g.text ≡ t → Stands p w near negative above done rest below r c all
-    → Stands p (run w (glyph_bytes r c near negative g.text g.negative)) (is_printable_text g.text) g.negative above (done ++ columns_of g)
+    → near && is_ascii_glyph g.text ≡ t → Stands p w near negative above done rest below r c all
+    → Stands p (run w (glyph_bytes r c near negative g.text g.negative)) (is_ascii_glyph g.text) g.negative above (done ++ columns_of g)
     (drop (length (columns_of g)) rest) below r (c + length (columns_of g)) (all ++ Puts (r * p.width + c) g.text g.negative ∷ [])
 drawn_by true p w near negative g above done rest below r c all fits rh is place room e s =
     let some : 1 ≤ length (columns_of g) = columns_some g is in
     let change = render_change negative g.negative in
-    let n = rendered p w negative g.negative above done rest below r c all place (omega (arith, some, room, place.wide)) (s.near_by (and_left near (is_printable_text g.text) e)) in
-    let printed : is_printable_text g.text ≡ true = and_right near (is_printable_text g.text) e in
-    let after = text_stands p (run w change) g above done rest below r c all is n.ready (joins_near g.negative n.ready.half g.text n.plain printed)
+    let n = rendered p w negative g.negative above done rest below r c all place (omega (arith, some, room, place.wide)) (s.near_by (and_left near (is_ascii_glyph g.text) e)) in
+    let printed : is_ascii_glyph g.text ≡ true = and_right near (is_ascii_glyph g.text) e in
+    let after = text_stands p (run w change) g above done rest below r c all is n.ready (joins_near g.negative n.ready.half_read g.text n.plain printed)
     (omega (arith, room, place.wide)) n.plain in
     rw (e, run-append w change g.text) after
 drawn_by false p w near negative g above done rest below r c all fits rh is place room e s =
@@ -107,32 +107,32 @@ drawn_by false p w near negative g above done rest below r c all fits rh is plac
     ap (λ v. run v change) (moves p w columns s.position negative all r c s.leaves rh (omega (arith, some, room, place.wide)) fits.height fits.width)
     ∙ turned p columns (Some (r, c)) negative g.negative all in
     let h = place_ready p (run (run w move) change) g.negative above done rest below r c all place there in
-    let after = text_stands p (run (run w move) change) g above done rest below r c all is h.0 (joins_none g.negative h.0.half g.text h.1)
-    (omega (arith, room, place.wide)) (ap (list_all is_printable) h.1) in
+    let after = text_stands p (run (run w move) change) g above done rest below r c all is h.0 (joins_none g.negative h.0.half_read g.text h.1)
+    (omega (arith, room, place.wide)) (ap (list_all is_ascii_printable) h.1) in
     rw (e, run-append w move (change ++ g.text), run-append (run w move) change g.text) after
 
 -- ---- the glyphs of a row
 
--- a terminal that comes to these columns, with these deeds
-abbrev pub Comes : Image → Terminal × List Deed → List Col → Bool → List Deed → Type 0
+-- a terminal that comes to these columns, with these effects
+abbrev pub Comes : Image → Terminal × List Effect → List Col → Bool → List Effect → Type 0
 Comes p w columns negative all = (q : Option (ℕ × ℕ)) × Leaves p w columns q negative all
 
-pub come_by : (p : Image) (w : Terminal × List Deed) (s s' : Sent) (columns columns' : List Col) (deeds deeds' : List Deed)
-    → s ≡ s' → columns ≡ columns' → deeds ≡ deeds'
-    → Comes p (run w s'.bytes) columns' s'.negative deeds' → Comes p (run w s.bytes) columns s.negative deeds
-come_by p w s s' columns columns' deeds deeds' es ec ed h = rw (es, ec, ed) h
+pub come_by : (p : Image) (w : Terminal × List Effect) (s s' : Sent) (columns columns' : List Col) (effects effects' : List Effect)
+    → s ≡ s' → columns ≡ columns' → effects ≡ effects'
+    → Comes p (run w s'.bytes) columns' s'.negative effects' → Comes p (run w s.bytes) columns s.negative effects
+come_by p w s s' columns columns' effects effects' es ec ed h = rw (es, ec, ed) h
 
-pub come_after : (p : Image) (w : Terminal × List Deed) (first second : List ℕ) (columns : List Col) (negative : Bool) (deeds : List Deed)
-    → Comes p (run (run w first) second) columns negative deeds → Comes p (run w (first ++ second)) columns negative deeds
-come_after p w first second columns negative deeds h = rw (run-append w first second) h
+pub come_after : (p : Image) (w : Terminal × List Effect) (first second : List ℕ) (columns : List Col) (negative : Bool) (effects : List Effect)
+    → Comes p (run (run w first) second) columns negative effects → Comes p (run w (first ++ second)) columns negative effects
+come_after p w first second columns negative effects h = rw (run-append w first second) h
 
 -- a glyph whose columns do not differ stands there already
-stays : (p : Image) (w : Terminal × List Deed) (near negative : Bool) (g : WholeGlyph) (above done before ys below : List Col) (r c d : ℕ) (all : List Deed)
+stays : (p : Image) (w : Terminal × List Effect) (near negative : Bool) (g : WholeGlyph) (above done before ys below : List Col) (r c d : ℕ) (all : List Effect)
     → IsGlyph g → AreWhole (before ++ (columns_of g ++ ys)) → Stands p w near negative above done (columns_of g ++ ys) below r c all
     → Stands p w false negative above (done ++ columns_of g) ys below r d (all ++ [])
 stays p w near negative g above done before ys below r c d all is whole s =
-    let shift : done ++ right_of 0 (columns_of g ++ ys) ≡ (done ++ columns_of g) ++ right_of 0 ys =
-    ap (λ xs. done ++ xs) (kept before ys g is whole) ∙ sym (append_assoc done (columns_of g) (right_of 0 ys)) in
+    let shift : done ++ cut_after 0 (columns_of g ++ ys) ≡ (done ++ columns_of g) ++ cut_after 0 ys =
+    ap (λ xs. done ++ xs) (kept before ys g is whole) ∙ sym (append_assoc done (columns_of g) (cut_after 0 ys)) in
     record {
       position = s.position;
       leaves = record {
@@ -143,12 +143,12 @@ stays p w near negative g above done before ys below r c d all is whole s =
       near_by = λ e. absurd (cc e);
     }
 
-stands_by : (same : Bool) (p : Image) (w : Terminal × List Deed) (near negative : Bool) (g : WholeGlyph) (above done before olds over below : List Col) (r c : ℕ) (all : List Deed)
+stands_by : (same : Bool) (p : Image) (w : Terminal × List Effect) (near negative : Bool) (g : WholeGlyph) (above done before olds over below : List Col) (r c : ℕ) (all : List Effect)
     → Fits p → r < p.height → IsGlyph g → IsPlace r c p.width above done (olds ++ over) → AreWhole (before ++ (olds ++ over))
     → length (columns_of g) ≤ length olds → are_equal (take (length (columns_of g)) olds) (columns_of g) ≡ same
     → Stands p w near negative above done (olds ++ over) below r c all
     → Stands p (run w (glyph_sent r c near negative same g).bytes) (glyph_sent r c near negative same g).near (glyph_sent r c near negative same g).negative
-    above (done ++ columns_of g) (drop (length (columns_of g)) olds ++ over) below r (c + length (columns_of g)) (all ++ glyph_deed (r * p.width + c) same g)
+    above (done ++ columns_of g) (drop (length (columns_of g)) olds ++ over) below r (c + length (columns_of g)) (all ++ glyph_effect (r * p.width + c) same g)
 stands_by true p w near negative g above done before olds over below r c all fits rh is place whole room e s =
     let n = length (columns_of g) in
     let split : olds ++ over ≡ columns_of g ++ (drop n olds ++ over) =
@@ -159,13 +159,13 @@ stands_by true p w near negative g above done before olds over below r c all fit
 stands_by false p w near negative g above done before olds over below r c all fits rh is place whole room e s =
     let n = length (columns_of g) in
     let rest : drop n (olds ++ over) ≡ drop n olds ++ over = drop-append-le n olds over room in
-    let after = drawn_by (near && is_printable_text g.text) p w near negative g above done (olds ++ over) below r c all fits rh is place
+    let after = drawn_by (near && is_ascii_glyph g.text) p w near negative g above done (olds ++ over) below r c all fits rh is place
     (omega (arith, room, length-append olds over)) refl s in
     rw rest at after
 
 -- what is sent for these columns of the new row, from any place on
 abbrev Goal : Image → ℕ → List Col → List Col → List Col → List Col → Type 0
-Goal p r above over below news = (olds done before : List Col) (w : Terminal × List Deed) (c : ℕ) (near negative : Bool) (all : List Deed)
+Goal p r above over below news = (olds done before : List Col) (w : Terminal × List Effect) (c : ℕ) (near negative : Bool) (all : List Effect)
     → IsPlace r c p.width above done (olds ++ over) → AreWhole (before ++ (olds ++ over)) → length olds ≡ length news
     → Stands p w near negative above done (olds ++ over) below r c all
     → Comes p (run w (columns_sent r c near negative olds news).bytes) (partly above (done ++ news) over below)
@@ -186,7 +186,7 @@ one_more p r above over below g xs fits rh is more olds done before w c near neg
     let n = length cg in
     let alike = are_equal (take n olds) cg in
     let sent = glyph_sent r c near negative alike g in
-    let deeds = all ++ glyph_deed (r * p.width + c) alike g in
+    let effects = all ++ glyph_effect (r * p.width + c) alike g in
     let count : length olds ≡ n + length xs = same ∙ length-append cg xs in
     let by = by_glyph alike g olds xs is refl in
     let after = stands_by alike p w near negative g above done before olds over below r c all fits rh is place whole (omega (arith, count)) refl s in
@@ -199,16 +199,16 @@ one_more p r above over below g xs fits rh is more olds done before w c near neg
     let split : before ++ (olds ++ over) ≡ (before ++ take n olds) ++ (drop n olds ++ over) =
     ap (λ ys. before ++ (ys ++ over)) (sym (take-append-drop n olds)) ∙ ap (λ ys. before ++ ys) (append_assoc (take n olds) (drop n olds) over)
     ∙ sym (append_assoc before (take n olds) (drop n olds ++ over)) in
-    let rest = more (drop n olds) (done ++ cg) (before ++ take n olds) (run w sent.bytes) (c + n) sent.near sent.negative deeds place'
+    let rest = more (drop n olds) (done ++ cg) (before ++ take n olds) (run w sent.bytes) (c + n) sent.near sent.negative effects place'
     (whole_along (before ++ (olds ++ over)) ((before ++ take n olds) ++ (drop n olds ++ over)) split whole) (length-drop n olds ∙ omega (arith, count)) after in
     let last = columns_sent r (c + n) sent.near sent.negative (drop n olds) xs in
     let next : (r * p.width + c) + n ≡ r * p.width + (c + n) = omega arith in
     come_by p w (columns_sent r c near negative olds (cg ++ xs)) (then_sent sent.bytes last)
     (partly above (done ++ (cg ++ xs)) over below) (partly above ((done ++ cg) ++ xs) over below)
-    (all ++ glyphs_changed (r * p.width + c) olds (cg ++ xs)) (deeds ++ glyphs_changed (r * p.width + (c + n)) (drop n olds) xs)
+    (all ++ glyphs_changed (r * p.width + c) olds (cg ++ xs)) (effects ++ glyphs_changed (r * p.width + (c + n)) (drop n olds) xs)
     (by.sent r c near negative) (ap (λ ys. partly above ys over below) (sym (append_assoc done cg xs)))
-    (ap (λ ds. all ++ ds) (by.changed (r * p.width + c) ∙ ap (λ k. glyph_deed (r * p.width + c) alike g ++ glyphs_changed k (drop n olds) xs) next)
-    ∙ sym (append_assoc all (glyph_deed (r * p.width + c) alike g) (glyphs_changed (r * p.width + (c + n)) (drop n olds) xs)))
+    (ap (λ ds. all ++ ds) (by.changed (r * p.width + c) ∙ ap (λ k. glyph_effect (r * p.width + c) alike g ++ glyphs_changed k (drop n olds) xs) next)
+    ∙ sym (append_assoc all (glyph_effect (r * p.width + c) alike g) (glyphs_changed (r * p.width + (c + n)) (drop n olds) xs)))
     (come_after p w sent.bytes last.bytes _ _ _ rest)
 
 glyphs_do : (p : Image) (r : ℕ) (above over below : List Col) (gs : List WholeGlyph) → Fits p → r < p.height → All IsGlyph gs → Goal p r above over below (all_columns gs)

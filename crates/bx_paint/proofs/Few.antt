@@ -12,7 +12,7 @@ use Rattle.bx_grid.proofs.Blanks.{blanks_pass}
 use Rattle.bx_grid.proofs.Equal.{col_is, are_equal_refl}
 use Rattle.bx_paint.specs.Painting.{Sent, Step, nothing_sent, then_sent, before_tail, is_sent, column_sent, columns_sent, tail_sent, row_sent, rows_sent, changes_bytes}
 use Rattle.bx_paint.specs.Changed.{glyphs_changed, tail_changed, row_changed, rows_changed, changed, differing}
-use Rattle.bx_paint.proofs.Glyphs.{glyph_deed, by_glyph}
+use Rattle.bx_paint.proofs.Glyphs.{glyph_effect, by_glyph}
 use Rattle.bx_paint.proofs.Tails.{front_le, front_blanks, whole_front}
 
 -- ---- a row's parts
@@ -86,10 +86,10 @@ one_differs [] (y ∷ ys) same h = absurd (omega (arith, same))
 one_differs (x ∷ xs) [] same h = absurd (omega (arith, same))
 one_differs (x ∷ xs) (y ∷ ys) same h = differ_by (col_eq x y) x y xs ys refl (one_differs xs ys (omega (arith, same))) h
 
-deed_by : (t : Bool) (place : ℕ) (g : WholeGlyph) (olds : List Col) → length olds ≡ length (columns_of g) → are_equal olds (columns_of g) ≡ t
-    → length (glyph_deed place t g) ≤ differing olds (columns_of g)
-deed_by true place g olds same e = omega arith
-deed_by false place g olds same e = one_differs olds (columns_of g) same e
+effect_by : (t : Bool) (place : ℕ) (g : WholeGlyph) (olds : List Col) → length olds ≡ length (columns_of g) → are_equal olds (columns_of g) ≡ t
+    → length (glyph_effect place t g) ≤ differing olds (columns_of g)
+effect_by true place g olds same e = omega arith
+effect_by false place g olds same e = one_differs olds (columns_of g) same e
 
 glyphs_few : (place : ℕ) (gs : List WholeGlyph) (olds : List Col) → All IsGlyph gs → length olds ≡ length (all_columns gs)
     → length (glyphs_changed place olds (all_columns gs)) ≤ differing olds (all_columns gs)
@@ -102,11 +102,11 @@ glyphs_few place (g ∷ gs) olds each same =
     let first : length (take n olds) ≡ n = length-take-le n olds (omega (arith, count)) in
     let alike = are_equal (take n olds) cg in
     let by = (by_glyph alike g olds xs (All-head IsGlyph g gs each) refl).changed place in
-    let one = deed_by alike place g (take n olds) first refl in
+    let one = effect_by alike place g (take n olds) first refl in
     let rest = glyphs_few (place + n) gs (drop n olds) (All-tail IsGlyph g gs each) (length-drop n olds ∙ omega (arith, count)) in
     let both : differing olds (cg ++ xs) ≡ differing (take n olds) cg + differing (drop n olds) xs =
     ap (λ ys. differing ys (cg ++ xs)) (sym (take-append-drop n olds)) ∙ differing-append (take n olds) (drop n olds) cg xs first in
-    rw (by, both) (omega (arith, one, rest, length-append (glyph_deed place alike g) (glyphs_changed (place + n) (drop n olds) xs)))
+    rw (by, both) (omega (arith, one, rest, length-append (glyph_effect place alike g) (glyphs_changed (place + n) (drop n olds) xs)))
 
 front_few : (place : ℕ) (olds front : List Col) → AreWhole front → length olds ≡ length front → length (glyphs_changed place olds front) ≤ differing olds front
 front_few place olds front whole same = rw whole.are at (glyphs_few place whole.glyphs olds whole.each (same ∙ ap length (sym whole.are)))

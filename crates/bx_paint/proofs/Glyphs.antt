@@ -2,8 +2,8 @@
 use Rattle.std.proofs.Common.{◌≡◌, ℕ, ◌+◌, ◌≤◌, Bool, true, false, not, nat_eq, List, [], ◌∷◌, ◌++◌, length, take, drop, zero, suc, refl, ap, sym, ◌∙◌, arith}
 use Rattle.std.proofs.lemmas.Bool.Decides.{nat_tests}
 use Rattle.std.proofs.lemmas.List.{take_at, drop-drop}
-use Rattle.bx_grid.specs.Columns.{Col, Glyph, is_printable_text, are_equal, glyph_columns, glyph_columns_from}
-use Rattle.bx_grid.specs.Deeds.{Deed, Puts}
+use Rattle.bx_grid.specs.Columns.{Col, Glyph, is_ascii_glyph, are_equal, glyph_columns, glyph_columns_from}
+use Rattle.bx_grid.specs.Effects.{Effect, Puts}
 use Rattle.bx_grid.specs.Glyphs.{WholeGlyph, IsGlyph, columns_of}
 use Rattle.bx_grid.proofs.Laid.{plain_width}
 use Rattle.bx_grid.proofs.Puts.{length-glyph}
@@ -51,18 +51,18 @@ rest_changed place text n inverse offset (suc count) olds xs h =
 -- what is sent for it
 abbrev pub glyph_sent : ℕ → ℕ → Bool → Bool → Bool → WholeGlyph → Step
 glyph_sent r c near negative true g = nothing_sent negative
-glyph_sent r c near negative false g = record { bytes = glyph_bytes r c near negative g.text g.negative; near = is_printable_text g.text; negative = g.negative }
+glyph_sent r c near negative false g = record { bytes = glyph_bytes r c near negative g.text g.negative; near = is_ascii_glyph g.text; negative = g.negative }
 
-abbrev pub glyph_deed : ℕ → Bool → WholeGlyph → List Deed
-glyph_deed place true g = []
-glyph_deed place false g = Puts place g.text g.negative ∷ []
+abbrev pub glyph_effect : ℕ → Bool → WholeGlyph → List Effect
+glyph_effect place true g = []
+glyph_effect place false g = Puts place g.text g.negative ∷ []
 
 -- the columns of a glyph, n of them, with others after them, where same says that the old columns are its own
 pub record IsByGlyph (same : Bool) (g : WholeGlyph) (n : ℕ) (olds xs : List Col) : Type 0 where
   pub sent : (r c : ℕ) (near negative : Bool) → columns_sent r c near negative olds (columns_of g ++ xs)
       ≡ then_sent (glyph_sent r c near negative same g).bytes
       (columns_sent r (c + n) (glyph_sent r c near negative same g).near (glyph_sent r c near negative same g).negative (drop n olds) xs)
-  pub changed : (place : ℕ) → glyphs_changed place olds (columns_of g ++ xs) ≡ glyph_deed place same g ++ glyphs_changed (place + n) (drop n olds) xs
+  pub changed : (place : ℕ) → glyphs_changed place olds (columns_of g ++ xs) ≡ glyph_effect place same g ++ glyphs_changed (place + n) (drop n olds) xs
 
 first_sent : (same : Bool) (r c : ℕ) (near negative : Bool) (g : WholeGlyph) (n : ℕ) (olds cs : List Col) → is_sent olds (Glyph g.text n 0 g.negative ∷ cs) ≡ not same
     → columns_sent r c near negative olds (Glyph g.text n 0 g.negative ∷ cs)
@@ -72,7 +72,7 @@ first_sent true r c near negative g n olds cs e = rw e refl
 first_sent false r c near negative g n olds cs e = rw e refl
 
 first_changed : (same : Bool) (place : ℕ) (g : WholeGlyph) (n : ℕ) (olds cs : List Col) → is_sent olds (Glyph g.text n 0 g.negative ∷ cs) ≡ not same
-    → glyphs_changed place olds (Glyph g.text n 0 g.negative ∷ cs) ≡ glyph_deed place same g ++ glyphs_changed (place + 1) (drop 1 olds) cs
+    → glyphs_changed place olds (Glyph g.text n 0 g.negative ∷ cs) ≡ glyph_effect place same g ++ glyphs_changed (place + 1) (drop 1 olds) cs
 first_changed true place g n olds cs e = rw e refl
 first_changed false place g n olds cs e = rw e refl
 
@@ -104,7 +104,7 @@ glyph_by same g m olds xs h is e =
       changed = λ place.
           ap (λ ys. glyphs_changed place olds (ys ++ xs)) is
           ∙ first_changed same place g (suc m) olds (more ++ xs) test
-          ∙ ap (λ ds. glyph_deed place same g ++ ds)
+          ∙ ap (λ ds. glyph_effect place same g ++ ds)
           (rest_changed (place + 1) g.text (suc m) g.negative (0 + 1) m (drop 1 olds) xs (omega arith)
           ∙ ap (λ ys. glyphs_changed ((place + 1) + m) ys xs) past
           ∙ ap (λ k. glyphs_changed k (drop (suc m) olds) xs) (let n : (place + 1) + m ≡ place + suc m = omega arith in n));

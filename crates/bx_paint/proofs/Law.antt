@@ -4,8 +4,8 @@ use Rattle.std.proofs.lemmas.Bool.Decides.{nat_tests}
 use Rattle.std.proofs.lemmas.List.{length-replicate}
 use Rattle.bx_grid.specs.Columns.{Col, blank}
 use Rattle.bx_grid.specs.Glyphs.{AreWholeRows}
-use Rattle.bx_grid.specs.Deeds.{Deed, Clears, run_deeds, pending_deeds, clear_deeds, deeds}
-use Rattle.bx_grid.specs.Terminal.{Terminal, reads, run_put, run_ended, rendered, cleared}
+use Rattle.bx_grid.specs.Effects.{Effect, Clears, run_effects, pending_effects, clear_effects, effects}
+use Rattle.bx_grid.specs.Terminal.{Terminal, reads, run_put, run_ended, after_rendition, after_clear}
 use Rattle.bx_grid.specs.Picture.{Image, IsGrid, IsIdle, IsPicture, Shows}
 use Rattle.bx_grid.proofs.Doing.{run, run-append, run_is, sequence_does}
 use Rattle.bx_grid.proofs.Reading.{at, IsFinal, and_left, and_right}
@@ -20,23 +20,23 @@ pub fits : (p : Image) → IsPicture p → Fits p
 fits p h = record { height = omega (arith, h.grid.sized.high); width = omega (arith, h.grid.sized.wide); row = h.row_inside; column = h.column_inside }
 
 abbrev made : ℕ → ℕ → List Col → Option (ℕ × ℕ) → Option Bool → List ℕ → List ℕ → Terminal
-made height width columns position negative half_read half = record {
+made height width columns position negative half_read half_read = record {
   height = height;
   width = width;
   columns = columns;
   position = position;
   negative = negative;
   run = half_read;
-  half = half;
+  half_read = half_read;
 }
 
 -- where there is no run nothing takes effect
-no_run : (t : Terminal) → t.run ≡ [] → (run_ended t ≡ t) × (pending_deeds t ≡ [])
-no_run t h = (ap (run_put t t.position t.negative) h, ap (run_deeds t t.position t.negative) h)
+no_run : (t : Terminal) → t.run ≡ [] → (run_ended t ≡ t) × (pending_effects t ≡ [])
+no_run t h = (ap (run_put t t.position t.negative) h, ap (run_effects t t.position t.negative) h)
 
 -- ---- the end
 
-at_end : (p : Image) (w : Terminal × List Deed) (columns : List Col) (q : Option (ℕ × ℕ)) (negative : Bool) (all : List Deed)
+at_end : (p : Image) (w : Terminal × List Effect) (columns : List Col) (q : Option (ℕ × ℕ)) (negative : Bool) (all : List Effect)
     → Fits p → Leaves p w columns q negative all
     → run w (render_change negative false ++ move_bytes p.row p.column) ≡ (screen p columns (Some (p.row, p.column)) false [], all)
 at_end p w columns q true all fits leaves =
@@ -47,7 +47,7 @@ at_end p w columns q false all fits leaves =
     moves p w columns q false all p.row p.column leaves fits.row fits.column fits.height fits.width
 
 -- all rows, and the end
-pub all_rows : (p : Image) (old : List Col) (w : Terminal × List Deed) (q : Option (ℕ × ℕ)) (all : List Deed)
+pub all_rows : (p : Image) (old : List Col) (w : Terminal × List Effect) (q : Option (ℕ × ℕ)) (all : List Effect)
     → IsPicture p → length old ≡ p.height * p.width → AreWholeRows p.height p.width old → Leaves p w old q false all
     → Comes p (run w (columns_changed old p).bytes) p.columns (columns_changed old p).negative (all ++ rows_changed p.height p.width 0 old p.columns)
 all_rows p old w q all is size whole leaves =
@@ -56,7 +56,7 @@ all_rows p old w q all is size whole leaves =
     is.grid.rows leaves in
     rw none at rows
 
-painted : (p : Image) (old : List Col) (w : Terminal × List Deed) (q : Option (ℕ × ℕ)) (all : List Deed)
+painted : (p : Image) (old : List Col) (w : Terminal × List Effect) (q : Option (ℕ × ℕ)) (all : List Effect)
     → IsPicture p → length old ≡ p.height * p.width → AreWholeRows p.height p.width old → Leaves p w old q false all
     → run w (ended p (columns_changed old p)) ≡ (screen p p.columns (Some (p.row, p.column)) false [], all ++ rows_changed p.height p.width 0 old p.columns)
 painted p old w q all is size whole leaves =
@@ -77,15 +77,15 @@ opening : (p : Image) (t : Terminal) → IsIdle t → t.height ≡ p.height → 
     → run (t, []) (0x1B ∷ 0x5B ∷ 0x30 ∷ 0x6D ∷ 0x1B ∷ 0x5B ∷ 0x32 ∷ 0x4A ∷ []) ≡ (screen p (replicate (p.height * p.width) blank) None false [], Clears ∷ [])
 opening p t idle height width =
     let none = no_run t idle.no_run in
-    let after : Terminal → List Deed → Terminal × List Deed = λ u ds. run (rendered (at u []) false, ds ++ []) (0x1B ∷ 0x5B ∷ 0x32 ∷ 0x4A ∷ []) in
-    let u : Terminal = rendered (at t []) false in
+    let after : Terminal → List Effect → Terminal × List Effect = λ u ds. run (after_rendition (at u []) false, ds ++ []) (0x1B ∷ 0x5B ∷ 0x32 ∷ 0x4A ∷ []) in
+    let u : Terminal = after_rendition (at t []) false in
     let still = no_run u idle.no_run in
-    let end : Terminal → List Deed → Terminal × List Deed = λ v ds. (cleared (at v []) (at v []).negative, ([] ++ ds) ++ clear_deeds v.negative) in
+    let end : Terminal → List Effect → Terminal × List Effect = λ v ds. (after_clear (at v []) (at v []).negative, ([] ++ ds) ++ clear_effects v.negative) in
     ap (λ w. run w (0x1B ∷ 0x5B ∷ 0x32 ∷ 0x4A ∷ [])) (sequence_does t [] (0x30 ∷ []) 0x6D idle.no_token refl final_m)
-    ∙ ap (λ v. after v (pending_deeds t)) none.0
+    ∙ ap (λ v. after v (pending_effects t)) none.0
     ∙ ap (after t) none.1
     ∙ sequence_does u [] (0x32 ∷ []) 0x4A refl refl final_J
-    ∙ ap (λ v. end v (pending_deeds u)) still.0
+    ∙ ap (λ v. end v (pending_effects u)) still.0
     ∙ ap (end u) still.1
     ∙ rw (height, width, idle.no_run) refl
 
@@ -94,13 +94,13 @@ pub whole_shows : (p : Image) → IsPicture p → (t : Terminal) → IsIdle t �
 whole_shows p is t idle height width =
     let blanks = replicate (p.height * p.width) blank in
     let start = 0x1B ∷ 0x5B ∷ 0x30 ∷ 0x6D ∷ 0x1B ∷ 0x5B ∷ 0x32 ∷ 0x4A ∷ [] in
-    let w : Terminal × List Deed = (screen p blanks None false [], Clears ∷ []) in
+    let w : Terminal × List Effect = (screen p blanks None false [], Clears ∷ []) in
     let end : run (t, []) (whole_bytes p) ≡ (screen p p.columns (Some (p.row, p.column)) false [], (Clears ∷ []) ++ rows_changed p.height p.width 0 blanks p.columns) =
     run-append (t, []) start (ended p (columns_changed blanks p))
     ∙ ap (λ v. run v (ended p (columns_changed blanks p))) (opening p t idle height width)
     ∙ painted p blanks w None (Clears ∷ []) is (length-replicate (p.height * p.width) blank) (rows-blank p.height p.width) (plain_leaves p blanks None false (Clears ∷ [])) in
     let state : reads t (whole_bytes p) ≡ screen p p.columns (Some (p.row, p.column)) false [] =
-    ap (λ (v : Terminal × List Deed). v.0) (sym (run_is t [] (whole_bytes p)) ∙ end) in
+    ap (λ (v : Terminal × List Effect). v.0) (sym (run_is t [] (whole_bytes p)) ∙ end) in
     rw state (shown p)
 
 -- ---- changes
@@ -108,7 +108,7 @@ whole_shows p is t idle height width =
 showing : (old new : Image) (t : Terminal) → old.height ≡ new.height → old.width ≡ new.width → Shows t old
     → Leaves new (t, []) old.columns (Some (old.row, old.column)) false []
 showing old new t eh ew h =
-    let is : made t.height t.width t.columns t.position t.negative t.run t.half ≡ screen new old.columns (Some (old.row, old.column)) false [] =
+    let is : made t.height t.width t.columns t.position t.negative t.run t.half_read ≡ screen new old.columns (Some (old.row, old.column)) false [] =
     rw (h.same_height, h.same_width, h.same_columns, h.at_cursor, h.normal, h.nothing_half_read.no_run, h.nothing_half_read.no_token, eh, ew) refl in
     let none = no_run t h.nothing_half_read.no_run in
     record { no_token = h.nothing_half_read.no_token; effect = none.0 ∙ is; told = none.1 }
@@ -119,15 +119,15 @@ none_is (b ∷ bs) h = absurd (cc h)
 
 pub record Changes (old new : Image) (t : Terminal) (bytes : List ℕ) : Type 0 where
   pub shows : Shows (reads t bytes) new
-  pub sends : deeds t bytes ≡ changed old new
+  pub sends : effects t bytes ≡ changed old new
 
 by_bytes : (old new : Image) (t : Terminal) (bytes : List ℕ) → run (t, []) bytes ≡ (screen new new.columns (Some (new.row, new.column)) false [], changed old new)
     → Changes old new t bytes
 by_bytes old new t bytes h =
     let both = sym (run_is t [] bytes) ∙ h in
     record {
-      shows = rw (ap (λ (v : Terminal × List Deed). v.0) both) (shown new);
-      sends = ap (λ (v : Terminal × List Deed). v.1) both;
+      shows = rw (ap (λ (v : Terminal × List Effect). v.0) both) (shown new);
+      sends = ap (λ (v : Terminal × List Effect). v.1) both;
     }
 
 none_sent : (old new : Image) (t : Terminal) (q : Option (ℕ × ℕ)) (negative : Bool) → Shows t old → is_at_cursor_of old new ≡ true
@@ -151,7 +151,7 @@ none_sent old new t q negative h cursor leaves =
       sends = sym none.1 ∙ leaves.told;
     }
 
-leaves_after : (p : Image) (w : Terminal × List Deed) (bytes : List ℕ) (columns : List Col) (q : Option (ℕ × ℕ)) (negative : Bool) (all : List Deed)
+leaves_after : (p : Image) (w : Terminal × List Effect) (bytes : List ℕ) (columns : List Col) (q : Option (ℕ × ℕ)) (negative : Bool) (all : List Effect)
     → bytes ≡ [] → Leaves p (run w bytes) columns q negative all → Leaves p w columns q negative all
 leaves_after p w bytes columns q negative all e h = let none : run w bytes ≡ w = ap (run w) e in rw none at h
 

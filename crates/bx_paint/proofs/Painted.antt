@@ -2,8 +2,8 @@
 use Rattle.std.proofs.Common.{◌≡◌, ℕ, ◌+◌, ◌*◌, ◌-◌, ◌<◌, ◌≤◌, Bool, true, false, List, [], ◌∷◌, ◌++◌, length, take, drop, replicate, Option, Some, None, zero, suc, refl, ap, sym, ◌∙◌, append_assoc, length-append, arith}
 use Rattle.std.specs.List.{list_all}
 use Rattle.std.proofs.lemmas.List.{append-nil, take-append-drop, length-take-le, length-drop, length-replicate, replicate-append-replicate, drop_all, nil_from_length}
-use Rattle.bx_grid.specs.Columns.{Col, blank, is_blank, put, right_of}
-use Rattle.bx_grid.specs.Deeds.{Deed, Erases}
+use Rattle.bx_grid.specs.Columns.{Col, blank, is_blank, put, cut_after}
+use Rattle.bx_grid.specs.Effects.{Effect, Erases}
 use Rattle.bx_grid.specs.Glyphs.{AreWhole, AreWholeRows}
 use Rattle.bx_grid.specs.Terminal.{Terminal}
 use Rattle.bx_grid.specs.Picture.{Image}
@@ -29,9 +29,9 @@ blanks_done : (k : ℕ) (above done before olds below : List Col) → take k old
 blanks_done k above done before olds below blanks whole =
     let split : olds ≡ replicate k blank ++ drop k olds = sym (take-append-drop k olds) ∙ ap (λ xs. xs ++ drop k olds) blanks in
     ap (λ xs. above ++ (xs ++ below))
-    (ap (λ xs. done ++ right_of 0 xs) split
+    (ap (λ xs. done ++ cut_after 0 xs) split
     ∙ ap (λ xs. done ++ xs) (kept_blanks k before (drop k olds) (whole_along (before ++ olds) (before ++ (replicate k blank ++ drop k olds)) (ap (λ xs. before ++ xs) split) whole))
-    ∙ sym (append_assoc done (replicate k blank) (right_of 0 (drop k olds))))
+    ∙ sym (append_assoc done (replicate k blank) (cut_after 0 (drop k olds))))
 
 -- blanks put over the rest of a tail, from its first column that is no blank
 tail_put : (r f w k m : ℕ) (above done before olds below : List Col) → IsPlace r f w above done olds → AreWhole (before ++ olds)
@@ -56,7 +56,7 @@ tail_put r f w k m above done before olds below place whole first count =
     ∙ ap (λ xs. above ++ (xs ++ below)) (append-nil (start ++ news) ∙ blanks)
 
 -- an erasure at a place, in whatever rendition
-erased_at : (p : Image) (r c : ℕ) (negative : Bool) (columns : List Col) (w : Terminal × List Deed) (q : Option (ℕ × ℕ)) (all : List Deed)
+erased_at : (p : Image) (r c : ℕ) (negative : Bool) (columns : List Col) (w : Terminal × List Effect) (q : Option (ℕ × ℕ)) (all : List Effect)
     → Fits p → r < p.height → c < p.width → Leaves p w columns q negative all
     → run w (move_bytes r c ++ (render_change negative false ++ erase_bytes))
     ≡ (screen p (put p.width columns r c (replicate (p.width - c) blank)) None false [], all ++ Erases (r * p.width + c) ∷ [])
@@ -67,7 +67,7 @@ erased_at p r c negative columns w q all fits rh small leaves =
     ∙ ap (λ v. run v erase_bytes) (turned p columns (Some (r, c)) negative false all)
     ∙ erases p columns r c all
 
-erased : (p : Image) (r f : ℕ) (negative : Bool) (above done before olds below : List Col) (w : Terminal × List Deed) (q : Option (ℕ × ℕ)) (all : List Deed)
+erased : (p : Image) (r f : ℕ) (negative : Bool) (above done before olds below : List Col) (w : Terminal × List Effect) (q : Option (ℕ × ℕ)) (all : List Effect)
     → Fits p → r < p.height → IsPlace r f p.width above done olds → AreWhole (before ++ olds)
     → Leaves p w (partly above done olds below) q negative all → leading_blanks olds < length olds
     → run w (move_bytes r (f + leading_blanks olds) ++ (render_change negative false ++ erase_bytes))
@@ -79,14 +79,14 @@ erased p r f negative above done before olds below w q all fits rh place whole l
     erased_at p r (f + k) negative (partly above done olds below) w q all fits rh (omega (arith, some, place.wide)) leaves
     ∙ rw (put_is, next) refl
 
-tail_by : (t : Bool) (p : Image) (r f : ℕ) (negative : Bool) (above done before olds below : List Col) (w : Terminal × List Deed) (q : Option (ℕ × ℕ)) (all : List Deed)
+tail_by : (t : Bool) (p : Image) (r f : ℕ) (negative : Bool) (above done before olds below : List Col) (w : Terminal × List Effect) (q : Option (ℕ × ℕ)) (all : List Effect)
     → Fits p → r < p.height → IsPlace r f p.width above done olds → AreWhole (before ++ olds)
     → Leaves p w (partly above done olds below) q negative all → list_all is_blank olds ≡ t
     → Comes p (run w (tail_sent r f negative olds).bytes) (above ++ ((done ++ replicate (length olds) blank) ++ below)) (tail_sent r f negative olds).negative
     (all ++ tail_changed (r * p.width + f) olds)
 tail_by true p r f negative above done before olds below w q all fits rh place whole leaves e =
-    let blanks : right_of 0 olds ≡ replicate (length olds) blank =
-    ap (right_of 0) (blanks_are olds e) ∙ whole_right 0 (replicate (length olds) blank) (whole_blanks (length olds)) in
+    let blanks : cut_after 0 olds ≡ replicate (length olds) blank =
+    ap (cut_after 0) (blanks_are olds e) ∙ whole_right 0 (replicate (length olds) blank) (whole_blanks (length olds)) in
     rw e (
       q,
       record {
@@ -102,7 +102,7 @@ tail_by false p r f negative above done before olds below w q all fits rh place 
 
 -- ---- a row
 
-row_does : (p : Image) (r : ℕ) (negative : Bool) (above old new below : List Col) (w : Terminal × List Deed) (q : Option (ℕ × ℕ)) (all : List Deed)
+row_does : (p : Image) (r : ℕ) (negative : Bool) (above old new below : List Col) (w : Terminal × List Effect) (q : Option (ℕ × ℕ)) (all : List Effect)
     → Fits p → r < p.height → length above ≡ r * p.width → length old ≡ p.width → length new ≡ p.width → AreWhole old → AreWhole new
     → Leaves p w (above ++ (old ++ below)) q negative all
     → Comes p (run w (row_sent r negative old new).bytes) ((above ++ new) ++ below) (row_sent r negative old new).negative (all ++ row_changed (r * p.width) old new)
@@ -116,7 +116,7 @@ row_does p r negative above old new below w q all fits rh high wide wide' whole 
     let rlen : length rest ≡ p.width - f = length-drop f old ∙ omega (arith, wide) in
     let split : olds ++ rest ≡ old = take-append-drop f old in
     let parts_whole : AreWhole (olds ++ rest) = whole_along old (olds ++ rest) (sym split) whole in
-    let there : right_of 0 (olds ++ rest) ≡ old = ap (right_of 0) split ∙ whole_right 0 old whole in
+    let there : cut_after 0 (olds ++ rest) ≡ old = ap (cut_after 0) split ∙ whole_right 0 old whole in
     let begin : IsPlace r 0 p.width above [] (olds ++ rest) = record { high = high; at = refl; wide = omega (arith, ap length split, wide); whole = whole-nil } in
     let stands : Stands p w false negative above [] (olds ++ rest) below r 0 all = record {
       position = q;
@@ -126,14 +126,14 @@ row_does p r negative above old new below w q all fits rh high wide wide' whole 
     let first = columns_do p r above rest below front fits rh (whole_front new whole') olds [] [] w 0 false negative all begin parts_whole olen stands in
     let s = columns_sent r 0 false negative olds front in
     let zero_place : r * p.width + 0 ≡ r * p.width = omega arith in
-    let deeds = all ++ glyphs_changed (r * p.width + 0) olds front in
+    let effects = all ++ glyphs_changed (r * p.width + 0) olds front in
     let place : IsPlace r f p.width above front rest = record { high = high; at = refl; wide = omega (arith, rlen, fle, wide'); whole = whole_front new whole' } in
-    let second = tail_by (list_all is_blank rest) p r f s.negative above front olds rest below (run w s.bytes) first.0 deeds fits rh place parts_whole first.1 refl in
+    let second = tail_by (list_all is_blank rest) p r f s.negative above front olds rest below (run w s.bytes) first.0 effects fits rh place parts_whole first.1 refl in
     let t = tail_sent r f s.negative rest in
     let new_is : front ++ replicate (length rest) blank ≡ new =
     ap (λ n. front ++ replicate n blank) (let e : length rest ≡ length new - f = omega (arith, rlen, wide') in e) ∙ front_blanks new in
     come_by p w (row_sent r negative old new) (then_sent s.bytes t) ((above ++ new) ++ below) (above ++ ((front ++ replicate (length rest) blank) ++ below))
-    (all ++ row_changed (r * p.width) old new) (deeds ++ tail_changed (r * p.width + f) rest)
+    (all ++ row_changed (r * p.width) old new) (effects ++ tail_changed (r * p.width + f) rest)
     refl (append_assoc above new below ∙ ap (λ xs. above ++ (xs ++ below)) (sym new_is))
     (ap (λ n. all ++ (glyphs_changed n olds front ++ tail_changed (r * p.width + f) rest)) (sym zero_place)
     ∙ sym (append_assoc all (glyphs_changed (r * p.width + 0) olds front) (tail_changed (r * p.width + f) rest)))
@@ -141,7 +141,7 @@ row_does p r negative above old new below w q all fits rh high wide wide' whole 
 
 -- ---- all rows
 
-pub rows_do : (p : Image) (count r : ℕ) (negative : Bool) (above old new : List Col) (w : Terminal × List Deed) (q : Option (ℕ × ℕ)) (all : List Deed)
+pub rows_do : (p : Image) (count r : ℕ) (negative : Bool) (above old new : List Col) (w : Terminal × List Effect) (q : Option (ℕ × ℕ)) (all : List Effect)
     → Fits p → r + count ≤ p.height → length above ≡ r * p.width → length old ≡ count * p.width → length new ≡ count * p.width
     → AreWholeRows count p.width old → AreWholeRows count p.width new
     → Leaves p w (above ++ old) q negative all
@@ -167,14 +167,14 @@ rows_do p (suc count) r negative above old new w q all fits rh high tall tall' w
     let first = row_does p r negative above olds news (drop v old) w q all fits (omega (arith, rh)) high olen nlen whole.0 whole'.0
     (record { no_token = leaves.no_token; effect = leaves.effect ∙ ap (λ cs. screen p cs q negative []) split; told = leaves.told }) in
     let s = row_sent r negative olds news in
-    let deeds = row_changed (r * v) olds news in
+    let effects = row_changed (r * v) olds news in
     let next : r * v + v ≡ (r + 1) * v = omega arith in
-    let second = rows_do p count (r + 1) s.negative (above ++ news) (drop v old) (drop v new) (run w s.bytes) first.0 (all ++ deeds) fits (omega (arith, rh))
+    let second = rows_do p count (r + 1) s.negative (above ++ news) (drop v old) (drop v new) (run w s.bytes) first.0 (all ++ effects) fits (omega (arith, rh))
     (length-append above news ∙ omega (arith, high, nlen)) (length-drop v old ∙ omega (arith, tall, more)) (length-drop v new ∙ omega (arith, tall', more))
     whole.1 whole'.1 first.1 in
     let t = rows_sent count (r + 1) v s.negative (drop v old) (drop v new) in
     let rest = rows_changed count v ((r + 1) * v) (drop v old) (drop v new) in
     let new_is : (above ++ news) ++ drop v new ≡ above ++ new = append_assoc above news (drop v new) ∙ ap (λ xs. above ++ xs) (take-append-drop v new) in
-    let all_is : all ++ rows_changed (suc count) v (r * v) old new ≡ (all ++ deeds) ++ rest =
-    ap (λ n. all ++ (deeds ++ rows_changed count v n (drop v old) (drop v new))) next ∙ sym (append_assoc all deeds rest) in
-    rw (all_is, ← new_is) (come_after p w s.bytes t.bytes ((above ++ news) ++ drop v new) t.negative ((all ++ deeds) ++ rest) second)
+    let all_is : all ++ rows_changed (suc count) v (r * v) old new ≡ (all ++ effects) ++ rest =
+    ap (λ n. all ++ (effects ++ rows_changed count v n (drop v old) (drop v new))) next ∙ sym (append_assoc all effects rest) in
+    rw (all_is, ← new_is) (come_after p w s.bytes t.bytes ((above ++ news) ++ drop v new) t.negative ((all ++ effects) ++ rest) second)

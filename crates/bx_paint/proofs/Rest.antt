@@ -3,15 +3,15 @@
 use Rattle.std.proofs.Common.{◌≡◌, ℕ, ◌+◌, ◌*◌, ◌≤◌, Bool, true, false, nat_lt, List, [], ◌∷◌, ◌++◌, length, take, drop, replicate, zero, suc, refl, ap, sym, ◌∙◌, length-append, arith}
 use Rattle.std.proofs.lemmas.Bool.Decides.{nat_tests}
 use Rattle.std.proofs.lemmas.List.{take_at, drop_at, drop-drop}
-use Rattle.bx_grid.specs.Columns.{Col, blank, columns_before, right_of, put, put_in_row, glyph_columns, glyph_columns_from}
+use Rattle.bx_grid.specs.Columns.{Col, blank, columns_before, cut_after, put, put_in_row, glyph_columns, glyph_columns_from}
 use Rattle.bx_grid.specs.Glyphs.{WholeGlyph, IsGlyph, columns_of, AreWhole}
 use Rattle.bx_grid.proofs.Pasted.{past_blanks}
 use Rattle.bx_grid.proofs.Whole.{columns_form, whole_split, whole_after, whole_left, whole_right}
 
 -- ---- what is left of columns after a place
 
-right_by : (t : Bool) (e d : ℕ) (x : Col) (xs : List Col) → nat_lt d (columns_before x) ≡ t → e ≤ d → right_of (e + 1) (right_of (d + 1) xs) ≡ right_of (e + 1) xs
-    → right_of e (right_of d (x ∷ xs)) ≡ right_of e (x ∷ xs)
+right_by : (t : Bool) (e d : ℕ) (x : Col) (xs : List Col) → nat_lt d (columns_before x) ≡ t → e ≤ d → cut_after (e + 1) (cut_after (d + 1) xs) ≡ cut_after (e + 1) xs
+    → cut_after e (cut_after d (x ∷ xs)) ≡ cut_after e (x ∷ xs)
 right_by true e d x xs t h more =
     let here : nat_lt e (columns_before x) ≡ true = grind (arith, nat_tests) in
     let none : nat_lt e 0 ≡ false = grind (arith, nat_tests) in
@@ -19,19 +19,19 @@ right_by true e d x xs t h more =
 right_by false e d x xs t h more = rw (t, more) refl
 
 -- of columns that are cut off again, farther on
-right_again : (e d : ℕ) (xs : List Col) → e ≤ d → right_of e (right_of d xs) ≡ right_of e xs
+right_again : (e d : ℕ) (xs : List Col) → e ≤ d → cut_after e (cut_after d xs) ≡ cut_after e xs
 right_again e d [] h = refl
 right_again e d (x ∷ xs) h = right_by (nat_lt d (columns_before x)) e d x xs refl h (right_again (e + 1) (d + 1) xs (omega arith))
 
-drop_right : (n d : ℕ) (xs : List Col) → drop n (right_of d xs) ≡ right_of (d + n) (drop n xs)
-drop_right zero d xs = ap (λ k. right_of k xs) (let e : d ≡ d + zero = omega arith in e)
+drop_right : (n d : ℕ) (xs : List Col) → drop n (cut_after d xs) ≡ cut_after (d + n) (drop n xs)
+drop_right zero d xs = ap (λ k. cut_after k xs) (let e : d ≡ d + zero = omega arith in e)
 drop_right (suc n) d [] = refl
-drop_right (suc n) d (x ∷ xs) = drop_right n (d + 1) xs ∙ ap (λ k. right_of k (drop n xs)) (let e : (d + 1) + n ≡ d + suc n = omega arith in e)
+drop_right (suc n) d (x ∷ xs) = drop_right n (d + 1) xs ∙ ap (λ k. cut_after k (drop n xs)) (let e : (d + 1) + n ≡ d + suc n = omega arith in e)
 
-right_rest : (n : ℕ) (xs : List Col) → right_of 0 (drop n (right_of 0 xs)) ≡ right_of 0 (drop n xs)
-right_rest n xs = ap (right_of 0) (drop_right n 0 xs) ∙ right_again 0 (0 + n) (drop n xs) (omega arith)
+right_rest : (n : ℕ) (xs : List Col) → cut_after 0 (drop n (cut_after 0 xs)) ≡ cut_after 0 (drop n xs)
+right_rest n xs = ap (cut_after 0) (drop_right n 0 xs) ∙ right_again 0 (0 + n) (drop n xs) (omega arith)
 
-pub length-right : (d : ℕ) (xs : List Col) → length (right_of d xs) ≡ length xs
+pub length-right : (d : ℕ) (xs : List Col) → length (cut_after d xs) ≡ length xs
 length-right d [] = refl
 length-right d (x ∷ xs) = ap suc (length-right (d + 1) xs)
 
@@ -45,7 +45,7 @@ kept_by (suc m) before ys g h some is whole =
     let here : AreWhole (columns_of g ++ ys) = rw is parts.1 in
     (here, whole_after g ys h here)
 
-pub kept : (before ys : List Col) (g : WholeGlyph) → IsGlyph g → AreWhole (before ++ (columns_of g ++ ys)) → right_of 0 (columns_of g ++ ys) ≡ columns_of g ++ right_of 0 ys
+pub kept : (before ys : List Col) (g : WholeGlyph) → IsGlyph g → AreWhole (before ++ (columns_of g ++ ys)) → cut_after 0 (columns_of g ++ ys) ≡ columns_of g ++ cut_after 0 ys
 kept before ys g h whole =
     let form = columns_form g h in
     let parts = kept_by form.0 before ys g h form.1 form.2 whole in
@@ -53,7 +53,7 @@ kept before ys g h whole =
 
 -- ---- blanks
 
-pub kept_blanks : (k : ℕ) (before ys : List Col) → AreWhole (before ++ (replicate k blank ++ ys)) → right_of 0 (replicate k blank ++ ys) ≡ replicate k blank ++ right_of 0 ys
+pub kept_blanks : (k : ℕ) (before ys : List Col) → AreWhole (before ++ (replicate k blank ++ ys)) → cut_after 0 (replicate k blank ++ ys) ≡ replicate k blank ++ cut_after 0 ys
 kept_blanks zero before ys h = refl
 kept_blanks (suc k) before ys h =
     let here = (whole_split before (32 ∷ []) 1 false (replicate k blank ++ ys) h).1 in
@@ -64,7 +64,7 @@ kept_blanks (suc k) before ys h =
 
 -- above stands before the row, and below after it
 abbrev pub partly : List Col → List Col → List Col → List Col → List Col
-partly above done rest below = above ++ ((done ++ right_of 0 rest) ++ below)
+partly above done rest below = above ++ ((done ++ cut_after 0 rest) ++ below)
 
 -- the next column to be painted is c
 pub record IsPlace (r c w : ℕ) (above done rest : List Col) : Type 0 where
@@ -74,20 +74,20 @@ pub record IsPlace (r c w : ℕ) (above done rest : List Col) : Type 0 where
   pub whole : AreWhole done
 
 row_put : (done rest new : List Col) (c : ℕ) → AreWhole done → length done ≡ c
-    → put_in_row (done ++ right_of 0 rest) c new ≡ (done ++ new) ++ right_of 0 (drop (length new) rest)
+    → put_in_row (done ++ cut_after 0 rest) c new ≡ (done ++ new) ++ cut_after 0 (drop (length new) rest)
 row_put done rest new c whole at =
     let n = length new in
-    let row = done ++ right_of 0 rest in
-    let front : take c row ≡ done = take_at done (right_of 0 rest) c at in
-    let back : drop (c + n) row ≡ drop n (right_of 0 rest) = sym (drop-drop n c row) ∙ ap (drop n) (drop_at done (right_of 0 rest) c at) in
+    let row = done ++ cut_after 0 rest in
+    let front : take c row ≡ done = take_at done (cut_after 0 rest) c at in
+    let back : drop (c + n) row ≡ drop n (cut_after 0 rest) = sym (drop-drop n c row) ∙ ap (drop n) (drop_at done (cut_after 0 rest) c at) in
     rw (front, back, whole_left done whole, right_rest n rest) refl
 
 -- what is put there stands there
 pub put_partly : (above done rest below new : List Col) (r c w : ℕ) → IsPlace r c w above done rest
     → put w (partly above done rest below) r c new ≡ partly above (done ++ new) (drop (length new) rest) below
 put_partly above done rest below new r c w h =
-    let row = done ++ right_of 0 rest in
-    let wide : length row ≡ w = length-append done (right_of 0 rest) ∙ omega (arith, length-right 0 rest, h.at, h.wide) in
+    let row = done ++ cut_after 0 rest in
+    let wide : length row ≡ w = length-append done (cut_after 0 rest) ∙ omega (arith, length-right 0 rest, h.at, h.wide) in
     let front : take (r * w) (above ++ (row ++ below)) ≡ above = take_at above (row ++ below) (r * w) h.high in
     let back : drop (r * w) (above ++ (row ++ below)) ≡ row ++ below = drop_at above (row ++ below) (r * w) h.high in
     let here : take w (row ++ below) ≡ row = take_at row below w wide in

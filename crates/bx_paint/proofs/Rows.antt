@@ -7,7 +7,7 @@ use Rattle.unicode_width.proofs.Computing.{unicode_width}
 use Rattle.bx_grid.specs.Columns.{Col, Glyph, blank}
 use Rattle.bx_grid.specs.Picture.{Image}
 use Rattle.bx_grid.specs.Terminal.{Terminal, reads}
-use Rattle.bx_grid.specs.Deeds.{Puts, Erases, deeds}
+use Rattle.bx_grid.specs.Effects.{Puts, Erases, effects}
 use Rattle.bx_paint.specs.Painting.{whole_bytes, changes_bytes}
 use Rattle.bx_paint.specs.Changed.{changed}
 
@@ -85,13 +85,13 @@ before_wide = refl
 -- ---- what a terminal does on them
 
 abbrev showing : Image → Terminal
-showing p = record { height = p.height; width = p.width; columns = p.columns; position = Some (p.row, p.column); negative = Some false; run = []; half = [] }
+showing p = record { height = p.height; width = p.width; columns = p.columns; position = Some (p.row, p.column); negative = Some false; run = []; half_read = [] }
 
 pub shown : reads (showing xab) (changes_bytes xab ab) ≡ showing ab
 unfolding digits chars
 shown = refl
 
-pub done : deeds (showing xab) (changes_bytes xab ab) ≡ Puts 0 (0x61 ∷ []) false ∷ Puts 1 (0x62 ∷ []) false ∷ Erases 2 ∷ []
+pub done : effects (showing xab) (changes_bytes xab ab) ≡ Puts 0 (0x61 ∷ []) false ∷ Puts 1 (0x62 ∷ []) false ∷ Erases 2 ∷ []
 unfolding digits chars
 done = refl
 
@@ -109,7 +109,7 @@ pub wide_shown : reads (showing before) (changes_bytes before after) ≡ showing
 unfolding digits chars unicode_width
 wide_shown = refl
 
-pub wide_done : deeds (showing before) (changes_bytes before after) ≡ Puts 0 (0x78 ∷ []) false ∷ Puts 1 (0xE4 ∷ 0xB8 ∷ 0x96 ∷ []) false ∷ []
+pub wide_done : effects (showing before) (changes_bytes before after) ≡ Puts 0 (0x78 ∷ []) false ∷ Puts 1 (0xE4 ∷ 0xB8 ∷ 0x96 ∷ []) false ∷ []
 unfolding digits chars unicode_width
 wide_done = refl
 
@@ -118,7 +118,7 @@ pub wide_back : reads (showing after) (changes_bytes after before) ≡ showing b
 unfolding digits chars unicode_width
 wide_back = refl
 
-pub wide_back_done : deeds (showing after) (changes_bytes after before) ≡ Puts 0 (0xE4 ∷ 0xB8 ∷ 0x96 ∷ []) false ∷ Erases 2 ∷ []
+pub wide_back_done : effects (showing after) (changes_bytes after before) ≡ Puts 0 (0xE4 ∷ 0xB8 ∷ 0x96 ∷ []) false ∷ Erases 2 ∷ []
 unfolding digits chars unicode_width
 wide_back_done = refl
 

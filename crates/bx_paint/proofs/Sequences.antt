@@ -7,8 +7,8 @@ use Rattle.bx_grid.specs.Columns.{Col, blank, put}
 use Rattle.bx_grid.specs.declared.token.Command.{Command}
 use Rattle.bx_grid.specs.declared.token.Command.TheVariants.{Move}
 use Rattle.bx_grid.specs.Tokens.{is_param, command_of}
-use Rattle.bx_grid.specs.Deeds.{Deed, Erases, pending_deeds, command_deeds}
-use Rattle.bx_grid.specs.Terminal.{Terminal, run_ended, obeyed}
+use Rattle.bx_grid.specs.Effects.{Effect, Erases, pending_effects, command_effects}
+use Rattle.bx_grid.specs.Terminal.{Terminal, run_ended, after_command}
 use Rattle.bx_grid.specs.Picture.{Image}
 use Rattle.bx_grid.proofs.Reading.{at, IsFinal, place_params, place_params_fit, command_of-place}
 use Rattle.bx_grid.proofs.Doing.{run, sequence_does}
@@ -23,17 +23,17 @@ screen p columns position negative half_read = record {
   position = position;
   negative = Some negative;
   run = half_read;
-  half = [];
+  half_read = [];
 }
 
--- a terminal whose run, once it has taken effect, leaves these columns, and whose deeds are then these
-pub record Leaves (p : Image) (w : Terminal × List Deed) (columns : List Col) (q : Option (ℕ × ℕ)) (negative : Bool) (all : List Deed) : Type 0 where
-  pub no_token : w.0.half ≡ []
+-- a terminal whose run, once it has taken effect, leaves these columns, and whose effects are then these
+pub record Leaves (p : Image) (w : Terminal × List Effect) (columns : List Col) (q : Option (ℕ × ℕ)) (negative : Bool) (all : List Effect) : Type 0 where
+  pub no_token : w.0.half_read ≡ []
   pub effect : run_ended w.0 ≡ screen p columns q negative []
-  pub told : w.1 ++ pending_deeds w.0 ≡ all
+  pub told : w.1 ++ pending_effects w.0 ≡ all
 
 -- one that has nothing half read
-pub plain_leaves : (p : Image) (columns : List Col) (q : Option (ℕ × ℕ)) (negative : Bool) (all : List Deed)
+pub plain_leaves : (p : Image) (columns : List Col) (q : Option (ℕ × ℕ)) (negative : Bool) (all : List Effect)
     → Leaves p (screen p columns q negative [], all) columns q negative all
 plain_leaves p columns q negative all = record { no_token = refl; effect = refl; told = append-nil all }
 
@@ -48,14 +48,14 @@ final_m = record { ends = refl; no_param = refl; no_intermediate = refl }
 final_K : IsFinal 0x4B
 final_K = record { ends = refl; no_param = refl; no_intermediate = refl }
 
-abbrev pair : Terminal → List Deed → Terminal × List Deed
-pair t deeds = (t, deeds)
+abbrev pair : Terminal → List Effect → Terminal × List Effect
+pair t effects = (t, effects)
 
-moved_is : (p : Image) (columns : List Col) (q : Option (ℕ × ℕ)) (negative : Bool) (half : List ℕ) (all : List Deed) (r c : ℕ)
+moved_is : (p : Image) (columns : List Col) (q : Option (ℕ × ℕ)) (negative : Bool) (half_read : List ℕ) (all : List Effect) (r c : ℕ)
     → r < p.height → c < p.width
-    → pair (obeyed (screen p columns q negative []) (Move (r + 1) (c + 1))) (all ++ command_deeds (at (screen p columns q negative []) half) (Move (r + 1) (c + 1)))
+    → pair (after_command (screen p columns q negative []) (Move (r + 1) (c + 1))) (all ++ command_effects (at (screen p columns q negative []) half_read) (Move (r + 1) (c + 1)))
     ≡ pair (screen p columns (Some (r, c)) negative []) all
-moved_is p columns q negative half all r c h w =
+moved_is p columns q negative half_read all r c h w =
     let t1 : nat_le 1 (r + 1) ≡ true = grind (arith, nat_tests) in
     let t2 : nat_le (r + 1) p.height ≡ true = grind (arith, nat_tests) in
     let t3 : nat_le 1 (c + 1) ≡ true = grind (arith, nat_tests) in
@@ -65,21 +65,21 @@ moved_is p columns q negative half all r c h w =
     rw (t1, t2, t3, t4, e1, e2, append-nil all) refl
 
 -- a sequence, where a run that is half read takes effect first
-obeys : (p : Image) (w : Terminal × List Deed) (columns : List Col) (q : Option (ℕ × ℕ)) (negative : Bool) (all : List Deed) (ps : List ℕ) (f : ℕ) (command : Command)
+obeys : (p : Image) (w : Terminal × List Effect) (columns : List Col) (q : Option (ℕ × ℕ)) (negative : Bool) (all : List Effect) (ps : List ℕ) (f : ℕ) (command : Command)
     → Leaves p w columns q negative all → list_all is_param ps ≡ true → IsFinal f → command_of ps f ≡ command
     → run w (0x1B ∷ 0x5B ∷ (ps ++ f ∷ []))
-    ≡ (obeyed (screen p columns q negative []) command, all ++ command_deeds (at (screen p columns q negative []) (0x1B ∷ 0x5B ∷ ps)) command)
+    ≡ (after_command (screen p columns q negative []) command, all ++ command_effects (at (screen p columns q negative []) (0x1B ∷ 0x5B ∷ ps)) command)
 obeys p w columns q negative all ps f command h fit final is =
-    let half = 0x1B ∷ 0x5B ∷ ps in
-    let after : Terminal → List Deed → Command → Terminal × List Deed = λ u log k. (obeyed (at u []) k, log ++ command_deeds (at u half) k) in
+    let half_read = 0x1B ∷ 0x5B ∷ ps in
+    let after : Terminal → List Effect → Command → Terminal × List Effect = λ u log k. (after_command (at u []) k, log ++ command_effects (at u half_read) k) in
     let u : Terminal = run_ended w.0 in
-    let done : List Deed = w.1 ++ pending_deeds w.0 in
+    let done : List Effect = w.1 ++ pending_effects w.0 in
     sequence_does w.0 w.1 ps f h.no_token fit final
     ∙ ap (after u done) is
     ∙ ap (λ v. after v done command) h.effect
     ∙ ap (λ log. after (screen p columns q negative []) log command) h.told
 
-pub moves : (p : Image) (w : Terminal × List Deed) (columns : List Col) (q : Option (ℕ × ℕ)) (negative : Bool) (all : List Deed) (r c : ℕ)
+pub moves : (p : Image) (w : Terminal × List Effect) (columns : List Col) (q : Option (ℕ × ℕ)) (negative : Bool) (all : List Effect) (r c : ℕ)
     → Leaves p w columns q negative all → r < p.height → c < p.width → p.height < 2 ^ 16 → p.width < 2 ^ 16
     → run w (move_bytes r c) ≡ (screen p columns (Some (r, c)) negative [], all)
 moves p w columns q negative all r c h rh cw ph pw =
@@ -89,7 +89,7 @@ moves p w columns q negative all r c h rh cw ph pw =
     (place_params_fit (r + 1) (c + 1) r64 c64) final_H (command_of-place (r + 1) (c + 1) r64 c64)
     ∙ moved_is p columns q negative (0x1B ∷ 0x5B ∷ place_params (r + 1) (c + 1)) all r c rh cw
 
-pub renders : (p : Image) (w : Terminal × List Deed) (columns : List Col) (q : Option (ℕ × ℕ)) (negative inverse : Bool) (all : List Deed)
+pub renders : (p : Image) (w : Terminal × List Effect) (columns : List Col) (q : Option (ℕ × ℕ)) (negative inverse : Bool) (all : List Effect)
     → Leaves p w columns q negative all
     → run w (render_bytes inverse) ≡ (screen p columns q inverse [], all)
 renders p w columns q negative true all h =
@@ -97,14 +97,14 @@ renders p w columns q negative true all h =
 renders p w columns q negative false all h =
     obeys p w columns q negative all (0x30 ∷ []) 0x6D _ h refl final_m refl ∙ ap (λ log. (screen p columns q false [], log)) (append-nil all)
 
-pub turned : (p : Image) (columns : List Col) (q : Option (ℕ × ℕ)) (negative inverse : Bool) (all : List Deed)
+pub turned : (p : Image) (columns : List Col) (q : Option (ℕ × ℕ)) (negative inverse : Bool) (all : List Effect)
     → run (screen p columns q negative [], all) (render_change negative inverse) ≡ (screen p columns q inverse [], all)
 turned p columns q true true all = refl
 turned p columns q true false all = renders p (screen p columns q true [], all) columns q true false all (plain_leaves p columns q true all)
 turned p columns q false true all = renders p (screen p columns q false [], all) columns q false true all (plain_leaves p columns q false all)
 turned p columns q false false all = refl
 
-pub erases : (p : Image) (columns : List Col) (r c : ℕ) (all : List Deed)
+pub erases : (p : Image) (columns : List Col) (r c : ℕ) (all : List Effect)
     → run (screen p columns (Some (r, c)) false [], all) erase_bytes
     ≡ (screen p (put p.width columns r c (replicate (p.width - c) blank)) None false [], all ++ Erases (r * p.width + c) ∷ [])
 erases p columns r c all =

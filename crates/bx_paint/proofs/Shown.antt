@@ -3,13 +3,13 @@ use Rattle.std.proofs.Common.{◌≡◌, ℕ, ◌+◌, ◌*◌, ◌<◌, ◌≤�
 use Rattle.std.proofs.lemmas.Bool.Decides.{nat_tests}
 use Rattle.std.proofs.lemmas.List.{append-nil, drop-drop}
 use Rattle.bx_grid.specs.Columns.{Col, Unknown, Glyph, put, run_columns}
-use Rattle.bx_grid.specs.Deeds.{Deed, Puts, pending_deeds, put_deeds, glyphs_at}
+use Rattle.bx_grid.specs.Effects.{Effect, Puts, pending_effects, put_effects, glyphs_at}
 use Rattle.bx_grid.specs.Glyphs.{WholeGlyph, IsGlyph, columns_of}
 use Rattle.bx_grid.specs.Terminal.{Terminal, run_ended, glyphs_put, within}
 use Rattle.bx_grid.specs.Picture.{Image}
 use Rattle.bx_grid.proofs.Doing.{run}
 use Rattle.bx_grid.proofs.Texts.{glyph_does}
-use Rattle.bx_grid.proofs.Whole.{columns_some, glyph_deeds}
+use Rattle.bx_grid.proofs.Whole.{columns_some, glyph_effects}
 use Rattle.bx_paint.proofs.Rest.{partly, IsPlace, put_partly}
 use Rattle.bx_paint.proofs.Sequences.{screen, Leaves}
 
@@ -17,7 +17,7 @@ use Rattle.bx_paint.proofs.Sequences.{screen, Leaves}
 
 room_put : (t : Terminal) (r c : ℕ) (new : List Col) → 1 ≤ length new → c + length new ≤ t.width
     → (glyphs_put t (r, c) new ≡ record t { columns = put t.width t.columns r c new; position = within t.width r (c + length new); run = [] })
-    × (put_deeds t (r, c) new ≡ glyphs_at (r * t.width + c) new)
+    × (put_effects t (r, c) new ≡ glyphs_at (r * t.width + c) new)
 room_put t r c new some fits =
     let a : nat_le 1 (length new) ≡ true = grind (arith, nat_tests) in
     let b : nat_le (c + length new) t.width ≡ true = grind (arith, nat_tests) in
@@ -29,21 +29,21 @@ within_is w r c h =
     rw test refl
 
 -- a run, taken to its effect
-record Flushed (p : Image) (t : Terminal) (columns : List Col) (r c : ℕ) (negative : Bool) (deeds : List Deed) : Type 0 where
+record Flushed (p : Image) (t : Terminal) (columns : List Col) (r c : ℕ) (negative : Bool) (effects : List Effect) : Type 0 where
   pub position : Option (ℕ × ℕ)
   pub effect : run_ended t ≡ screen p columns position negative []
-  pub deeds_are : pending_deeds t ≡ deeds
+  pub effects_are : pending_effects t ≡ effects
   pub at_place : c < p.width → position ≡ Some (r, c)
 
-flushed : (p : Image) (above start over below : List Col) (r from : ℕ) (negative : Bool) (half : List ℕ)
-    → IsPlace r from p.width above start over → (1 ≤ length half → 1 ≤ length (run_columns negative half)) → from + length (run_columns negative half) ≤ p.width
-    → Flushed p (screen p (partly above start over below) (Some (r, from)) negative half)
-    (partly above (start ++ run_columns negative half) (drop (length (run_columns negative half)) over) below) r (from + length (run_columns negative half)) negative
-    (glyphs_at (r * p.width + from) (run_columns negative half))
+flushed : (p : Image) (above start over below : List Col) (r from : ℕ) (negative : Bool) (half_read : List ℕ)
+    → IsPlace r from p.width above start over → (1 ≤ length half_read → 1 ≤ length (run_columns negative half_read)) → from + length (run_columns negative half_read) ≤ p.width
+    → Flushed p (screen p (partly above start over below) (Some (r, from)) negative half_read)
+    (partly above (start ++ run_columns negative half_read) (drop (length (run_columns negative half_read)) over) below) r (from + length (run_columns negative half_read)) negative
+    (glyphs_at (r * p.width + from) (run_columns negative half_read))
 flushed p above start over below r from negative [] place some fits = record {
   position = Some (r, from);
   effect = ap (λ xs. screen p (partly above xs over below) (Some (r, from)) negative []) (sym (append-nil start));
-  deeds_are = refl;
+  effects_are = refl;
   at_place = λ _. ap (λ x. Some (r, x)) (let e : from ≡ from + 0 = omega arith in e);
 }
 flushed p above start over below r from negative (b ∷ bs) place some fits =
@@ -53,63 +53,63 @@ flushed p above start over below r from negative (b ∷ bs) place some fits =
     record {
       position = within p.width r (from + length new);
       effect = does.0 ∙ ap (λ cs. screen p cs (within p.width r (from + length new)) negative []) (put_partly above start over below new r from p.width place);
-      deeds_are = does.1;
+      effects_are = does.1;
       at_place = within_is p.width r (from + length new);
     }
 
 -- ---- the state before a text
 
 -- a run is half read, or nothing is, from a place in this row on; once it has taken effect the row is done up to column c
-pub record Ready (p : Image) (w : Terminal × List Deed) (negative : Bool) (above done rest below : List Col) (r c : ℕ) (all : List Deed) : Type 0 where
-  pub half : List ℕ
+pub record Ready (p : Image) (w : Terminal × List Effect) (negative : Bool) (above done rest below : List Col) (r c : ℕ) (all : List Effect) : Type 0 where
+  pub half_read : List ℕ
   pub from : ℕ
   pub start : List Col
   pub over : List Col
-  pub is : w.0 ≡ screen p (partly above start over below) (Some (r, from)) negative half
+  pub is : w.0 ≡ screen p (partly above start over below) (Some (r, from)) negative half_read
   pub place : IsPlace r from p.width above start over
-  pub some : 1 ≤ length half → 1 ≤ length (run_columns negative half)
-  pub done_is : start ++ run_columns negative half ≡ done
-  pub rest_is : drop (length (run_columns negative half)) over ≡ rest
-  pub column : from + length (run_columns negative half) ≡ c
+  pub some : 1 ≤ length half_read → 1 ≤ length (run_columns negative half_read)
+  pub done_is : start ++ run_columns negative half_read ≡ done
+  pub rest_is : drop (length (run_columns negative half_read)) over ≡ rest
+  pub column : from + length (run_columns negative half_read) ≡ c
   pub fits : c ≤ p.width
-  pub told : w.1 ++ glyphs_at (r * p.width + from) (run_columns negative half) ≡ all
+  pub told : w.1 ++ glyphs_at (r * p.width + from) (run_columns negative half_read) ≡ all
 
-pub ready_leaves : (p : Image) (w : Terminal × List Deed) (negative : Bool) (above done rest below : List Col) (r c : ℕ) (all : List Deed)
+pub ready_leaves : (p : Image) (w : Terminal × List Effect) (negative : Bool) (above done rest below : List Col) (r c : ℕ) (all : List Effect)
     → Ready p w negative above done rest below r c all
     → (q : Option (ℕ × ℕ)) × Leaves p w (partly above done rest below) q negative all × (c < p.width → q ≡ Some (r, c))
 ready_leaves p w negative above done rest below r c all h =
-    let new = run_columns negative h.half in
-    let f = flushed p above h.start h.over below r h.from negative h.half h.place h.some (omega (arith, h.column, h.fits)) in (
+    let new = run_columns negative h.half_read in
+    let f = flushed p above h.start h.over below r h.from negative h.half_read h.place h.some (omega (arith, h.column, h.fits)) in (
       f.position,
       record {
-        no_token = ap (λ (u : Terminal). u.half) h.is;
+        no_token = ap (λ (u : Terminal). u.half_read) h.is;
         effect =
             ap run_ended h.is ∙ f.effect
             ∙ ap (λ xs. screen p (partly above xs (drop (length new) h.over) below) f.position negative []) h.done_is
             ∙ ap (λ xs. screen p (partly above done xs below) f.position negative []) h.rest_is;
-        told = ap (λ ds. w.1 ++ ds) (ap pending_deeds h.is ∙ f.deeds_are) ∙ h.told;
+        told = ap (λ ds. w.1 ++ ds) (ap pending_effects h.is ∙ f.effects_are) ∙ h.told;
       },
       λ small. f.at_place (omega (arith, h.column, small)) ∙ ap (λ x. Some (r, x)) h.column,
     )
 
 -- nothing is half read
-pub place_ready : (p : Image) (w : Terminal × List Deed) (negative : Bool) (above done rest below : List Col) (r c : ℕ) (all : List Deed)
+pub place_ready : (p : Image) (w : Terminal × List Effect) (negative : Bool) (above done rest below : List Col) (r c : ℕ) (all : List Effect)
     → IsPlace r c p.width above done rest → w ≡ (screen p (partly above done rest below) (Some (r, c)) negative [], all)
-    → (h : Ready p w negative above done rest below r c all) × (h.half ≡ [])
+    → (h : Ready p w negative above done rest below r c all) × (h.half_read ≡ [])
 place_ready p w negative above done rest below r c all place is = (
   record {
-    half = [];
+    half_read = [];
     from = c;
     start = done;
     over = rest;
-    is = ap (λ (v : Terminal × List Deed). v.0) is;
+    is = ap (λ (v : Terminal × List Effect). v.0) is;
     place = place;
     some = λ none. absurd (omega (arith, none));
     done_is = append-nil done;
     rest_is = refl;
     column = omega arith;
     fits = omega (arith, place.wide);
-    told = append-nil w.1 ∙ ap (λ (v : Terminal × List Deed). v.1) is;
+    told = append-nil w.1 ∙ ap (λ (v : Terminal × List Effect). v.1) is;
   },
   refl,
 )
@@ -133,27 +133,27 @@ glyphs_at-append place (Glyph text columns offset negative ∷ xs) ys =
     ∙ ap (λ n. glyphs_at place (Glyph text columns offset negative ∷ xs) ++ glyphs_at n ys)
     (let e : (place + 1) + length xs ≡ place + length (Glyph text columns offset negative ∷ xs) = omega arith in e)
 
-pub ready_text : (p : Image) (w : Terminal × List Deed) (g : WholeGlyph) (above done rest below : List Col) (r c : ℕ) (all : List Deed)
+pub ready_text : (p : Image) (w : Terminal × List Effect) (g : WholeGlyph) (above done rest below : List Col) (r c : ℕ) (all : List Effect)
     → IsGlyph g → (h : Ready p w g.negative above done rest below r c all)
-    → run_columns g.negative (h.half ++ g.text) ≡ run_columns g.negative h.half ++ columns_of g → c + length (columns_of g) ≤ p.width
+    → run_columns g.negative (h.half_read ++ g.text) ≡ run_columns g.negative h.half_read ++ columns_of g → c + length (columns_of g) ≤ p.width
     → (k : Ready p (run w g.text) g.negative above (done ++ columns_of g) (drop (length (columns_of g)) rest) below r (c + length (columns_of g))
-    (all ++ Puts (r * p.width + c) g.text g.negative ∷ [])) × (k.half ≡ h.half ++ g.text)
+    (all ++ Puts (r * p.width + c) g.text g.negative ∷ [])) × (k.half_read ≡ h.half_read ++ g.text)
 ready_text p w g above done rest below r c all is h joins fits =
-    let a = run_columns g.negative h.half in
+    let a = run_columns g.negative h.half_read in
     let b = columns_of g in
     let place = r * p.width + h.from in
-    let idle : w.0.half ≡ [] = ap (λ (u : Terminal). u.half) h.is in
-    let next : run w g.text ≡ (record (w.0) { run = w.0.run ++ g.text; half = [] }, w.1) =
+    let idle : w.0.half_read ≡ [] = ap (λ (u : Terminal). u.half_read) h.is in
+    let next : run w g.text ≡ (record (w.0) { run = w.0.run ++ g.text; half_read = [] }, w.1) =
     glyph_does w.0 w.1 g is idle in
-    let count : length (run_columns g.negative (h.half ++ g.text)) ≡ length a + length b = ap length joins ∙ length-append a b in
+    let count : length (run_columns g.negative (h.half_read ++ g.text)) ≡ length a + length b = ap length joins ∙ length-append a b in
     let end : place + length a ≡ r * p.width + c = omega (arith, h.column) in
     let some : 1 ≤ length b = columns_some g is in (
       record {
-        half = h.half ++ g.text;
+        half_read = h.half_read ++ g.text;
         from = h.from;
         start = h.start;
         over = h.over;
-        is = ap (λ (v : Terminal × List Deed). v.0) next ∙ ap (λ (u : Terminal). record u { run = u.run ++ g.text; half = [] }) h.is;
+        is = ap (λ (v : Terminal × List Effect). v.0) next ∙ ap (λ (u : Terminal). record u { run = u.run ++ g.text; half_read = [] }) h.is;
         place = h.place;
         some = λ _. omega (arith, count, some);
         done_is = ap (λ xs. h.start ++ xs) joins ∙ sym (append_assoc h.start a b) ∙ ap (λ xs. xs ++ b) h.done_is;
@@ -161,13 +161,13 @@ ready_text p w g above done rest below r c all is h joins fits =
         column = omega (arith, count, h.column);
         fits = fits;
         told =
-            ap (λ (v : Terminal × List Deed). v.1 ++ glyphs_at place (run_columns g.negative (h.half ++ g.text))) next
+            ap (λ (v : Terminal × List Effect). v.1 ++ glyphs_at place (run_columns g.negative (h.half_read ++ g.text))) next
             ∙ ap (λ xs. w.1 ++ glyphs_at place xs) joins
             ∙ ap (λ ds. w.1 ++ ds) (glyphs_at-append place a b)
             ∙ sym (append_assoc w.1 (glyphs_at place a) (glyphs_at (place + length a) b))
             ∙ ap (λ ds. ds ++ glyphs_at (place + length a) b) h.told
             ∙ ap (λ n. all ++ glyphs_at n b) end
-            ∙ ap (λ ds. all ++ ds) (glyph_deeds (r * p.width + c) g is);
+            ∙ ap (λ ds. all ++ ds) (glyph_effects (r * p.width + c) g is);
       },
       refl,
     )

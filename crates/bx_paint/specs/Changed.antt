@@ -2,12 +2,12 @@
 use Rattle.std.specs.Prelude.{ℕ, zero, suc, ◌+◌, List, [], ◌∷◌, ◌++◌, length, take, drop, if◌then◌else◌}
 use Rattle.std.specs.List.{list_all}
 use Rattle.bx_grid.specs.Columns.{Col, Unknown, Glyph, is_blank, col_eq}
-use Rattle.bx_grid.specs.Deeds.{Deed, Puts, Erases}
+use Rattle.bx_grid.specs.Effects.{Effect, Puts, Erases}
 use Rattle.bx_grid.specs.Picture.{Image}
 use Rattle.bx_paint.specs.Painting.{before_tail, leading_blanks, is_sent}
 
 -- the glyphs of columns before a row's tail, of which a column differs; the first column has this place
-abbrev pub glyphs_changed : ℕ → List Col → List Col → List Deed
+abbrev pub glyphs_changed : ℕ → List Col → List Col → List Effect
 glyphs_changed place old [] = []
 glyphs_changed place old (Unknown ∷ cs) = glyphs_changed (place + 1) (drop 1 old) cs
 glyphs_changed place old (Glyph text columns offset negative ∷ cs) =
@@ -16,21 +16,21 @@ glyphs_changed place old (Glyph text columns offset negative ∷ cs) =
     else glyphs_changed (place + 1) (drop 1 old) cs
 
 -- a row's tail, from its first column that differs
-abbrev pub tail_changed : ℕ → List Col → List Deed
+abbrev pub tail_changed : ℕ → List Col → List Effect
 tail_changed place old = if list_all is_blank old then [] else Erases (place + leading_blanks old) ∷ []
 
-abbrev pub row_changed : ℕ → List Col → List Col → List Deed
+abbrev pub row_changed : ℕ → List Col → List Col → List Effect
 row_changed place old new =
     let front = before_tail new in
     glyphs_changed place (take (length front) old) front ++ tail_changed (place + length front) (drop (length front) old)
 
 -- so many rows, the first of which begins at this place
-abbrev pub rows_changed : ℕ → ℕ → ℕ → List Col → List Col → List Deed
+abbrev pub rows_changed : ℕ → ℕ → ℕ → List Col → List Col → List Effect
 rows_changed zero width place old new = []
 rows_changed (suc count) width place old new =
     row_changed place (take width old) (take width new) ++ rows_changed count width (place + width) (drop width old) (drop width new)
 
-abbrev pub changed : Image → Image → List Deed
+abbrev pub changed : Image → Image → List Effect
 changed old new = rows_changed new.height new.width 0 old.columns new.columns
 
 -- how many columns differ

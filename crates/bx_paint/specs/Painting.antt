@@ -1,7 +1,7 @@
 -- The bytes that paint a picture, whole or where it differs from the one before.
 use Rattle.std.specs.Prelude.{ℕ, zero, suc, ◌+◌, ◌*◌, Bool, true, false, not, ◌&&◌, ◌==◌, List, [], ◌∷◌, ◌++◌, length, take, drop, replicate, if◌then◌else◌, decimal}
 use Rattle.std.specs.List.{list_all}
-use Rattle.bx_grid.specs.Columns.{Col, Unknown, Glyph, blank, is_blank, is_printable_text, are_equal}
+use Rattle.bx_grid.specs.Columns.{Col, Unknown, Glyph, blank, is_blank, is_ascii_glyph, are_equal}
 use Rattle.bx_grid.specs.Picture.{Image}
 
 -- ---- sequences
@@ -55,7 +55,7 @@ is_sent old (Glyph text columns offset negative ∷ cs) =
 -- a glyph; near says that it follows one that was just sent, and that one is a character from SPACE to TILDE
 abbrev pub glyph_bytes : ℕ → ℕ → Bool → Bool → List ℕ → Bool → List ℕ
 glyph_bytes row column near negative text inverse =
-    (if near && is_printable_text text then [] else move_bytes row column) ++ (render_change negative inverse ++ text)
+    (if near && is_ascii_glyph text then [] else move_bytes row column) ++ (render_change negative inverse ++ text)
 
 -- what is sent for one column, whether a character from SPACE to TILDE was sent that ends there, and the rendition after it
 pub record Step : Type 0 where
@@ -72,7 +72,7 @@ column_sent row column near negative old [] = nothing_sent negative
 column_sent row column near negative old (Unknown ∷ cs) = nothing_sent negative
 column_sent row column near negative old (Glyph text columns offset inverse ∷ cs) =
     if is_sent old (Glyph text columns offset inverse ∷ cs)
-    then record { bytes = glyph_bytes row column near negative text inverse; near = is_printable_text text; negative = inverse }
+    then record { bytes = glyph_bytes row column near negative text inverse; near = is_ascii_glyph text; negative = inverse }
     else nothing_sent negative
 
 -- the columns of a row before its tail, from one on

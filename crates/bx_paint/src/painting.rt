@@ -1,7 +1,7 @@
 //! A picture's painting, whole or where it differs from the one before.
 
 ghost use Rattle.std.specs.Prelude.{◌≡◌, ◌+◌, ◌-◌, ◌≤◌, ◌<◌, ◌++◌, [], length, false, IfOk, OnOk, OnErr};
-ghost use Rattle.bx_grid.specs.Deeds.{deeds};
+ghost use Rattle.bx_grid.specs.Effects.{effects};
 ghost use Rattle.bx_grid.specs.Picture.{Image, IsGrid, IsIdle, IsPicture, Shows};
 ghost use Rattle.bx_grid.specs.Terminal.{Terminal, reads};
 ghost use Rattle.bx_paint.specs.Changed.{changed, differing};
@@ -85,7 +85,7 @@ pub fn changes(alloc: Global, old: &Picture, new: &Picture) -> Result<Vec<u8>, P
     requires width { old.now.width ≡ new.now.width }
     ensures bytes { IfOk result (λ out. out.items ≡ changes_bytes old.now new.now) }
     ensures shows { IfOk result (λ out. (t : Terminal) → Shows t old.now → Shows (reads t out.items) new.now) }
-    ensures sends { IfOk result (λ out. (t : Terminal) → Shows t old.now → deeds t out.items ≡ changed old.now new.now) }
+    ensures sends { IfOk result (λ out. (t : Terminal) → Shows t old.now → effects t out.items ≡ changed old.now new.now) }
     ensures few { OnOk result (length (changed old.now new.now) ≤ differing old.now.columns new.now.columns) }
     ensures nothing { IfOk result (λ out. old.now ≡ new.now → out.items ≡ []) }
 {

@@ -7,7 +7,7 @@
 #![tactic(auto)]
 
 ghost use Rattle.std.specs.Prelude.{◌≡◌, true, IfOk};
-ghost use Rattle.bx_grid.specs.Columns.{is_printable_text};
+ghost use Rattle.bx_grid.specs.Columns.{is_ascii_glyph};
 
 use anyhow::{Context, Result};
 use bx_grid::{Cell, Grid, GridError, Picture, Screen};
@@ -17,7 +17,7 @@ use std::env;
 
 /// What stands in a cell.
 fn letter(marked: bool) -> &'static str
-    ensures { is_printable_text result.now ≡ true }
+    ensures { is_ascii_glyph result.now ≡ true }
 {
     if marked { "x" } else { "a" }
 }

@@ -7,7 +7,7 @@ use Rattle.std.proofs.lemmas.Bool.Decides.{nat_tests}
 use Rattle.std.proofs.lemmas.List.{map_more, map-append, length-map, length-take, length-take-le, append-nil, replicate-append-replicate, take_all, drop_all}
 use Rattle.bx_grid.specs.Columns.{Col, Glyph, blank, paste, plain_columns, run_columns, AreBlank}
 use Rattle.bx_grid.specs.Picture.{Image, is_size}
-use Rattle.bx_grid.specs.Tokens.{is_printable}
+use Rattle.bx_grid.specs.Tokens.{is_ascii_printable}
 use Rattle.bx_grid.proofs.Laid.{plain_is_one, blank_next, laid_next}
 use Rattle.bx_grid.proofs.Reading.{and_left, and_right}
 use Rattle.bx_session.specs.Editor.{EditorState}
@@ -31,7 +31,7 @@ next_is_blank total i k text bytes inside room at one =
     let count : length (run (take i text)) ≡ i = length-run i text (omega arith) in
     blank_next (run (take i text)) k (length (run_columns false bytes)) (total - i) (at ∙ sym count) (omega (arith, one))
 
-pub drawn : (total i k : ℕ) (text bytes : List ℕ) → i < length text → length text ≤ total → k ≡ i → bytes ≡ get_or text i 0 ∷ [] → is_printable (get_or text i 0) ≡ true
+pub drawn : (total i k : ℕ) (text bytes : List ℕ) → i < length text → length text ≤ total → k ≡ i → bytes ≡ get_or text i 0 ∷ [] → is_ascii_printable (get_or text i 0) ≡ true
     → paste (run (take i text) ++ blanks (total - i)) k (run_columns false bytes) ≡ run (take (i + 1) text) ++ blanks (total - (i + 1))
 drawn total i k text bytes inside room at is printed =
     let b = get_or text i 0 in
@@ -41,12 +41,12 @@ drawn total i k text bytes inside room at is printed =
     ∙ laid_next (run (take i text)) (Glyph (b ∷ []) 1 0 false ∷ []) k (total - i) (total - (i + 1)) (at ∙ sym count) left
     ∙ ap (λ xs. xs ++ blanks (total - (i + 1))) (sym (map_more (λ c. Glyph (c ∷ []) 1 0 false) text i 0 inside))
 
-pub printable_at : (xs : List ℕ) (i : ℕ) → list_all is_printable xs ≡ true → i < length xs → is_printable (get_or xs i 0) ≡ true
+pub printable_at : (xs : List ℕ) (i : ℕ) → list_all is_ascii_printable xs ≡ true → i < length xs → is_ascii_printable (get_or xs i 0) ≡ true
 printable_at [] i h inside = absurd (omega arith)
-printable_at (x ∷ xs) zero h inside = and_left (is_printable x) (list_all is_printable xs) h
-printable_at (x ∷ xs) (suc i) h inside = printable_at xs i (and_right (is_printable x) (list_all is_printable xs) h) (omega arith)
+printable_at (x ∷ xs) zero h inside = and_left (is_ascii_printable x) (list_all is_ascii_printable xs) h
+printable_at (x ∷ xs) (suc i) h inside = printable_at xs i (and_right (is_ascii_printable x) (list_all is_ascii_printable xs) h) (omega arith)
 
-pub ascii : (b : ℕ) → is_printable b ≡ true → b < 128
+pub ascii : (b : ℕ) → is_ascii_printable b ≡ true → b < 128
 ascii b h = grind (arith, nat_tests)
 
 pub record IsSized (height width : ℕ) : Type 0 where

@@ -1,7 +1,7 @@
 -- The editor's state, and what each key makes of it: one line of characters from SPACE to TILDE.
 use Rattle.std.specs.Prelude.{ℕ, ◌+◌, ◌-◌, ◌≡◌, ◌≤◌, Bool, true, false, not, ◌||◌, nat_lt, ◌==◌, List, length, insert, remove, Option, Some, None, if◌then◌else◌}
 use Rattle.std.specs.List.{list_all}
-use Rattle.bx_grid.specs.Tokens.{is_printable}
+use Rattle.bx_grid.specs.Tokens.{is_ascii_printable}
 use Rattle.bx_grid.specs.Picture.{is_size}
 use Rattle.bx_session.specs.declared.key.Key.{Key}
 use Rattle.bx_session.specs.declared.key.Key.TheVariants.{Insert, Erase, Quit}
@@ -37,7 +37,7 @@ longest = 16777216
 pub record IsEditor (e : EditorState) : Type 0 where
   pub inside : e.place ≤ length e.text
   pub short : length e.text ≤ longest
-  pub printable : list_all is_printable e.text ≡ true
+  pub printable : list_all is_ascii_printable e.text ≡ true
   pub sized : is_size e.height e.width ≡ true
 
 -- ---- keys
@@ -45,7 +45,7 @@ pub record IsEditor (e : EditorState) : Type 0 where
 -- the key that a byte is
 abbrev pub key_of : ℕ → Option Key
 key_of b =
-    if is_printable b then Some (Insert b)
+    if is_ascii_printable b then Some (Insert b)
     else if b == 0x08 || b == 0x7F then Some Erase
     else if b == 0x11 then Some Quit
     else None
@@ -85,6 +85,6 @@ is_insert Quit = false
 
 -- a key that inserts has a character from SPACE to TILDE
 abbrev pub IsTyped : Key → Type 0
-IsTyped (Insert b) = is_printable b ≡ true
+IsTyped (Insert b) = is_ascii_printable b ≡ true
 IsTyped Erase = Unit {0}
 IsTyped Quit = Unit {0}

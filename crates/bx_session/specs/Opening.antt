@@ -1,6 +1,6 @@
 -- Opening a session.
 use Rattle.std.specs.Prelude.{ℕ, false, not, nat_lt, List, [], length, position, Option, Some, None, if◌then◌else◌}
-use Rattle.bx_grid.specs.Tokens.{is_printable}
+use Rattle.bx_grid.specs.Tokens.{is_ascii_printable}
 use Rattle.bx_grid.specs.Picture.{is_size}
 use Rattle.bx_session.specs.declared.error.OpenError.{OpenError}
 use Rattle.bx_session.specs.declared.error.OpenError.TheVariants.{TooLong, NotYet, SizeOutOfRange}
@@ -22,4 +22,4 @@ abbrev pub refusal : List ℕ → ℕ → ℕ → Option OpenError
 refusal bytes height width =
     if nat_lt longest (length bytes)
     then Some TooLong
-    else refused_byte (position (λ b. not (is_printable b)) bytes) height width
+    else refused_byte (position (λ b. not (is_ascii_printable b)) bytes) height width

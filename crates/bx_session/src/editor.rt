@@ -2,7 +2,7 @@
 
 ghost use Rattle.std.specs.Prelude.{◌≡◌, ◌≤◌, ◌<◌, true, OnOk, OnErr, length};
 ghost use Rattle.std.specs.List.{list_all};
-ghost use Rattle.bx_grid.specs.Tokens.{is_printable};
+ghost use Rattle.bx_grid.specs.Tokens.{is_ascii_printable};
 ghost use Rattle.bx_grid.specs.Picture.{is_size};
 ghost use Rattle.bx_session.specs.Editor.{EditorState, IsEditor, at_start, longest, applied, typed, erased, quit, quiet, is_insert, IsTyped};
 
@@ -39,7 +39,7 @@ impl Editor {
     /// The text unchanged, and the place at its start.
     pub fn new(text: Vec<u8>, height: u16, width: u16) -> Editor
         requires short { length text.items ≤ longest }
-        requires printable { list_all is_printable text.items ≡ true }
+        requires printable { list_all is_ascii_printable text.items ≡ true }
         requires sized { is_size height width ≡ true }
         ensures { result ≡ at_start text.items height width }
     {
@@ -55,7 +55,7 @@ impl Editor {
     }
 
     fn insert(&mut self, byte: u8) -> Result<(), AllocError>
-        requires { is_printable byte ≡ true }
+        requires { is_ascii_printable byte ≡ true }
         ensures ok { OnOk result (self.new ≡ typed self.old byte) }
         ensures err { OnErr result (self.new ≡ self.old) }
     {

@@ -1,7 +1,7 @@
 //! The keys, each of them one byte as yet.
 
 ghost use Rattle.std.specs.Prelude.{◌≡◌};
-ghost use Rattle.bx_grid.specs.Tokens.{is_printable};
+ghost use Rattle.bx_grid.specs.Tokens.{is_ascii_printable};
 ghost use Rattle.bx_session.specs.Editor.{key_of};
 
 /// What the user asks for.
@@ -15,8 +15,8 @@ pub enum Key {
 }
 
 /// Whether the byte is a character from SPACE to TILDE.
-pub fn is_printable(byte: u8) -> bool
-    ensures { result ≡ is_printable byte }
+pub fn is_ascii_printable(byte: u8) -> bool
+    ensures { result ≡ is_ascii_printable byte }
 {
     0x20 <= byte && byte <= 0x7E
 }
@@ -25,7 +25,7 @@ pub fn is_printable(byte: u8) -> bool
 pub fn key_of(byte: u8) -> Option<Key>
     ensures { result ≡ key_of byte }
 {
-    if is_printable(byte) {
+    if is_ascii_printable(byte) {
         Some(Key::Insert(byte))
     } else if byte == 0x08 || byte == 0x7F {
         Some(Key::Erase)

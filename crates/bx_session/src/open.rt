@@ -2,22 +2,22 @@
 
 ghost use Rattle.std.specs.Prelude.{◌≡◌, [], not, position, None, Some, IfOk, OnOk, OnErr, IsErrOf};
 ghost use Rattle.bx_session.specs.declared.error.OpenError.{OpenError};
-ghost use Rattle.bx_grid.specs.Tokens.{is_printable};
+ghost use Rattle.bx_grid.specs.Tokens.{is_ascii_printable};
 ghost use Rattle.bx_grid.specs.Picture.{is_size};
 ghost use Rattle.bx_session.specs.Opening.{refusal, opened_session};
 ghost use Rattle.bx_session.specs.Session.{PaintsWhole};
 
 use crate::editor::{Editor, LONGEST};
 use crate::error::OpenError;
-use crate::key::is_printable;
+use crate::key::is_ascii_printable;
 use crate::session::Session;
 use std::alloc::Global;
 
 /// The offset of the first byte, if any, that is no character from SPACE to TILDE.
 fn first_unreadable(bytes: &[u8]) -> Option<usize>
-    ensures { result ≡ position (λ b. not (is_printable b)) bytes.now }
+    ensures { result ≡ position (λ b. not (is_ascii_printable b)) bytes.now }
 {
-    bytes.iter().position(|byte| !is_printable(*byte))
+    bytes.iter().position(|byte| !is_ascii_printable(*byte))
 }
 
 /// Whether a window may have so many rows and columns.

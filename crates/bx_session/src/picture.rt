@@ -2,7 +2,7 @@
 
 ghost use Rattle.std.specs.Prelude.{◌≡◌, ◌<◌, ◌≤◌, ◌+◌, ◌-◌, ◌*◌, ℕ, true, length, IfOk, OnErr, take, drop};
 ghost use Rattle.std.specs.List.{list_all};
-ghost use Rattle.bx_grid.specs.Tokens.{is_printable};
+ghost use Rattle.bx_grid.specs.Tokens.{is_ascii_printable};
 ghost use Rattle.bx_grid.specs.Picture.{is_size};
 ghost use Rattle.bx_session.specs.Rows.{row_of, column_of, shown_height, followed, picture, filled, ShowsCursor};
 
@@ -41,7 +41,7 @@ pub fn followed(editor: &Editor, top: usize) -> usize
 fn text_grid(alloc: Global, height: u16, width: u16, text: &[u8]) -> Result<Grid, Refused>
     requires sized { is_size height width ≡ true }
     requires room { length text.now ≤ height * width }
-    requires printable { list_all is_printable text.now ≡ true }
+    requires printable { list_all is_ascii_printable text.now ≡ true }
     ensures ok { IfOk result (λ g. g ≡ record { height = height; width = width; columns = filled (height * width) text.now }) }
     ensures err { OnErr result (result ≡ Err Refused.Paint) }
 {
@@ -61,7 +61,7 @@ fn text_grid(alloc: Global, height: u16, width: u16, text: &[u8]) -> Result<Grid
 fn shown_text(editor: &Editor, top: usize) -> &[u8]
     requires { ShowsCursor editor.now top }
     ensures shown { result.now ≡ take (shown_height editor.now.height * editor.now.width) (drop (top * editor.now.width) editor.now.text) }
-    ensures printable { list_all is_printable result.now ≡ true }
+    ensures printable { list_all is_ascii_printable result.now ≡ true }
 {
     let width = editor.width() as usize;
     let text = editor.text();

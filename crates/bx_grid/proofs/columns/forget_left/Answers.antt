@@ -1,8 +1,8 @@
 use Rattle.std.proofs.Common.{◌∙◌, arith}
 use Rattle.std.proofs.lemmas.List.{length-map}
-use Rattle.bx_grid.specs.Columns.{left_of}
+use Rattle.bx_grid.specs.Columns.{cut_before}
 use Rattle.bx_grid.specs.Seen.{seen, all_seen}
-use Rattle.bx_grid.proofs.Spoils.{left_forgot, left_kept, mixed_all, length-left_of-seen}
+use Rattle.bx_grid.proofs.Spoils.{left_forgot, left_kept, mixed_all, length-cut_before-seen}
 use Rattle.bx_grid.proofs.columns.forget_left.Goals as goal
 use Rattle.bx_grid.proofs.columns.forget_left.Goals.{then-after-count+in-Glyph-1, then-after-count+in-Unknown-1, else-after-count}
 
@@ -16,4 +16,4 @@ loop-i-preserved c =
 
 pub returns : goal.returns
 returns c =
-    c.loop-i.invariant ∙ mixed_all (left_of (all_seen c.args.row.now)) (all_seen c.args.row.now) c.loop-i.i (length-left_of-seen c.args.row.now) (omega (arith, length-map c.args.row.now seen, c.loop-i-test.false))
+    c.loop-i.invariant ∙ mixed_all (cut_before (all_seen c.args.row.now)) (all_seen c.args.row.now) c.loop-i.i (length-cut_before-seen c.args.row.now) (omega (arith, length-map c.args.row.now seen, c.loop-i-test.false))

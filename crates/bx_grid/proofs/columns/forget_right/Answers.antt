@@ -1,8 +1,8 @@
 use Rattle.std.proofs.Common.{◌∙◌, arith}
 use Rattle.std.proofs.lemmas.List.{length-map}
-use Rattle.bx_grid.specs.Columns.{right_of}
+use Rattle.bx_grid.specs.Columns.{cut_after}
 use Rattle.bx_grid.specs.Seen.{seen, all_seen}
-use Rattle.bx_grid.proofs.Spoils.{right_forgot, right_kept, mixed_all, length-right_of-seen}
+use Rattle.bx_grid.proofs.Spoils.{right_forgot, right_kept, mixed_all, length-cut_after-seen}
 use Rattle.bx_grid.proofs.columns.forget_right.Goals as goal
 use Rattle.bx_grid.proofs.columns.forget_right.Goals.{then-before-i+in-Glyph-1, then-before-i+in-Unknown-1, else-before-i}
 
@@ -16,4 +16,4 @@ loop-i-preserved c =
 
 pub returns : goal.returns
 returns c =
-    c.loop-i.invariant ∙ mixed_all (right_of 0 (all_seen c.args.row.now)) (all_seen c.args.row.now) c.loop-i.i (length-right_of-seen c.args.row.now) (omega (arith, length-map c.args.row.now seen, c.loop-i-test.false))
+    c.loop-i.invariant ∙ mixed_all (cut_after 0 (all_seen c.args.row.now)) (all_seen c.args.row.now) c.loop-i.i (length-cut_after-seen c.args.row.now) (omega (arith, length-map c.args.row.now seen, c.loop-i-test.false))

@@ -1,4 +1,4 @@
-use Rattle.std.proofs.Common.{sym, ◌∙◌, false}
+use Rattle.std.proofs.Common.{sym, ◌∙◌}
 use Rattle.bx_grid.specs.Columns.{run_columns}
 use Rattle.bx_grid.proofs.Halves.{on_ok}
 use Rattle.bx_grid.proofs.Pieces.{row_shown}
@@ -9,5 +9,5 @@ pub returns : goal.returns
 returns c =
     on_ok c.put_glyphs.result _ _
     (λ e. e ∙ row_shown c.args.row.now c.forget_left.new.row c.forget_right.new.row c.args.from c.args.count (run_columns c.args.negative c.args.run.now)
-    (run_length c.args.negative false c.args.run.now ∙ sym c.requires.counted) c.requires.inside c.forget_left.ensures c.forget_right.ensures)
+    (run_length c.args.negative c.args.run.now ∙ sym c.requires.counted) c.requires.inside c.forget_left.ensures c.forget_right.ensures)
     c.put_glyphs.ensures.ok

@@ -1,5 +1,5 @@
 use Rattle.std.proofs.Common.{ap, ◌∙◌}
-use Rattle.bx_grid.specs.Deeds.{deeds}
+use Rattle.bx_grid.specs.Effects.{effects}
 use Rattle.bx_grid.specs.Picture.{Shows}
 use Rattle.bx_grid.specs.Terminal.{Terminal}
 use Rattle.bx_paint.specs.Painting.{changes_bytes}
@@ -16,7 +16,7 @@ pub returns-clause-shows : goal.returns-clause-shows
 returns-clause-shows c t h = rw (c.in_ok-send_changes.ensures.bytes) (changed_by c t h).shows
 
 pub returns-clause-sends : goal.returns-clause-sends
-returns-clause-sends c t h = ap (deeds t) c.in_ok-send_changes.ensures.bytes ∙ (changed_by c t h).sends
+returns-clause-sends c t h = ap (effects t) c.in_ok-send_changes.ensures.bytes ∙ (changed_by c t h).sends
 
 pub returns-clause-few : goal.returns-clause-few
 returns-clause-few c =

@@ -1,6 +1,6 @@
 use Rattle.std.proofs.Common.{◌+◌, ◌-◌, ◌*◌, ◌/◌, ◌%◌, ◌≡◌, ◌∙◌, ◌∷◌, [], List, false, true, ap, sym, subst, length, get_or, arith}
 use Rattle.std.proofs.lemmas.Str.{encode_ascii}
-use Rattle.bx_grid.specs.Columns.{Col, paste, run_columns, is_printable_text, AreBlank}
+use Rattle.bx_grid.specs.Columns.{Col, paste, run_columns, is_ascii_glyph, AreBlank}
 use Rattle.bx_grid.specs.Picture.{Cells}
 use Rattle.bx_grid.proofs.Laid.{plain_text, plain_glyph, plain_width}
 use Rattle.bx_session.proofs.Drawing.{drawn, next_is_blank, printable_at, ascii, size_is, cell_at}
@@ -13,7 +13,7 @@ spelled c =
     let printed = printable_at text c.loop-i.i c.requires.printable (omega arith) in
     c.encode_utf8.ensures.value ∙ encode_ascii (get_or text c.loop-i.i 0) (ascii (get_or text c.loop-i.i 0) printed)
 
-plain : (c : goal.After-encode_utf8) → is_printable_text c.encode_utf8.result.now ≡ true
+plain : (c : goal.After-encode_utf8) → is_ascii_glyph c.encode_utf8.result.now ≡ true
 plain c = plain_text (get_or c.args.text.now c.loop-i.i 0) c.encode_utf8.result.now (spelled c) (printable_at c.args.text.now c.loop-i.i c.requires.printable (omega arith))
 
 pub put-requires-clause-glyph : goal.put-requires-clause-glyph

@@ -1,4 +1,4 @@
-use Rattle.std.proofs.Common.{◌≡◌, ◌∙◌, ◌*◌, ◌+◌, ◌-◌, ◌≤◌, List, ap, sym, subst, refl, length, false, arith}
+use Rattle.std.proofs.Common.{◌≡◌, ◌∙◌, ◌*◌, ◌+◌, ◌-◌, ◌≤◌, List, ap, sym, subst, refl, length, arith}
 use Rattle.std.proofs.lemmas.List.{take_at}
 use Rattle.bx_grid.specs.Columns.{Col, paste, run_columns}
 use Rattle.bx_grid.specs.Letters.{letters_of}
@@ -50,7 +50,7 @@ invariant_of-self-2 c =
     c.in_ok-put_over_blanks.ensures.ok ∙ ap (λ xs. paste (all_seen xs) place news) c.as_mut_slice.ensures.value in
     let columns = take_at c.put_over_blanks.new.columns _ c.self.inside.columns.len (c.put_over_blanks.auto.columns ∙ c.as_mut_slice.ensures.len) in
     let now = ap all_seen columns ∙ new in
-    let count : length news ≡ c.run_width-count.result = run_length c.args.negative false text ∙ sym c.run_width-count.ensures in
+    let count : length news ≡ c.run_width-count.result = run_length c.args.negative text ∙ sym c.run_width-count.ensures in
     let fits : place + c.run_width-count.result ≤ length g.columns = put_fits g cell.line cell.column text c.run_width-count.result c.self.invariant.0 can c.run_width-count.ensures in (
       subst (λ (cs : List Col). IsGrid g.height g.width cs) (sym now) (put_kept g cell.line cell.column text c.args.negative c.self.invariant.0 can),
       take_at c.note_letters.new.letters _ c.self.inside.letters.len (c.note_letters.auto.letters ∙ c.as_mut_slice-2.ensures.len)

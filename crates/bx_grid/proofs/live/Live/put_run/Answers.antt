@@ -1,8 +1,8 @@
-use Rattle.std.proofs.Common.{◌≡◌, ◌+◌, ◌<◌, ◌⊎◌, inl, inr, false, length, List, ap, sym, ◌∙◌, arith}
+use Rattle.std.proofs.Common.{◌≡◌, ◌+◌, ◌<◌, ◌⊎◌, inl, inr, length, List, ap, sym, ◌∙◌, arith}
 use Rattle.std.specs.Prelude.{string_bytes}
 use Rattle.std.proofs.lemmas.List.{take_at}
 use Rattle.bx_grid.specs.declared.column.Column.{Column}
-use Rattle.bx_grid.specs.Columns.{put, run_columns}
+use Rattle.bx_grid.specs.Columns.{put, run_columns, run_width}
 use Rattle.bx_grid.specs.Seen.{all_seen}
 use Rattle.bx_grid.specs.Terminal.{Terminal, glyphs_put, within}
 use Rattle.bx_grid.specs.Live.{terminal_of}
@@ -17,7 +17,7 @@ returns-then-count-lt1 c =
     let new = run_columns c.args.negative t.run in
     let bytes : c.as_str.result.now ≡ t.run = c.as_str.ensures.value ∙ ap (λ (u : Terminal). u.run) c.self.view_is in
     let counted : c.run_width-count.result ≡ length new =
-    c.run_width-count.ensures ∙ ap (λ run. length (run_columns false run)) bytes ∙ run_length false c.args.negative t.run in
+    c.run_width-count.ensures ∙ ap run_width bytes ∙ sym (run_length c.args.negative t.run) in
     let wide : c.self.inside.width ≡ t.width = ap (λ (u : Terminal). u.width) c.self.view_is in
     let why : (length new < 1) ⊎ (t.width < c.args.column + length new) =
     elim c.then-count-lt1.branch [
@@ -31,7 +31,7 @@ returns c =
     let u : Terminal = terminal_of c.self.inside in
     let count = c.run_width-count.result in
     let new = run_columns c.args.negative u.run in
-    let counted : count ≡ length (run_columns false u.run) = c.run_width-count.ensures ∙ ap (λ run. length (run_columns false run)) c.as_str.ensures.value in
+    let counted : count ≡ run_width u.run = c.run_width-count.ensures ∙ ap run_width c.as_str.ensures.value in
     let columns : all_seen c.show_at.new.columns ≡ put u.width u.columns c.args.row c.args.column new =
     c.in_ok-show_at.ensures
     ∙ ap (λ xs. put u.width (all_seen xs) c.args.row c.args.column (run_columns c.args.negative c.as_str-2.result.now)) c.as_mut_slice.ensures.value

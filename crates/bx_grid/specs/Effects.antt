@@ -1,0 +1,95 @@
+-- What a terminal does to its columns while it reads: each glyph that it puts, and each erasure.
+use Rattle.std.specs.Prelude.{ℕ, drop, ◌+◌, ◌*◌, Bool, true, false, ◌&&◌, nat_le, ◌==◌, List, [], ◌∷◌, ◌++◌, length, Option, Some, None, if◌then◌else◌}
+use Rattle.bx_grid.specs.Columns.{Col, Unknown, Glyph, run_columns}
+use Rattle.bx_grid.specs.Tokens.{fate, command}
+use Rattle.bx_grid.specs.Terminal.{Terminal, all_unknown, byte_read}
+use Rattle.bx_bytes.specs.Utf8.{are_printable}
+use Rattle.bx_bytes.specs.declared.fate.Fate.{Fate}
+use Rattle.bx_bytes.specs.declared.fate.Fate.TheVariants.{Waits, Ends, Breaks}
+use Rattle.bx_grid.specs.declared.token.Command.{Command}
+use Rattle.bx_grid.specs.declared.token.Command.TheVariants.{Move, Clear, Erase, Render, Other}
+
+-- places count columns, row by row, from 0
+pub data Effect : Type 0 where
+  -- a glyph, from a place on
+  Puts : (place : ℕ) (text : List ℕ) (negative : Bool) → Effect
+  -- from a place to the row's end
+  Erases : (place : ℕ) → Effect
+  -- all columns
+  Clears : Effect
+  Forgets : Effect
+
+-- the glyphs of columns, the first of which stands at a place
+abbrev pub glyphs_at : ℕ → List Col → List Effect
+glyphs_at place [] = []
+glyphs_at place (Unknown ∷ cs) = glyphs_at (place + 1) cs
+glyphs_at place (Glyph text columns offset negative ∷ cs) =
+    if offset == 0 then Puts place text negative ∷ glyphs_at (place + 1) cs else glyphs_at (place + 1) cs
+
+abbrev pub put_effects : Terminal → ℕ × ℕ → List Col → List Effect
+put_effects t p new =
+    if nat_le 1 (length new) && nat_le (p.1 + length new) t.width then glyphs_at (p.0 * t.width + p.1) new else Forgets ∷ []
+
+abbrev pub run_effects : Terminal → Option (ℕ × ℕ) → Option Bool → List ℕ → List Effect
+run_effects t position negative [] = []
+run_effects t (Some p) (Some negative) (b ∷ bs) = put_effects t p (run_columns negative (b ∷ bs))
+run_effects t (Some p) None (b ∷ bs) = Forgets ∷ []
+run_effects t None negative (b ∷ bs) = Forgets ∷ []
+
+-- of the run that is pending
+abbrev pub pending_effects : Terminal → List Effect
+pending_effects t = run_effects t t.position t.negative t.run
+
+abbrev pub erase_effects : Terminal → Option (ℕ × ℕ) → Option Bool → List Effect
+erase_effects t (Some p) (Some false) = Erases (p.0 * t.width + p.1) ∷ []
+erase_effects t (Some p) (Some true) = Forgets ∷ []
+erase_effects t (Some p) None = Forgets ∷ []
+erase_effects t None negative = Forgets ∷ []
+
+abbrev pub clear_effects : Option Bool → List Effect
+clear_effects (Some false) = Clears ∷ []
+clear_effects (Some true) = Forgets ∷ []
+clear_effects None = Forgets ∷ []
+
+abbrev pub move_effects : Terminal → ℕ → ℕ → List Effect
+move_effects t line column =
+    if nat_le 1 line && nat_le line t.height && nat_le 1 column && nat_le column t.width then [] else Forgets ∷ []
+
+abbrev pub command_effects : Terminal → Command → List Effect
+command_effects t (Move line column) = move_effects t line column
+command_effects t Clear = clear_effects t.negative
+command_effects t Erase = erase_effects t t.position t.negative
+command_effects t (Render negative) = []
+command_effects t Other = Forgets ∷ []
+
+abbrev pub token_effects : Terminal → List ℕ → List Effect
+token_effects t [] = []
+token_effects t (b ∷ rest) =
+    if b == 0x1B then command_effects t (command (drop 1 rest))
+    else if are_printable (b ∷ rest) then [] else Forgets ∷ []
+
+abbrev pub first_byte_effects_as : Terminal → ℕ → Fate → List Effect
+first_byte_effects_as t b Waits = []
+first_byte_effects_as t b Ends = token_effects t (b ∷ [])
+first_byte_effects_as t b Breaks = Forgets ∷ []
+
+abbrev pub first_byte_effects : Terminal → ℕ → List Effect
+first_byte_effects t b = if b == 0x1B then pending_effects t else first_byte_effects_as t b (fate (b ∷ []))
+
+abbrev pub next_byte_effects : Terminal → ℕ → Fate → List Effect
+next_byte_effects t b Waits = []
+next_byte_effects t b Ends = token_effects t (t.half_read ++ b ∷ [])
+next_byte_effects t b Breaks = Forgets ∷ first_byte_effects (all_unknown t) b
+
+abbrev pub effects_after : Terminal → ℕ → List ℕ → List Effect
+effects_after t b [] = first_byte_effects t b
+effects_after t b (h ∷ half_read) = next_byte_effects t b (fate (h ∷ half_read ++ b ∷ []))
+
+-- a token does what it does when it has ended
+abbrev pub byte_effects : Terminal → ℕ → List Effect
+byte_effects t b = effects_after t b t.half_read
+
+-- all that it does while it reads these bytes
+abbrev pub effects : Terminal → List ℕ → List Effect
+effects t [] = []
+effects t (b ∷ bs) = byte_effects t b ++ effects (byte_read t b) bs
