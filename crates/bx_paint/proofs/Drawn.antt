@@ -3,8 +3,8 @@ use Rattle.std.proofs.Common.{◌≡◌, ℕ, ◌+◌, ◌*◌, ◌<◌, ◌≤�
 use Rattle.std.specs.List.{list_all, All}
 use Rattle.std.proofs.lemmas.List.{append-nil, map-append, take-append-drop, length-drop, drop-append-le, nil_from_length}
 use Rattle.std.proofs.lemmas.List.Elements.{All-head, All-tail}
-use Rattle.bx_grid.specs.Columns.{Col, Glyph, is_ascii_glyph, are_equal, cut_after, run_columns}
-use Rattle.bx_grid.specs.Tokens.{is_ascii_printable}
+use Rattle.bx_grid.specs.Columns.{Col, Glyph, is_ascii_glyph, are_equal, cut_after, run_columns, are_ascii_printable}
+use Rattle.bx_grid.specs.Columns.{is_ascii_printable}
 use Rattle.bx_grid.specs.Effects.{Effect, Puts}
 use Rattle.bx_grid.specs.Glyphs.{WholeGlyph, IsGlyph, columns_of, all_columns, AreWhole}
 use Rattle.bx_grid.specs.Terminal.{Terminal}
@@ -25,12 +25,12 @@ use Rattle.bx_paint.specs.Changed.{glyphs_changed}
 joins_none : (negative : Bool) (half_read text : List ℕ) → half_read ≡ [] → run_columns negative (half_read ++ text) ≡ run_columns negative half_read ++ run_columns negative text
 joins_none negative half_read text e = rw e refl
 
-plain_more : (half_read text : List ℕ) → list_all is_ascii_printable half_read ≡ true → is_ascii_glyph text ≡ true → list_all is_ascii_printable (half_read ++ text) ≡ true
+plain_more : (half_read text : List ℕ) → are_ascii_printable half_read ≡ true → is_ascii_glyph text ≡ true → are_ascii_printable (half_read ++ text) ≡ true
 plain_more half_read [] h e = absurd (cc e)
 plain_more half_read (b ∷ []) h e = all-push is_ascii_printable half_read b h e
 plain_more half_read (b ∷ c ∷ rest) h e = absurd (cc e)
 
-joins_near : (negative : Bool) (half_read text : List ℕ) → list_all is_ascii_printable half_read ≡ true → is_ascii_glyph text ≡ true
+joins_near : (negative : Bool) (half_read text : List ℕ) → are_ascii_printable half_read ≡ true → is_ascii_glyph text ≡ true
     → run_columns negative (half_read ++ text) ≡ run_columns negative half_read ++ run_columns negative text
 joins_near negative half_read [] h e = absurd (cc e)
 joins_near negative half_read (b ∷ []) h e = rw (all-push is_ascii_printable half_read b h e, h, e) (map-append (λ x. Glyph (x ∷ []) 1 0 negative) half_read (b ∷ []))
@@ -41,7 +41,7 @@ joins_near negative half_read (b ∷ c ∷ rest) h e = absurd (cc e)
 -- a run of characters from SPACE to TILDE may go on
 pub record Near (p : Image) (w : Terminal × List Effect) (negative : Bool) (above done rest below : List Col) (r c : ℕ) (all : List Effect) : Type 0 where
   pub ready : Ready p w negative above done rest below r c all
-  pub plain : list_all is_ascii_printable ready.half_read ≡ true
+  pub plain : are_ascii_printable ready.half_read ≡ true
 
 -- the row is done up to column c; where the column before was just sent as a character from SPACE to TILDE, its run may go on
 pub record Stands (p : Image) (w : Terminal × List Effect) (near negative : Bool) (above done rest below : List Col) (r c : ℕ) (all : List Effect) : Type 0 where
@@ -57,7 +57,7 @@ inverted p w negative inverse above done rest below r c all place small n =
     let l = ready_leaves p w negative above done rest below r c all n.ready in
     let h = place_ready p (run w (render_bytes inverse)) inverse above done rest below r c all place
     (renders p w columns l.0 negative inverse all l.1 ∙ ap (λ q. (screen p columns q inverse [], all)) (l.2 small)) in
-    record { ready = h.0; plain = ap (list_all is_ascii_printable) h.1 }
+    record { ready = h.0; plain = ap (are_ascii_printable) h.1 }
 
 rendered : (p : Image) (w : Terminal × List Effect) (negative inverse : Bool) (above done rest below : List Col) (r c : ℕ) (all : List Effect)
     → IsPlace r c p.width above done rest → c < p.width → Near p w negative above done rest below r c all
@@ -72,7 +72,7 @@ rendered p w false false above done rest below r c all place small n = n
 text_stands : (p : Image) (w : Terminal × List Effect) (g : WholeGlyph) (above done rest below : List Col) (r c : ℕ) (all : List Effect)
     → IsGlyph g → (h : Ready p w g.negative above done rest below r c all)
     → run_columns g.negative (h.half_read ++ g.text) ≡ run_columns g.negative h.half_read ++ columns_of g → c + length (columns_of g) ≤ p.width
-    → list_all is_ascii_printable h.half_read ≡ true
+    → are_ascii_printable h.half_read ≡ true
     → Stands p (run w g.text) (is_ascii_glyph g.text) g.negative above (done ++ columns_of g) (drop (length (columns_of g)) rest) below r (c + length (columns_of g))
     (all ++ Puts (r * p.width + c) g.text g.negative ∷ [])
 text_stands p w g above done rest below r c all is h joins fits plain =
@@ -82,7 +82,7 @@ text_stands p w g above done rest below r c all is h joins fits plain =
     record {
       position = l.0;
       leaves = l.1;
-      near_by = λ e. record { ready = k.0; plain = ap (list_all is_ascii_printable) k.1 ∙ plain_more h.half_read g.text plain e };
+      near_by = λ e. record { ready = k.0; plain = ap (are_ascii_printable) k.1 ∙ plain_more h.half_read g.text plain e };
     }
 
 drawn_by : (t : Bool) (p : Image) (w : Terminal × List Effect) (near negative : Bool) (g : WholeGlyph) (above done rest below : List Col) (r c : ℕ) (all : List Effect)
@@ -108,7 +108,7 @@ drawn_by false p w near negative g above done rest below r c all fits rh is plac
     ∙ turned p columns (Some (r, c)) negative g.negative all in
     let h = place_ready p (run (run w move) change) g.negative above done rest below r c all place there in
     let after = text_stands p (run (run w move) change) g above done rest below r c all is h.0 (joins_none g.negative h.0.half_read g.text h.1)
-    (omega (arith, room, place.wide)) (ap (list_all is_ascii_printable) h.1) in
+    (omega (arith, room, place.wide)) (ap (are_ascii_printable) h.1) in
     rw (e, run-append w move (change ++ g.text), run-append (run w move) change g.text) after
 
 -- ---- the glyphs of a row

@@ -20,13 +20,13 @@ pub fits : (p : Image) → IsPicture p → Fits p
 fits p h = record { height = omega (arith, h.grid.sized.high); width = omega (arith, h.grid.sized.wide); row = h.row_inside; column = h.column_inside }
 
 abbrev made : ℕ → ℕ → List Col → Option (ℕ × ℕ) → Option Bool → List ℕ → List ℕ → Terminal
-made height width columns position negative half_read half_read = record {
+made height width columns position negative run half_read = record {
   height = height;
   width = width;
   columns = columns;
   position = position;
   negative = negative;
-  run = half_read;
+  run = run;
   half_read = half_read;
 }
 

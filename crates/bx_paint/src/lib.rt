@@ -3,7 +3,7 @@
 
 mod error;
 mod painting;
-mod sending;
+mod writing;
 
 pub use error::PaintError;
 pub use painting::{changes, whole};

@@ -8,7 +8,7 @@ ghost use Rattle.bx_paint.specs.Changed.{changed, differing};
 ghost use Rattle.bx_paint.specs.Painting.{whole_bytes, changes_bytes, columns_changed, ended, render_change, move_bytes};
 
 use crate::error::PaintError;
-use crate::sending::{send_move, send_rendition, send_rows};
+use crate::writing::{write_move, write_rendition, write_rows};
 use bx_grid::{Cell, Grid, Picture};
 use std::alloc::{AllocError, Global};
 
@@ -16,17 +16,17 @@ use std::alloc::{AllocError, Global};
 const ROOM: usize = 64;
 
 /// Normal rendition, and the cursor.
-fn send_end(out: &mut Vec<u8>, negative: bool, cursor: Cell) -> Result<(), AllocError>
+fn write_end(out: &mut Vec<u8>, negative: bool, cursor: Cell) -> Result<(), AllocError>
     requires line { (1 ≤ cursor.line) × (cursor.line ≤ 500) }
     requires column { (1 ≤ cursor.column) × (cursor.column ≤ 500) }
     ensures { OnOk result (out.new.items ≡ out.old.items ++ (render_change negative false ++ move_bytes (cursor.line - 1) (cursor.column - 1))) }
 {
-    send_rendition(out, negative, false)?;
-    send_move(out, cursor.line - 1, cursor.column - 1)
+    write_rendition(out, negative, false)?;
+    write_move(out, cursor.line - 1, cursor.column - 1)
 }
 
 /// Sends a picture whole.
-fn send_whole(alloc: Global, out: &mut Vec<u8>, picture: &Picture) -> Result<(), AllocError>
+fn write_whole(alloc: Global, out: &mut Vec<u8>, picture: &Picture) -> Result<(), AllocError>
     requires { out.old.items ≡ [] }
     ensures bytes { OnOk result (out.new.items ≡ whole_bytes picture.now) }
     ensures picture { IsPicture picture.now }
@@ -37,12 +37,12 @@ fn send_whole(alloc: Global, out: &mut Vec<u8>, picture: &Picture) -> Result<(),
         return Err(AllocError);
     };
     out.extend_from_slice(b"\x1b[0m\x1b[2J")?;
-    let negative = send_rows(out, &blank, grid)?;
-    send_end(out, negative, cursor)
+    let negative = write_rows(out, &blank, grid)?;
+    write_end(out, negative, cursor)
 }
 
 /// Sends what leads from one picture to another of its size.
-fn send_changes(out: &mut Vec<u8>, old: &Picture, new: &Picture) -> Result<(), AllocError>
+fn write_changes(out: &mut Vec<u8>, old: &Picture, new: &Picture) -> Result<(), AllocError>
     requires empty { out.old.items ≡ [] }
     requires height { old.now.height ≡ new.now.height }
     requires width { old.now.width ≡ new.now.width }
@@ -51,11 +51,11 @@ fn send_changes(out: &mut Vec<u8>, old: &Picture, new: &Picture) -> Result<(), A
     ensures new { IsPicture new.now }
 {
     let cursor = new.cursor();
-    let negative = send_rows(out, old.grid(), new.grid())?;
+    let negative = write_rows(out, old.grid(), new.grid())?;
     if out.is_empty() && old.cursor() == cursor {
         return Ok(());
     }
-    send_end(out, negative, cursor)
+    write_end(out, negative, cursor)
 }
 
 /// The bytes that paint a picture whole (ECMA-48: SGR, ED, CUP and the characters): they make a
@@ -68,7 +68,7 @@ pub fn whole(alloc: Global, picture: &Picture) -> Result<Vec<u8>, PaintError>
         → Shows (reads t out.items) picture.now) }
 {
     let mut out = Vec::new(alloc);
-    send_whole(alloc, &mut out, picture)?;
+    write_whole(alloc, &mut out, picture)?;
     Ok(out)
 }
 
@@ -90,6 +90,6 @@ pub fn changes(alloc: Global, old: &Picture, new: &Picture) -> Result<Vec<u8>, P
     ensures nothing { IfOk result (λ out. old.now ≡ new.now → out.items ≡ []) }
 {
     let mut out = Vec::with_capacity(alloc, ROOM)?;
-    send_changes(&mut out, old, new)?;
+    write_changes(&mut out, old, new)?;
     Ok(out)
 }

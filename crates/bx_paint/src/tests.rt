@@ -1,10 +1,10 @@
 //! What is sent for small pictures, and what a screen shows that reads it.
 
-ghost use Rattle.std.specs.Prelude.{◌≡◌, IfOk, OnOk};
+ghost use Rattle.std.specs.Prelude.{◌≡◌, OnOk};
 ghost use Rattle.bx_grid.specs.Picture.{IsWithin};
 
-use crate::{changes, whole};
-use bx_grid::{Cell, Grid, Picture, Screen, is_glyph, run_width};
+use bx_grid::{Cell, Grid, Picture, Screen};
+use bx_terms::{is_glyph, run_width};
 use std::alloc::Global;
 use std::test::Fail;
 
@@ -21,10 +21,22 @@ fn put(grid: &mut Grid, cell: Cell, text: &str, negative: bool) -> Result<(), Fa
     Ok(())
 }
 
+/// The whole painting of a picture. It promises nothing, so that the proofs of the tests see no picture.
+fn whole(alloc: Global, picture: &Picture) -> Result<Vec<u8>, Fail> {
+    Ok(crate::whole(alloc, picture)?)
+}
+
+/// What leads from one picture to another. Whether the sizes agree is asked when the test runs.
+fn changes(alloc: Global, old: &Picture, new: &Picture) -> Result<Vec<u8>, Fail> {
+    let (before, after) = (old.grid(), new.grid());
+    if before.height() != after.height() || before.width() != after.width() {
+        return Err(Fail::new("two sizes"));
+    }
+    Ok(crate::changes(alloc, old, new)?)
+}
+
 /// The row `ab` of five columns, with the cursor on its first.
-fn picture_of_ab(alloc: Global) -> Result<Picture, Fail>
-    ensures size { IfOk result (λ p. (p.height ≡ 1) × (p.width ≡ 5)) }
-{
+fn picture_of_ab(alloc: Global) -> Result<Picture, Fail> {
     let mut grid = Grid::blank(alloc, 1, 5)?;
     put(&mut grid, Cell { line: 1, column: 1 }, "a", false)?;
     put(&mut grid, Cell { line: 1, column: 2 }, "b", false)?;
@@ -32,9 +44,7 @@ fn picture_of_ab(alloc: Global) -> Result<Picture, Fail>
 }
 
 /// The row `xab`, of which the `x` is negative, with the cursor on its second column.
-fn picture_of_xab(alloc: Global) -> Result<Picture, Fail>
-    ensures size { IfOk result (λ p. (p.height ≡ 1) × (p.width ≡ 5)) }
-{
+fn picture_of_xab(alloc: Global) -> Result<Picture, Fail> {
     let mut grid = Grid::blank(alloc, 1, 5)?;
     put(&mut grid, Cell { line: 1, column: 1 }, "x", true)?;
     put(&mut grid, Cell { line: 1, column: 2 }, "a", false)?;
@@ -85,18 +95,14 @@ fn nothing_where_nothing_differs(rt: HostRuntime) -> Result<(), Fail> {
 }
 
 /// A row of four columns that begins with U+4E16, with the cursor on its first.
-fn picture_of_wide(alloc: Global) -> Result<Picture, Fail>
-    ensures size { IfOk result (λ p. (p.height ≡ 1) × (p.width ≡ 4)) }
-{
+fn picture_of_wide(alloc: Global) -> Result<Picture, Fail> {
     let mut grid = Grid::blank(alloc, 1, 4)?;
     put(&mut grid, Cell { line: 1, column: 1 }, "\u{4e16}", false)?;
     Ok(Picture::new(grid, Cell { line: 1, column: 1 }))
 }
 
 /// The same with an `x` before it, and the cursor on its second column.
-fn picture_of_x_and_wide(alloc: Global) -> Result<Picture, Fail>
-    ensures size { IfOk result (λ p. (p.height ≡ 1) × (p.width ≡ 4)) }
-{
+fn picture_of_x_and_wide(alloc: Global) -> Result<Picture, Fail> {
     let mut grid = Grid::blank(alloc, 1, 4)?;
     put(&mut grid, Cell { line: 1, column: 1 }, "x", false)?;
     put(&mut grid, Cell { line: 1, column: 2 }, "\u{4e16}", false)?;
@@ -104,9 +110,7 @@ fn picture_of_x_and_wide(alloc: Global) -> Result<Picture, Fail>
 }
 
 /// A row of four columns: an `e`, to which U+0301 may be joined, and a negative `x`.
-fn picture_of_e(alloc: Global, accent: bool) -> Result<Picture, Fail>
-    ensures size { IfOk result (λ p. (p.height ≡ 1) × (p.width ≡ 4)) }
-{
+fn picture_of_e(alloc: Global, accent: bool) -> Result<Picture, Fail> {
     let mut grid = Grid::blank(alloc, 1, 4)?;
     put(&mut grid, Cell { line: 1, column: 2 }, "x", true)?;
     if accent {

@@ -5,9 +5,9 @@ use Rattle.std.proofs.Math.Seq.{take-add}
 use Rattle.std.proofs.Math.Nat.{div-add-mod}
 use Rattle.std.proofs.lemmas.Bool.Decides.{nat_tests}
 use Rattle.std.proofs.lemmas.List.{map_more, map-append, length-map, length-take, length-take-le, append-nil, replicate-append-replicate, take_all, drop_all}
-use Rattle.bx_grid.specs.Columns.{Col, Glyph, blank, paste, plain_columns, run_columns, AreBlank}
+use Rattle.bx_grid.specs.Columns.{run_width, Col, Glyph, blank, paste, plain_columns, run_columns, AreBlank}
 use Rattle.bx_grid.specs.Picture.{Image, is_size}
-use Rattle.bx_grid.specs.Tokens.{is_ascii_printable}
+use Rattle.bx_grid.specs.Columns.{is_ascii_printable}
 use Rattle.bx_grid.proofs.Laid.{plain_is_one, blank_next, laid_next}
 use Rattle.bx_grid.proofs.Reading.{and_left, and_right}
 use Rattle.bx_session.specs.Editor.{EditorState}
@@ -25,11 +25,11 @@ length-run : (i : ℕ) (text : List ℕ) → i ≤ length text → length (run (
 length-run i text inside = length-map (take i text) (λ b. Glyph (b ∷ []) 1 0 false) ∙ length-take-le i text inside
 
 -- the next character covers a blank
-pub next_is_blank : (total i k : ℕ) (text bytes : List ℕ) → i < length text → length text ≤ total → k ≡ i → length (run_columns false bytes) ≡ 1
-    → AreBlank k (length (run_columns false bytes)) (run (take i text) ++ blanks (total - i))
+pub next_is_blank : (total i k : ℕ) (text bytes : List ℕ) → i < length text → length text ≤ total → k ≡ i → run_width bytes ≡ 1
+    → AreBlank k (run_width bytes) (run (take i text) ++ blanks (total - i))
 next_is_blank total i k text bytes inside room at one =
     let count : length (run (take i text)) ≡ i = length-run i text (omega arith) in
-    blank_next (run (take i text)) k (length (run_columns false bytes)) (total - i) (at ∙ sym count) (omega (arith, one))
+    blank_next (run (take i text)) k (run_width bytes) (total - i) (at ∙ sym count) (omega (arith, one))
 
 pub drawn : (total i k : ℕ) (text bytes : List ℕ) → i < length text → length text ≤ total → k ≡ i → bytes ≡ get_or text i 0 ∷ [] → is_ascii_printable (get_or text i 0) ≡ true
     → paste (run (take i text) ++ blanks (total - i)) k (run_columns false bytes) ≡ run (take (i + 1) text) ++ blanks (total - (i + 1))

@@ -3,13 +3,13 @@ use Rattle.std.proofs.Common.{◌≡◌, ℕ, Bool, true, false, not, nat_lt, �
 use Rattle.std.specs.Prelude.{position}
 use Rattle.std.specs.List.{list_all, position_from}
 use Rattle.std.proofs.lemmas.Iterator.Adapters.{position_from-zero}
-use Rattle.bx_grid.specs.Tokens.{is_ascii_printable}
-use Rattle.bx_session.specs.Editor.{longest}
+use Rattle.bx_grid.specs.Columns.{is_ascii_printable}
+use Rattle.bx_session.specs.Editor.{largest_text}
 use Rattle.bx_session.specs.Opening.{refusal}
 use Rattle.bx_session.specs.Session.{SessionState, PaintsWhole, Shown}
 
 pub painted : (old new : SessionState) (top : ℕ) (bytes : List ℕ) → Shown bytes old.editor top
-    → new ≡ record old { top = top; owed = false; pending = old.pending ++ bytes } → PaintsWhole old.pending new
+    → new ≡ record old { top = top; painting_owed = false; pending = old.pending ++ bytes } → PaintsWhole old.pending new
 painted old new top bytes shows e = rw e (bytes, refl, shows)
 
 -- no first byte that is unreadable
@@ -24,7 +24,7 @@ all_pass : (i : ℕ) (xs : List ℕ) → position_from (λ b. not (is_ascii_prin
 all_pass i [] h = refl
 all_pass i (x ∷ xs) h = all_pass_at (is_ascii_printable x) i x xs refl (all_pass (i + 1) xs) h
 
-accepted_at : (long : Bool) (bytes : List ℕ) (height width : ℕ) → nat_lt longest (length bytes) ≡ long
+accepted_at : (long : Bool) (bytes : List ℕ) (height width : ℕ) → nat_lt largest_text (length bytes) ≡ long
     → refusal bytes height width ≡ None → (p : Option ℕ) → position (λ b. not (is_ascii_printable b)) bytes ≡ p → p ≡ None
 accepted_at true bytes height width e h p is = absurd (let g = rw e at h in cc g)
 accepted_at false bytes height width e h None is = refl
@@ -34,4 +34,4 @@ pub printable_opened : (bytes : List ℕ) (height width : ℕ) → refusal bytes
 printable_opened bytes height width h =
     all_pass 0 bytes
     (sym (position_from-zero (λ b. not (is_ascii_printable b)) bytes)
-    ∙ accepted_at (nat_lt longest (length bytes)) bytes height width refl h (position (λ b. not (is_ascii_printable b)) bytes) refl)
+    ∙ accepted_at (nat_lt largest_text (length bytes)) bytes height width refl h (position (λ b. not (is_ascii_printable b)) bytes) refl)

@@ -4,9 +4,9 @@ use Rattle.std.specs.Prelude.{insert, remove}
 use Rattle.std.specs.List.{list_all}
 use Rattle.std.proofs.lemmas.List.Folds.{list_all-append}
 use Rattle.std.proofs.lemmas.List.Edits.{length-insert, length-remove}
-use Rattle.bx_grid.specs.Tokens.{is_ascii_printable}
+use Rattle.bx_grid.specs.Columns.{is_ascii_printable}
 use Rattle.bx_grid.proofs.Reading.{and_left, and_right}
-use Rattle.bx_session.specs.Editor.{EditorState, IsEditor, longest}
+use Rattle.bx_session.specs.Editor.{EditorState, IsEditor, largest_text}
 
 pub printable-take : (k : ℕ) (xs : List ℕ) → list_all is_ascii_printable xs ≡ true → list_all is_ascii_printable (take k xs) ≡ true
 printable-take zero xs h = refl
@@ -22,7 +22,7 @@ printable-drop (suc k) (x ∷ xs) h = printable-drop k xs (and_right (is_ascii_p
 printable-append : (xs ys : List ℕ) → list_all is_ascii_printable xs ≡ true → list_all is_ascii_printable ys ≡ true → list_all is_ascii_printable (xs ++ ys) ≡ true
 printable-append xs ys h k = rw (list_all-append is_ascii_printable xs ys, h, k) refl
 
-pub IsEditor-typed : (e : EditorState) (b : ℕ) → IsEditor e → is_ascii_printable b ≡ true → length e.text < longest
+pub IsEditor-typed : (e : EditorState) (b : ℕ) → IsEditor e → is_ascii_printable b ≡ true → length e.text < largest_text
     → IsEditor (record e { text = insert e.text e.place b; place = e.place + 1; changed = true; quit_before = false })
 IsEditor-typed e b h p room =
     let count = length-insert e.text e.place b h.inside in

@@ -8,7 +8,7 @@ use Rattle.bx_session.specs.declared.key.Key.{Key}
 use Rattle.bx_session.specs.declared.status.Status.{Status}
 use Rattle.bx_session.specs.declared.error.Refused.{Refused}
 use Rattle.bx_session.specs.declared.error.Refused.TheVariants.{Edit, Paint}
-use Rattle.bx_session.specs.Rows.{followed, picture}
+use Rattle.bx_session.specs.Rows.{top_row, picture}
 use Rattle.bx_session.specs.Session.{SessionState, Feeds, repainted, key_applied, key_of_byte, byte_applied, is_idle}
 use Rattle.bx_session.specs.Running.{Answered, bytes_of, FeedsAll, FedUntilEnd, Sent, HasRun}
 
@@ -20,8 +20,8 @@ prefixed p s = record s { pending = p ++ s.pending }
 
 repainted-prefixed : (p : List ℕ) (s : SessionState) → repainted (prefixed p s) ≡ prefixed p (repainted s)
 repainted-prefixed p s =
-    let top = followed s.editor s.top in
-    ap (λ (q : List ℕ). record s { top = top; owed = false; pending = q }) (append_assoc p s.pending (whole_bytes (picture s.editor top)))
+    let top = top_row s.editor s.top in
+    ap (λ (q : List ℕ). record s { top = top; painting_owed = false; pending = q }) (append_assoc p s.pending (whole_bytes (picture s.editor top)))
 
 key_applied-prefixed : (p : List ℕ) (s : SessionState) (key : Option Key) → key_applied (prefixed p s) key ≡ prefixed p (key_applied s key)
 key_applied-prefixed p s None = refl
@@ -36,7 +36,7 @@ Feeds-prefixed : (p : List ℕ) (s : SessionState) (b : ℕ) (a : Result Status 
 Feeds-prefixed p s b (Ok status) s' h = (ap (prefixed p) h.0 ∙ sym (fed_either (is_idle s b) p s b), h.1)
 Feeds-prefixed p s b (Err Edit) s' h = (ap (prefixed p) h.0, h.1)
 Feeds-prefixed p s b (Err Paint) s' h =
-    (ap (prefixed p) h.0 ∙ ap (λ (x : SessionState). record x { owed = true }) (sym (key_applied-prefixed p s (key_of_byte s b))), h.1)
+    (ap (prefixed p) h.0 ∙ ap (λ (x : SessionState). record x { painting_owed = true }) (sym (key_applied-prefixed p s (key_of_byte s b))), h.1)
 
 FeedsAll-prefixed : (p : List ℕ) (s : SessionState) (answered : List Answered) (s' : SessionState) → FeedsAll s answered s' → FeedsAll (prefixed p s) answered (prefixed p s')
 FeedsAll-prefixed p s [] s' h = ap (prefixed p) h

@@ -1,7 +1,8 @@
 -- The editor's state, and what each key makes of it: one line of characters from SPACE to TILDE.
+pub use Rattle.bx_terms.specs.Sizes.{largest_text}
 use Rattle.std.specs.Prelude.{ℕ, ◌+◌, ◌-◌, ◌≡◌, ◌≤◌, Bool, true, false, not, ◌||◌, nat_lt, ◌==◌, List, length, insert, remove, Option, Some, None, if◌then◌else◌}
 use Rattle.std.specs.List.{list_all}
-use Rattle.bx_grid.specs.Tokens.{is_ascii_printable}
+use Rattle.bx_grid.specs.Columns.{is_ascii_printable}
 use Rattle.bx_grid.specs.Picture.{is_size}
 use Rattle.bx_session.specs.declared.key.Key.{Key}
 use Rattle.bx_session.specs.declared.key.Key.TheVariants.{Insert, Erase, Quit}
@@ -29,14 +30,10 @@ at_start text height width = record {
   width = width;
 }
 
--- the most bytes of a text
-abbrev pub longest : ℕ
-longest = 16777216
-
 -- what always holds of the state
 pub record IsEditor (e : EditorState) : Type 0 where
   pub inside : e.place ≤ length e.text
-  pub short : length e.text ≤ longest
+  pub short : length e.text ≤ largest_text
   pub printable : list_all is_ascii_printable e.text ≡ true
   pub sized : is_size e.height e.width ≡ true
 
@@ -57,7 +54,7 @@ quiet e = record e { quit_before = false }
 -- the character at the place, unless the text is as long as may be
 abbrev pub typed : EditorState → ℕ → EditorState
 typed e b =
-    if nat_lt (length e.text) longest
+    if nat_lt (length e.text) largest_text
     then record (quiet e) { text = insert e.text e.place b; place = e.place + 1; changed = true }
     else quiet e
 

@@ -1,14 +1,14 @@
 -- Opening a session.
 use Rattle.std.specs.Prelude.{ℕ, false, not, nat_lt, List, [], length, position, Option, Some, None, if◌then◌else◌}
-use Rattle.bx_grid.specs.Tokens.{is_ascii_printable}
+use Rattle.bx_grid.specs.Columns.{is_ascii_printable}
 use Rattle.bx_grid.specs.Picture.{is_size}
 use Rattle.bx_session.specs.declared.error.OpenError.{OpenError}
 use Rattle.bx_session.specs.declared.error.OpenError.TheVariants.{TooLong, NotYet, SizeOutOfRange}
-use Rattle.bx_session.specs.Editor.{at_start, longest}
+use Rattle.bx_session.specs.Editor.{at_start, largest_text}
 use Rattle.bx_session.specs.Session.{SessionState, repainted}
 
 abbrev pub opened_session : List ℕ → ℕ → ℕ → SessionState
-opened_session bytes height width = repainted (record { editor = at_start bytes height width; top = 0; owed = false; pending = [] })
+opened_session bytes height width = repainted (record { editor = at_start bytes height width; top = 0; painting_owed = false; pending = [] })
 
 abbrev pub refused_size : ℕ → ℕ → Option OpenError
 refused_size height width = if is_size height width then None else Some SizeOutOfRange
@@ -20,6 +20,6 @@ refused_byte None height width = refused_size height width
 -- the first cause, if any, why a file is not opened
 abbrev pub refusal : List ℕ → ℕ → ℕ → Option OpenError
 refusal bytes height width =
-    if nat_lt longest (length bytes)
+    if nat_lt largest_text (length bytes)
     then Some TooLong
     else refused_byte (position (λ b. not (is_ascii_printable b)) bytes) height width

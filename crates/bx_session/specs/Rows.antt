@@ -24,8 +24,8 @@ shown_height height = if nat_le 2 height then height - 1 else 1
 abbrev pub top_after : ℕ → ℕ → ℕ → ℕ
 top_after shown cursor top = max (cursor + 1 - shown) (min top cursor)
 
-abbrev pub followed : EditorState → ℕ → ℕ
-followed e top = top_after (shown_height e.height) (row_of e.width e.text e.place) top
+abbrev pub top_row : EditorState → ℕ → ℕ
+top_row e top = top_after (shown_height e.height) (row_of e.width e.text e.place) top
 
 -- the columns of a row: its characters, and blanks to its end
 abbrev pub row_columns : ℕ → List ℕ → List Col

@@ -9,14 +9,14 @@ use Rattle.bx_session.specs.declared.status.Status.TheVariants.{Running, Ended}
 use Rattle.bx_session.specs.declared.error.Refused.{Refused}
 use Rattle.bx_session.specs.declared.error.Refused.TheVariants.{Edit, Paint}
 use Rattle.bx_session.specs.Editor.{EditorState, key_of, applied, is_insert}
-use Rattle.bx_session.specs.Rows.{followed, picture}
+use Rattle.bx_session.specs.Rows.{top_row, picture}
 
 pub record SessionState : Type 0 where
   pub editor : EditorState
   -- the top row
   pub top : ℕ
   -- a painting was refused, and none was queued since
-  pub owed : Bool
+  pub painting_owed : Bool
   -- bytes for the terminal
   pub pending : List ℕ
 
@@ -26,8 +26,8 @@ shown_picture s = picture s.editor s.top
 -- the top follows the cursor, and the picture is painted whole
 abbrev pub repainted : SessionState → SessionState
 repainted s =
-    let top = followed s.editor s.top in
-    record s { top = top; owed = false; pending = s.pending ++ whole_bytes (picture s.editor top) }
+    let top = top_row s.editor s.top in
+    record s { top = top; painting_owed = false; pending = s.pending ++ whole_bytes (picture s.editor top) }
 
 -- the key that a byte is; after the end it is none
 abbrev pub key_of_byte : SessionState → ℕ → Option Key
@@ -43,7 +43,7 @@ byte_applied s b = key_applied s (key_of_byte s b)
 
 -- the byte is no key, and no painting is owed
 abbrev pub is_idle : SessionState → ℕ → Bool
-is_idle s b = not (is_some (key_of_byte s b)) && not s.owed
+is_idle s b = not (is_some (key_of_byte s b)) && not s.painting_owed
 
 -- after a byte that was not refused
 abbrev pub fed : SessionState → ℕ → SessionState
@@ -51,7 +51,7 @@ fed s b = if is_idle s b then s else repainted (byte_applied s b)
 
 -- after a byte whose painting was refused
 abbrev pub fed_unpainted : SessionState → ℕ → SessionState
-fed_unpainted s b = record (byte_applied s b) { owed = true }
+fed_unpainted s b = record (byte_applied s b) { painting_owed = true }
 
 abbrev pub status_of : SessionState → Status
 status_of s = if s.editor.ended then Ended else Running

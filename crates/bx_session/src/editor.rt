@@ -2,16 +2,14 @@
 
 ghost use Rattle.std.specs.Prelude.{◌≡◌, ◌≤◌, ◌<◌, true, OnOk, OnErr, length};
 ghost use Rattle.std.specs.List.{list_all};
-ghost use Rattle.bx_grid.specs.Tokens.{is_ascii_printable};
+ghost use Rattle.bx_grid.specs.Columns.{is_ascii_printable};
 ghost use Rattle.bx_grid.specs.Picture.{is_size};
-ghost use Rattle.bx_session.specs.Editor.{EditorState, IsEditor, at_start, longest, applied, typed, erased, quit, quiet, is_insert, IsTyped};
+ghost use Rattle.bx_session.specs.Editor.{EditorState, IsEditor, at_start, largest_text, applied, typed, erased, quit, quiet, is_insert, IsTyped};
 
 use crate::key::Key;
+use bx_terms::LARGEST_TEXT;
 use std::alloc::AllocError;
 use std::marker::Model;
-
-/// The most bytes of a text.
-pub const LONGEST: usize = 16_777_216;
 
 /// One line of text, a place in it, and the window's size.
 #[derive(Drop)]
@@ -38,7 +36,7 @@ impl Model for Editor {
 impl Editor {
     /// The text unchanged, and the place at its start.
     pub fn new(text: Vec<u8>, height: u16, width: u16) -> Editor
-        requires short { length text.items ≤ longest }
+        requires short { length text.items ≤ largest_text }
         requires printable { list_all is_ascii_printable text.items ≡ true }
         requires sized { is_size height width ≡ true }
         ensures { result ≡ at_start text.items height width }
@@ -59,7 +57,7 @@ impl Editor {
         ensures ok { OnOk result (self.new ≡ typed self.old byte) }
         ensures err { OnErr result (self.new ≡ self.old) }
     {
-        if self.text.len() >= LONGEST {
+        if self.text.len() >= LARGEST_TEXT {
             self.quit_before = false;
             return Ok(());
         }

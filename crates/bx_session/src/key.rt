@@ -1,8 +1,9 @@
 //! The keys, each of them one byte as yet.
 
 ghost use Rattle.std.specs.Prelude.{◌≡◌};
-ghost use Rattle.bx_grid.specs.Tokens.{is_ascii_printable};
 ghost use Rattle.bx_session.specs.Editor.{key_of};
+
+use bx_terms::is_ascii_printable;
 
 /// What the user asks for.
 #[derive(Clone, Copy, PartialEq, Eq, Debug)]
@@ -12,13 +13,6 @@ pub enum Key {
     /// The character before the place goes.
     Erase,
     Quit,
-}
-
-/// Whether the byte is a character from SPACE to TILDE.
-pub fn is_ascii_printable(byte: u8) -> bool
-    ensures { result ≡ is_ascii_printable byte }
-{
-    0x20 <= byte && byte <= 0x7E
 }
 
 /// The key that a byte is: 20 to 7E, 08 and 7F, 11; every other byte is none.

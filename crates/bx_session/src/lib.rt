@@ -15,7 +15,7 @@ mod status;
 
 pub use end::{End, RunFault};
 pub use error::{OpenError, Refused};
-pub use running::run;
+pub use running::{run, run_within};
 pub use session::Session;
 pub use status::Status;
 

@@ -2,15 +2,15 @@
 
 ghost use Rattle.std.specs.Prelude.{◌≡◌, [], not, position, None, Some, IfOk, OnOk, OnErr, IsErrOf};
 ghost use Rattle.bx_session.specs.declared.error.OpenError.{OpenError};
-ghost use Rattle.bx_grid.specs.Tokens.{is_ascii_printable};
+ghost use Rattle.bx_grid.specs.Columns.{is_ascii_printable};
 ghost use Rattle.bx_grid.specs.Picture.{is_size};
 ghost use Rattle.bx_session.specs.Opening.{refusal, opened_session};
 ghost use Rattle.bx_session.specs.Session.{PaintsWhole};
 
-use crate::editor::{Editor, LONGEST};
+use crate::editor::Editor;
 use crate::error::OpenError;
-use crate::key::is_ascii_printable;
 use crate::session::Session;
+use bx_terms::{LARGEST_TEXT, is_ascii_printable, is_side};
 use std::alloc::Global;
 
 /// The offset of the first byte, if any, that is no character from SPACE to TILDE.
@@ -20,23 +20,16 @@ fn first_unreadable(bytes: &[u8]) -> Option<usize>
     bytes.iter().position(|byte| !is_ascii_printable(*byte))
 }
 
-/// Whether a window may have so many rows and columns.
-fn is_size(height: u16, width: u16) -> bool
-    ensures { result ≡ is_size height width }
-{
-    1 <= height && height <= 500 && 1 <= width && width <= 500
-}
-
 /// The first cause, if any, why a file is not opened.
 fn refusal(bytes: &[u8], height: u16, width: u16) -> Option<OpenError>
     ensures { result ≡ refusal bytes.now height width }
 {
-    if bytes.len() > LONGEST {
+    if bytes.len() > LARGEST_TEXT {
         return Some(OpenError::TooLong);
     }
     match first_unreadable(bytes) {
         Some(offset) => Some(OpenError::NotYet(offset)),
-        None if is_size(height, width) => None,
+        None if is_side(height) && is_side(width) => None,
         None => Some(OpenError::SizeOutOfRange),
     }
 }

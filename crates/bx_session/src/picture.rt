@@ -2,9 +2,9 @@
 
 ghost use Rattle.std.specs.Prelude.{◌≡◌, ◌<◌, ◌≤◌, ◌+◌, ◌-◌, ◌*◌, ℕ, true, length, IfOk, OnErr, take, drop};
 ghost use Rattle.std.specs.List.{list_all};
-ghost use Rattle.bx_grid.specs.Tokens.{is_ascii_printable};
+ghost use Rattle.bx_grid.specs.Columns.{is_ascii_printable};
 ghost use Rattle.bx_grid.specs.Picture.{is_size};
-ghost use Rattle.bx_session.specs.Rows.{row_of, column_of, shown_height, followed, picture, filled, ShowsCursor};
+ghost use Rattle.bx_session.specs.Rows.{row_of, column_of, shown_height, top_row, picture, filled, ShowsCursor};
 
 use crate::editor::Editor;
 use crate::error::Refused;
@@ -28,8 +28,8 @@ fn row_of(width: u16, text: &[u8], place: usize) -> usize
 }
 
 /// The top row that shows the cursor's row, nearest to the old one.
-pub fn followed(editor: &Editor, top: usize) -> usize
-    ensures row { result ≡ followed editor.now top }
+pub fn top_row(editor: &Editor, top: usize) -> usize
+    ensures row { result ≡ top_row editor.now top }
     ensures shows { ShowsCursor editor.now result }
 {
     let cursor = row_of(editor.width(), editor.text(), editor.place());

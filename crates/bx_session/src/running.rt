@@ -8,7 +8,7 @@ use crate::session::Session;
 use std::io::{Read, Write};
 
 /// The most reads of a run.
-const READS: u32 = 1_000_000_000;
+const READS: u64 = 1_000_000_000;
 
 /// Writes what is pending, and flushes. A write of no byte is a fault.
 fn send<W: Write>(writer: &mut W, session: &mut Session) -> Result<(), RunFault>
@@ -55,9 +55,22 @@ pub fn run<R: Read, W: Write>(
     ensures runs { Runs session.old session.new (R.remaining reader.old) (R.remaining reader.new) (W.contents writer.old) (W.contents writer.new) }
     ensures ends { EndsWith result session.new (R.remaining reader.new) }
 {
+    run_within(READS, reader, writer, session)
+}
+
+/// Runs a session as [`run`] does, with so many reads at most.
+pub fn run_within<R: Read, W: Write>(
+    limit: u64,
+    reader: &mut R,
+    writer: &mut W,
+    session: &mut Session,
+) -> Result<End, RunFault>
+    ensures runs { Runs session.old session.new (R.remaining reader.old) (R.remaining reader.new) (W.contents writer.old) (W.contents writer.new) }
+    ensures ends { EndsWith result session.new (R.remaining reader.new) }
+{
     send(writer, session)?;
     let mut buffer = [0; 256];
-    'reads: for _ in 0..READS {
+    'reads: for _ in 0..limit {
         if session.ended() {
             return Ok(End::Quit);
         }

@@ -8,7 +8,7 @@ ghost use Rattle.bx_session.specs.Session.{SessionState, Feeds, PaintsWhole, Sho
 use crate::editor::Editor;
 use crate::error::Refused;
 use crate::key::key_of;
-use crate::picture::{followed, picture};
+use crate::picture::{top_row, picture};
 use crate::status::Status;
 use bx_paint::whole;
 use std::alloc::Global;
@@ -19,7 +19,7 @@ use std::marker::Model;
 pub struct Session {
     editor: Editor,
     top: usize,
-    owed: bool,
+    painting_owed: bool,
     queue: Vec<u8>,
     // how many bytes of the queue are taken
     taken: usize,
@@ -31,7 +31,7 @@ impl Model for Session {
 
     ghost Value = { SessionState };
 
-    ghost view = { λ s. record { editor = s.editor; top = s.top; owed = s.owed; pending = drop s.taken s.queue.items } };
+    ghost view = { λ s. record { editor = s.editor; top = s.top; painting_owed = s.painting_owed; pending = drop s.taken s.queue.items } };
 
     ghost invariant = { λ s. s.taken ≤ length s.queue.items };
 }
@@ -49,14 +49,14 @@ fn painting(alloc: Global, editor: &Editor, top: usize) -> Result<Vec<u8>, Refus
 
 impl Session {
     /// A session that has queued nothing yet.
-    pub fn unpainted(editor: Editor, queue: Vec<u8>) -> Session
+    pub(crate) fn unpainted(editor: Editor, queue: Vec<u8>) -> Session
         requires { queue.items ≡ [] }
-        ensures { result ≡ record { editor = editor; top = 0; owed = false; pending = [] } }
+        ensures { result ≡ record { editor = editor; top = 0; painting_owed = false; pending = [] } }
     {
         Session {
             editor,
             top: 0,
-            owed: false,
+            painting_owed: false,
             queue,
             taken: 0,
         }
@@ -64,26 +64,26 @@ impl Session {
 
     /// Queues a painting, which shows the rows from this one on.
     fn append(&mut self, top: usize, painting: &[u8]) -> Result<(), Refused>
-        ensures ok { OnOk result (self.new ≡ record self.old { top = top; owed = false; pending = self.old.pending ++ painting.now }) }
+        ensures ok { OnOk result (self.new ≡ record self.old { top = top; painting_owed = false; pending = self.old.pending ++ painting.now }) }
         ensures err { OnErr result (self.new ≡ self.old) }
         ensures memory { OnErr result (result ≡ Err Refused.Paint) }
     {
         self.queue.extend_from_slice(painting)?;
         self.top = top;
-        self.owed = false;
+        self.painting_owed = false;
         Ok(())
     }
 
     /// The top follows the cursor, and the picture is painted whole. An error is want of memory: top
     /// and queue are as before.
-    pub fn paint(&mut self) -> Result<(), Refused>
+    pub(crate) fn paint(&mut self) -> Result<(), Refused>
         ensures ok { OnOk result (self.new ≡ repainted self.old) }
         ensures paints { OnOk result (PaintsWhole self.old.pending self.new) }
         ensures err { OnErr result (self.new ≡ self.old) }
         ensures memory { OnErr result (result ≡ Err Refused.Paint) }
     {
         let alloc = *self.queue.allocator();
-        let top = followed(&self.editor, self.top);
+        let top = top_row(&self.editor, self.top);
         let painting = painting(alloc, &self.editor, top)?;
         self.append(top, painting.as_slice())
     }
@@ -113,7 +113,7 @@ impl Session {
                 }
             }
             None => {
-                if !self.owed {
+                if !self.painting_owed {
                     return Ok(self.status());
                 }
             }
@@ -121,7 +121,7 @@ impl Session {
         match self.paint() {
             Ok(()) => Ok(self.status()),
             Err(refused) => {
-                self.owed = true;
+                self.painting_owed = true;
                 Err(refused)
             }
         }
@@ -163,7 +163,7 @@ impl Session {
         self.editor.ended()
     }
 
-    /// Whether the text differs from the file. No memory.
+    /// Whether there was an edit since opening. No memory.
     pub fn changed(&self) -> bool
         ensures { result ≡ self.now.editor.changed }
     {

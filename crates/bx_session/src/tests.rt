@@ -1,7 +1,7 @@
 //! Worked rows: files, keys and the bytes that they append.
 
-use crate::{End, OpenError, RunFault, Session, Status, run};
-use std::io::{self, Write};
+use crate::{End, OpenError, RunFault, Session, Status, run, run_within};
+use std::io::{self, ErrorKind, Read, Write};
 use std::process::Abort;
 use std::test::Fail;
 
@@ -166,5 +166,71 @@ fn a_write_of_no_byte_is_a_fault(rt: HostRuntime) -> Result<(), Fail> {
     let end = run(&mut b"".as_slice(), &mut Narrow { room: 20 }, &mut session);
     assert_eq!(rt; end, Err(RunFault::WriteFault));
     assert_eq!(rt; session.pending(), b"1H".as_slice());
+    Ok(())
+}
+
+/// A writer that takes all, and cannot flush.
+#[derive(Drop)]
+struct Clogged;
+
+impl Write for Clogged {
+    fn write(&mut self, buf: &[u8]) -> io::Result<usize> {
+        Ok(buf.len())
+    }
+
+    fn flush(&mut self) -> io::Result<()> {
+        Err(ErrorKind::Other.into())
+    }
+}
+
+#[test]
+fn a_failed_flush_is_a_fault(rt: HostRuntime) -> Result<(), Fail> {
+    let mut session = Session::open(rt.alloc(), b"ab", 1, 5)?;
+    let end = run(&mut b"x".as_slice(), &mut Clogged, &mut session);
+    assert_eq!(rt; end, Err(RunFault::WriteFault));
+    assert!(rt; !session.changed());
+    Ok(())
+}
+
+/// A reader that gives an `x` at each read, so many times, and then fails.
+#[derive(Drop)]
+struct Failing {
+    left: usize,
+}
+
+impl Read for Failing {
+    fn read(&mut self, buf: &mut [u8]) -> io::Result<usize> {
+        if self.left == 0 || buf.is_empty() {
+            return Err(ErrorKind::Other.into());
+        }
+        self.left -= 1;
+        buf[0] = b'x';
+        Ok(1)
+    }
+}
+
+#[test]
+fn a_failed_read_is_a_fault(rt: HostRuntime) -> Result<(), Fail> {
+    for left in [0, 1, 5] {
+        let mut session = Session::open(rt.alloc(), b"", 1, 8)?;
+        let mut written = Vec::new(rt.alloc());
+        let end = run(&mut Failing { left }, &mut written, &mut session);
+        assert_eq!(rt; end, Err(RunFault::ReadFault));
+        assert_eq!(rt; session.place(), left);
+        assert_eq!(rt; session.pending(), b"".as_slice());
+    }
+    Ok(())
+}
+
+#[test]
+fn a_run_makes_as_many_reads_as_it_may(rt: HostRuntime) -> Result<(), Fail> {
+    for limit in [0, 3] {
+        let mut session = Session::open(rt.alloc(), b"", 1, 8)?;
+        let mut written = Vec::new(rt.alloc());
+        let end = run_within(limit, &mut Failing { left: 9 }, &mut written, &mut session);
+        assert_eq!(rt; end, Err(RunFault::ReadLimit));
+        assert_eq!(rt; session.place() as u64, limit);
+        assert!(rt; written.as_slice().starts_with(b"\x1b[0m\x1b[2J\x1b[1;1H"));
+    }
     Ok(())
 }

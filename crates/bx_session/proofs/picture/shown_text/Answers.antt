@@ -1,6 +1,6 @@
 use Rattle.std.proofs.Common.{◌+◌, ◌-◌, ◌*◌, ◌≡◌, ap, drop, ◌∙◌, true}
 use Rattle.std.specs.List.{list_all}
-use Rattle.bx_grid.specs.Tokens.{is_ascii_printable}
+use Rattle.bx_grid.specs.Columns.{is_ascii_printable}
 use Rattle.bx_session.proofs.Texts.{printable-take, printable-drop}
 use Rattle.bx_session.proofs.picture.shown_text.Goals as goal
 

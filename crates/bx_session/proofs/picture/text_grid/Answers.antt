@@ -1,8 +1,8 @@
 use Rattle.std.proofs.Common.{◌+◌, ◌-◌, ◌*◌, ◌/◌, ◌%◌, ◌≡◌, ◌∙◌, ◌∷◌, [], List, false, true, ap, sym, subst, length, get_or, arith}
 use Rattle.std.proofs.lemmas.Str.{encode_ascii}
-use Rattle.bx_grid.specs.Columns.{Col, paste, run_columns, is_ascii_glyph, AreBlank}
+use Rattle.bx_grid.specs.Columns.{Col, paste, run_columns, run_width, is_ascii_glyph, AreBlank}
 use Rattle.bx_grid.specs.Picture.{Cells}
-use Rattle.bx_grid.proofs.Laid.{plain_text, plain_glyph, plain_width}
+use Rattle.bx_grid.proofs.Laid.{plain_text, plain_glyph, plain_run_width}
 use Rattle.bx_session.proofs.Drawing.{drawn, next_is_blank, printable_at, ascii, size_is, cell_at}
 use Rattle.bx_session.proofs.picture.text_grid.Goals as goal
 
@@ -27,10 +27,10 @@ put-requires-clause-room c =
     let w = c.args.width in
     let bytes = c.encode_utf8.result.now in
     record {
-      fits = omega (arith, plain_width false bytes (plain c));
-      blank = subst (λ (g : Cells). AreBlank ((i / w + 1 - 1) * g.width + (i % w + 1 - 1)) (length (run_columns false bytes)) g.columns) (sym c.loop-i.invariant)
+      fits = omega (arith, plain_run_width bytes (plain c));
+      blank = subst (λ (g : Cells). AreBlank ((i / w + 1 - 1) * g.width + (i % w + 1 - 1)) (run_width bytes) g.columns) (sym c.loop-i.invariant)
           (next_is_blank (c.args.height * w) i ((i / w + 1 - 1) * w + (i % w + 1 - 1)) c.args.text.now bytes (omega arith) c.requires.room
-          (cell_at i w (size_is c.args.height w c.requires.sized).width_low) (plain_width false bytes (plain c)));
+          (cell_at i w (size_is c.args.height w c.requires.sized).width_low) (plain_run_width bytes (plain c)));
     }
 
 pub loop-i-preserved : goal.loop-i-preserved

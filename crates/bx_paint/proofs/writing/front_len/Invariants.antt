@@ -1,7 +1,7 @@
 use Rattle.std.proofs.Common.{◌≡◌, ◌≤◌, length, take}
 use Rattle.bx_grid.specs.Seen.{all_seen}
 use Rattle.bx_paint.specs.Painting.{before_tail}
-use Rattle.bx_paint.proofs.sending.front_len.Given as goal
+use Rattle.bx_paint.proofs.writing.front_len.Given as goal
 
 abbrev pub invariant-loop-len : goal.invariant-loop-len
 invariant-loop-len l = record {

@@ -1,6 +1,6 @@
 use Rattle.std.proofs.Common.{◌≡◌, []}
 use Rattle.bx_session.specs.Running.{Runs}
-use Rattle.bx_session.proofs.running.run.Given as goal
+use Rattle.bx_session.proofs.running.run_within.Given as goal
 
 abbrev pub invariant-reads : goal.invariant-reads
 invariant-reads g l =

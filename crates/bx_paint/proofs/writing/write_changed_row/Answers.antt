@@ -4,10 +4,10 @@ use Rattle.bx_grid.proofs.Halves.{on_ok}
 use Rattle.bx_grid.specs.Seen.{seen, all_seen}
 use Rattle.bx_paint.specs.Painting.{Sent, before_tail, columns_sent, tail_sent, tail_after, row_sent}
 use Rattle.bx_paint.proofs.Sent.{row_by, row_bytes}
-use Rattle.bx_paint.proofs.sending.send_changed_row.Goals as goal
+use Rattle.bx_paint.proofs.writing.write_changed_row.Goals as goal
 
 -- the row's definition, at the parts that the code takes
-parts : (c : goal.After-send_tail) → row_sent c.args.row c.args.negative (all_seen c.args.old.now) (all_seen c.args.new.now)
+parts : (c : goal.After-write_tail) → row_sent c.args.row c.args.negative (all_seen c.args.old.now) (all_seen c.args.new.now)
     ≡ tail_after c.args.row c.front_len-front.result (all_seen (take (length c.args.old.now - c.front_len-front.result) (drop c.front_len-front.result c.args.old.now)))
     (columns_sent c.args.row 0 false c.args.negative (all_seen (take c.front_len-front.result c.args.old.now)) (all_seen (take c.front_len-front.result c.args.new.now)))
 parts c =
@@ -28,10 +28,10 @@ returns-clause-bytes c =
     let before = all_seen (take f old) in
     let tail = all_seen (take (length old - f) (drop f old)) in
     let front = all_seen (take f c.args.new.now) in
-    on_ok c.send_tail.result (c.send_tail.new.out.items ≡ c.send_columns.new.out.items ++ (tail_sent c.args.row f c.in_ok-negative.negative tail).bytes) _
-    (λ sent. row_bytes c.args.row f c.args.negative c.in_ok-negative.negative before tail front out c.send_columns.new.out.items c.send_tail.new.out.items
+    on_ok c.write_tail.result (c.write_tail.new.out.items ≡ c.write_columns.new.out.items ++ (tail_sent c.args.row f c.in_ok-negative.negative tail).bytes) _
+    (λ sent. row_bytes c.args.row f c.args.negative c.in_ok-negative.negative before tail front out c.write_columns.new.out.items c.write_tail.new.out.items
     c.in_ok-negative.ensures.bytes c.in_ok-negative.ensures.rendition sent ∙ ap (λ (s : Sent). out ++ s.bytes) (sym (parts c)))
-    c.send_tail.ensures.bytes
+    c.write_tail.ensures.bytes
 
 if_ok : {T E : Type 0} (r : Result T E) (P Q : T → Type 0) → ((x : T) → P x → Q x) → IfOk r P → IfOk r Q
 if_ok (Ok x) P Q f h = f x h
@@ -42,6 +42,6 @@ returns-clause-rendition c =
     let f = c.front_len-front.result in
     let old = c.args.old.now in
     let tail = all_seen (take (length old - f) (drop f old)) in
-    if_ok c.send_tail.result (λ after. after ≡ (tail_sent c.args.row f c.in_ok-negative.negative tail).negative) _
+    if_ok c.write_tail.result (λ after. after ≡ (tail_sent c.args.row f c.in_ok-negative.negative tail).negative) _
     (λ after is. is ∙ ap (λ n. (tail_sent c.args.row f n tail).negative) c.in_ok-negative.ensures.rendition ∙ ap (λ (s : Sent). s.negative) (sym (parts c)))
-    c.send_tail.ensures.rendition
+    c.write_tail.ensures.rendition

@@ -3,7 +3,7 @@ use Rattle.std.proofs.lemmas.Bool.Decides.{nat_tests}
 use Rattle.std.proofs.lemmas.List.{length-map}
 use Rattle.bx_grid.specs.Seen.{seen, all_seen}
 use Rattle.bx_paint.proofs.Sent.{unequal_lengths}
-use Rattle.bx_paint.proofs.sending.are_same.Goals as goal
+use Rattle.bx_paint.proofs.writing.are_same.Goals as goal
 
 pub returns-else-columns-others : goal.returns-else-columns-others
 returns-else-columns-others c =

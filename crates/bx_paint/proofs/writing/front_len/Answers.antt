@@ -2,7 +2,7 @@ use Rattle.std.proofs.Common.{◌-◌, take, ap, sym, ◌∙◌, arith}
 use Rattle.bx_grid.specs.Seen.{seen, all_seen}
 use Rattle.bx_paint.specs.Painting.{before_tail}
 use Rattle.bx_paint.proofs.Sent.{before_tail_blank, before_tail_other, last_seen}
-use Rattle.bx_paint.proofs.sending.front_len.Goals as goal
+use Rattle.bx_paint.proofs.writing.front_len.Goals as goal
 
 pub loop-len-preserved : goal.loop-len-preserved
 loop-len-preserved c =

@@ -1,6 +1,6 @@
 use Rattle.std.proofs.Common.{◌++◌, [], sym, ◌∙◌}
 use Rattle.bx_session.proofs.Turns.{started, turned, prefixed}
-use Rattle.bx_session.proofs.running.run.Goals as goal
+use Rattle.bx_session.proofs.running.run_within.Goals as goal
 
 pub returns-in_err-send-clause-runs : goal.returns-in_err-send-clause-runs
 returns-in_err-send-clause-runs g c =

@@ -3,7 +3,7 @@ use Rattle.std.proofs.lemmas.List.{append-nil}
 use Rattle.bx_grid.proofs.Equal.{lists_are}
 use Rattle.bx_paint.specs.Painting.{Sent, row_sent}
 use Rattle.bx_paint.proofs.Few.{row_same}
-use Rattle.bx_paint.proofs.sending.send_row.Goals as goal
+use Rattle.bx_paint.proofs.writing.write_row.Goals as goal
 
 same_rows : (c : goal.Then-is_same) → row_sent c.args.row c.args.negative c.args.old.now c.args.new.now ≡ record { bytes = []; negative = c.args.negative }
 same_rows c =

@@ -1,6 +1,6 @@
 use Rattle.std.proofs.Common.{◌≡◌, ◌-◌, ◌*◌, drop, false}
 use Rattle.bx_paint.specs.Painting.{rows_sent, then_sent}
-use Rattle.bx_paint.proofs.sending.send_rows.Given as goal
+use Rattle.bx_paint.proofs.writing.write_rows.Given as goal
 
 abbrev pub invariant-loop-row : goal.invariant-loop-row
 invariant-loop-row l =

@@ -2,7 +2,7 @@ use Rattle.std.proofs.Common.{take, ap, sym, ◌∙◌}
 use Rattle.std.proofs.lemmas.List.{take-map}
 use Rattle.bx_grid.specs.Seen.{seen, all_seen}
 use Rattle.bx_paint.proofs.Sent.{take_min}
-use Rattle.bx_paint.proofs.sending.front.Goals as goal
+use Rattle.bx_paint.proofs.writing.front.Goals as goal
 
 pub returns : goal.returns
 returns c =

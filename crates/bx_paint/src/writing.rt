@@ -6,12 +6,13 @@ ghost use Rattle.bx_grid.specs.Seen.{seen, all_seen};
 ghost use Rattle.bx_paint.specs.Painting as spec;
 ghost use Rattle.bx_paint.specs.Painting.{move_bytes, render_change, glyph_bytes, before_tail, leading_blanks, column_sent, columns_sent, tail_sent, row_sent, rows_sent};
 
-use bx_grid::{Column, Grid, Row, all_same, ascii_glyph, printable};
+use bx_grid::{Column, Grid, Row, all_same};
+use bx_terms::{ascii_glyph, is_ascii_printable};
 use itoa::Buffer;
 use std::alloc::AllocError;
 
 /// Sends the cursor to a row and a column, from 0.
-pub fn send_move(out: &mut Vec<u8>, row: u16, column: u16) -> Result<(), AllocError>
+pub fn write_move(out: &mut Vec<u8>, row: u16, column: u16) -> Result<(), AllocError>
     requires small { (row < 65535) × (column < 65535) }
     ensures { OnOk result (out.new.items ≡ out.old.items ++ move_bytes row column) }
 {
@@ -25,7 +26,7 @@ pub fn send_move(out: &mut Vec<u8>, row: u16, column: u16) -> Result<(), AllocEr
     Ok(())
 }
 
-pub fn send_rendition(out: &mut Vec<u8>, from: bool, to: bool) -> Result<(), AllocError>
+pub fn write_rendition(out: &mut Vec<u8>, from: bool, to: bool) -> Result<(), AllocError>
     ensures { OnOk result (out.new.items ≡ out.old.items ++ render_change from to) }
 {
     if from == to {
@@ -46,7 +47,7 @@ struct Pen {
 }
 
 /// Sends a glyph of one byte.
-fn send_byte(
+fn write_byte(
     out: &mut Vec<u8>,
     row: u16,
     column: u16,
@@ -57,16 +58,16 @@ fn send_byte(
     requires small { (row < 65535) × (column < 65535) }
     ensures { OnOk result (out.new.items ≡ out.old.items ++ glyph_bytes row column pen.near pen.negative (byte ∷ []) inverse) }
 {
-    if !(pen.near && printable(byte)) {
-        send_move(out, row, column)?;
+    if !(pen.near && is_ascii_printable(byte)) {
+        write_move(out, row, column)?;
     }
-    send_rendition(out, pen.negative, inverse)?;
+    write_rendition(out, pen.negative, inverse)?;
     out.push(byte)?;
     Ok(())
 }
 
 /// Sends a glyph.
-fn send_glyph(
+fn write_glyph(
     out: &mut Vec<u8>,
     row: u16,
     column: u16,
@@ -78,9 +79,9 @@ fn send_glyph(
     ensures { OnOk result (out.new.items ≡ out.old.items ++ glyph_bytes row column pen.near pen.negative text.now inverse) }
 {
     if !(pen.near && ascii_glyph(text).is_some()) {
-        send_move(out, row, column)?;
+        write_move(out, row, column)?;
     }
-    send_rendition(out, pen.negative, inverse)?;
+    write_rendition(out, pen.negative, inverse)?;
     out.extend_from_slice(text.as_bytes())
 }
 
@@ -116,7 +117,7 @@ fn is_sent(old: &[Column], new: &[Column]) -> bool
 }
 
 /// Sends the glyph that begins with the first column, if a column of it differs.
-fn send_column(
+fn write_column(
     out: &mut Vec<u8>,
     row: u16,
     column: u16,
@@ -132,14 +133,14 @@ fn send_column(
     let sent = is_sent(old, new);
     match new.first() {
         Some(Column::Ascii { byte, negative }) if sent => {
-            send_byte(out, row, column, pen, *byte, *negative)?;
+            write_byte(out, row, column, pen, *byte, *negative)?;
             Ok(Pen {
-                near: printable(*byte),
+                near: is_ascii_printable(*byte),
                 negative: *negative,
             })
         }
         Some(Column::Glyph { text, negative, .. }) if sent => {
-            send_glyph(out, row, column, pen, text, *negative)?;
+            write_glyph(out, row, column, pen, text, *negative)?;
             Ok(Pen {
                 near: ascii_glyph(text).is_some(),
                 negative: *negative,
@@ -153,7 +154,7 @@ fn send_column(
 }
 
 /// Sends what differs in the columns of a row before its tail.
-fn send_columns(
+fn write_columns(
     out: &mut Vec<u8>,
     row: u16,
     negative: bool,
@@ -170,7 +171,7 @@ fn send_columns(
         negative,
     };
     for i in 0..new.len() {
-        pen = send_column(out, row, i as u16, pen, &old[i..], &new[i..])?;
+        pen = write_column(out, row, i as u16, pen, &old[i..], &new[i..])?;
     }
     Ok(pen.negative)
 }
@@ -203,7 +204,7 @@ fn blanks_len(columns: &[Column]) -> usize
 }
 
 /// Erases a row's tail from its first column that differs.
-fn send_tail(
+fn write_tail(
     out: &mut Vec<u8>,
     row: u16,
     column: u16,
@@ -218,14 +219,14 @@ fn send_tail(
     if blanks == old.len() {
         return Ok(negative);
     }
-    send_move(out, row, column + blanks as u16)?;
-    send_rendition(out, negative, false)?;
+    write_move(out, row, column + blanks as u16)?;
+    write_rendition(out, negative, false)?;
     out.extend_from_slice(b"\x1b[0K")?;
     Ok(false)
 }
 
 /// Sends what differs in the columns of a row, before its tail and in it.
-fn send_changed_row(
+fn write_changed_row(
     out: &mut Vec<u8>,
     row: u16,
     negative: bool,
@@ -238,12 +239,12 @@ fn send_changed_row(
     ensures rendition { IfOk result (λ after. after ≡ (row_sent row negative (all_seen old.now) (all_seen new.now)).negative) }
 {
     let front = front_len(new);
-    let negative = send_columns(out, row, negative, &old[..front], &new[..front])?;
-    send_tail(out, row, front as u16, negative, &old[front..])
+    let negative = write_columns(out, row, negative, &old[..front], &new[..front])?;
+    write_tail(out, row, front as u16, negative, &old[front..])
 }
 
 /// Sends what differs in a row.
-fn send_row(
+fn write_row(
     out: &mut Vec<u8>,
     row: u16,
     negative: bool,
@@ -258,11 +259,11 @@ fn send_row(
     if old.is_same(new) {
         return Ok(negative);
     }
-    send_changed_row(out, row, negative, old.columns(), new.columns())
+    write_changed_row(out, row, negative, old.columns(), new.columns())
 }
 
 /// Sends what differs in all rows of two grids of one size.
-pub fn send_rows(out: &mut Vec<u8>, old: &Grid, new: &Grid) -> Result<bool, AllocError>
+pub fn write_rows(out: &mut Vec<u8>, old: &Grid, new: &Grid) -> Result<bool, AllocError>
     requires height { old.now.height ≡ new.now.height }
     requires width { old.now.width ≡ new.now.width }
     ensures bytes { OnOk result (out.new.items ≡ out.old.items ++ (rows_sent new.now.height 0 new.now.width false old.now.columns new.now.columns).bytes) }
@@ -270,7 +271,7 @@ pub fn send_rows(out: &mut Vec<u8>, old: &Grid, new: &Grid) -> Result<bool, Allo
 {
     let mut negative = false;
     for row in 0..new.height() {
-        negative = send_row(out, row, negative, &old.row(row), &new.row(row))?;
+        negative = write_row(out, row, negative, &old.row(row), &new.row(row))?;
     }
     Ok(negative)
 }

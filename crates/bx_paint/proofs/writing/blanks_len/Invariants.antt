@@ -1,7 +1,7 @@
 use Rattle.std.proofs.Common.{◌≡◌, ◌+◌, drop}
 use Rattle.bx_grid.specs.Seen.{all_seen}
 use Rattle.bx_paint.specs.Painting.{leading_blanks}
-use Rattle.bx_paint.proofs.sending.blanks_len.Given as goal
+use Rattle.bx_paint.proofs.writing.blanks_len.Given as goal
 
 abbrev pub invariant-loop-column : goal.invariant-loop-column
 invariant-loop-column l = record {

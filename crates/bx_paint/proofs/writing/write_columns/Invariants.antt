@@ -1,7 +1,7 @@
 use Rattle.std.proofs.Common.{◌≡◌, drop, false}
 use Rattle.bx_grid.specs.Seen.{all_seen}
 use Rattle.bx_paint.specs.Painting.{columns_sent, then_sent}
-use Rattle.bx_paint.proofs.sending.send_columns.Given as goal
+use Rattle.bx_paint.proofs.writing.write_columns.Given as goal
 
 abbrev pub invariant-loop-i : goal.invariant-loop-i
 invariant-loop-i l =

@@ -5,7 +5,7 @@ use Rattle.bx_grid.specs.Columns.{is_blank}
 use Rattle.bx_grid.specs.Seen.{seen, all_seen}
 use Rattle.bx_paint.specs.Painting.{leading_blanks, move_bytes, render_change, erase_bytes}
 use Rattle.bx_paint.proofs.Sent.{all_blank_is, some_not_blank}
-use Rattle.bx_paint.proofs.sending.send_tail.Goals as goal
+use Rattle.bx_paint.proofs.writing.write_tail.Goals as goal
 
 all_blank : (c : goal.Then-blanks-old) → list_all is_blank (all_seen c.args.old.now) ≡ true
 all_blank c = all_blank_is (all_seen c.args.old.now) (sym c.blanks_len-blanks.ensures.blanks ∙ c.if-blanks-old.true ∙ sym (length-map c.args.old.now seen))
@@ -27,11 +27,11 @@ returns-clause-bytes c =
     let blanks = leading_blanks (all_seen c.args.old.now) in
     let move = move_bytes c.args.row (c.args.column + blanks) in
     let turn = render_change c.args.negative false in
-    let moved : c.send_move.new.out.items ≡ out ++ move =
-    c.in_ok-send_move.ensures ∙ ap (λ n. out ++ move_bytes c.args.row (c.args.column + n)) c.blanks_len-blanks.ensures.blanks in
+    let moved : c.write_move.new.out.items ≡ out ++ move =
+    c.in_ok-write_move.ensures ∙ ap (λ n. out ++ move_bytes c.args.row (c.args.column + n)) c.blanks_len-blanks.ensures.blanks in
     rw (some_left c)
     (c.in_ok-extend_from_slice.ensures.items
-    ∙ ap (λ xs. xs ++ erase_bytes) (c.in_ok-send_rendition.ensures ∙ ap (λ xs. xs ++ turn) moved)
+    ∙ ap (λ xs. xs ++ erase_bytes) (c.in_ok-write_rendition.ensures ∙ ap (λ xs. xs ++ turn) moved)
     ∙ append_assoc (out ++ move) turn erase_bytes
     ∙ append_assoc out move (turn ++ erase_bytes))
 
