@@ -3,6 +3,7 @@
 ghost use Rattle.std.specs.Prelude.{◌≡◌, OnOk};
 ghost use Rattle.bx_grid.specs.Picture.{IsWithin};
 
+use crate::{changes, whole};
 use bx_grid::{Cell, Grid, Picture, Screen};
 use bx_terms::{is_glyph, run_width};
 use std::alloc::Global;
@@ -21,18 +22,45 @@ fn put(grid: &mut Grid, cell: Cell, text: &str, negative: bool) -> Result<(), Fa
     Ok(())
 }
 
-/// The whole painting of a picture. It promises nothing, so that the proofs of the tests see no picture.
-fn whole(alloc: Global, picture: &Picture) -> Result<Vec<u8>, Fail> {
-    Ok(crate::whole(alloc, picture)?)
+/// Whether these bytes are a picture's whole painting.
+fn is_whole(alloc: Global, picture: &Picture, bytes: &[u8]) -> Result<bool, Fail> {
+    let painting = whole(alloc, picture)?;
+    Ok(painting.as_slice() == bytes)
 }
 
 /// What leads from one picture to another. Whether the sizes agree is asked when the test runs.
-fn changes(alloc: Global, old: &Picture, new: &Picture) -> Result<Vec<u8>, Fail> {
+fn painting_of(alloc: Global, old: &Picture, new: &Picture) -> Result<Vec<u8>, Fail> {
     let (before, after) = (old.grid(), new.grid());
     if before.height() != after.height() || before.width() != after.width() {
         return Err(Fail::new("two sizes"));
     }
-    Ok(crate::changes(alloc, old, new)?)
+    Ok(changes(alloc, old, new)?)
+}
+
+/// Whether these bytes lead from one picture to another.
+fn are_changes(alloc: Global, old: &Picture, new: &Picture, bytes: &[u8]) -> Result<bool, Fail> {
+    let painting = painting_of(alloc, old, new)?;
+    Ok(painting.as_slice() == bytes)
+}
+
+/// A screen that has read a picture's whole painting.
+fn screen_of(alloc: Global, picture: &Picture) -> Result<Screen, Fail> {
+    let grid = picture.grid();
+    let mut screen = Screen::new(alloc, grid.height(), grid.width())?;
+    let painting = whole(alloc, picture)?;
+    screen.read(painting.as_slice())?;
+    Ok(screen)
+}
+
+/// Whether a screen that shows the one picture shows the other once it has read what leads to it.
+fn shows_both(alloc: Global, old: &Picture, new: &Picture) -> Result<bool, Fail> {
+    let mut screen = screen_of(alloc, old)?;
+    if !screen.shows(old) {
+        return Ok(false);
+    }
+    let painting = painting_of(alloc, old, new)?;
+    screen.read(painting.as_slice())?;
+    Ok(screen.shows(new))
 }
 
 /// The row `ab` of five columns, with the cursor on its first.
@@ -56,21 +84,16 @@ fn picture_of_xab(alloc: Global) -> Result<Picture, Fail> {
 fn a_glyph_put_in(rt: HostRuntime) -> Result<(), Fail> {
     let old = picture_of_ab(rt.alloc())?;
     let new = picture_of_xab(rt.alloc())?;
-    let first = whole(rt.alloc(), &old)?;
-    assert_eq!(rt;
-        first.as_slice(),
-        b"\x1b[0m\x1b[2J\x1b[1;1Hab\x1b[1;1H".as_slice()
+    assert!(rt; is_whole(rt.alloc(), &old, b"\x1b[0m\x1b[2J\x1b[1;1Hab\x1b[1;1H")?);
+    assert!(rt;
+        are_changes(
+            rt.alloc(),
+            &old,
+            &new,
+            b"\x1b[1;1H\x1b[7mx\x1b[0mab\x1b[1;2H"
+        )?
     );
-    let second = changes(rt.alloc(), &old, &new)?;
-    assert_eq!(rt;
-        second.as_slice(),
-        b"\x1b[1;1H\x1b[7mx\x1b[0mab\x1b[1;2H".as_slice()
-    );
-    let mut screen = Screen::new(rt.alloc(), 1, 5)?;
-    screen.read(first.as_slice())?;
-    assert!(rt; screen.shows(&old));
-    screen.read(second.as_slice())?;
-    assert!(rt; screen.shows(&new));
+    assert!(rt; shows_both(rt.alloc(), &old, &new)?);
     Ok(())
 }
 
@@ -78,11 +101,15 @@ fn a_glyph_put_in(rt: HostRuntime) -> Result<(), Fail> {
 fn a_row_cut_short(rt: HostRuntime) -> Result<(), Fail> {
     let old = picture_of_xab(rt.alloc())?;
     let new = picture_of_ab(rt.alloc())?;
-    let sent = changes(rt.alloc(), &old, &new)?;
-    assert_eq!(rt;
-        sent.as_slice(),
-        b"\x1b[1;1Hab\x1b[1;3H\x1b[0K\x1b[1;1H".as_slice()
+    assert!(rt;
+        are_changes(
+            rt.alloc(),
+            &old,
+            &new,
+            b"\x1b[1;1Hab\x1b[1;3H\x1b[0K\x1b[1;1H"
+        )?
     );
+    assert!(rt; shows_both(rt.alloc(), &old, &new)?);
     Ok(())
 }
 
@@ -90,7 +117,7 @@ fn a_row_cut_short(rt: HostRuntime) -> Result<(), Fail> {
 fn nothing_where_nothing_differs(rt: HostRuntime) -> Result<(), Fail> {
     let old = picture_of_ab(rt.alloc())?;
     let new = picture_of_ab(rt.alloc())?;
-    assert!(rt; changes(rt.alloc(), &old, &new)?.is_empty());
+    assert!(rt; are_changes(rt.alloc(), &old, &new, b"")?);
     Ok(())
 }
 
@@ -125,28 +152,38 @@ fn picture_of_e(alloc: Global, accent: bool) -> Result<Picture, Fail> {
 fn a_wide_glyph_is_sent_whole(rt: HostRuntime) -> Result<(), Fail> {
     let old = picture_of_wide(rt.alloc())?;
     let new = picture_of_x_and_wide(rt.alloc())?;
-    let mut screen = Screen::new(rt.alloc(), 1, 4)?;
-    let first = whole(rt.alloc(), &old)?;
-    assert_eq!(rt;
-        first.as_slice(),
-        b"\x1b[0m\x1b[2J\x1b[1;1H\xE4\xB8\x96\x1b[1;1H".as_slice()
+    assert!(rt;
+        is_whole(
+            rt.alloc(),
+            &old,
+            b"\x1b[0m\x1b[2J\x1b[1;1H\xE4\xB8\x96\x1b[1;1H"
+        )?
     );
-    screen.read(first.as_slice())?;
-    assert!(rt; screen.shows(&old));
-    let second = changes(rt.alloc(), &old, &new)?;
-    assert_eq!(rt;
-        second.as_slice(),
-        b"\x1b[1;1Hx\x1b[1;2H\xE4\xB8\x96\x1b[1;2H".as_slice()
+    assert!(rt;
+        are_changes(
+            rt.alloc(),
+            &old,
+            &new,
+            b"\x1b[1;1Hx\x1b[1;2H\xE4\xB8\x96\x1b[1;2H"
+        )?
     );
-    screen.read(second.as_slice())?;
-    assert!(rt; screen.shows(&new));
-    let third = changes(rt.alloc(), &new, &old)?;
-    assert_eq!(rt;
-        third.as_slice(),
-        b"\x1b[1;1H\xE4\xB8\x96\x1b[1;3H\x1b[0K\x1b[1;1H".as_slice()
+    assert!(rt; shows_both(rt.alloc(), &old, &new)?);
+    Ok(())
+}
+
+#[test]
+fn a_wide_glyph_is_cut_off_whole(rt: HostRuntime) -> Result<(), Fail> {
+    let old = picture_of_x_and_wide(rt.alloc())?;
+    let new = picture_of_wide(rt.alloc())?;
+    assert!(rt;
+        are_changes(
+            rt.alloc(),
+            &old,
+            &new,
+            b"\x1b[1;1H\xE4\xB8\x96\x1b[1;3H\x1b[0K\x1b[1;1H"
+        )?
     );
-    screen.read(third.as_slice())?;
-    assert!(rt; screen.shows(&old));
+    assert!(rt; shows_both(rt.alloc(), &old, &new)?);
     Ok(())
 }
 
@@ -154,21 +191,23 @@ fn a_wide_glyph_is_sent_whole(rt: HostRuntime) -> Result<(), Fail> {
 fn a_mark_is_sent_with_its_letter(rt: HostRuntime) -> Result<(), Fail> {
     let old = picture_of_e(rt.alloc(), false)?;
     let new = picture_of_e(rt.alloc(), true)?;
-    let mut screen = Screen::new(rt.alloc(), 1, 4)?;
-    let first = whole(rt.alloc(), &new)?;
-    assert_eq!(rt;
-        first.as_slice(),
-        b"\x1b[0m\x1b[2J\x1b[1;1He\xCC\x81\x1b[1;2H\x1b[7mx\x1b[0m\x1b[1;1H".as_slice()
+    assert!(rt;
+        is_whole(
+            rt.alloc(),
+            &new,
+            b"\x1b[0m\x1b[2J\x1b[1;1He\xCC\x81\x1b[1;2H\x1b[7mx\x1b[0m\x1b[1;1H"
+        )?
     );
-    screen.read(first.as_slice())?;
-    assert!(rt; screen.shows(&new));
-    let second = changes(rt.alloc(), &new, &old)?;
-    assert_eq!(rt; second.as_slice(), b"\x1b[1;1He\x1b[1;1H".as_slice());
-    screen.read(second.as_slice())?;
-    assert!(rt; screen.shows(&old));
-    let third = changes(rt.alloc(), &old, &new)?;
-    assert_eq!(rt; third.as_slice(), b"\x1b[1;1He\xCC\x81\x1b[1;1H".as_slice());
-    screen.read(third.as_slice())?;
-    assert!(rt; screen.shows(&new));
+    assert!(rt; are_changes(rt.alloc(), &old, &new, b"\x1b[1;1He\xCC\x81\x1b[1;1H")?);
+    assert!(rt; shows_both(rt.alloc(), &old, &new)?);
+    Ok(())
+}
+
+#[test]
+fn a_mark_is_taken_away_with_its_letter(rt: HostRuntime) -> Result<(), Fail> {
+    let old = picture_of_e(rt.alloc(), true)?;
+    let new = picture_of_e(rt.alloc(), false)?;
+    assert!(rt; are_changes(rt.alloc(), &old, &new, b"\x1b[1;1He\x1b[1;1H")?);
+    assert!(rt; shows_both(rt.alloc(), &old, &new)?);
     Ok(())
 }
