@@ -5,7 +5,7 @@ ghost use Rattle.bx_resolve.specs.Weak.{is_nsm};
 ghost use Rattle.bx_resolve.specs.Neutral.{implicit};
 ghost use Rattle.bx_resolve.specs.Levels.{type_of, chars_at, types_at, sequence_levels, levels_in, with_levels, with_sequences, paragraph_levels, paragraph_level_under, levels_under};
 
-use crate::answer::Levels;
+use crate::paragraph::Levels;
 use crate::error::ResolveError;
 use crate::neutral::{implicit_at, n1, n2};
 use crate::weak::weak;

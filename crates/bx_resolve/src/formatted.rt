@@ -8,7 +8,7 @@ ghost use Rattle.bx_resolve.specs.Neutral.{implicit};
 ghost use Rattle.bx_resolve.specs.Levels.{chars_at, types_at, sequence_levels, levels_in, with_levels, with_sequences, paragraph_levels};
 ghost use Rattle.bx_resolve.specs.Walk.{runs_with, KeepsWalk, WritesRun};
 
-use crate::answer::Levels;
+use crate::paragraph::Levels;
 use crate::error::ResolveError;
 use crate::neutral::implicit_at;
 use crate::scratch::{Ends, Scratch};

@@ -86,7 +86,7 @@ fn taken(t: Class, before: Class, after: Class, embedding: Class) -> Class
 
 /// N1 and N2 in one pass.
 #[tactic(auto, using(crate::proofs::Run::run_write, crate::proofs::Run::run_keep, crate::proofs::Fused::neutral_run, crate::proofs::Run::side_more, crate::proofs::Fused::keeps_other))]
-pub fn neutral(types: &mut [Class], sos: Class, eos: Class, embedding: Class)
+pub fn n1_n2(types: &mut [Class], sos: Class, eos: Class, embedding: Class)
     ensures { types.new ≡ n2 embedding (n1 sos eos types.old) }
 {
     let mut before = sos;

@@ -4,7 +4,7 @@ ghost use Rattle.bx_resolve.specs.Neutral.{implicit_at};
 ghost use Rattle.bx_resolve.specs.Levels.{paragraph_levels, paragraph_level_under, levels_under};
 ghost use Rattle.bx_resolve.specs.Plain.{is_unformatted, all_pass};
 
-use crate::answer::Levels;
+use crate::paragraph::Levels;
 use crate::by_rules::classes_of;
 use crate::error::ResolveError;
 use crate::formatted::formatted_levels;
