@@ -16,7 +16,7 @@ use Rattle.bx_explicit.specs.declared.state.State.{State}
 use Rattle.bx_explicit.specs.Stack.{IsRising, top_of, after_isolate, after_embedding, entry}
 use Rattle.bx_explicit.proofs.Rising.{rising_push, rising_top, rising_length}
 use Rattle.bx_ucd.specs.declared.class.Class.TheVariants.{FSI}
-use Rattle.bx_explicit.specs.Links.{is_fsi}
+use Rattle.bx_explicit.specs.TextLevels.{is_fsi}
 use Rattle.bx_explicit.specs.Explicit.{first_above, state_after, next_state, kept_by, explicit_from, embed, isolate, end_isolate, end_embedding, is_valid, start}
 
 abbrev pub total : State → ℕ

@@ -6,7 +6,7 @@ use Rattle.bx_ucd.specs.declared.class.Class.TheVariants.{L, R, AL, PDI, LRI, RL
 use Rattle.bx_ucd.specs.Class.{is_strong}
 use Rattle.bx_explicit.specs.Matching.{count_after}
 use Rattle.bx_explicit.specs.ParagraphLevel.{isolate_level, level_of_strong}
-use Rattle.bx_explicit.specs.Links.{levels_before, rest_levels, with_level, first_level}
+use Rattle.bx_explicit.specs.TextLevels.{levels_before, rest_levels, with_level, first_level}
 use Rattle.bx_explicit.proofs.Scan.{level_of_rest, level_step, level_here, until_pdi, until_cons, until_none}
 
 -- the levels of the texts between the PDIs that match no initiator in `cs`

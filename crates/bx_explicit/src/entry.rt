@@ -1,5 +1,6 @@
 //! What the rules for explicit levels keep and give.
 ghost use Rattle.std.specs.Prelude.{◌≡◌, ◌≤◌, All, length};
+ghost use Rattle.bx_explicit.specs.Explicit.{explicit_levels};
 ghost use Rattle.bx_explicit.specs.Kept.{level_or_0};
 
 use bx_ucd::Class;
@@ -39,6 +40,8 @@ pub struct Explicit {
     pub kept: Vec<Option<Kept>>,
     /// The paragraph level.
     pub level: u8,
+    pub ghost given: { kept.items ≡ explicit_levels level classes.items },
+    pub ghost binary: { level ≤ 1 },
     pub ghost as_long: { length kept.items ≡ length classes.items },
     pub ghost low: { All (λ k. level_or_0 k ≤ 125) kept.items },
 }

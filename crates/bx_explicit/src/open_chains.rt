@@ -1,5 +1,5 @@
 //! The chains of level runs that may go on (BD13), as the runs are met in order.
-ghost use Rattle.std.specs.Prelude.{◌≡◌, ◌==◌, ◌<◌, ◌≤◌, ◌-◌, ◌++◌, [], ◌∷◌, OnOk, OnErr, All, length, reverse, take};
+ghost use Rattle.std.specs.Prelude.{◌≡◌, ◌==◌, ◌<◌, ◌≤◌, ◌-◌, ◌++◌, [], ◌∷◌, OnOk, OnErr, length, reverse, take};
 ghost use Rattle.bx_explicit.specs.LevelPlaces.{places_from};
 ghost use Rattle.bx_explicit.specs.OpenChains.{run_at, is_over, with_run, others, OpenRuns, newest_sequence};
 ghost use Rattle.bx_explicit.specs.Stacked.{open_with, chains_of, AreOpen};
@@ -184,8 +184,7 @@ impl<'e> OpenChains<'e> {
     /// The first place of each run of the newest chain, in order.
     pub fn firsts(&self) -> &[usize]
         requires { 0 < length self.now.chains }
-        ensures places { places_from (newest_sequence self.now).level self.now.explicit.kept.items result.now ≡ (newest_sequence self.now).places }
-        ensures within { All (λ p. p < length self.now.explicit.kept.items) (newest_sequence self.now).places }
+        ensures { places_from (newest_sequence self.now).level self.now.explicit.kept.items result.now ≡ (newest_sequence self.now).places }
     {
         let newest = newest(&self.chains);
         &self.firsts[newest.begin..]
