@@ -5,7 +5,7 @@ use Rattle.std.proofs.lemmas.List.{length-take}
 use Rattle.std.proofs.lemmas.List.Elements.{All-cons, All-nil, All-head, All-tail, All-append}
 use Rattle.bx_ucd.specs.declared.class.Class.{Class}
 use Rattle.bx_explicit.specs.declared.role.Role.{Role}
-use Rattle.bx_explicit.specs.declared.role.Role.TheVariants.{EmbedLeft, EmbedRight, OverrideLeft, OverrideRight, IsolateLeft, IsolateRight, IsolateFirst, EndIsolate, EndEmbedding, Boundary, Plain}
+use Rattle.bx_explicit.specs.declared.role.Role.TheVariants.{Lre, Rle, Lro, Rlo, Lri, Rli, Fsi, Pdi, Pdf, Bn, Other}
 use Rattle.bx_explicit.specs.declared.entry.Kept.{Kept}
 use Rattle.bx_explicit.specs.declared.state.State.{State}
 use Rattle.bx_explicit.specs.declared.runs.Run.{Run}
@@ -23,17 +23,17 @@ abbrev pub IsLow : Option Kept → Type 0
 IsLow k = level_or_0 k ≤ 125
 
 kept_low : (r : Role) (c : Class) (s t : State) → IsRising s.stack → IsRising t.stack → IsLow (kept_by r c s t)
-kept_low EmbedLeft c s t h k = omega arith
-kept_low EmbedRight c s t h k = omega arith
-kept_low OverrideLeft c s t h k = omega arith
-kept_low OverrideRight c s t h k = omega arith
-kept_low IsolateLeft c s t h k = rising_top s.stack h
-kept_low IsolateRight c s t h k = rising_top s.stack h
-kept_low IsolateFirst c s t h k = rising_top s.stack h
-kept_low EndIsolate c s t h k = rising_top t.stack k
-kept_low EndEmbedding c s t h k = omega arith
-kept_low Boundary c s t h k = omega arith
-kept_low Plain c s t h k = rising_top s.stack h
+kept_low Lre c s t h k = omega arith
+kept_low Rle c s t h k = omega arith
+kept_low Lro c s t h k = omega arith
+kept_low Rlo c s t h k = omega arith
+kept_low Lri c s t h k = rising_top s.stack h
+kept_low Rli c s t h k = rising_top s.stack h
+kept_low Fsi c s t h k = rising_top s.stack h
+kept_low Pdi c s t h k = rising_top t.stack k
+kept_low Pdf c s t h k = omega arith
+kept_low Bn c s t h k = omega arith
+kept_low Other c s t h k = rising_top s.stack h
 
 explicit_low : (s : State) (cs : List Class) → IsRising s.stack → All IsLow (explicit_from s cs)
 explicit_low s [] h = All-nil IsLow

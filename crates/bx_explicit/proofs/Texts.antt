@@ -45,10 +45,6 @@ text_strong c cs e s =
     let b : 1 + until_pdi 1 cs ≡ suc (until_pdi 1 cs) = omega arith in
     ap (λ k. level_of_rest 0 (take k (c ∷ cs))) (a ∙ b) ∙ level_here c (take (until_pdi 1 cs) cs) s
 
-text_none : (n : ℕ) → text_level n [] ≡ 0
-text_none zero = refl
-text_none (suc n) = refl
-
 pub texts-get : (cs : List Class) (n : ℕ) → get_or (texts cs) n 0 ≡ text_level n cs
 texts-get [] zero = refl
 texts-get [] (suc n) = refl

@@ -9,9 +9,9 @@ use Rattle.bx_explicit.specs.Sequences.{RunSequence}
 use Rattle.bx_explicit.specs.OpenChains.{OpenRuns, run_at, is_over, with_run, others, sequence_of_runs}
 
 -- the chains that end before the run `q`, the newest first
-abbrev pub ended : List Class → List (List Run) → Run → List (List Run)
-ended cs [] q = []
-ended cs (c ∷ chains) q = elim (is_over cs (c ∷ chains) q) [ true ↦ c ∷ ended cs chains q | false ↦ [] ]
+abbrev pub over_before : List Class → List (List Run) → Run → List (List Run)
+over_before cs [] q = []
+over_before cs (c ∷ chains) q = elim (is_over cs (c ∷ chains) q) [ true ↦ c ∷ over_before cs chains q | false ↦ [] ]
 
 -- the chains that may go on with it
 abbrev pub still_open : List Class → List (List Run) → Run → List (List Run)
@@ -26,7 +26,7 @@ sequences_of paragraph cs kept (c ∷ chains) = sequence_of_runs paragraph cs ke
 -- the sequences of chains and of the runs to come, in the order in which the chains end
 abbrev pub ending : ℕ → List Class → List (Option Kept) → List (List Run) → List Run → List RunSequence
 ending paragraph cs kept chains [] = sequences_of paragraph cs kept chains
-ending paragraph cs kept chains (q ∷ rest) = sequences_of paragraph cs kept (ended cs chains q) ++ ending paragraph cs kept (with_run (still_open cs chains q) q) rest
+ending paragraph cs kept chains (q ∷ rest) = sequences_of paragraph cs kept (over_before cs chains q) ++ ending paragraph cs kept (with_run (still_open cs chains q) q) rest
 
 -- a place lies between two places, or it does not
 abbrev pub IsIn : ℕ → ℕ → ℕ → Type 0
@@ -65,7 +65,7 @@ IsToCome kept (Some r) = IsRunOf kept r
 -- what a walk over the sequences shows: whether one is lent, which one, and those that are left
 pub record SequencesLeft : Type 0 where
   pub explicit : Explicit
-  pub lent : Bool
+  pub has_current : Bool
   pub current : RunSequence
   pub left : List RunSequence
 

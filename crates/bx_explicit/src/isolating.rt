@@ -2,6 +2,7 @@
 ghost use Rattle.std.specs.Prelude.{◌≡◌, ◌<◌, ◌≤◌, ◌++◌, IfOk, OnOk, All, drop, length, true};
 ghost use Rattle.bx_explicit.specs.LevelPlaces.{level_places, places_from};
 ghost use Rattle.bx_explicit.specs.Sequences.{RunSequence, first_place, sequences};
+ghost use Rattle.bx_explicit.specs.Stack.{max_depth};
 ghost use Rattle.bx_explicit.specs.Walk.{AreGiven};
 
 use crate::entry::{Explicit, Kept};
@@ -114,7 +115,7 @@ fn lent_sequence(
     walk: &SequenceWalk<'_>,
     kept: &[Option<Kept>],
 ) -> Result<Sequence, AllocError>
-    requires lent { walk.now.lent ≡ true }
+    requires lent { walk.now.has_current ≡ true }
     requires same { kept.now ≡ walk.now.explicit.kept.items }
     ensures { IfOk result (λ s. s ≡ walk.now.current) }
 {
@@ -143,7 +144,7 @@ fn ended_sequences(alloc: Global, explicit: &Explicit) -> Result<Vec<Sequence>, 
 /// X10). It takes memory, and is refused only where there is none.
 pub fn sequences(alloc: Global, explicit: &Explicit) -> Result<Vec<Sequence>, ExplicitError>
     ensures sequences { IfOk result (λ v. v.items ≡ sequences explicit.now.level explicit.now.classes.items explicit.now.kept.items) }
-    ensures low { IfOk result (λ v. All (λ s. s.level ≤ 125) v.items) }
+    ensures low { IfOk result (λ v. All (λ s. s.level ≤ max_depth) v.items) }
     ensures within { IfOk result (λ v. All (λ s. All (λ p. p < length explicit.now.kept.items) s.places) v.items) }
 {
     let mut all = ended_sequences(alloc, explicit)?;

@@ -25,4 +25,5 @@ pub use error::ExplicitError;
 pub use isolating::{Sequence, sequences};
 pub use paragraph::{base_level, paragraph_level};
 pub use rules::explicit;
+pub use stack::MAX_DEPTH;
 pub use walk::SequenceWalk;

@@ -2,6 +2,7 @@
 ghost use Rattle.std.specs.Prelude.{◌≡◌, ◌==◌, ◌<◌, ◌≤◌, ◌-◌, ◌++◌, [], ◌∷◌, OnOk, OnErr, length, reverse, take};
 ghost use Rattle.bx_explicit.specs.LevelPlaces.{places_from};
 ghost use Rattle.bx_explicit.specs.OpenChains.{run_at, is_over, with_run, others, OpenRuns, newest_sequence};
+ghost use Rattle.bx_explicit.specs.Stack.{max_depth};
 ghost use Rattle.bx_explicit.specs.Stacked.{open_with, chains_of, AreOpen};
 
 use crate::ends::{end_class, start_class};
@@ -148,7 +149,7 @@ impl<'e> OpenChains<'e> {
     pub fn level(&self) -> u8
         requires { 0 < length self.now.chains }
         ensures value { result ≡ (newest_sequence self.now).level }
-        ensures low { result ≤ 125 }
+        ensures low { result ≤ max_depth }
     {
         newest(&self.chains).level
     }

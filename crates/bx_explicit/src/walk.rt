@@ -3,6 +3,7 @@ ghost use Rattle.std.specs.Prelude.{◌≡◌, ◌<◌, ◌∷◌, [], ◌≤◌
 ghost use Rattle.bx_explicit.specs.LevelPlaces.{places_from};
 ghost use Rattle.bx_explicit.specs.OpenChains.{others, newest_sequence};
 ghost use Rattle.bx_explicit.specs.Sequences.{sequences};
+ghost use Rattle.bx_explicit.specs.Stack.{max_depth};
 ghost use Rattle.bx_explicit.specs.Walk.{SequencesLeft, AreGiven, IsToCome, unlent, left_of, IsWalk};
 
 use crate::entry::Explicit;
@@ -54,7 +55,7 @@ pub struct SequenceWalk<'e> {
 impl<'e> Model for SequenceWalk<'e> {
     ghost Value = { SequencesLeft };
 
-    ghost view = { λ w. record { explicit = w.explicit.now; lent = w.lent; current = newest_sequence w.chains; left = left_of w.explicit.now (unlent w.lent w.chains.chains) w.run } };
+    ghost view = { λ w. record { explicit = w.explicit.now; has_current = w.lent; current = newest_sequence w.chains; left = left_of w.explicit.now (unlent w.lent w.chains.chains) w.run } };
 
     ghost invariant = { λ w. IsWalk w.explicit.now w.chains w.run w.lent };
 }
@@ -87,7 +88,7 @@ impl<'e> SequenceWalk<'e> {
     /// sequences are left.
     pub fn advance(&mut self) -> Result<bool, ExplicitError>
         ensures explicit { self.new.explicit ≡ self.old.explicit }
-        ensures lent { IfOk result (λ b. b ≡ self.new.lent) }
+        ensures lent { IfOk result (λ b. b ≡ self.new.has_current) }
         ensures next { IfOk result (λ b. b ≡ true → self.old.left ≡ self.new.current ∷ self.new.left) }
         ensures end { IfOk result (λ b. b ≡ false → self.old.left ≡ []) }
         ensures err { OnErr result (self.new.left ≡ self.old.left) }
@@ -100,16 +101,16 @@ impl<'e> SequenceWalk<'e> {
 
     /// The level of the sequence that is lent.
     pub fn level(&self) -> u8
-        requires { self.now.lent ≡ true }
+        requires { self.now.has_current ≡ true }
         ensures value { result ≡ self.now.current.level }
-        ensures low { result ≤ 125 }
+        ensures low { result ≤ max_depth }
     {
         self.chains.level()
     }
 
     /// The type before it (X10).
     pub fn sos(&self) -> Class
-        requires { self.now.lent ≡ true }
+        requires { self.now.has_current ≡ true }
         ensures { result ≡ self.now.current.sos }
     {
         self.chains.sos()
@@ -117,7 +118,7 @@ impl<'e> SequenceWalk<'e> {
 
     /// The type after it (X10).
     pub fn eos(&self) -> Class
-        requires { self.now.lent ≡ true }
+        requires { self.now.has_current ≡ true }
         ensures { result ≡ self.now.current.eos }
     {
         self.chains.eos()
@@ -126,7 +127,7 @@ impl<'e> SequenceWalk<'e> {
     /// The first place of each of its runs, in order. The places of a run are the kept characters of its level from there
     /// on, up to a kept one of another level.
     pub fn firsts(&self) -> &[usize]
-        requires { self.now.lent ≡ true }
+        requires { self.now.has_current ≡ true }
         ensures { places_from self.now.current.level self.now.explicit.kept.items result.now ≡ self.now.current.places }
     {
         self.chains.firsts()

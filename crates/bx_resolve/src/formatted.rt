@@ -154,7 +154,7 @@ fn write_sequence<D: BidiData>(
     walk: &SequenceWalk<'_>,
     kept: &[Option<Kept>],
 ) -> Result<(), ResolveError>
-    requires lent { walk.now.lent ≡ true }
+    requires lent { walk.now.has_current ≡ true }
     requires same { kept.now ≡ walk.now.explicit.kept.items }
     requires as_long { length chars.now ≡ length types.old }
     requires all { length each.old.items ≡ length kept.now }
@@ -179,7 +179,7 @@ fn write_lent<D: BidiData>(
     walk: &SequenceWalk<'_>,
     kept: &[Option<Kept>],
 ) -> Result<(), ResolveError>
-    requires lent { walk.now.lent ≡ true }
+    requires lent { walk.now.has_current ≡ true }
     requires same { kept.now ≡ walk.now.explicit.kept.items }
     requires as_long { length chars.now ≡ length kept.now }
     requires all { length each.old.items ≡ length kept.now }
