@@ -7,5 +7,6 @@ pub mod PlainRuns
 pub mod PlainPairs
 pub mod PlainLengths
 pub mod PlainTypes
+pub mod RightTypes
 pub mod PlainLevels
 pub mod TestRows

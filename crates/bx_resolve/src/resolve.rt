@@ -9,7 +9,7 @@ use crate::by_rules::classes_of;
 use crate::error::ResolveError;
 use crate::formatted::formatted_levels;
 use crate::neutral::implicit_at;
-use crate::plain::{are_plain, are_unformatted};
+use crate::plain::{are_plain, are_plain_right, are_unformatted};
 use crate::scratch::{Ends, Scratch};
 use bx_explicit::{Base, base_level, direction};
 use bx_ucd::{BidiData, Class};
@@ -51,9 +51,10 @@ fn unformatted_levels<D: BidiData>(
     Ok(Levels { paragraph, each })
 }
 
-/// The levels of a paragraph body under a base (UAX #9, 3.3). A text from left to right in which no class needs a rule
-/// pays for none, and one with no formatting characters pays for no explicit rule. It takes memory, and is refused only where there is none.
-#[tactic(auto, using(crate::proofs::PlainLevels::plain_levels))]
+/// The levels of a paragraph body under a base (UAX #9, 3.3). A text of one direction in which no class needs a rule pays
+/// for none, and one with no formatting characters pays for no explicit rule. It takes memory, and is refused only where
+/// there is none.
+#[tactic(auto, using(crate::proofs::PlainLevels::plain_levels, crate::proofs::PlainLevels::plain_right_levels))]
 pub fn levels<D: BidiData>(
     alloc: Global,
     chars: &[char],
@@ -67,6 +68,10 @@ pub fn levels<D: BidiData>(
     let paragraph = base_level(&classes, base);
     if paragraph == 0 && are_plain(&classes) {
         let each = vec![in alloc; Some(0); chars.len()]?;
+        return Ok(Levels { paragraph, each });
+    }
+    if paragraph == 1 && are_plain_right(&classes) {
+        let each = vec![in alloc; Some(1); chars.len()]?;
         return Ok(Levels { paragraph, each });
     }
     if are_unformatted(&classes) {
