@@ -1,5 +1,6 @@
 //! The levels of a paragraph, by the rules one list after another.
 ghost use Rattle.std.specs.Prelude.{◌≡◌, ◌≤◌, ◌<◌, IfOk, All, None, length, map, replicate, slice_index_or};
+ghost use Rattle.bx_explicit.specs.Stack.{max_depth};
 ghost use Rattle.bx_explicit.specs.Sequences.{sequences};
 ghost use Rattle.bx_resolve.specs.Weak.{is_nsm};
 ghost use Rattle.bx_resolve.specs.Neutral.{implicit};
@@ -76,7 +77,7 @@ fn marks(alloc: Global, types: &[Class]) -> Result<Vec<bool>, AllocError>
 
 /// The levels of resolved types in a sequence of a level.
 fn implicit(alloc: Global, types: &[Class], level: u8) -> Result<Vec<u8>, AllocError>
-    requires { level ≤ 125 }
+    requires { level ≤ max_depth }
     ensures { IfOk result (λ v. v.items ≡ implicit level types.now) }
 {
     types.iter().map(|t| implicit_at(level, *t)).collect(alloc)
@@ -90,7 +91,7 @@ fn levels_in<D: BidiData>(
     kept: &[Option<Kept>],
     sequence: &Sequence,
 ) -> Result<Vec<u8>, ResolveError>
-    requires low { sequence.now.level ≤ 125 }
+    requires low { sequence.now.level ≤ max_depth }
     requires within { All (λ p. p < length kept.now) sequence.now.places }
     requires as_long { length chars.now ≡ length kept.now }
     ensures { IfOk result (λ v. v.items ≡ levels_in (D.bracket_of source.now) chars.now kept.now sequence.now) }

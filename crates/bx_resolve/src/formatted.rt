@@ -1,5 +1,6 @@
 //! The levels of a paragraph body with formatting characters, sequence by sequence.
 ghost use Rattle.std.specs.Prelude.{◌≡◌, ◌≤◌, ◌<◌, ◌++◌, IfOk, OnOk, None, true, drop, length, map, replicate};
+ghost use Rattle.bx_explicit.specs.Stack.{max_depth};
 ghost use Rattle.bx_explicit.specs.LevelPlaces.{level_places, places_from};
 ghost use Rattle.bx_explicit.specs.Sequences.{sequences};
 ghost use Rattle.bx_resolve.specs.Neutral.{implicit};
@@ -106,7 +107,7 @@ fn write_run(
     types: &[Class],
     written: usize,
 ) -> usize
-    requires low { level ≤ 125 }
+    requires low { level ≤ max_depth }
     requires all { length each.old.items ≡ length kept.now }
     ensures all { length each.new.items ≡ length kept.now }
     ensures written { WritesRun (level_places level first (drop first kept.now)) (implicit level (drop written types.now)) each.old.items (implicit level (drop result types.now)) each.new.items }
@@ -134,7 +135,7 @@ fn write_levels(
     level: u8,
     types: &[Class],
 )
-    requires low { level ≤ 125 }
+    requires low { level ≤ max_depth }
     requires all { length each.old.items ≡ length kept.now }
     ensures { each.new.items ≡ with_levels (places_from level kept.now firsts.now) (implicit level types.now) each.old.items }
 {

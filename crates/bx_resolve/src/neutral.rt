@@ -1,5 +1,6 @@
 //! The rules for neutral types and the implicit levels.
 ghost use Rattle.std.specs.Prelude.{◌≡◌, ◌≤◌, ◌+◌};
+ghost use Rattle.bx_explicit.specs.Stack.{max_depth};
 ghost use Rattle.bx_resolve.specs.Neutral.{side_of, side, agreed, n1, n2, n2_at, implicit_at};
 
 use bx_ucd::Class;
@@ -109,7 +110,7 @@ pub fn n1_n2(types: &mut [Class], sos: Class, eos: Class, embedding: Class)
 
 /// I1 and I2: the level of a character.
 pub fn implicit_at(level: u8, t: Class) -> u8
-    requires { level ≤ 125 }
+    requires { level ≤ max_depth }
     ensures { result ≡ implicit_at level t }
 {
     if level % 2 == 0 {

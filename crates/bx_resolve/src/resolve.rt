@@ -1,5 +1,6 @@
 //! The levels of a paragraph.
 ghost use Rattle.std.specs.Prelude.{◌≡◌, ◌≤◌, IfOk, Some, map, true};
+ghost use Rattle.bx_explicit.specs.Stack.{max_depth};
 ghost use Rattle.bx_resolve.specs.Neutral.{implicit_at};
 ghost use Rattle.bx_resolve.specs.Levels.{paragraph_levels, paragraph_level_under, levels_under};
 ghost use Rattle.bx_resolve.specs.Plain.{is_unformatted, all_pass};
@@ -17,7 +18,7 @@ use std::alloc::{AllocError, Global};
 
 /// The levels of resolved types in a sequence of a level, each found.
 fn found_levels(alloc: Global, types: &[Class], level: u8) -> Result<Vec<Option<u8>>, AllocError>
-    requires { level ≤ 125 }
+    requires { level ≤ max_depth }
     ensures { IfOk result (λ v. v.items ≡ map (λ t. Some (implicit_at level t)) types.now) }
 {
     types
