@@ -109,10 +109,10 @@ found_each [] h = All-nil (IsFound [])
 found_each (s ∷ ss) h =
     let here : (first_place s == first_place s) ≡ true = grind (arith, nat_tests) in
     All-cons (IsFound (s ∷ ss)) s ss (sym (from_at s ss (first_place s) true here)) (λ k d i.
-        let u : RunSequence = get_or ss k d in
-        let l : first_place s < first_place u = h.0 k d i in
-        let other : (first_place s == first_place u) ≡ false = grind (arith, nat_tests) in
-        found_each ss h.1 k d i ∙ sym (from_at s ss (first_place u) false other))
+    let u : RunSequence = get_or ss k d in
+    let l : first_place s < first_place u = h.0 k d i in
+    let other : (first_place s == first_place u) ≡ false = grind (arith, nat_tests) in
+    found_each ss h.1 k d i ∙ sym (from_at s ss (first_place u) false other))
 
 -- a sum over a list, from its head on
 abbrev total : (RunSequence → ℕ) → List RunSequence → ℕ

@@ -101,8 +101,7 @@ module _ (paragraph : ℕ) (cs : List Class) (kept : List (Option Kept)) (law : 
       let older : List RunSequence = waiting paragraph cs kept chains rest in
       let later : List RunSequence = sequences_from paragraph cs kept done rest in
       let top : ℕ = from + length (drop from kept) in
-      let outs : All (λ (u : RunSequence). All (IsOut low from) u.places) older = waiting_out paragraph cs kept done chains rest low low from top (omega arith) w.waits.2 (rest_within from) in
-      (
+      let outs : All (λ (u : RunSequence). All (IsOut low from) u.places) older = waiting_out paragraph cs kept done chains rest low low from top (omega arith) w.waits.2 (rest_within from) in (
         older,
         later,
         append_assoc older (completed paragraph cs kept (r ∷ rs) rest ∷ []) later ∙ ap (λ x. older ++ x ∷ later) (completed_alone paragraph cs kept r rs rest a),
@@ -168,8 +167,7 @@ module _ (paragraph : ℕ) (cs : List Class) (kept : List (Option Kept)) (law : 
     begun chains l w =
         let free : All (λ u. is_joined cs u q ≡ false) (heads chains) = none_joined cs (runs_from 0 kept) law done chains from q rest (met chains w) l w.waits in
         let first : follows cs done q ≡ false = joined_here chains w ∙ list_any_none (λ u. is_joined cs u q) (heads chains) free in
-        let own : IsRunWithin from (q.last + 1) q = record { starts = within.starts; ordered = within.ordered; ends = omega arith } in
-        (
+        let own : IsRunWithin from (q.last + 1) q = record { starts = within.starts; ordered = within.ordered; ends = omega arith } in (
           record {
             split = met_more chains w;
             waits = (from, record { before = done; between = []; split = refl; above = refl; lower = l; within = All-cons (IsRunWithin from (q.last + 1)) q [] own (All-nil (IsRunWithin from (q.last + 1))) }, wait_over done chains from q l w.waits);
@@ -191,8 +189,7 @@ module _ (paragraph : ℕ) (cs : List Class) (kept : List (Option Kept)) (law : 
         let begins : low ≤ from = begins_low low from r rs c.within in
         let own : IsRunWithin low (q.last + 1) q = record { starts = omega (arith, within.starts); ordered = within.ordered; ends = omega arith } in
         let longer : from ≤ q.last + 1 = omega (arith, within.starts, within.ordered) in
-        let all : All (IsRunWithin low (q.last + 1)) (q ∷ r ∷ rs) = All-cons (IsRunWithin low (q.last + 1)) q (r ∷ rs) own (widen_all low from low (q.last + 1) (r ∷ rs) (omega arith) longer c.within) in
-        (
+        let all : All (IsRunWithin low (q.last + 1)) (q ∷ r ∷ rs) = All-cons (IsRunWithin low (q.last + 1)) q (r ∷ rs) own (widen_all low from low (q.last + 1) (r ∷ rs) (omega arith) longer c.within) in (
           record {
             split = met_more old w;
             waits = (low, record { before = done; between = []; split = refl; above = refl; lower = lower; within = all }, wait_over done chains low q lower w.waits.2);
@@ -223,8 +220,8 @@ module _ (paragraph : ℕ) (cs : List Class) (kept : List (Option Kept)) (law : 
       let top : ℕ = from + length (drop from kept) in
       let within : IsRunWithin from top q = All-head (IsRunWithin from top) q rest (subst (All (IsRunWithin from top)) n (rest_within from)) in
       let go : (stay : List (List Run)) → Goes done from q rest n stay = λ stay o v.
-          let t : Step done from q next top within stay (with_run stay q) = taken done from q next top within stay o v in
-          subst (AreGiven (ending paragraph cs kept (with_run stay q) rest)) (sym t.1) (given_all rest (done ++ q ∷ []) (with_run stay q) (q.last + 1) later t.0) in
+      let t : Step done from q next top within stay (with_run stay q) = taken done from q next top within stay o v in
+      subst (AreGiven (ending paragraph cs kept (with_run stay q) rest)) (sym t.1) (given_all rest (done ++ q ∷ []) (with_run stay q) (q.last + 1) later t.0) in
       over_all done from q rest n go chains w
 
 -- the sequences of a paragraph body, in the order in which their chains end

@@ -6,9 +6,9 @@ ghost use Rattle.bx_resolve.specs.Weak.{is_nsm};
 ghost use Rattle.bx_resolve.specs.Neutral.{implicit};
 ghost use Rattle.bx_resolve.specs.Levels.{type_of, chars_at, types_at, levels_in, with_levels, with_sequences, paragraph_level_under, levels_under};
 
-use crate::paragraph::Levels;
 use crate::error::ResolveError;
 use crate::neutral::{implicit_at, n1, n2};
+use crate::paragraph::Levels;
 use crate::weak::weak;
 use bx_brackets::{pairs, resolve_pairs};
 use bx_explicit::{Base, Explicit, Kept, Sequence, base_level, direction, explicit, sequences};

@@ -7,9 +7,9 @@ ghost use Rattle.bx_resolve.specs.Neutral.{implicit};
 ghost use Rattle.bx_resolve.specs.Levels.{chars_at, types_at, sequence_levels, levels_in, with_levels, with_sequences, paragraph_levels};
 ghost use Rattle.bx_resolve.specs.Levels.{WritesRun};
 
-use crate::paragraph::Levels;
 use crate::error::ResolveError;
 use crate::neutral::implicit_at;
+use crate::paragraph::Levels;
 use crate::scratch::{Ends, Scratch};
 use bx_explicit::{Explicit, Kept, SequenceWalk, explicit};
 use bx_ucd::{BidiData, Class};

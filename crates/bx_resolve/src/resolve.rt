@@ -5,11 +5,11 @@ ghost use Rattle.bx_resolve.specs.Neutral.{implicit_at};
 ghost use Rattle.bx_resolve.specs.Levels.{paragraph_levels, paragraph_level_under, levels_under};
 ghost use Rattle.bx_resolve.specs.Plain.{is_unformatted, all_pass};
 
-use crate::paragraph::Levels;
 use crate::by_rules::classes_of;
 use crate::error::ResolveError;
 use crate::formatted::formatted_levels;
 use crate::neutral::implicit_at;
+use crate::paragraph::Levels;
 use crate::plain::{are_plain, are_plain_right, are_unformatted};
 use crate::scratch::{Ends, Scratch};
 use bx_explicit::{Base, base_level, direction};
