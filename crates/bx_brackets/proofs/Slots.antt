@@ -2,15 +2,15 @@
 use Rattle.std.proofs.Common.{◌≡◌, ◌≢◌, ◌<◌, ◌≤◌, ◌+◌, ◌∙◌, ℕ, zero, suc, List, [], ◌∷◌, ◌++◌, append-nil, length, get_or, set, drop, map, refl, ap, sym, subst, arith, Option, Some, None, Bool, true, false, cond}
 use Rattle.std.specs.Prelude.{All, find, filter, nat_lt, not, ◌==◌}
 use Rattle.std.proofs.lemmas.Bool.Decides.{nat_tests}
-use Rattle.std.proofs.lemmas.List.{at_drop_more, get_or-set_other, length-map, drop_all}
+use Rattle.std.proofs.lemmas.List.{at_drop_more, get_or-set_other, length-map}
 use Rattle.std.proofs.lemmas.List.Elements.{All-nil, All-cons, All-head, All-tail, filter-append}
-use Rattle.std.proofs.Math.Seq.{drop-length, get_or-append_seam}
+use Rattle.std.proofs.Math.Seq.{get_or-append_seam}
 use Rattle.std.proofs.Math.ListN.{length-set, get_or-append, length-append}
 use Rattle.bx_ucd.specs.declared.class.Class.{Class}
 use Rattle.bx_ucd.specs.declared.class.Class.TheVariants.{L}
 use Rattle.bx_ucd.specs.declared.data.Side.{Side}
 use Rattle.bx_ucd.specs.declared.data.Side.TheVariants.{Opener, Closer}
-use Rattle.bx_brackets.specs.Pairs.{insert_pair, bracket_at, canonical}
+use Rattle.bx_brackets.specs.Pairs.{bracket_room, insert_pair, bracket_at, canonical}
 use Rattle.bx_brackets.specs.Resolve.{IsPairWithin}
 use Rattle.bx_brackets.specs.Search.{below_first, is_for, place_of, left_by, ends_search, open_after, is_closed, slot, with_closer, slots_after, is_opener, pairs_from, IsFalling, IsSlotWithin}
 use Rattle.bx_brackets.proofs.Stack.{stack_run, stack_turn, rest_by_stack, found_below, falling_later}
@@ -195,7 +195,7 @@ module _ (j c : ℕ) where
 
   pub turn_kept : (b : Option (Side × ℕ)) (os ss : List (ℕ × ℕ)) → IsKept j os ss → IsKept (j + 1) (open_after (length ss) c b os) (slots_after j c b os ss)
   turn_kept None os ss w = record { falling = w.falling; rising = w.rising; within = slots_later j (j + 1) ss (omega arith) w.within; opens = w.opens }
-  turn_kept (Some (Opener, m)) os ss w = opener_kept m os ss (nat_lt (length os) 63) w
+  turn_kept (Some (Opener, m)) os ss w = opener_kept m os ss (nat_lt (length os) bracket_room) w
   turn_kept (Some (Closer, m)) os ss w = closer_kept os ss (find (is_for (canonical c)) os) refl w
 
 not_false : (b : Bool) → not b ≡ false → b ≡ true
@@ -208,7 +208,7 @@ not_true false e = refl
 
 -- one turn of the search by a stack, where it goes on and where it ends
 module _ (k : List (ℕ × ℕ) → List (ℕ × ℕ) → List (ℕ × ℕ)) (j c : ℕ) where
-  turn_of : (m : ℕ) (st ps : List (ℕ × ℕ)) (b : Bool) → nat_lt (length st) 63 ≡ b → stack_turn k st ps j c (Some (Opener, m)) ≡ elim b [ true ↦ k ((j, canonical m) ∷ st) ps | false ↦ ps ]
+  turn_of : (m : ℕ) (st ps : List (ℕ × ℕ)) (b : Bool) → nat_lt (length st) bracket_room ≡ b → stack_turn k st ps j c (Some (Opener, m)) ≡ elim b [ true ↦ k ((j, canonical m) ∷ st) ps | false ↦ ps ]
   turn_of m st ps true e = rw (e, stack_turn)
   turn_of m st ps false e = rw (e, stack_turn)
 
@@ -216,8 +216,8 @@ module _ (k : List (ℕ × ℕ) → List (ℕ × ℕ) → List (ℕ × ℕ)) (j 
   closer_turn_of m st ps None e = rw (e, stack_turn)
   closer_turn_of m st ps (Some o) e = rw (e, stack_turn)
 
-  few : (ss os : List (ℕ × ℕ)) (b : Bool) → nat_lt (length os) 63 ≡ b → nat_lt (length (map (opener_in ss) os)) 63 ≡ b
-  few ss os b e = ap (λ n. nat_lt n 63) (length-map os (opener_in ss)) ∙ e
+  few : (ss os : List (ℕ × ℕ)) (b : Bool) → nat_lt (length os) bracket_room ≡ b → nat_lt (length (map (opener_in ss) os)) bracket_room ≡ b
+  few ss os b e = ap (λ n. nat_lt n bracket_room) (length-map os (opener_in ss)) ∙ e
 
   pushed : (m : ℕ) (os ss : List (ℕ × ℕ)) → IsKept j os ss → ((j, canonical m) ∷ map (opener_in ss) os ≡ map (opener_in (ss ++ (j, j) ∷ [])) ((length ss, canonical m) ∷ os)) × (closed ss ≡ closed (ss ++ (j, j) ∷ []))
   pushed m os ss w =
@@ -228,7 +228,7 @@ module _ (k : List (ℕ × ℕ) → List (ℕ × ℕ) → List (ℕ × ℕ)) (j 
       let none : closed ((j, j) ∷ []) ≡ [] = filter_no (j, j) [] no in
       (ap (λ x. x ∷ map (opener_in ss) os) first ∙ ap (λ xs. opener_in (ss ++ (j, j) ∷ []) (length ss, canonical m) ∷ xs) rest, sym (filter-append is_closed ss ((j, j) ∷ []) ∙ ap (λ xs. closed ss ++ xs) none ∙ append-nil (closed ss)))
 
-  opener_goes : (m : ℕ) (os ss : List (ℕ × ℕ)) (b : Bool) → nat_lt (length os) 63 ≡ b → b ≡ true → IsKept j os ss → stack_turn k (map (opener_in ss) os) (closed ss) j c (Some (Opener, m)) ≡ k (map (opener_in (elim b as (λ v. List (ℕ × ℕ)) [ true ↦ ss ++ (j, j) ∷ [] | false ↦ ss ])) (elim b as (λ v. List (ℕ × ℕ)) [ true ↦ (length ss, canonical m) ∷ os | false ↦ os ])) (closed (elim b as (λ v. List (ℕ × ℕ)) [ true ↦ ss ++ (j, j) ∷ [] | false ↦ ss ]))
+  opener_goes : (m : ℕ) (os ss : List (ℕ × ℕ)) (b : Bool) → nat_lt (length os) bracket_room ≡ b → b ≡ true → IsKept j os ss → stack_turn k (map (opener_in ss) os) (closed ss) j c (Some (Opener, m)) ≡ k (map (opener_in (elim b as (λ v. List (ℕ × ℕ)) [ true ↦ ss ++ (j, j) ∷ [] | false ↦ ss ])) (elim b as (λ v. List (ℕ × ℕ)) [ true ↦ (length ss, canonical m) ∷ os | false ↦ os ])) (closed (elim b as (λ v. List (ℕ × ℕ)) [ true ↦ ss ++ (j, j) ∷ [] | false ↦ ss ]))
   opener_goes m os ss true e t w =
       let p : ((j, canonical m) ∷ map (opener_in ss) os ≡ map (opener_in (ss ++ (j, j) ∷ [])) ((length ss, canonical m) ∷ os)) × (closed ss ≡ closed (ss ++ (j, j) ∷ [])) = pushed m os ss w in
       turn_of m (map (opener_in ss) os) (closed ss) true (few ss os true e) ∙ ap (λ st. k st (closed ss)) p.0 ∙ ap (k (map (opener_in (ss ++ (j, j) ∷ [])) ((length ss, canonical m) ∷ os))) p.1
@@ -248,24 +248,21 @@ module _ (k : List (ℕ × ℕ) → List (ℕ × ℕ) → List (ℕ × ℕ)) (j 
 
   pub goes_on : (b : Option (Side × ℕ)) (os ss : List (ℕ × ℕ)) → IsKept j os ss → ends_search b os ≡ false → stack_turn k (map (opener_in ss) os) (closed ss) j c b ≡ k (map (opener_in (slots_after j c b os ss)) (open_after (length ss) c b os)) (closed (slots_after j c b os ss))
   goes_on None os ss w e = refl
-  goes_on (Some (Opener, m)) os ss w e = opener_goes m os ss (nat_lt (length os) 63) refl (not_false (nat_lt (length os) 63) e) w
+  goes_on (Some (Opener, m)) os ss w e = opener_goes m os ss (nat_lt (length os) bracket_room) refl (not_false (nat_lt (length os) bracket_room) e) w
   goes_on (Some (Closer, m)) os ss w e = closer_goes m os ss (find (is_for (canonical c)) os) refl w
 
-  opener_ends : (m : ℕ) (os ss : List (ℕ × ℕ)) (b : Bool) → nat_lt (length os) 63 ≡ b → b ≡ false → stack_turn k (map (opener_in ss) os) (closed ss) j c (Some (Opener, m)) ≡ closed (elim b as (λ v. List (ℕ × ℕ)) [ true ↦ ss ++ (j, j) ∷ [] | false ↦ ss ])
+  opener_ends : (m : ℕ) (os ss : List (ℕ × ℕ)) (b : Bool) → nat_lt (length os) bracket_room ≡ b → b ≡ false → stack_turn k (map (opener_in ss) os) (closed ss) j c (Some (Opener, m)) ≡ closed (elim b as (λ v. List (ℕ × ℕ)) [ true ↦ ss ++ (j, j) ∷ [] | false ↦ ss ])
   opener_ends m os ss true e t = absurd (cc)
   opener_ends m os ss false e t = turn_of m (map (opener_in ss) os) (closed ss) false (few ss os false e)
 
   pub ends : (b : Option (Side × ℕ)) (os ss : List (ℕ × ℕ)) → ends_search b os ≡ true → stack_turn k (map (opener_in ss) os) (closed ss) j c b ≡ closed (slots_after j c b os ss)
   ends None os ss e = absurd (cc)
-  ends (Some (Opener, m)) os ss e = opener_ends m os ss (nat_lt (length os) 63) refl (not_true (nat_lt (length os) 63) e)
+  ends (Some (Opener, m)) os ss e = opener_ends m os ss (nat_lt (length os) bracket_room) refl (not_true (nat_lt (length os) bracket_room) e)
   ends (Some (Closer, m)) os ss e = absurd (cc)
 
 -- one character of the sequence
 pub run_turn : (bracket : ℕ → Option (Side × ℕ)) (cs : List ℕ) (ts : List Class) (i d : ℕ) → i < length cs → i < length ts → (st ps : List (ℕ × ℕ)) → stack_run bracket st ps i (drop i cs) (drop i ts) ≡ stack_turn (λ a b. stack_run bracket a b (i + 1) (drop (i + 1) cs) (drop (i + 1) ts)) st ps i (get_or cs i d) (bracket_at bracket (get_or cs i d) (get_or ts i L))
 run_turn bracket cs ts i d h k st ps = at_drop_more (λ xs. stack_run bracket st ps i xs (drop i ts)) cs i d h ∙ at_drop_more (λ ys. stack_run bracket st ps i (get_or cs i d ∷ drop (i + 1) cs) ys) ts i L k
-
-pub run_all : (bracket : ℕ → Option (Side × ℕ)) (cs : List ℕ) (ts : List Class) (st ps : List (ℕ × ℕ)) (n : ℕ) → stack_run bracket st ps n (drop (length cs) cs) ts ≡ ps
-run_all bracket cs ts st ps n = rw drop-length
 
 -- the slots that have a closer are pairs
 pub closed_within : (n : ℕ) (ss : List (ℕ × ℕ)) → All (IsSlotWithin n) ss → All (IsPairWithin n) (closed ss)
@@ -286,6 +283,3 @@ closed_turn k j c (Some (Closer, m)) e = refl
 
 pub skip_more : (bracket : ℕ → Option (Side × ℕ)) (cs : List ℕ) (ts : List Class) (i d : ℕ) → i < length cs → i < length ts → is_opener (bracket_at bracket (get_or cs i d) (get_or ts i L)) ≡ false → pairs_from bracket i (drop i cs) (drop i ts) ≡ pairs_from bracket (i + 1) (drop (i + 1) cs) (drop (i + 1) ts)
 skip_more bracket cs ts i d h l e = rest_by_stack bracket i (drop i cs) (drop i ts) ∙ run_turn bracket cs ts i d h l [] [] ∙ closed_turn (λ a b. stack_run bracket a b (i + 1) (drop (i + 1) cs) (drop (i + 1) ts)) i (get_or cs i d) (bracket_at bracket (get_or cs i d) (get_or ts i L)) e ∙ sym (rest_by_stack bracket (i + 1) (drop (i + 1) cs) (drop (i + 1) ts))
-
-pub skip_all : (bracket : ℕ → Option (Side × ℕ)) (cs : List ℕ) (ts : List Class) (i : ℕ) → length cs ≤ i → pairs_from bracket i (drop i cs) (drop i ts) ≡ []
-skip_all bracket cs ts i h = ap (λ xs. pairs_from bracket i xs (drop i ts)) (drop_all i cs h)

@@ -4,7 +4,7 @@ use Rattle.std.proofs.lemmas.Bool.Decides.{nat_tests}
 use Rattle.std.specs.Prelude.{filter, find, not, nat_le, nat_lt, ◌&&◌, ◌==◌, ◌||◌}
 use Rattle.std.specs.List.{list_any}
 use Rattle.bx_brackets.specs.Search.{below_first, is_for, IsFalling, pairs_from}
-use Rattle.bx_brackets.specs.Pairs.{Search, insert_pair, pairs, is_open, open_openers, meet, meet_opener, meet_closer, canonical, bracket_at, search_from}
+use Rattle.bx_brackets.specs.Pairs.{bracket_room, Search, insert_pair, is_open, open_openers, meet, meet_opener, meet_closer, canonical, bracket_at, search_from}
 use Rattle.bx_ucd.specs.declared.class.Class.{Class}
 use Rattle.bx_ucd.specs.declared.data.Side.{Side}
 use Rattle.bx_ucd.specs.declared.data.Side.TheVariants.{Opener, Closer}
@@ -24,10 +24,6 @@ falling_later i j (o ∷ os) h f = (omega (arith, f.0), f.1)
 filter_step : (f : Place → Bool) (o : Place) (os : List Place) (b : Bool) → f o ≡ b → filter f (o ∷ os) ≡ elim b [ true ↦ o ∷ filter f os | false ↦ filter f os ]
 filter_step f o os true e = rw e
 filter_step f o os false e = rw e
-
-bool_of : (b : Bool) → (b ≡ true → ⊥) → b ≡ false
-bool_of true h = absurd (h refl)
-bool_of false h = refl
 
 pub falling_filter : (f : Place → Bool) (j : ℕ) (os : List Place) → IsFalling j os → IsFalling j (filter f os)
 falling_filter f j [] h = tt
@@ -123,13 +119,10 @@ open_new (p ∷ ps) j c h = let lt : p.1 < j = h.0 in let e : nat_lt j p.1 ≡ f
 pub open_after_pair : (s : Search) (j c : ℕ) (o : Place) → IsFalling j s.openers → find (λ (x : Place). x.1 == canonical c) (open_openers s) ≡ Some o → open_openers (meet_closer s j c) ≡ below_first (λ x. x.1 == canonical c) (open_openers s)
 open_after_pair s j c o h e = rw (e, meet_closer) (filter_same (is_open (insert_pair (o.0, j) s.pairs)) (λ x. is_open s.pairs x && is_outside o.0 j x) (open_more s.pairs (o.0, j)) s.openers ∙ filter_both (is_open s.pairs) (is_outside o.0 j) s.openers ∙ through (λ x. x.1 == canonical c) j (open_openers s) o (falling_filter (is_open s.pairs) j s.openers h) e)
 
-pub open_after_opener : (s : Search) (j c : ℕ) → EndsBelow j s.pairs → length (open_openers s) < 63 → open_openers (meet_opener s j c) ≡ (j, canonical c) ∷ open_openers s
-open_after_opener s j c h k = let e : nat_lt (length (open_openers s)) 63 ≡ true = grind (arith, nat_tests) in rw (e, meet_opener) (filter_step (is_open s.pairs) (j, canonical c) s.openers true (open_new s.pairs j (canonical c) h))
-
 -- the search by a stack: a turn, and then the rest
 abbrev pub stack_turn : (List Place → List Place → List Place) → List Place → List Place → ℕ → ℕ → Option (Side × ℕ) → List Place
 stack_turn k st ps j c None = k st ps
-stack_turn k st ps j c (Some (Opener, m)) = elim (nat_lt (length st) 63) [ true ↦ k ((j, canonical m) ∷ st) ps | false ↦ ps ]
+stack_turn k st ps j c (Some (Opener, m)) = elim (nat_lt (length st) bracket_room) [ true ↦ k ((j, canonical m) ∷ st) ps | false ↦ ps ]
 stack_turn k st ps j c (Some (Closer, m)) = elim (find (is_for (canonical c)) st) [ None ↦ k st ps | Some o ↦ k (below_first (is_for (canonical c)) st) (insert_pair (o.0, j) ps) ]
 
 abbrev pub stack_run : (ℕ → Option (Side × ℕ)) → List Place → List Place → ℕ → List ℕ → List Class → List Place
@@ -158,7 +151,7 @@ abbrev Agrees : (ℕ → Option (Side × ℕ)) → ℕ → List ℕ → List Cla
 Agrees bracket j cs ts = (s : Search) → s.is_over ≡ false → IsFalling j s.openers → EndsBelow j s.pairs → (search_from bracket s j cs ts).pairs ≡ stack_run bracket (open_openers s) s.pairs j cs ts
 
 module _ (bracket : ℕ → Option (Side × ℕ)) (j : ℕ) (cs : List ℕ) (ts : List Class) (c : ℕ) (ih : Agrees bracket (j + 1) cs ts) (s : Search) (o : s.is_over ≡ false) (f : IsFalling j s.openers) (e : EndsBelow j s.pairs) where
-  opener_agrees : (m : ℕ) (b : Bool) → nat_lt (length (open_openers s)) 63 ≡ b → (search_from bracket (meet_opener s j m) (j + 1) cs ts).pairs ≡ stack_turn (λ x y. stack_run bracket x y (j + 1) cs ts) (open_openers s) s.pairs j c (Some (Opener, m))
+  opener_agrees : (m : ℕ) (b : Bool) → nat_lt (length (open_openers s)) bracket_room ≡ b → (search_from bracket (meet_opener s j m) (j + 1) cs ts).pairs ≡ stack_turn (λ x y. stack_run bracket x y (j + 1) cs ts) (open_openers s) s.pairs j c (Some (Opener, m))
   opener_agrees m true q =
       let u : Search = record s { openers = (j, canonical m) ∷ s.openers } in
       let m1 : meet_opener s j m ≡ u = rw (q, meet_opener) in
@@ -185,7 +178,7 @@ module _ (bracket : ℕ → Option (Side × ℕ)) (j : ℕ) (cs : List ℕ) (ts 
 
 turn_agrees : (bracket : ℕ → Option (Side × ℕ)) (j : ℕ) (cs : List ℕ) (ts : List Class) (c : ℕ) → Agrees bracket (j + 1) cs ts → (b : Option (Side × ℕ)) (s : Search) → s.is_over ≡ false → IsFalling j s.openers → EndsBelow j s.pairs → (search_from bracket (meet s j c b) (j + 1) cs ts).pairs ≡ stack_turn (λ x y. stack_run bracket x y (j + 1) cs ts) (open_openers s) s.pairs j c b
 turn_agrees bracket j cs ts c ih None s o f e = ih s o (falling_later j (j + 1) s.openers (omega arith) f) (ends_later j (j + 1) s.pairs (omega arith) e)
-turn_agrees bracket j cs ts c ih (Some (Opener, m)) s o f e = opener_agrees bracket j cs ts c ih s o f e m (nat_lt (length (open_openers s)) 63) refl
+turn_agrees bracket j cs ts c ih (Some (Opener, m)) s o f e = opener_agrees bracket j cs ts c ih s o f e m (nat_lt (length (open_openers s)) bracket_room) refl
 turn_agrees bracket j cs ts c ih (Some (Closer, m)) s o f e = closer_agrees bracket j cs ts c ih s o f e m (find (λ (x : Place). x.1 == canonical c) (open_openers s)) refl
 
 search_is_stack : (bracket : ℕ → Option (Side × ℕ)) (j : ℕ) (cs : List ℕ) (ts : List Class) → Agrees bracket j cs ts
@@ -195,6 +188,3 @@ search_is_stack bracket j (c ∷ cs) (t ∷ ts) s o f e = rw (o, search_from) (t
 
 pub rest_by_stack : (bracket : ℕ → Option (Side × ℕ)) (j : ℕ) (cs : List ℕ) (ts : List Class) → pairs_from bracket j cs ts ≡ stack_run bracket [] [] j cs ts
 rest_by_stack bracket j cs ts = search_is_stack bracket j cs ts (record { openers = []; pairs = []; is_over = false }) refl tt tt
-
-pub pairs_by_stack : (bracket : ℕ → Option (Side × ℕ)) (cs : List ℕ) (ts : List Class) → pairs bracket cs ts ≡ stack_run bracket [] [] 0 cs ts
-pairs_by_stack bracket cs ts = search_is_stack bracket 0 cs ts (record { openers = []; pairs = []; is_over = false }) refl tt tt

@@ -26,16 +26,20 @@ pub record Search : Type 0 where
   pub pairs : List (ℕ × ℕ)
   pub is_over : Bool
 
--- an opener is open if no pair found has it inside, its own closer not counting
+-- an opener is open if no pair found begins at it or has it inside
 abbrev pub is_open : List (ℕ × ℕ) → (ℕ × ℕ) → Bool
 is_open pairs o = not (list_any (λ p. nat_le p.0 o.0 && nat_lt o.0 p.1) pairs)
 
 abbrev pub open_openers : Search → List (ℕ × ℕ)
 open_openers s = filter (is_open s.pairs) s.openers
 
--- BD16: an opener at place `j` is taken where fewer than 63 are open, and else ends the search
+-- BD16: the stack has room for this many openers
+abbrev pub bracket_room : ℕ
+bracket_room = 63
+
+-- BD16: an opener at place `j` is taken where there is room for it, and else ends the search
 abbrev pub meet_opener : Search → ℕ → ℕ → Search
-meet_opener s j closer = elim (nat_lt (length (open_openers s)) 63) [
+meet_opener s j closer = elim (nat_lt (length (open_openers s)) bracket_room) [
   | true ↦ record s { openers = (j, canonical closer) ∷ s.openers }
   | false ↦ record s { is_over = true }
 ]

@@ -1,12 +1,8 @@
 -- N0: the types of bracket pairs.
-use Rattle.std.specs.Prelude.{◌<◌, ℕ, ◌+◌, ◌-◌, ◌%◌, Bool, true, false, List, [], ◌∷◌, ◌++◌, Option, Some, None, take, drop, reverse}
+use Rattle.std.specs.Prelude.{◌<◌, ℕ, ◌+◌, ◌-◌, Bool, true, false, List, [], ◌∷◌, ◌++◌, Option, Some, None, take, drop, reverse}
 use Rattle.std.specs.List.{list_any}
-use Rattle.std.proofs.Common.{zero, suc}
 use Rattle.bx_ucd.specs.declared.class.Class.{Class}
 use Rattle.bx_ucd.specs.declared.class.Class.TheVariants.{L, R, EN, AN}
-
-abbrev pub direction : ℕ → Class
-direction level = elim (level % 2) [ zero ↦ L | suc n ↦ R ]
 
 abbrev pub opposite : Class → Class
 opposite L = R
@@ -32,13 +28,15 @@ abbrev pub nearest : Class → List Class → Class
 nearest sos [] = sos
 nearest sos (t ∷ ts) = elim (is_left t) [ true ↦ L | false ↦ elim (is_right t) [ true ↦ R | false ↦ nearest sos ts ] ]
 
--- the direction that a pair takes, if any: the embedding direction, if a type inside counts as it; else, if one inside
--- counts as the other direction, that of the context, the nearest direction before the opener
+-- N0, steps b to d: the direction that a pair takes, if any. The context is the nearest direction before the opener
 abbrev pub pair_direction : Class → Class → List Class → Option Class
 pair_direction embedding context inside = elim (list_any (counts_as embedding) inside) [
+  -- b: a type inside counts as the embedding direction
   | true ↦ Some embedding
+  -- c: one inside counts as the other direction. c1: so does the context, and the pair takes it. c2: else the embedding
   | false ↦ elim (list_any (counts_as (opposite embedding)) inside) [
     | true ↦ elim (counts_as embedding context) [ true ↦ Some embedding | false ↦ Some (opposite embedding) ]
+    -- d: there is neither, and N1 and N2 are to give it a type
     | false ↦ None
   ]
 ]

@@ -3,7 +3,7 @@ use Rattle.std.specs.Prelude.{ℕ, ◌==◌, ◌<◌, ◌≤◌, nat_lt, not, fi
 use Rattle.bx_ucd.specs.declared.data.Side.{Side}
 use Rattle.bx_ucd.specs.declared.data.Side.TheVariants.{Opener, Closer}
 use Rattle.bx_ucd.specs.declared.class.Class.{Class}
-use Rattle.bx_brackets.specs.Pairs.{canonical, search_from}
+use Rattle.bx_brackets.specs.Pairs.{bracket_room, canonical, search_from}
 
 abbrev pub first_of : List (ℕ × ℕ) → Option (ℕ × ℕ)
 first_of [] = None
@@ -39,12 +39,12 @@ left_by (Some o) c os = below_first (is_for c) os
 -- one character of the sequence: whether it ends the search, and the openers that are open after it
 abbrev pub ends_search : Option (Side × ℕ) → List (ℕ × ℕ) → Bool
 ends_search None os = false
-ends_search (Some (Opener, m)) os = not (nat_lt (length os) 63)
+ends_search (Some (Opener, m)) os = not (nat_lt (length os) bracket_room)
 ends_search (Some (Closer, m)) os = false
 
 abbrev pub open_after : ℕ → ℕ → Option (Side × ℕ) → List (ℕ × ℕ) → List (ℕ × ℕ)
 open_after j c None os = os
-open_after j c (Some (Opener, m)) os = elim (nat_lt (length os) 63) [ true ↦ (j, canonical m) ∷ os | false ↦ os ]
+open_after j c (Some (Opener, m)) os = elim (nat_lt (length os) bracket_room) [ true ↦ (j, canonical m) ∷ os | false ↦ os ]
 open_after j c (Some (Closer, m)) os = left_by (find (is_for (canonical c)) os) (canonical c) os
 
 -- the slot of an opener has its place and that of its closer, or its own place twice while it has none
@@ -60,7 +60,7 @@ with_closer (Some k) j ss = slice_set ss k ((slot ss k).0, j)
 
 abbrev pub slots_after : ℕ → ℕ → Option (Side × ℕ) → List (ℕ × ℕ) → List (ℕ × ℕ) → List (ℕ × ℕ)
 slots_after j c None os ss = ss
-slots_after j c (Some (Opener, m)) os ss = elim (nat_lt (length os) 63) [ true ↦ ss ++ (j, j) ∷ [] | false ↦ ss ]
+slots_after j c (Some (Opener, m)) os ss = elim (nat_lt (length os) bracket_room) [ true ↦ ss ++ (j, j) ∷ [] | false ↦ ss ]
 slots_after j c (Some (Closer, m)) os ss = with_closer (place_of (find (is_for (canonical c)) os)) j ss
 
 -- each opener stands before `j`, and before those above it

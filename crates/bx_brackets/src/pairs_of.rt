@@ -3,7 +3,7 @@ ghost use Rattle.std.specs.Prelude.{◌≡◌, ℕ, ◌<◌, ◌≤◌, drop, Al
 ghost use Rattle.bx_brackets.specs.Search.{first_of, rest_of, is_for, place_of, left_by, ends_search, open_after, with_closer, slots_after, is_closed, is_opener, pairs_from, IsFalling};
 ghost use Rattle.bx_brackets.specs.Resolve.{IsPairWithin};
 ghost use Rattle.bx_brackets.specs.Search.{IsSlotWithin};
-ghost use Rattle.bx_brackets.specs.Pairs.{canonical, bracket_at, pairs};
+ghost use Rattle.bx_brackets.specs.Pairs.{bracket_room, canonical, bracket_at, pairs};
 
 use crate::error::BracketError;
 use arrayvec::ArrayVec;
@@ -39,10 +39,13 @@ fn is_opener(bracket: Option<(Side, char)>) -> bool
     matches!(bracket, Some((Side::Opener, _)))
 }
 
-/// The openers that are open, at most 63.
+/// How many openers the stack has room for (BD16).
+const BRACKET_ROOM: usize = 63;
+
+/// The openers that are open.
 #[derive(Drop)]
 struct OpenStack {
-    openers: ArrayVec<(usize, char), 63>,
+    openers: ArrayVec<(usize, char), BRACKET_ROOM>,
 }
 
 // Clauses see the openers, the last one first.
@@ -71,14 +74,14 @@ impl OpenStack {
 
     /// Whether there is no room.
     fn is_full(&self) -> bool
-        ensures { result ≡ not (nat_lt (length self.now) 63) }
+        ensures { result ≡ not (nat_lt (length self.now) bracket_room) }
     {
         self.openers.is_full()
     }
 
     /// Adds an opener.
     fn push(&mut self, place: usize, closer: char)
-        requires { length self.old < 63 }
+        requires { length self.old < bracket_room }
         ensures { self.new ≡ (place, closer) ∷ self.old }
     {
         self.openers.push((place, closer));

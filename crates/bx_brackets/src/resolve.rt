@@ -1,17 +1,12 @@
 //! The types of bracket pairs (N0).
 ghost use Rattle.std.specs.Prelude.{◌≡◌, ◌+◌, ◌-◌, ◌<◌, ◌≤◌, length, reverse, take, drop, All};
 ghost use Rattle.std.specs.List.{list_any};
+ghost use Rattle.bx_explicit.specs.Sequences.{direction};
 ghost use Rattle.bx_brackets.specs.Clear.{IsClear, AreClear, AreSameFrom, between, clear_after};
-ghost use Rattle.bx_brackets.specs.Resolve.{direction, opposite, is_left, is_right, counts_as, nearest, pair_direction, change_bracket, resolve_in, context_of, resolve_pairs, IsPairWithin};
+ghost use Rattle.bx_brackets.specs.Resolve.{opposite, is_left, is_right, counts_as, nearest, pair_direction, change_bracket, resolve_in, context_of, resolve_pairs, IsPairWithin};
 
+use bx_explicit::direction;
 use bx_ucd::Class;
-
-/// The direction of a level.
-fn direction(level: u8) -> Class
-    ensures { result ≡ direction level }
-{
-    if level % 2 == 0 { Class::L } else { Class::R }
-}
 
 /// The other direction.
 fn opposite(d: Class) -> Class

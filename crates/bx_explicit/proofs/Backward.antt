@@ -3,7 +3,7 @@ use Rattle.std.proofs.Common.{◌≡◌, ◌≢◌, ◌<◌, ◌≤◌, ◌+◌,
 use Rattle.std.proofs.lemmas.List.{get_or-set_same, get_or-set_other}
 use Rattle.bx_ucd.specs.declared.class.Class.{Class}
 use Rattle.bx_ucd.specs.declared.class.Class.TheVariants.{L}
-use Rattle.bx_explicit.specs.Links.{levels_before}
+use Rattle.bx_explicit.specs.TextLevels.{levels_before}
 use Rattle.bx_explicit.proofs.Texts.{texts, texts-more}
 
 here_or_later : (j k : ℕ) → j ≤ k → (k ≡ j) ⊎ (j + 1 ≤ k)

@@ -2,10 +2,10 @@
 use Rattle.std.proofs.Common.{◌<◌, ◌≤◌, ◌+◌, ◌-◌, ℕ, List, [], ◌∷◌, ◌++◌, length, drop, take, arith, true, false, Option, Some, None}
 use Rattle.std.specs.Prelude.{All, ◌==◌}
 use Rattle.std.proofs.lemmas.List.{length-take}
-use Rattle.std.proofs.lemmas.List.Elements.{All-cons, All-nil, All-head, All-tail, All-append, All-drop}
+use Rattle.std.proofs.lemmas.List.Elements.{All-cons, All-nil, All-head, All-tail, All-append}
 use Rattle.bx_ucd.specs.declared.class.Class.{Class}
 use Rattle.bx_explicit.specs.declared.role.Role.{Role}
-use Rattle.bx_explicit.specs.declared.role.Role.TheVariants.{EmbedLeft, EmbedRight, OverrideLeft, OverrideRight, IsolateLeft, IsolateRight, IsolateFirst, EndIsolate, EndEmbedding, Boundary, Plain}
+use Rattle.bx_explicit.specs.declared.role.Role.TheVariants.{Lre, Rle, Lro, Rlo, Lri, Rli, Fsi, Pdi, Pdf, Bn, Other}
 use Rattle.bx_explicit.specs.declared.entry.Kept.{Kept}
 use Rattle.bx_explicit.specs.declared.state.State.{State}
 use Rattle.bx_explicit.specs.declared.runs.Run.{Run}
@@ -13,8 +13,8 @@ use Rattle.bx_explicit.specs.Role.{role_of}
 use Rattle.bx_explicit.specs.Kept.{level_or_0}
 use Rattle.bx_explicit.specs.Stack.{IsRising}
 use Rattle.bx_explicit.specs.Explicit.{next_state, kept_by, start, explicit_from, explicit_levels}
-use Rattle.bx_explicit.specs.Runs.{run, run_of, join_run, runs_from, kept_places, places_of, IsRunWithin}
-use Rattle.bx_explicit.specs.Sequences.{RunSequence, is_joined, followers, follows, chain_places, chain_from, later_in_chain, sequence_of, sequences_from, sequences}
+use Rattle.bx_explicit.specs.Runs.{run, join_run, runs_from, kept_places, places_of, IsRunWithin}
+use Rattle.bx_explicit.specs.Sequences.{RunSequence, is_joined, followers, follows, chain_places, sequence_of, sequences_from, sequences}
 use Rattle.bx_explicit.proofs.Rising.{rising_top}
 use Rattle.bx_explicit.proofs.Steps.{rising_next}
 use Rattle.bx_explicit.proofs.LevelRuns.{all_within}
@@ -23,17 +23,17 @@ abbrev pub IsLow : Option Kept → Type 0
 IsLow k = level_or_0 k ≤ 125
 
 kept_low : (r : Role) (c : Class) (s t : State) → IsRising s.stack → IsRising t.stack → IsLow (kept_by r c s t)
-kept_low EmbedLeft c s t h k = omega arith
-kept_low EmbedRight c s t h k = omega arith
-kept_low OverrideLeft c s t h k = omega arith
-kept_low OverrideRight c s t h k = omega arith
-kept_low IsolateLeft c s t h k = rising_top s.stack h
-kept_low IsolateRight c s t h k = rising_top s.stack h
-kept_low IsolateFirst c s t h k = rising_top s.stack h
-kept_low EndIsolate c s t h k = rising_top t.stack k
-kept_low EndEmbedding c s t h k = omega arith
-kept_low Boundary c s t h k = omega arith
-kept_low Plain c s t h k = rising_top s.stack h
+kept_low Lre c s t h k = omega arith
+kept_low Rle c s t h k = omega arith
+kept_low Lro c s t h k = omega arith
+kept_low Rlo c s t h k = omega arith
+kept_low Lri c s t h k = rising_top s.stack h
+kept_low Rli c s t h k = rising_top s.stack h
+kept_low Fsi c s t h k = rising_top s.stack h
+kept_low Pdi c s t h k = rising_top t.stack k
+kept_low Pdf c s t h k = omega arith
+kept_low Bn c s t h k = omega arith
+kept_low Other c s t h k = rising_top s.stack h
 
 explicit_low : (s : State) (cs : List Class) → IsRising s.stack → All IsLow (explicit_from s cs)
 explicit_low s [] h = All-nil IsLow
@@ -64,7 +64,7 @@ runs_low k (Some c ∷ g) a = join_low k c.level (runs_from (k + 1) g) (All-head
 
 module _ (paragraph : ℕ) (cs : List Class) (kept : List (Option Kept)) (P : RunSequence → Type 0) where
   -- what holds of each sequence that begins with one of the runs
-  sequences_each : (Q : Run → Type 0) → ((r : Run) (fs : List Run) → Q r → All Q fs → P (sequence_of paragraph cs kept r fs)) → ((r : Run) (rs : List Run) → All Q rs → All Q (followers cs r rs)) → (before rs : List Run) → All Q rs → All P (sequences_from paragraph cs kept before rs)
+  pub sequences_each : (Q : Run → Type 0) → ((r : Run) (fs : List Run) → Q r → All Q fs → P (sequence_of paragraph cs kept r fs)) → ((r : Run) (rs : List Run) → All Q rs → All Q (followers cs r rs)) → (before rs : List Run) → All Q rs → All P (sequences_from paragraph cs kept before rs)
   sequences_each Q one chain before [] a = All-nil P
   sequences_each Q one chain before (r ∷ rs) a =
       let h : Q r = All-head Q r rs a in
@@ -77,7 +77,7 @@ module _ (paragraph : ℕ) (cs : List Class) (kept : List (Option Kept)) (P : Ru
         | false ↦ All-cons P s rest (one r (followers cs r rs) h (chain r rs t)) ih
       ]
 
-followers_each : (cs : List Class) (Q : Run → Type 0) (r : Run) (rs : List Run) → All Q rs → All Q (followers cs r rs)
+pub followers_each : (cs : List Class) (Q : Run → Type 0) (r : Run) (rs : List Run) → All Q rs → All Q (followers cs r rs)
 followers_each cs Q r [] a = All-nil Q
 followers_each cs Q r (q ∷ qs) a =
     elim (is_joined cs r q) as (λ b. All Q (elim b as (λ x. List Run) [ true ↦ q ∷ followers cs q qs | false ↦ followers cs r qs ])) [
@@ -105,14 +105,3 @@ chain_below n kept (r ∷ rs) a = All-append (λ p. p < n) (places_of kept r) (c
 
 pub sequences_below : (paragraph : ℕ) (cs : List Class) (kept : List (Option Kept)) → All (λ s. All (λ p. p < length kept) s.places) (sequences paragraph cs kept)
 sequences_below paragraph cs kept = sequences_each paragraph cs kept (λ s. All (λ p. p < length kept) s.places) (IsRunWithin 0 (length kept)) (λ r fs h t. chain_below (length kept) kept (r ∷ fs) (All-cons (IsRunWithin 0 (length kept)) r fs h t)) (followers_each cs (IsRunWithin 0 (length kept))) [] (runs_from 0 kept) (all_within kept)
-
--- the same of one run and its chain
-pub level_low : (kept : List (Option Kept)) (i : ℕ) → All IsLow kept → i < length (runs_from 0 kept) → (run_of kept i).level ≤ 125
-level_low kept i a h = runs_low 0 kept a i (run 0 0 0) h
-
-pub chain_within : (cs : List Class) (kept : List (Option Kept)) (i : ℕ) → i < length (runs_from 0 kept) → All (λ p. p < length kept) (chain_places kept (chain_from cs kept i))
-chain_within cs kept i h =
-    let n : ℕ = length kept in
-    let within : All (IsRunWithin 0 n) (runs_from 0 kept) = all_within kept in
-    let later : All (IsRunWithin 0 n) (drop (i + 1) (runs_from 0 kept)) = All-drop (IsRunWithin 0 n) (i + 1) (runs_from 0 kept) within in
-    chain_below n kept (chain_from cs kept i) (All-cons (IsRunWithin 0 n) (run_of kept i) (later_in_chain cs kept i) (within i (run 0 0 0) h) (followers_each cs (IsRunWithin 0 n) (run_of kept i) (drop (i + 1) (runs_from 0 kept)) later))

@@ -1,11 +1,11 @@
 -- Level runs: what a turn of each loop does.
-use Rattle.std.proofs.Common.{◌≡◌, ◌<◌, ◌≤◌, ◌+◌, ◌-◌, ◌∙◌, ℕ, suc, List, [], ◌∷◌, ◌++◌, length, get_or, drop, take, set, reverse, refl, ap, sym, arith, Option, Some, None, is_some, subst, true, false}
-use Rattle.std.proofs.lemmas.List.{at_drop_more, drop_more, take_more, take_more_set, reverse-append}
+use Rattle.std.proofs.Common.{◌≡◌, ◌<◌, ◌+◌, ◌-◌, ◌∙◌, ℕ, suc, List, [], ◌∷◌, ◌++◌, length, get_or, drop, take, set, reverse, refl, ap, sym, arith, Option, Some, None, subst, true, false}
+use Rattle.std.proofs.lemmas.List.{at_drop_more, take_more, take_more_set, reverse-append}
 use Rattle.std.proofs.Math.Seq.{take-length}
 use Rattle.std.proofs.Math.ListN.{length-set}
 use Rattle.bx_explicit.specs.declared.entry.Kept.{Kept}
 use Rattle.bx_explicit.specs.declared.runs.Run.{Run}
-use Rattle.bx_explicit.specs.Runs.{run, join_run, runs_from, kept_places, IsRunWithin, AreRising}
+use Rattle.bx_explicit.specs.Runs.{run, join_run, runs_from, IsRunWithin, AreRising}
 use Rattle.std.specs.Prelude.{All, ◌==◌}
 use Rattle.std.proofs.lemmas.List.Elements.{All-cons, All-nil, All-head, All-tail}
 
@@ -38,29 +38,6 @@ runs_none g k h e = at_drop_more (runs_from k) g k None h ∙ runs_at_none k (ge
 
 pub runs_some : (g : List (Option Kept)) (k : ℕ) (r : Kept) → k < length g → get_or g k None ≡ Some r → runs_from k (drop k g) ≡ join_run k r.level (runs_from (k + 1) (drop (k + 1) g))
 runs_some g k r h e = at_drop_more (runs_from k) g k None h ∙ ap (λ o. runs_from k (o ∷ drop (k + 1) g)) e
-
-kept_more : (g : List (Option Kept)) (k e : ℕ) → k < e → e ≤ length g → kept_places k (take (e - k) (drop k g)) ≡ kept_places k (get_or g k None ∷ take (e - (k + 1)) (drop (k + 1) g))
-kept_more g k e h l =
-    let a : drop k g ≡ get_or g k None ∷ drop (k + 1) g = drop_more g k None (omega arith) in
-    let b : e - k ≡ suc (e - (k + 1)) = omega arith in
-    ap (λ n. kept_places k (take n (drop k g))) b ∙ ap (λ xs. kept_places k (take (suc (e - (k + 1))) xs)) a
-
-kept_at_some : (k : ℕ) (o : Option Kept) (g : List (Option Kept)) → is_some o ≡ true → kept_places k (o ∷ g) ≡ k ∷ kept_places (k + 1) g
-kept_at_some k None g e = absurd (cc)
-kept_at_some k (Some r) g e = refl
-
-kept_at_none : (k : ℕ) (o : Option Kept) (g : List (Option Kept)) → is_some o ≡ false → kept_places k (o ∷ g) ≡ kept_places (k + 1) g
-kept_at_none k None g e = refl
-kept_at_none k (Some r) g e = absurd (cc)
-
-pub kept_some : (g : List (Option Kept)) (k e : ℕ) → k < e → e ≤ length g → is_some (get_or g k None) ≡ true → kept_places k (take (e - k) (drop k g)) ≡ k ∷ kept_places (k + 1) (take (e - (k + 1)) (drop (k + 1) g))
-kept_some g k e h l t = kept_more g k e h l ∙ kept_at_some k (get_or g k None) _ t
-
-pub kept_none : (g : List (Option Kept)) (k e : ℕ) → k < e → e ≤ length g → is_some (get_or g k None) ≡ false → kept_places k (take (e - k) (drop k g)) ≡ kept_places (k + 1) (take (e - (k + 1)) (drop (k + 1) g))
-kept_none g k e h l t = kept_more g k e h l ∙ kept_at_none k (get_or g k None) _ t
-
-pub kept_all : (g : List (Option Kept)) (k e : ℕ) → e ≤ k → kept_places k (take (e - k) (drop k g)) ≡ []
-kept_all g k e h = let z : e - k ≡ 0 = omega arith in ap (λ n. kept_places k (take n (drop k g))) z
 
 -- each run lies within the list
 widen : (k n : ℕ) (r : Run) → IsRunWithin (k + 1) n r → IsRunWithin k n r

@@ -4,13 +4,8 @@ pub mod Rising
 pub mod Steps
 pub mod LevelRuns
 pub mod Texts
-pub mod Waiting
 pub mod Backward
-pub mod RunOrder
-pub mod Linked
-pub mod Joined
 pub mod Nearest
-pub mod PlacesLeft
 pub mod Bounds
 pub mod RunsAt
 pub mod RunWalk
@@ -21,3 +16,9 @@ pub mod RunEnd
 pub mod Inside
 pub mod Overflown
 pub mod Resumed
+pub mod Ending
+pub mod Spans
+pub mod Unjoined
+pub mod Waits
+pub mod Overtaken
+pub mod Ordered

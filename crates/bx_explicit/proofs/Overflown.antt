@@ -4,7 +4,7 @@ use Rattle.std.specs.Prelude.{◌==◌}
 use Rattle.std.proofs.lemmas.Bool.Decides.{nat_tests}
 use Rattle.bx_ucd.specs.declared.class.Class.{Class}
 use Rattle.bx_explicit.specs.declared.role.Role.{Role}
-use Rattle.bx_explicit.specs.declared.role.Role.TheVariants.{EmbedLeft, EmbedRight, OverrideLeft, OverrideRight, IsolateLeft, IsolateRight, IsolateFirst, EndIsolate, EndEmbedding, Boundary, Plain}
+use Rattle.bx_explicit.specs.declared.role.Role.TheVariants.{Lre, Rle, Lro, Rlo, Lri, Rli, Fsi, Pdi, Pdf, Bn, Other}
 use Rattle.bx_explicit.specs.Role.{role_of}
 use Rattle.bx_explicit.specs.declared.entry.Entry.{Entry}
 use Rattle.bx_explicit.specs.declared.entry.Kept.{Kept}
@@ -47,17 +47,17 @@ module _ (c : Class) (cs : List Class) (s : State) (n : ℕ) (e : s.overflow_iso
   after_embed level o = starts_same s (embed s level o) cs (embed_keeps s level o n e) (ih (embed s level o) (embed_counts s level o ∙ e))
 
   starts_by : (r : Role) → level_of_first (top s).level (kept_by r c s (next_state r cs s) ∷ explicit_from (next_state r cs s) cs) ≡ (top s).level
-  starts_by EmbedLeft = after_embed (even_above (top s).level) Neutral
-  starts_by EmbedRight = after_embed (odd_above (top s).level) Neutral
-  starts_by OverrideLeft = after_embed (even_above (top s).level) Left
-  starts_by OverrideRight = after_embed (odd_above (top s).level) Right
-  starts_by IsolateLeft = refl
-  starts_by IsolateRight = refl
-  starts_by IsolateFirst = refl
-  starts_by EndIsolate = ap (λ es. (top_of es).level) (end_isolate_keeps s n e)
-  starts_by EndEmbedding = let k : end_embedding s ≡ s = end_embedding_keeps s n e in ap (λ t. level_of_first (top s).level (explicit_from t cs)) k ∙ ih s e
-  starts_by Boundary = ih s e
-  starts_by Plain = refl
+  starts_by Lre = after_embed (even_above (top s).level) Neutral
+  starts_by Rle = after_embed (odd_above (top s).level) Neutral
+  starts_by Lro = after_embed (even_above (top s).level) Left
+  starts_by Rlo = after_embed (odd_above (top s).level) Right
+  starts_by Lri = refl
+  starts_by Rli = refl
+  starts_by Fsi = refl
+  starts_by Pdi = ap (λ es. (top_of es).level) (end_isolate_keeps s n e)
+  starts_by Pdf = let k : end_embedding s ≡ s = end_embedding_keeps s n e in ap (λ t. level_of_first (top s).level (explicit_from t cs)) k ∙ ih s e
+  starts_by Bn = ih s e
+  starts_by Other = refl
 
 starts_at_top : (cs : List Class) (s : State) (n : ℕ) → s.overflow_isolates ≡ suc n → StartsAtTop s cs
 starts_at_top [] s n e = refl

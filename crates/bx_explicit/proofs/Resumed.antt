@@ -18,13 +18,17 @@ use Rattle.bx_explicit.specs.Runs.{runs_from, AreRising}
 use Rattle.bx_explicit.specs.Sequences.{is_joined, starts_with_initiator}
 use Rattle.bx_explicit.specs.OpenChains.{all_above, is_resumed}
 use Rattle.bx_explicit.proofs.Scan.{further}
-use Rattle.bx_explicit.proofs.Waiting.{matched}
 use Rattle.bx_explicit.proofs.Steps.{state_at, first_higher}
 use Rattle.bx_explicit.proofs.LevelRuns.{runs_rising}
 use Rattle.bx_explicit.proofs.FirstLow.{resumed_run, resumed_runs, begins_at, first_is}
 use Rattle.bx_explicit.proofs.RunEnd.{IsUnlike, EndsAt, run_ends}
 use Rattle.bx_explicit.proofs.Inside.{IsInside, out_at}
 use Rattle.bx_explicit.proofs.Overflown.{no_other_run}
+
+-- the place of a match, from what stands before it
+matched : (i : ℕ) (b : Option ℕ) → further (i + 1) b ≡ elim b [ None ↦ None | Some k ↦ Some (i + 1 + k) ]
+matched i None = refl
+matched i (Some k) = refl
 
 abbrev kept : ℕ → Class → Kept
 kept level class = record { level = level; class = class }

@@ -17,17 +17,8 @@ pub rising_push : (es : List Entry) (e : Entry) → IsRising es → e.level ≤ 
 rising_push [] e r h k = (h, tt, tt)
 rising_push (f ∷ es) e r h k = (h, k, r)
 
-pub rising_rest : (es : List Entry) → IsRising es → IsRising (rest_of es)
-rising_rest [] r = tt
-rising_rest (e ∷ es) r = r.2
-
-pub reverse_push : (xs : List Entry) (e : Entry) → reverse (xs ++ e ∷ []) ≡ e ∷ reverse xs
-reverse_push xs e = reverse-append xs (e ∷ [])
-
 -- a stack of rising levels has room for a higher one
 pub room : (xs : List Entry) (n : ℕ) → IsRising (reverse xs) → (top_of (reverse xs)).level < n → n ≤ 125 → length xs < 127
 room xs n r h k = let a : length (reverse xs) ≤ (top_of (reverse xs)).level + 1 = rising_length (reverse xs) r in let b : length (reverse xs) ≡ length xs = length-reverse xs in omega arith
 
 -- what is true of every stack is true of the list with its last entry last
-pub by_reverse : (P : List Entry → Type 0) → ((es : List Entry) → P (reverse es)) → (xs : List Entry) → P xs
-by_reverse P h xs = subst P (reverse-reverse xs) (h (reverse xs))

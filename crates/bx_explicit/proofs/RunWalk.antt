@@ -2,10 +2,10 @@
 use Rattle.std.proofs.Common.{◌≡◌, ◌≢◌, ◌<◌, ◌≤◌, ◌+◌, ◌-◌, ◌∙◌, ℕ, zero, suc, List, [], ◌∷◌, length, drop, take, refl, ap, sym, subst, arith, Bool, true, false, Option, Some, None, length-drop}
 use Rattle.std.specs.Prelude.{All, ◌==◌}
 use Rattle.std.proofs.lemmas.Bool.Decides.{nat_tests}
-use Rattle.std.proofs.lemmas.List.Elements.{All-head, All-tail, All-cons, All-nil, All-append, All-drop}
+use Rattle.std.proofs.lemmas.List.Elements.{All-head, All-drop}
 use Rattle.bx_explicit.specs.declared.entry.Kept.{Kept}
 use Rattle.bx_explicit.specs.declared.runs.Run.{Run}
-use Rattle.bx_explicit.specs.LevelPlaces.{level_places, places_from}
+use Rattle.bx_explicit.specs.LevelPlaces.{level_places}
 use Rattle.bx_explicit.specs.OpenChains.{run_at, first_run_of}
 use Rattle.bx_explicit.specs.Runs.{run, join_run, runs_from, kept_places, places_of, IsRunWithin}
 use Rattle.bx_explicit.specs.Stacked.{BeginsRun}
@@ -97,22 +97,7 @@ pub places_walked : (kept : List (Option Kept)) (level p : ℕ) → BeginsRun ke
 places_walked kept level p w =
     ap (λ n. kept_places n (take ((run_at kept p).last + 1 - n) (drop n kept))) w.here ∙ walked_first level (drop p kept) p (runs_from p (drop p kept)) refl w.of_level
 
--- what bounds them
-level_below : (n level k : ℕ) (g : List (Option Kept)) → k + length g ≤ n → All (λ p. p < n) (level_places level k g)
-level_below n level k [] h = All-nil (λ p. p < n)
-level_below n level k (None ∷ g) h = level_below n level (k + 1) g (omega arith)
-level_below n level k (Some c ∷ g) h =
-    elim (c.level == level) as (λ b. All (λ p. p < n) (elim b as (λ x. List ℕ) [ true ↦ k ∷ level_places level (k + 1) g | false ↦ [] ])) [
-      | true ↦ All-cons (λ p. p < n) k (level_places level (k + 1) g) (omega arith) (level_below n level (k + 1) g (omega arith))
-      | false ↦ All-nil (λ p. p < n)
-    ]
-
-pub places_below : (kept : List (Option Kept)) (level : ℕ) (ps : List ℕ) → All (BeginsRun kept level) ps → All (λ p. p < length kept) (places_from level kept ps)
-places_below kept level [] a = All-nil (λ p. p < length kept)
-places_below kept level (p ∷ ps) a =
-    let w : BeginsRun kept level p = All-head (BeginsRun kept level) p ps a in
-    All-append (λ q. q < length kept) (level_places level p (drop p kept)) (places_from level kept ps) (level_below (length kept) level p (drop p kept) (omega (arith, w.within, length-drop p kept))) (places_below kept level ps (All-tail (BeginsRun kept level) p ps a))
-
+-- what bounds it
 last_in : (n k : ℕ) (rs : List Run) → 0 < n → All (IsRunWithin k n) rs → (first_run_of rs).last < n
 last_in n k [] h a = h
 last_in n k (r ∷ rs) h a = (All-head (IsRunWithin k n) r rs a).ends

@@ -115,6 +115,3 @@ runs_there (Some c ∷ g) k (b ∷ before) r rest e =
     let l : k + 1 ≤ r.first = place_in (k + 1) (k + 1 + length g) xs r rest (runs_from (k + 1) g) f (runs_within (k + 1) g) in
     let m : r.first - k ≡ suc (r.first - (k + 1)) = omega arith in
     ap (λ n. runs_from r.first (drop n (Some c ∷ g))) m ∙ runs_there g (k + 1) xs r rest f
-
-pub runs_at : (kept : List (Option Kept)) (before : List Run) (r : Run) (rest : List Run) → runs_from 0 kept ≡ before ++ (r ∷ rest) → runs_from r.first (drop r.first kept) ≡ r ∷ rest
-runs_at kept before r rest e = let z : r.first - 0 ≡ r.first = omega arith in ap (λ n. runs_from r.first (drop n kept)) (sym z) ∙ runs_there kept 0 before r rest e

@@ -5,7 +5,7 @@ use Rattle.std.proofs.Math.Seq.{drop-length}
 use Rattle.bx_ucd.specs.declared.class.Class.{Class}
 use Rattle.bx_ucd.specs.declared.class.Class.TheVariants.{L}
 use Rattle.bx_explicit.specs.declared.role.Role.{Role}
-use Rattle.bx_explicit.specs.declared.role.Role.TheVariants.{EmbedLeft, EmbedRight, OverrideLeft, OverrideRight, IsolateLeft, IsolateRight, IsolateFirst, EndIsolate, EndEmbedding, Boundary, Plain}
+use Rattle.bx_explicit.specs.declared.role.Role.TheVariants.{Lre, Rle, Lro, Rlo, Lri, Rli, Fsi, Pdi, Pdf, Bn, Other}
 use Rattle.bx_explicit.specs.Role.{role_of}
 use Rattle.bx_explicit.specs.declared.entry.Override.{Override}
 use Rattle.bx_explicit.specs.declared.entry.Override.TheVariants.{Neutral}
@@ -16,7 +16,7 @@ use Rattle.bx_explicit.specs.declared.state.State.{State}
 use Rattle.bx_explicit.specs.Stack.{IsRising, top_of, after_isolate, after_embedding, entry}
 use Rattle.bx_explicit.proofs.Rising.{rising_push, rising_top, rising_length}
 use Rattle.bx_ucd.specs.declared.class.Class.TheVariants.{FSI}
-use Rattle.bx_explicit.specs.Links.{is_fsi}
+use Rattle.bx_explicit.specs.TextLevels.{is_fsi}
 use Rattle.bx_explicit.specs.Explicit.{first_above, state_after, next_state, kept_by, explicit_from, embed, isolate, end_isolate, end_embedding, is_valid, start}
 
 abbrev pub total : State → ℕ
@@ -35,31 +35,31 @@ total_end_embedding : (s : State) → total (end_embedding s) ≤ total s + 1
 total_end_embedding s = grind arith
 
 pub total_next : (r : Role) (first : ℕ) (s : State) → total (state_after r first s) ≤ total s + 1
-total_next EmbedLeft first s = total_embed s _ _
-total_next EmbedRight first s = total_embed s _ _
-total_next OverrideLeft first s = total_embed s _ _
-total_next OverrideRight first s = total_embed s _ _
-total_next IsolateLeft first s = total_isolate s _
-total_next IsolateRight first s = total_isolate s _
-total_next IsolateFirst first s = total_isolate s _
-total_next EndIsolate first s = total_end_isolate s
-total_next EndEmbedding first s = total_end_embedding s
-total_next Boundary first s = omega arith
-total_next Plain first s = omega arith
+total_next Lre first s = total_embed s _ _
+total_next Rle first s = total_embed s _ _
+total_next Lro first s = total_embed s _ _
+total_next Rlo first s = total_embed s _ _
+total_next Lri first s = total_isolate s _
+total_next Rli first s = total_isolate s _
+total_next Fsi first s = total_isolate s _
+total_next Pdi first s = total_end_isolate s
+total_next Pdf first s = total_end_embedding s
+total_next Bn first s = omega arith
+total_next Other first s = omega arith
 
 -- the level of an isolate matters to an FSI alone
 pub state_next : (r : Role) (cs : List Class) (s : State) → state_after r (isolate_level cs) s ≡ next_state r cs s
-state_next EmbedLeft cs s = refl
-state_next EmbedRight cs s = refl
-state_next OverrideLeft cs s = refl
-state_next OverrideRight cs s = refl
-state_next IsolateLeft cs s = refl
-state_next IsolateRight cs s = refl
-state_next IsolateFirst cs s = refl
-state_next EndIsolate cs s = refl
-state_next EndEmbedding cs s = refl
-state_next Boundary cs s = refl
-state_next Plain cs s = refl
+state_next Lre cs s = refl
+state_next Rle cs s = refl
+state_next Lro cs s = refl
+state_next Rlo cs s = refl
+state_next Lri cs s = refl
+state_next Rli cs s = refl
+state_next Fsi cs s = refl
+state_next Pdi cs s = refl
+state_next Pdf cs s = refl
+state_next Bn cs s = refl
+state_next Other cs s = refl
 
 -- what the character at `i` is given, and then the rest
 pub levels_more : (cs : List Class) (i : ℕ) (s : State) (first : ℕ) → i < length cs → first ≡ isolate_level (drop (i + 1) cs) → explicit_from s (drop i cs) ≡ kept_by (role_of (get_or cs i L)) (get_or cs i L) s (state_after (role_of (get_or cs i L)) first s) ∷ explicit_from (state_after (role_of (get_or cs i L)) first s) (drop (i + 1) cs)
@@ -118,17 +118,17 @@ first_higher zero n = omega arith
 first_higher (suc m) n = omega arith
 
 pub rising_next : (r : Role) (cs : List Class) (s : State) → IsRising s.stack → IsRising (next_state r cs s).stack
-rising_next EmbedLeft cs s h = rising_embed s _ _ h (omega arith)
-rising_next EmbedRight cs s h = rising_embed s _ _ h (omega arith)
-rising_next OverrideLeft cs s h = rising_embed s _ _ h (omega arith)
-rising_next OverrideRight cs s h = rising_embed s _ _ h (omega arith)
-rising_next IsolateLeft cs s h = rising_isolate s _ h (omega arith)
-rising_next IsolateRight cs s h = rising_isolate s _ h (omega arith)
-rising_next IsolateFirst cs s h = rising_isolate s _ h (first_higher (isolate_level cs) (top_of s.stack).level)
-rising_next EndIsolate cs s h = rising_end_isolate s h
-rising_next EndEmbedding cs s h = rising_end_embedding s h
-rising_next Boundary cs s h = h
-rising_next Plain cs s h = h
+rising_next Lre cs s h = rising_embed s _ _ h (omega arith)
+rising_next Rle cs s h = rising_embed s _ _ h (omega arith)
+rising_next Lro cs s h = rising_embed s _ _ h (omega arith)
+rising_next Rlo cs s h = rising_embed s _ _ h (omega arith)
+rising_next Lri cs s h = rising_isolate s _ h (omega arith)
+rising_next Rli cs s h = rising_isolate s _ h (omega arith)
+rising_next Fsi cs s h = rising_isolate s _ h (first_higher (isolate_level cs) (top_of s.stack).level)
+rising_next Pdi cs s h = rising_end_isolate s h
+rising_next Pdf cs s h = rising_end_embedding s h
+rising_next Bn cs s h = h
+rising_next Other cs s h = h
 
 -- the state after the first `k` characters
 abbrev pub state_at : ℕ → List Class → State → State

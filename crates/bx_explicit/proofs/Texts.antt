@@ -6,7 +6,7 @@ use Rattle.bx_ucd.specs.declared.class.Class.TheVariants.{L, R, AL, PDI, LRI, RL
 use Rattle.bx_ucd.specs.Class.{is_strong}
 use Rattle.bx_explicit.specs.Matching.{count_after}
 use Rattle.bx_explicit.specs.ParagraphLevel.{isolate_level, level_of_strong}
-use Rattle.bx_explicit.specs.Links.{levels_before, rest_levels, with_level, first_level}
+use Rattle.bx_explicit.specs.TextLevels.{levels_before, rest_levels, with_level, first_level}
 use Rattle.bx_explicit.proofs.Scan.{level_of_rest, level_step, level_here, until_pdi, until_cons, until_none}
 
 -- the levels of the texts between the PDIs that match no initiator in `cs`
@@ -44,10 +44,6 @@ text_strong c cs e s =
     let a : until_pdi 1 (c ∷ cs) ≡ 1 + until_pdi 1 cs = until_cons 1 c cs 1 e (omega arith) in
     let b : 1 + until_pdi 1 cs ≡ suc (until_pdi 1 cs) = omega arith in
     ap (λ k. level_of_rest 0 (take k (c ∷ cs))) (a ∙ b) ∙ level_here c (take (until_pdi 1 cs) cs) s
-
-text_none : (n : ℕ) → text_level n [] ≡ 0
-text_none zero = refl
-text_none (suc n) = refl
 
 pub texts-get : (cs : List Class) (n : ℕ) → get_or (texts cs) n 0 ≡ text_level n cs
 texts-get [] zero = refl

@@ -4,34 +4,34 @@ use Rattle.std.proofs.Common.{zero, suc}
 use Rattle.bx_ucd.specs.declared.class.Class.{Class}
 use Rattle.bx_ucd.specs.declared.class.Class.TheVariants.{L, R}
 use Rattle.bx_explicit.specs.declared.role.Role.{Role}
-use Rattle.bx_explicit.specs.declared.role.Role.TheVariants.{EmbedLeft, EmbedRight, OverrideLeft, OverrideRight, IsolateLeft, IsolateRight, IsolateFirst, EndIsolate, EndEmbedding, Boundary, Plain}
+use Rattle.bx_explicit.specs.declared.role.Role.TheVariants.{Lre, Rle, Lro, Rlo, Lri, Rli, Fsi, Pdi, Pdf, Bn, Other}
 use Rattle.bx_explicit.specs.Role.{role_of}
 use Rattle.bx_explicit.specs.declared.entry.Entry.{Entry}
 use Rattle.bx_explicit.specs.declared.state.State.{State}
 use Rattle.bx_explicit.specs.declared.entry.Kept.{Kept}
 use Rattle.bx_explicit.specs.declared.entry.Override.{Override}
 use Rattle.bx_explicit.specs.declared.entry.Override.TheVariants.{Neutral, Left, Right}
-use Rattle.bx_explicit.specs.Stack.{entry, top_of, after_isolate, after_embedding}
+use Rattle.bx_explicit.specs.Stack.{max_depth, entry, top_of, after_isolate, after_embedding}
 use Rattle.bx_explicit.specs.ParagraphLevel.{isolate_level}
 
 -- X1: the stack begins with the paragraph level, and the counts at 0
 abbrev pub start : ℕ → State
 start level = record { stack = entry level Neutral false ∷ []; overflow_isolates = 0; overflow_embeddings = 0; valid_isolates = 0 }
 
--- the last entry
+-- the last entry of the stack
 abbrev pub top : State → Entry
 top s = top_of s.stack
 
--- the least odd level above a level, and the least even one
+-- the least odd level above a level (X2, X4, X5a), and the least even one (X3, X5, X5b)
 abbrev pub odd_above : ℕ → ℕ
 odd_above n = n + 1 + n % 2
 
 abbrev pub even_above : ℕ → ℕ
 even_above n = n + 2 - n % 2
 
--- a new level is valid if it is at most 125 and nothing has overflowed
+-- X2 to X5c: a new level is valid if it is at most the greatest one and nothing has overflowed
 abbrev pub is_valid : State → ℕ → Bool
-is_valid s level = nat_le level 125 && nat_le s.overflow_isolates 0 && nat_le s.overflow_embeddings 0
+is_valid s level = nat_le level max_depth && nat_le s.overflow_isolates 0 && nat_le s.overflow_embeddings 0
 
 -- X2 to X5, an embedding or an override: pushed if it is valid, and else counted outside of overflow isolates
 abbrev pub embed : State → ℕ → Override → State
@@ -46,6 +46,20 @@ isolate s level = elim (is_valid s level) [
   | true ↦ record s { stack = entry level Neutral true ∷ s.stack; valid_isolates = s.valid_isolates + 1 }
   | false ↦ record s { overflow_isolates = s.overflow_isolates + 1 }
 ]
+
+-- X5c: the level of an isolate whose text has the paragraph level `first`
+abbrev pub first_above : ℕ → ℕ → ℕ
+first_above first n = elim first [ zero ↦ even_above n | suc m ↦ odd_above n ]
+
+-- X6, and X5a to X5c for the initiator itself: what an entry gives a character, its level, and under an override the
+-- override's type
+abbrev pub forced_class : Override → Class → Class
+forced_class Neutral c = c
+forced_class Left c = L
+forced_class Right c = R
+
+abbrev pub kept_under : Entry → Class → Option Kept
+kept_under e c = Some (record { level = e.level; class = forced_class e.forced c })
 
 -- X6a, a PDI: ends an overflow isolate, or the last valid one with the embeddings in it
 abbrev pub end_isolate : State → State
@@ -67,49 +81,53 @@ end_embedding s = elim (s.overflow_isolates) [
   ]
 ]
 
--- what an entry gives a character: its level, and under an override the override's type
-abbrev pub forced_class : Override → Class → Class
-forced_class Neutral c = c
-forced_class Left c = L
-forced_class Right c = R
-
-abbrev pub kept_under : Entry → Class → Option Kept
-kept_under e c = Some (record { level = e.level; class = forced_class e.forced c })
-
--- X5c: the level of an isolate whose text has the paragraph level `first`
-abbrev pub first_above : ℕ → ℕ → ℕ
-first_above first n = elim first [ zero ↦ even_above n | suc m ↦ odd_above n ]
-
 -- the state after a character of a role; after an FSI the text of its isolate has the paragraph level `first`
 abbrev pub state_after : Role → ℕ → State → State
-state_after EmbedLeft first s = embed s (even_above (top s).level) Neutral
-state_after EmbedRight first s = embed s (odd_above (top s).level) Neutral
-state_after OverrideLeft first s = embed s (even_above (top s).level) Left
-state_after OverrideRight first s = embed s (odd_above (top s).level) Right
-state_after IsolateLeft first s = isolate s (even_above (top s).level)
-state_after IsolateRight first s = isolate s (odd_above (top s).level)
-state_after IsolateFirst first s = isolate s (first_above first (top s).level)
-state_after EndIsolate first s = end_isolate s
-state_after EndEmbedding first s = end_embedding s
-state_after Boundary first s = s
-state_after Plain first s = s
+-- X2
+state_after Rle first s = embed s (odd_above (top s).level) Neutral
+-- X3
+state_after Lre first s = embed s (even_above (top s).level) Neutral
+-- X4
+state_after Rlo first s = embed s (odd_above (top s).level) Right
+-- X5
+state_after Lro first s = embed s (even_above (top s).level) Left
+-- X5a
+state_after Rli first s = isolate s (odd_above (top s).level)
+-- X5b
+state_after Lri first s = isolate s (even_above (top s).level)
+-- X5c
+state_after Fsi first s = isolate s (first_above first (top s).level)
+-- X6, and X8, by which a paragraph begins anew: a B at its end is a character like others
+state_after Other first s = s
+-- X6a
+state_after Pdi first s = end_isolate s
+-- X7
+state_after Pdf first s = end_embedding s
+-- X9: it is removed
+state_after Bn first s = s
 
 -- the same before the text `cs`
 abbrev pub next_state : Role → List Class → State → State
-next_state IsolateFirst cs s = state_after IsolateFirst (isolate_level cs) s
+next_state Fsi cs s = state_after Fsi (isolate_level cs) s
 next_state role cs s = state_after role 0 s
 
--- what a character of a role is given, from the states before and after it: a PDI by the state after it (X6a), the
--- other kept ones by the state before (X5a to X5c, X6), and nothing for those that X9 removes
+-- what a character of a role is given, from the states before and after it
 abbrev pub kept_by : Role → Class → State → State → Option Kept
-kept_by EmbedLeft c s t = None
-kept_by EmbedRight c s t = None
-kept_by OverrideLeft c s t = None
-kept_by OverrideRight c s t = None
-kept_by EndEmbedding c s t = None
-kept_by Boundary c s t = None
-kept_by EndIsolate c s t = kept_under (top t) c
-kept_by _ c s t = kept_under (top s) c
+-- X2 to X5 and X9: it is removed
+kept_by Rle c s t = None
+kept_by Lre c s t = None
+kept_by Rlo c s t = None
+kept_by Lro c s t = None
+-- X5a to X5c and X6: what the last entry before it gives
+kept_by Rli c s t = kept_under (top s) c
+kept_by Lri c s t = kept_under (top s) c
+kept_by Fsi c s t = kept_under (top s) c
+kept_by Other c s t = kept_under (top s) c
+-- X6a: what the last entry after it gives
+kept_by Pdi c s t = kept_under (top t) c
+-- X7 and X9: it is removed
+kept_by Pdf c s t = None
+kept_by Bn c s t = None
 
 abbrev pub explicit_from : State → List Class → List (Option Kept)
 explicit_from s [] = []

@@ -6,7 +6,8 @@ pub mod Explicit
 pub mod Kept
 pub mod Runs
 pub mod Sequences
-pub mod Links
+pub mod TextLevels
 pub mod OpenChains
 pub mod Stacked
 pub mod LevelPlaces
+pub mod Walk

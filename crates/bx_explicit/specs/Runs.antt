@@ -1,5 +1,5 @@
 -- Level runs, BD7.
-use Rattle.std.specs.Prelude.{◌≤◌, ◌<◌, ◌==◌, ℕ, ◌+◌, ◌-◌, true, false, List, [], ◌∷◌, Option, Some, None, All, take, drop, slice_index_or}
+use Rattle.std.specs.Prelude.{◌≤◌, ◌<◌, ◌==◌, ℕ, ◌+◌, ◌-◌, true, false, List, [], ◌∷◌, Option, Some, None, All, take, drop}
 use Rattle.bx_explicit.specs.declared.entry.Kept.{Kept}
 use Rattle.bx_explicit.specs.declared.runs.Run.{Run}
 
@@ -16,10 +16,6 @@ abbrev pub runs_from : ℕ → List (Option Kept) → List Run
 runs_from k [] = []
 runs_from k (None ∷ cs) = runs_from (k + 1) cs
 runs_from k (Some c ∷ cs) = join_run k c.level (runs_from (k + 1) cs)
-
--- run `i` of a paragraph
-abbrev pub run_of : List (Option Kept) → ℕ → Run
-run_of kept i = slice_index_or (runs_from 0 kept) i (run 0 0 0)
 
 -- the places of the kept characters of a list whose first place is `k`
 abbrev pub kept_places : ℕ → List (Option Kept) → List ℕ

@@ -1,5 +1,5 @@
 -- Isolating run sequences and the types at their ends, BD13 and X10.
-use Rattle.std.specs.Prelude.{◌==◌, ℕ, ◌+◌, ◌%◌, Bool, true, false, not, List, [], ◌∷◌, ◌++◌, Option, Some, None, take, drop, reverse, max}
+use Rattle.std.specs.Prelude.{◌==◌, ℕ, ◌+◌, ◌%◌, Bool, true, false, List, [], ◌∷◌, ◌++◌, Option, Some, None, take, drop, reverse, max}
 use Rattle.std.specs.List.{list_any}
 use Rattle.std.proofs.Common.{zero, suc}
 use Rattle.bx_ucd.specs.declared.class.Class.{Class}
@@ -8,7 +8,7 @@ use Rattle.bx_ucd.specs.Class.{is_initiator}
 use Rattle.bx_explicit.specs.declared.entry.Kept.{Kept}
 use Rattle.bx_explicit.specs.declared.runs.Run.{Run}
 use Rattle.bx_explicit.specs.Matching.{match_of}
-use Rattle.bx_explicit.specs.Runs.{runs_from, run_of, places_of}
+use Rattle.bx_explicit.specs.Runs.{runs_from, places_of}
 
 -- an isolating run sequence: the places of its characters, their level, and the types before its first (sos) and after
 -- its last character (eos)
@@ -90,18 +90,10 @@ sequences_from paragraph cs kept before (r ∷ rs) = elim (follows cs before r) 
 abbrev pub sequences : ℕ → List Class → List (Option Kept) → List RunSequence
 sequences paragraph cs kept = sequences_from paragraph cs kept [] (runs_from 0 kept)
 
--- the same by the number of a run: whether it begins a chain, the runs of its chain, the last of them, and its sequence
-abbrev pub begins : List Class → List (Option Kept) → ℕ → Bool
-begins cs kept i = not (follows cs (take i (runs_from 0 kept)) (run_of kept i))
+-- the first place of a sequence, or 0
+abbrev pub first_or_0 : List ℕ → ℕ
+first_or_0 [] = 0
+first_or_0 (p ∷ ps) = p
 
-abbrev pub later_in_chain : List Class → List (Option Kept) → ℕ → List Run
-later_in_chain cs kept i = followers cs (run_of kept i) (drop (i + 1) (runs_from 0 kept))
-
-abbrev pub chain_from : List Class → List (Option Kept) → ℕ → List Run
-chain_from cs kept i = run_of kept i ∷ later_in_chain cs kept i
-
-abbrev pub last_of_chain : List Class → List (Option Kept) → ℕ → Run
-last_of_chain cs kept i = last_run (run_of kept i) (later_in_chain cs kept i)
-
-abbrev pub sequence_at : ℕ → List Class → List (Option Kept) → ℕ → RunSequence
-sequence_at paragraph cs kept i = sequence_of paragraph cs kept (run_of kept i) (later_in_chain cs kept i)
+abbrev pub first_place : RunSequence → ℕ
+first_place s = first_or_0 s.places

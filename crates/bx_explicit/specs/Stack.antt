@@ -4,6 +4,13 @@ use Rattle.bx_explicit.specs.declared.entry.Entry.{Entry}
 use Rattle.bx_explicit.specs.declared.entry.Override.{Override}
 use Rattle.bx_explicit.specs.declared.entry.Override.TheVariants.{Neutral}
 
+-- BD2: no level is above this one, so a stack has as many entries as this and two more at most
+abbrev pub max_depth : ℕ
+max_depth = 125
+
+abbrev pub stack_room : ℕ
+stack_room = 127
+
 abbrev pub entry : ℕ → Override → Bool → Entry
 entry l o i = record { level = l; forced = o; isolate = i }
 
@@ -20,14 +27,14 @@ abbrev pub rest_of : List Entry → List Entry
 rest_of [] = []
 rest_of (e ∷ es) = es
 
--- each entry is above the one before it, and none is above 125
+-- each entry is above the one before it, and none is above the greatest level
 abbrev pub IsAbove : Entry → List Entry → Type 0
 IsAbove e [] = Unit {0}
 IsAbove e (f ∷ es) = f.level < e.level
 
 abbrev pub IsRising : List Entry → Type 0
 IsRising [] = Unit {0}
-IsRising (e ∷ es) = (e.level ≤ 125) × IsAbove e es × IsRising es
+IsRising (e ∷ es) = (e.level ≤ max_depth) × IsAbove e es × IsRising es
 
 -- the stack without its entries down to the last isolate, and without that
 abbrev pub after_isolate : List Entry → List Entry

@@ -1,6 +1,8 @@
 //! What the rules for explicit levels keep and give.
 ghost use Rattle.std.specs.Prelude.{◌≡◌, ◌≤◌, All, length};
+ghost use Rattle.bx_explicit.specs.Explicit.{explicit_levels};
 ghost use Rattle.bx_explicit.specs.Kept.{level_or_0};
+ghost use Rattle.bx_explicit.specs.Stack.{max_depth};
 
 use bx_ucd::Class;
 
@@ -24,7 +26,7 @@ pub struct Entry {
 /// What the explicit rules give a character that X9 keeps.
 #[derive(Clone, Copy, PartialEq, Eq, Debug)]
 pub struct Kept {
-    /// Its explicit level, at most 125.
+    /// Its explicit level, at most `MAX_DEPTH`.
     pub level: u8,
     /// Its type after overrides.
     pub class: Class,
@@ -39,6 +41,8 @@ pub struct Explicit {
     pub kept: Vec<Option<Kept>>,
     /// The paragraph level.
     pub level: u8,
+    pub ghost by_rules: { kept.items ≡ explicit_levels level classes.items },
+    pub ghost paragraph: { level ≤ 1 },
     pub ghost as_long: { length kept.items ≡ length classes.items },
-    pub ghost low: { All (λ k. level_or_0 k ≤ 125) kept.items },
+    pub ghost low: { All (λ k. level_or_0 k ≤ max_depth) kept.items },
 }

@@ -4,7 +4,7 @@ ghost use Rattle.bx_explicit.specs.ParagraphLevel.{isolate_level};
 ghost use Rattle.std.specs.Prelude.{true};
 ghost use Rattle.std.specs.List.{list_any};
 ghost use Rattle.bx_ucd.specs.declared.class.Class.TheVariants.{L};
-ghost use Rattle.bx_explicit.specs.Links.{levels_before, first_level, is_fsi};
+ghost use Rattle.bx_explicit.specs.TextLevels.{levels_before, first_level, is_fsi};
 
 use bx_ucd::Class;
 use std::alloc::{AllocError, Global};

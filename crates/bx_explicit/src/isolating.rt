@@ -1,16 +1,20 @@
 //! Isolating run sequences, each with its places (BD13, X10).
-ghost use Rattle.std.specs.Prelude.{◌≡◌, ◌<◌, ◌≤◌, ◌+◌, IfOk, All, length};
-ghost use Rattle.bx_explicit.specs.Runs.{runs_from};
-ghost use Rattle.bx_explicit.specs.Sequences.{RunSequence, sequence_at, sequences};
+ghost use Rattle.std.specs.Prelude.{◌≡◌, ◌<◌, ◌≤◌, ◌++◌, IfOk, OnOk, All, drop, length, true};
+ghost use Rattle.bx_explicit.specs.LevelPlaces.{level_places, places_from};
+ghost use Rattle.bx_explicit.specs.Sequences.{RunSequence, first_place, sequences};
+ghost use Rattle.bx_explicit.specs.Stack.{max_depth};
+ghost use Rattle.bx_explicit.specs.Walk.{AreGiven};
 
-use crate::chaining::Chains;
-use crate::entry::Explicit;
+use crate::entry::{Explicit, Kept};
 use crate::error::ExplicitError;
-use crate::runs::Places;
+use crate::walk::SequenceWalk;
 use bx_ucd::Class;
 use smallvec::SmallVec;
 use std::alloc::{AllocError, Global};
 use std::marker::Model;
+
+/// The places of a sequence, of which a few need no allocation.
+type Places = SmallVec<usize, 8>;
 
 /// An isolating run sequence.
 #[derive(Drop)]
@@ -55,40 +59,95 @@ impl Sequence {
     {
         self.eos
     }
+
+    /// Its first place.
+    fn first_place(&self) -> usize
+        ensures { result ≡ first_place self.now }
+    {
+        match self.places.as_slice() {
+            [] => 0,
+            [first, ..] => *first,
+        }
+    }
 }
 
-/// The sequence that begins with run `i`.
-fn sequence_from(alloc: Global, chains: &Chains<'_>, i: usize) -> Result<Sequence, AllocError>
-    requires { i < length (runs_from 0 chains.now.kept.items) }
-    ensures { IfOk result (λ s. s ≡ sequence_at chains.now.level chains.now.classes.items chains.now.kept.items i) }
+/// Adds the places of a run of a level, from its first place on.
+fn add_run(
+    places: &mut Places,
+    kept: &[Option<Kept>],
+    level: u8,
+    first: usize,
+) -> Result<(), AllocError>
+    ensures { OnOk result (places.new.items ≡ places.old.items ++ level_places level first (drop first kept.now)) }
+{
+    let mut k = first;
+    while k < kept.len() {
+        if let Some(c) = kept[k] {
+            if c.level != level {
+                return Ok(());
+            }
+            places.push(k)?;
+        }
+        k += 1;
+    }
+    Ok(())
+}
+
+/// The places of runs of a level, from the first place of each.
+fn places_from(
+    alloc: Global,
+    kept: &[Option<Kept>],
+    level: u8,
+    firsts: &[usize],
+) -> Result<Places, AllocError>
+    ensures { IfOk result (λ v. v.items ≡ places_from level kept.now firsts.now) }
 {
     let mut places = SmallVec::new(alloc);
-    let mut left = chains.places(i);
-    while let Some(place) = left.take_first() {
-        places.push(place)?;
+    for first in firsts {
+        add_run(&mut places, kept, level, *first)?;
     }
+    Ok(places)
+}
+
+/// The sequence that a walk lends, with all its places.
+fn lent_sequence(
+    alloc: Global,
+    walk: &SequenceWalk<'_>,
+    kept: &[Option<Kept>],
+) -> Result<Sequence, AllocError>
+    requires lent { walk.now.has_current ≡ true }
+    requires same { kept.now ≡ walk.now.explicit.kept.items }
+    ensures { IfOk result (λ s. s ≡ walk.now.current) }
+{
+    let level = walk.level();
     Ok(Sequence {
-        places,
-        level: chains.level(i),
-        sos: chains.sos(i),
-        eos: chains.eos(i),
+        places: places_from(alloc, kept, level, walk.firsts())?,
+        level,
+        sos: walk.sos(),
+        eos: walk.eos(),
     })
+}
+
+/// The sequences of a paragraph body in the order in which they end.
+fn ended_sequences(alloc: Global, explicit: &Explicit) -> Result<Vec<Sequence>, ExplicitError>
+    ensures { IfOk result (λ v. AreGiven v.items (sequences explicit.now.level explicit.now.classes.items explicit.now.kept.items)) }
+{
+    let mut walk = SequenceWalk::new(alloc, explicit);
+    let mut all = Vec::new(alloc);
+    while walk.advance()? {
+        all.push(lent_sequence(alloc, &walk, &explicit.kept)?)?;
+    }
+    Ok(all)
 }
 
 /// The isolating run sequences of a paragraph body, ordered by their first places, with the types at their ends (BD13,
 /// X10). It takes memory, and is refused only where there is none.
-#[tactic(auto, using(crate::proofs::Joined::sequences_all, crate::proofs::Bounds::sequences_low, crate::proofs::Bounds::sequences_below))]
 pub fn sequences(alloc: Global, explicit: &Explicit) -> Result<Vec<Sequence>, ExplicitError>
     ensures sequences { IfOk result (λ v. v.items ≡ sequences explicit.now.level explicit.now.classes.items explicit.now.kept.items) }
-    ensures low { IfOk result (λ v. All (λ s. s.level ≤ 125) v.items) }
+    ensures low { IfOk result (λ v. All (λ s. s.level ≤ max_depth) v.items) }
     ensures within { IfOk result (λ v. All (λ s. All (λ p. p < length explicit.now.kept.items) s.places) v.items) }
 {
-    let chains = Chains::new(alloc, explicit)?;
-    let mut all = Vec::new(alloc);
-    for i in 0..chains.len() {
-        if chains.begins(i) {
-            all.push(sequence_from(alloc, &chains, i)?)?;
-        }
-    }
+    let mut all = ended_sequences(alloc, explicit)?;
+    all.sort_by_key(|s| s.first_place())?;
     Ok(all)
 }

@@ -2,13 +2,11 @@
 #![tactic(auto)]
 
 mod base;
-mod chaining;
 mod ends;
 mod entry;
 mod error;
 mod isolates;
 mod isolating;
-mod linking;
 mod open_chains;
 mod paragraph;
 mod role;
@@ -18,13 +16,14 @@ mod stack;
 mod state;
 #[cfg(test)]
 mod tests;
+mod walk;
 
 pub use base::Base;
 pub use ends::direction;
 pub use entry::{Explicit, Kept};
 pub use error::ExplicitError;
 pub use isolating::{Sequence, sequences};
-pub use open_chains::OpenChains;
 pub use paragraph::{base_level, paragraph_level};
-pub use rules::{explicit, explicit_from};
-pub use runs::{Run, next_run};
+pub use rules::explicit;
+pub use stack::MAX_DEPTH;
+pub use walk::SequenceWalk;

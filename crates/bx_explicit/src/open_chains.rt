@@ -1,7 +1,8 @@
 //! The chains of level runs that may go on (BD13), as the runs are met in order.
-ghost use Rattle.std.specs.Prelude.{◌≡◌, ◌==◌, ◌<◌, ◌≤◌, ◌-◌, ◌++◌, [], ◌∷◌, OnOk, OnErr, All, length, reverse, take};
+ghost use Rattle.std.specs.Prelude.{◌≡◌, ◌==◌, ◌<◌, ◌≤◌, ◌-◌, ◌++◌, [], ◌∷◌, OnOk, OnErr, length, reverse, take};
 ghost use Rattle.bx_explicit.specs.LevelPlaces.{places_from};
 ghost use Rattle.bx_explicit.specs.OpenChains.{run_at, is_over, with_run, others, OpenRuns, newest_sequence};
+ghost use Rattle.bx_explicit.specs.Stack.{max_depth};
 ghost use Rattle.bx_explicit.specs.Stacked.{open_with, chains_of, AreOpen};
 
 use crate::ends::{end_class, start_class};
@@ -148,7 +149,7 @@ impl<'e> OpenChains<'e> {
     pub fn level(&self) -> u8
         requires { 0 < length self.now.chains }
         ensures value { result ≡ (newest_sequence self.now).level }
-        ensures low { result ≤ 125 }
+        ensures low { result ≤ max_depth }
     {
         newest(&self.chains).level
     }
@@ -184,8 +185,7 @@ impl<'e> OpenChains<'e> {
     /// The first place of each run of the newest chain, in order.
     pub fn firsts(&self) -> &[usize]
         requires { 0 < length self.now.chains }
-        ensures places { places_from (newest_sequence self.now).level self.now.explicit.kept.items result.now ≡ (newest_sequence self.now).places }
-        ensures within { All (λ p. p < length self.now.explicit.kept.items) (newest_sequence self.now).places }
+        ensures { places_from (newest_sequence self.now).level self.now.explicit.kept.items result.now ≡ (newest_sequence self.now).places }
     {
         let newest = newest(&self.chains);
         &self.firsts[newest.begin..]

@@ -4,20 +4,20 @@ ghost use Rattle.bx_explicit.specs.Role.{role_of};
 
 use bx_ucd::Class;
 
-/// What a class does to the stack of explicit levels, by the rules X2 to X8.
+/// What a class does to the stack of explicit levels, in the order of the rules X2 to X9.
 #[derive(Clone, Copy, PartialEq, Eq, Debug)]
 pub enum Role {
-    EmbedLeft,
-    EmbedRight,
-    OverrideLeft,
-    OverrideRight,
-    IsolateLeft,
-    IsolateRight,
-    IsolateFirst,
-    EndIsolate,
-    EndEmbedding,
-    Boundary,
-    Plain,
+    Rle,
+    Lre,
+    Rlo,
+    Lro,
+    Rli,
+    Lri,
+    Fsi,
+    Other,
+    Pdi,
+    Pdf,
+    Bn,
 }
 
 /// What the class does to the stack of explicit levels.
@@ -25,16 +25,16 @@ pub fn role_of(class: Class) -> Role
     ensures { result ≡ role_of class }
 {
     match class {
-        Class::LRE => Role::EmbedLeft,
-        Class::RLE => Role::EmbedRight,
-        Class::LRO => Role::OverrideLeft,
-        Class::RLO => Role::OverrideRight,
-        Class::LRI => Role::IsolateLeft,
-        Class::RLI => Role::IsolateRight,
-        Class::FSI => Role::IsolateFirst,
-        Class::PDI => Role::EndIsolate,
-        Class::PDF => Role::EndEmbedding,
-        Class::BN => Role::Boundary,
-        _ => Role::Plain,
+        Class::LRE => Role::Lre,
+        Class::RLE => Role::Rle,
+        Class::LRO => Role::Lro,
+        Class::RLO => Role::Rlo,
+        Class::LRI => Role::Lri,
+        Class::RLI => Role::Rli,
+        Class::FSI => Role::Fsi,
+        Class::PDI => Role::Pdi,
+        Class::PDF => Role::Pdf,
+        Class::BN => Role::Bn,
+        _ => Role::Other,
     }
 }

@@ -24,33 +24,18 @@ fn kept_of(alloc: Global, classes: &[Class], level: u8) -> Result<Vec<Option<Kep
     Ok(kept)
 }
 
-/// The explicit levels of a paragraph body of a level (X1 to X9), which keeps the list of its classes. It takes memory,
-/// and is refused only where there is none.
-#[tactic(auto, using(crate::proofs::Steps::levels_length, crate::proofs::Bounds::levels_low))]
-pub fn explicit_from(
-    alloc: Global,
-    classes: Vec<Class>,
-    level: u8,
-) -> Result<Explicit, ExplicitError>
-    requires { level ≤ 1 }
-    ensures classes { IfOk result (λ e. e.classes.items ≡ classes.items) }
-    ensures kept { IfOk result (λ e. e.kept.items ≡ explicit_levels level classes.items) }
-    ensures level { IfOk result (λ e. e.level ≡ level) }
-{
-    let kept = kept_of(alloc, &classes, level)?;
-    Ok(Explicit {
-        classes,
-        kept,
-        level,
-    })
-}
-
 /// The explicit levels of a paragraph body of a level (X1 to X9). It takes memory, and is refused only where there is none.
+#[tactic(auto, using(crate::proofs::Steps::levels_length, crate::proofs::Bounds::levels_low))]
 pub fn explicit(alloc: Global, classes: &[Class], level: u8) -> Result<Explicit, ExplicitError>
     requires { level ≤ 1 }
     ensures classes { IfOk result (λ e. e.classes.items ≡ classes.now) }
     ensures kept { IfOk result (λ e. e.kept.items ≡ explicit_levels level classes.now) }
     ensures level { IfOk result (λ e. e.level ≡ level) }
 {
-    explicit_from(alloc, classes.to_vec(alloc)?, level)
+    let kept = kept_of(alloc, classes, level)?;
+    Ok(Explicit {
+        classes: classes.to_vec(alloc)?,
+        kept,
+        level,
+    })
 }

@@ -1,16 +1,22 @@
 //! The stack of explicit levels.
 ghost use Rattle.std.specs.Prelude.{◌≡◌, ℕ, ◌<◌, ◌≤◌, List, [], ◌∷◌, reverse, length, false};
 ghost use Rattle.bx_explicit.specs.declared.entry.Entry.{Entry};
-ghost use Rattle.bx_explicit.specs.Stack.{IsRising, entry, top_of, first_of, rest_of, after_isolate, after_embedding};
+ghost use Rattle.bx_explicit.specs.Stack.{max_depth, stack_room, IsRising, entry, top_of, first_of, rest_of, after_isolate, after_embedding};
 
 use crate::entry::{Entry, Override};
 use arrayvec::ArrayVec;
 use std::marker::Model;
 
-/// The entries of the rules for explicit levels: at most 127, of rising levels.
+/// The greatest explicit level (BD2).
+pub const MAX_DEPTH: u8 = 125;
+
+/// How many entries the stack has room for (X1).
+const STACK_ROOM: usize = 127;
+
+/// The entries of the rules for explicit levels, of rising levels.
 #[derive(Drop)]
 pub struct EntryStack {
-    entries: ArrayVec<Entry, 127>,
+    entries: ArrayVec<Entry, STACK_ROOM>,
 }
 
 // Clauses see the entries, the last one first.
@@ -25,7 +31,7 @@ impl Model for EntryStack {
 impl EntryStack {
     /// The stack of one entry at `level`.
     pub fn new(level: u8) -> Self
-        requires { level ≤ 125 }
+        requires { level ≤ max_depth }
         ensures { result ≡ entry level Override.Neutral false ∷ [] }
     {
         let mut entries = ArrayVec::new();
@@ -40,7 +46,7 @@ impl EntryStack {
     /// How many entries there are.
     pub fn len(&self) -> usize
         ensures value { result ≡ length self.now }
-        ensures few { result ≤ 127 }
+        ensures few { result ≤ stack_room }
     {
         self.entries.len()
     }
@@ -48,7 +54,7 @@ impl EntryStack {
     /// The last entry.
     pub fn top(&self) -> Entry
         ensures value { result ≡ top_of self.now }
-        ensures low { result.level ≤ 125 }
+        ensures low { result.level ≤ max_depth }
     {
         match self.entries.as_slice() {
             [] => Entry {
@@ -62,7 +68,7 @@ impl EntryStack {
 
     /// Adds an entry of a higher level.
     pub fn push(&mut self, entry: Entry)
-        requires low { entry.level ≤ 125 }
+        requires low { entry.level ≤ max_depth }
         requires above { (top_of self.old).level < entry.level }
         ensures { self.new ≡ entry ∷ self.old }
     {

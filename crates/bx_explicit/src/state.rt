@@ -1,11 +1,12 @@
 //! The state of the rules for explicit levels (X1), one method a rule.
 ghost use Rattle.std.specs.Prelude.{◌≡◌, ◌<◌, ◌≤◌};
 ghost use Rattle.bx_explicit.specs.Role.{role_of};
+ghost use Rattle.bx_explicit.specs.Stack.{max_depth};
 ghost use Rattle.bx_explicit.specs.Explicit.{start, top, odd_above, even_above, is_valid, embed, isolate, end_isolate, end_embedding, forced_class, kept_under, first_above, state_after, kept_by};
 
 use crate::entry::{Entry, Kept, Override};
 use crate::role::{Role, role_of};
-use crate::stack::EntryStack;
+use crate::stack::{EntryStack, MAX_DEPTH};
 use bx_ucd::Class;
 
 /// The stack of entries and the three counts (X1).
@@ -19,7 +20,7 @@ pub struct State {
 
 /// The least odd level above a level.
 pub fn odd_above(level: u8) -> u8
-    requires { level ≤ 125 }
+    requires { level ≤ max_depth }
     ensures { result ≡ odd_above level }
 {
     level + 1 + level % 2
@@ -27,7 +28,7 @@ pub fn odd_above(level: u8) -> u8
 
 /// The least even level above a level.
 pub fn even_above(level: u8) -> u8
-    requires { level ≤ 125 }
+    requires { level ≤ max_depth }
     ensures { result ≡ even_above level }
 {
     level + 2 - level % 2
@@ -46,7 +47,7 @@ pub fn forced_class(forced: Override, class: Class) -> Class
 
 /// The level of an isolate whose text has the paragraph level `first` (X5c).
 pub fn first_above(first: u8, level: u8) -> u8
-    requires { level ≤ 125 }
+    requires { level ≤ max_depth }
     ensures { result ≡ first_above first level }
 {
     if first == 0 {
@@ -59,7 +60,7 @@ pub fn first_above(first: u8, level: u8) -> u8
 impl State {
     /// The state before the first character (X1).
     pub fn new(level: u8) -> Self
-        requires { level ≤ 125 }
+        requires { level ≤ max_depth }
         ensures { result ≡ start level }
     {
         State {
@@ -74,7 +75,7 @@ impl State {
     pub fn is_valid(&self, level: u8) -> bool
         ensures { result ≡ is_valid self.now level }
     {
-        level <= 125 && self.overflow_isolates == 0 && self.overflow_embeddings == 0
+        level <= MAX_DEPTH && self.overflow_isolates == 0 && self.overflow_embeddings == 0
     }
 
     /// An embedding or an override (X2 to X5).
@@ -161,29 +162,29 @@ impl State {
         let kept = self.kept_under(class);
         let level = self.stack.top().level;
         match role_of(class) {
-            Role::EmbedLeft => self.embed(even_above(level), Override::Neutral),
-            Role::EmbedRight => self.embed(odd_above(level), Override::Neutral),
-            Role::OverrideLeft => self.embed(even_above(level), Override::Left),
-            Role::OverrideRight => self.embed(odd_above(level), Override::Right),
-            Role::IsolateLeft => {
-                self.isolate(even_above(level));
-                return kept;
-            }
-            Role::IsolateRight => {
+            Role::Rle => self.embed(odd_above(level), Override::Neutral),
+            Role::Lre => self.embed(even_above(level), Override::Neutral),
+            Role::Rlo => self.embed(odd_above(level), Override::Right),
+            Role::Lro => self.embed(even_above(level), Override::Left),
+            Role::Rli => {
                 self.isolate(odd_above(level));
                 return kept;
             }
-            Role::IsolateFirst => {
+            Role::Lri => {
+                self.isolate(even_above(level));
+                return kept;
+            }
+            Role::Fsi => {
                 self.isolate(first_above(first, level));
                 return kept;
             }
-            Role::EndIsolate => {
+            Role::Other => return kept,
+            Role::Pdi => {
                 self.end_isolate();
                 return self.kept_under(class);
             }
-            Role::EndEmbedding => self.end_embedding(),
-            Role::Boundary => {}
-            Role::Plain => return kept,
+            Role::Pdf => self.end_embedding(),
+            Role::Bn => {}
         }
         None
     }

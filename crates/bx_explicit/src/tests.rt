@@ -1,5 +1,5 @@
 //! The worked examples, and each call once with ample memory.
-use crate::{Base, Kept, OpenChains, base_level, explicit, next_run, paragraph_level, sequences};
+use crate::{Base, Kept, SequenceWalk, base_level, explicit, paragraph_level, sequences};
 use bx_ucd::Class;
 use std::test::Fail;
 
@@ -49,25 +49,19 @@ fn removed_characters_and_bases(rt: HostRuntime) -> Result<(), Fail> {
 }
 
 #[test]
-fn a_chain_waits_for_its_isolate(rt: HostRuntime) -> Result<(), Fail> {
+fn an_isolate_comes_before_what_is_around_it(rt: HostRuntime) -> Result<(), Fail> {
     let classes = [Class::RLI, Class::R, Class::PDI];
     let explicit = explicit(rt.alloc(), &classes, 0)?;
-    let mut chains = OpenChains::new(rt.alloc(), &explicit);
-    assert!(rt; chains.is_empty());
-    let outer = next_run(&explicit.kept, 0).expect(&rt, "a run");
-    chains.take(outer)?;
-    let inner = next_run(&explicit.kept, outer.last + 1).expect(&rt, "a run");
-    assert!(rt; !chains.is_over(inner));
-    chains.take(inner)?;
-    let after = next_run(&explicit.kept, inner.last + 1).expect(&rt, "a run");
-    assert!(rt; chains.is_over(after));
-    chains.drop_newest();
-    assert!(rt; !chains.is_over(after));
-    chains.take(after)?;
-    assert!(rt; !chains.is_empty());
-    let (level, sos, eos) = (chains.level(), chains.sos(), chains.eos());
-    let firsts = chains.firsts();
-    let shown = format!(in rt.alloc(); "{level} {sos:?} {eos:?} {firsts:?}")?;
-    assert_eq!(rt; shown.as_str(), "0 L L [0, 2]");
+    let mut walk = SequenceWalk::new(rt.alloc(), &explicit);
+    let mut shown = String::new(rt.alloc());
+    for _ in 0..2 {
+        assert!(rt; walk.advance()?);
+        let (level, sos, eos) = (walk.level(), walk.sos(), walk.eos());
+        let firsts = walk.firsts();
+        let row = format!(in rt.alloc(); "{firsts:?} {level} {sos:?} {eos:?};")?;
+        shown.push_str(row.as_str())?;
+    }
+    assert!(rt; !walk.advance()?);
+    assert_eq!(rt; shown.as_str(), "[1] 1 R R;[0, 2] 0 L L;");
     Ok(())
 }

@@ -1,5 +1,6 @@
 //! Finds the levels of a text some times, to count instructions: PATTERN CHARACTERS TIMES, where a pattern is mixed, latin,
-//! pairs, isolates, rli, fsi, terminators, one_number, nested, deep or isolated_brackets. It prints the sum of the levels found.
+//! hebrew, arabic, hebrew_numbers, pairs, isolates, rli, fsi, terminators, one_number, nested, deep or isolated_brackets.
+//! It prints the sum of the levels found.
 //!
 //! The cost of a character is the difference of two runs under `valgrind --tool=callgrind` that differ in TIMES alone, by
 //! the difference in characters. Cost that does not depend on CHARACTERS is linear time.

@@ -28,6 +28,8 @@ fn high_class(c: u32) -> Class
 {
     if c < 0x600 {
         Class::R
+    } else if c < 0x660 {
+        Class::AL
     } else if c < 0x670 {
         Class::AN
     } else if c == 0x2067 {

@@ -7,6 +7,21 @@ fn unit_of(pattern: &str) -> &'static [char] {
         &[
             'T', 'h', 'e', ' ', 'o', 'l', 'd', ' ', 'm', 'a', 'n', ',', ' ', '1', '2', '.', ' ',
         ]
+    } else if pattern == "hebrew" {
+        &[
+            '\u{5e9}', '\u{5dc}', '\u{5d5}', '\u{5dd}', ' ', '(', '\u{5e2}', '\u{5d5}', '\u{5dc}',
+            '\u{5dd}', ')', ',', ' ',
+        ]
+    } else if pattern == "arabic" {
+        &[
+            '\u{645}', '\u{631}', '\u{62d}', '\u{628}', '\u{627}', ' ', '\u{628}', '\u{627}',
+            '\u{644}', ',', ' ',
+        ]
+    } else if pattern == "hebrew_numbers" {
+        &[
+            '\u{5e9}', '\u{5dc}', '\u{5d5}', '\u{5dd}', ' ', '1', '2', '3', ' ', '\u{5e2}',
+            '\u{5d5}', '\u{5dc}', '\u{5dd}', ',', ' ',
+        ]
     } else if pattern == "pairs" {
         &['\u{5d0}', '(', ')']
     } else if pattern == "isolates" {

@@ -3,11 +3,11 @@ use Rattle.std.proofs.Common.{append_assoc, ◌≡◌, ◌<◌, ◌+◌, ◌∙�
 use Rattle.std.specs.Prelude.{◌&&◌, MatchOption}
 use Rattle.std.proofs.lemmas.List.{at_drop_more, take_more, take_more_set, drop-set-lt}
 use Rattle.std.proofs.Math.Seq.{drop-length}
-use Rattle.bx_ucd.specs.declared.class.Class.TheVariants.{L, R, AN, EN, ES, ET, CS, ON}
+use Rattle.bx_ucd.specs.declared.class.Class.TheVariants.{L, R, AL, AN, EN, ES, ET, CS, ON}
 use Rattle.bx_ucd.specs.declared.class.Class.{Class}
 use Rattle.bx_ucd.specs.Class.{is_neutral}
 use Rattle.bx_resolve.specs.Weak.{w1, w2, w3, w4, w5, w6, w7, weak, w3_at, w6_at, is_en, is_an, is_et, is_left_or_right, beside, separator, is_en_past, terminator_of}
-use Rattle.bx_resolve.specs.Turns.{after_w3, marked, mark_next, number_of, strong_next, ahead, terminated, past_next, left_of, side_next}
+use Rattle.bx_resolve.specs.Turns.{rest_after_w3, after_w1, mark_next, after_w2, strong_next, ahead, after_w5, past_next, after_w7, side_next}
 use Rattle.bx_resolve.specs.Neutral.{n1, n2, n2_at}
 use Rattle.bx_resolve.proofs.Run.{run, w1_run, w2_run, n1_run, next_mark, out_mark, next_strong, out_number, next_beside, out_separator, next_past, out_terminator, next_side, out_left, w4_run, w5_run, w7_run, next_neutral, out_neutral}
 
@@ -32,13 +32,13 @@ module _ {S U : Type 0} (n : S → Class → S) (o : S → Class → List Class 
 
 -- W1, W2 and W3
 abbrev pub next_first : Class × Class → Class → Class × Class
-next_first (s, u) t = (next_mark s t, next_strong u (marked s t))
+next_first (s, u) t = (next_mark s t, next_strong u (after_w1 s t))
 
 abbrev pub out_first : Class × Class → Class → List Class → Class
-out_first (s, u) t a = w3_at (out_number u (marked s t) a)
+out_first (s, u) t a = w3_at (out_number u (after_w1 s t) a)
 
 pub first_run : (sos : Class) (ts : List Class) → w3 (w2 sos (w1 sos ts)) ≡ run next_first out_first (sos, sos) ts
-first_run sos ts = ap (λ xs. w3 (w2 sos xs)) (w1_run sos ts) ∙ ap w3 (w2_run sos (run next_mark out_mark sos ts)) ∙ ap w3 (run_run next_mark out_mark next_strong out_number marked (λ s t a. refl) sos sos ts) ∙ map_run _ _ w3_at (sos, sos) ts
+first_run sos ts = ap (λ xs. w3 (w2 sos xs)) (w1_run sos ts) ∙ ap w3 (w2_run sos (run next_mark out_mark sos ts)) ∙ ap w3 (run_run next_mark out_mark next_strong out_number after_w1 (λ s t a. refl) sos sos ts) ∙ map_run _ _ w3_at (sos, sos) ts
 
 -- N1 and N2
 abbrev pub out_taken : Class → Class → Class → Class → List Class → Class
@@ -82,94 +82,104 @@ past_same (CS ∷ ts) = refl
 past_same (_ ∷ ts) = refl
 
 -- the type after W4
-abbrev pub parted : Class → Class → List Class → Class
-parted b t a = separator b t (beside a)
+abbrev pub after_w4 : Class → Class → List Class → Class
+after_w4 b t a = separator b t (beside a)
 
-terminated_by : (p : Bool) (b t : Class) (a : List Class) (v : Bool) → is_et (parted b t a) ≡ v → elim v as (λ x. Class) [ true ↦ terminator_of p (is_en_past (run next_beside out_separator t a)) | false ↦ parted b t a ] ≡ terminated (parted b t a) p (elim v as (λ x. Option Bool) [ true ↦ Some (is_en_past a) | false ↦ None ])
-terminated_by p b t a true e =
+after_w5_by : (p : Bool) (b t : Class) (a : List Class) (v : Bool) → is_et (after_w4 b t a) ≡ v → elim v as (λ x. Class) [ true ↦ terminator_of p (is_en_past (run next_beside out_separator t a)) | false ↦ after_w4 b t a ] ≡ after_w5 (after_w4 b t a) p (elim v as (λ x. Option Bool) [ true ↦ Some (is_en_past a) | false ↦ None ])
+after_w5_by p b t a true e =
     let s : t ≡ ET = et_of b t (beside a) e in
     ap (terminator_of p) (ap (λ u. is_en_past (run next_beside out_separator u a)) s ∙ past_same a)
-terminated_by p b t a false e = refl
+after_w5_by p b t a false e = refl
 
 -- W4 to W7: the type before, whether an EN stands before the run of ET, and the nearest L or R
 abbrev last_written : Class → Bool → Class → List Class → Class
-last_written b p t a = w6_at (terminated (parted b t a) p (ahead (parted b t a) a))
+last_written b p t a = w6_at (after_w5 (after_w4 b t a) p (ahead (after_w4 b t a) a))
 
 abbrev pub next_last : Class × Bool × Class → Class → List Class → Class × Bool × Class
-next_last (b, p, s) t a = (t, past_next p (parted b t a), side_next s (w6_at (terminated (parted b t a) p (ahead (parted b t a) a))))
+next_last (b, p, s) t a = (t, past_next p (after_w4 b t a), side_next s (w6_at (after_w5 (after_w4 b t a) p (ahead (after_w4 b t a) a))))
 
 abbrev pub out_last : Class × Bool × Class → Class → List Class → Class
-out_last (b, p, s) t a = left_of s (w6_at (terminated (parted b t a) p (ahead (parted b t a) a)))
+out_last (b, p, s) t a = after_w7 s (w6_at (after_w5 (after_w4 b t a) p (ahead (after_w4 b t a) a)))
 
 last_from : (b : Class) (p : Bool) (s : Class) (ts : List Class) → run next_side out_left s (map w6_at (run next_past out_terminator p (run next_beside out_separator b ts))) ≡ go next_last out_last (b, p, s) ts
 last_from b p s [] = refl
 last_from b p s (t ∷ a) =
-    let x : Class = parted b t a in
-    let z : Class = terminated x p (ahead x a) in
+    let x : Class = after_w4 b t a in
+    let z : Class = after_w5 x p (ahead x a) in
     let r : List Class = map w6_at (run next_past out_terminator (past_next p x) (run next_beside out_separator t a)) in
-    let e : out_terminator p x (run next_beside out_separator t a) ≡ z = terminated_by p b t a (is_et x) refl in
-    ap (λ y. left_of s (w6_at y) ∷ run next_side out_left (side_next s (w6_at y)) r) e ∙ ap (λ rs. left_of s (w6_at z) ∷ rs) (last_from t (past_next p x) (side_next s (w6_at z)) a)
+    let e : out_terminator p x (run next_beside out_separator t a) ≡ z = after_w5_by p b t a (is_et x) refl in
+    ap (λ y. after_w7 s (w6_at y) ∷ run next_side out_left (side_next s (w6_at y)) r) e ∙ ap (λ rs. after_w7 s (w6_at z) ∷ rs) (last_from t (past_next p x) (side_next s (w6_at z)) a)
 
 pub last_run : (sos : Class) (ts : List Class) → w7 sos (w6 (w5 (w4 ts))) ≡ go next_last out_last (ON, false, sos) ts
 last_run sos ts = ap (λ xs. w7 sos (w6 (w5 xs))) (w4_run ts) ∙ ap (λ xs. w7 sos (w6 xs)) (w5_run (run next_beside out_separator ON ts)) ∙ w7_run sos (map w6_at (run next_past out_terminator false (run next_beside out_separator ON ts))) ∙ last_from ON false sos ts
 
 -- W1 to W3, as a list
-w3_list : (mark strong : Class) (ts : List Class) → run next_first out_first (mark, strong) ts ≡ after_w3 mark strong ts
+w3_list : (mark strong : Class) (ts : List Class) → run next_first out_first (mark, strong) ts ≡ rest_after_w3 mark strong ts
 w3_list mark strong [] = refl
-w3_list mark strong (t ∷ ts) = ap (λ r. w3_at (number_of strong (marked mark t)) ∷ r) (w3_list (mark_next mark t) (strong_next strong (marked mark t)) ts)
+w3_list mark strong (t ∷ ts) = ap (λ r. w3_at (after_w2 strong (after_w1 mark t)) ∷ r) (w3_list (mark_next mark t) (strong_next strong (after_w1 mark t)) ts)
 
 -- W1 to W7: a nearest type that is no NSM and a nearest strong type, and the state of W4 to W7
 abbrev pub seen : Class → Class → Class → Class
-seen mark strong t = w3_at (number_of strong (marked mark t))
+seen mark strong t = w3_at (after_w2 strong (after_w1 mark t))
 
 abbrev pub rest_seen : Class → Class → Class → List Class → List Class
-rest_seen mark strong t a = after_w3 (mark_next mark t) (strong_next strong (marked mark t)) a
+rest_seen mark strong t a = rest_after_w3 (mark_next mark t) (strong_next strong (after_w1 mark t)) a
 
 abbrev pub left_all : Class → Class → Class → Bool → Class → List Class → Class
 left_all mark strong b p t a = last_written b p (seen mark strong t) (rest_seen mark strong t a)
 
 abbrev pub next_all : Class × Class × Class × Bool × Class → Class → List Class → Class × Class × Class × Bool × Class
-next_all (mark, strong, b, p, s) t a = (mark_next mark t, strong_next strong (marked mark t), seen mark strong t, past_next p (parted b (seen mark strong t) (rest_seen mark strong t a)), side_next s (left_all mark strong b p t a))
+next_all (mark, strong, b, p, s) t a = (mark_next mark t, strong_next strong (after_w1 mark t), seen mark strong t, past_next p (after_w4 b (seen mark strong t) (rest_seen mark strong t a)), side_next s (left_all mark strong b p t a))
 
 abbrev pub out_all : Class × Class × Class × Bool × Class → Class → List Class → Class
-out_all (mark, strong, b, p, s) t a = left_of s (left_all mark strong b p t a)
+out_all (mark, strong, b, p, s) t a = after_w7 s (left_all mark strong b p t a)
 
-all_from : (mark strong b : Class) (p : Bool) (s : Class) (ts : List Class) → go next_last out_last (b, p, s) (after_w3 mark strong ts) ≡ go next_all out_all (mark, strong, b, p, s) ts
+all_from : (mark strong b : Class) (p : Bool) (s : Class) (ts : List Class) → go next_last out_last (b, p, s) (rest_after_w3 mark strong ts) ≡ go next_all out_all (mark, strong, b, p, s) ts
 all_from mark strong b p s [] = refl
-all_from mark strong b p s (t ∷ a) = ap (λ r. left_of s (left_all mark strong b p t a) ∷ r) (all_from (mark_next mark t) (strong_next strong (marked mark t)) (seen mark strong t) (past_next p (parted b (seen mark strong t) (rest_seen mark strong t a))) (side_next s (left_all mark strong b p t a)) a)
+all_from mark strong b p s (t ∷ a) = ap (λ r. after_w7 s (left_all mark strong b p t a) ∷ r) (all_from (mark_next mark t) (strong_next strong (after_w1 mark t)) (seen mark strong t) (past_next p (after_w4 b (seen mark strong t) (rest_seen mark strong t a))) (side_next s (left_all mark strong b p t a)) a)
 
 pub weak_run : (sos : Class) (ts : List Class) → weak sos ts ≡ go next_all out_all (sos, sos, ON, false, sos) ts
-weak_run sos ts = ap (λ xs. w7 sos (w6 (w5 (w4 xs)))) (first_run sos ts ∙ w3_list sos sos ts) ∙ last_run sos (after_w3 sos sos ts) ∙ all_from sos sos ON false sos ts
+weak_run sos ts = ap (λ xs. w7 sos (w6 (w5 (w4 xs)))) (first_run sos ts ∙ w3_list sos sos ts) ∙ last_run sos (rest_after_w3 sos sos ts) ∙ all_from sos sos ON false sos ts
 
 -- a look ahead, one character on
-w3_more : (mark strong : Class) (ts : List Class) (i : ℕ) → i < length ts → after_w3 mark strong (drop i ts) ≡ seen mark strong (get_or ts i L) ∷ rest_seen mark strong (get_or ts i L) (drop (i + 1) ts)
-w3_more mark strong ts i h = at_drop_more (after_w3 mark strong) ts i L h
+w3_more : (mark strong : Class) (ts : List Class) (i : ℕ) → i < length ts → rest_after_w3 mark strong (drop i ts) ≡ seen mark strong (get_or ts i L) ∷ rest_seen mark strong (get_or ts i L) (drop (i + 1) ts)
+w3_more mark strong ts i h = at_drop_more (rest_after_w3 mark strong) ts i L h
 
 past_at : (t : Class) (ts : List Class) (v : Bool) → is_et t ≡ v → is_en_past (t ∷ ts) ≡ elim v [ true ↦ is_en_past ts | false ↦ is_en t ]
 past_at t ts true e = rw (e, is_en_past)
 past_at t ts false e = rw (e, is_en_past)
 
-pub past_et : (mark strong : Class) (ts : List Class) (i : ℕ) → i < length ts → is_et (seen mark strong (get_or ts i L)) ≡ true → is_en_past (after_w3 mark strong (drop i ts)) ≡ is_en_past (rest_seen mark strong (get_or ts i L) (drop (i + 1) ts))
-past_et mark strong ts i h e = ap is_en_past (w3_more mark strong ts i h) ∙ past_at (seen mark strong (get_or ts i L)) (rest_seen mark strong (get_or ts i L) (drop (i + 1) ts)) true e
+seen_et : (mark strong : Class) (ts : List Class) (i : ℕ) → i < length ts → is_et (seen mark strong (get_or ts i L)) ≡ true → is_en_past (rest_after_w3 mark strong (drop i ts)) ≡ is_en_past (rest_seen mark strong (get_or ts i L) (drop (i + 1) ts))
+seen_et mark strong ts i h e = ap is_en_past (w3_more mark strong ts i h) ∙ past_at (seen mark strong (get_or ts i L)) (rest_seen mark strong (get_or ts i L) (drop (i + 1) ts)) true e
 
-pub past_other : (mark strong : Class) (ts : List Class) (i : ℕ) → i < length ts → is_et (seen mark strong (get_or ts i L)) ≡ false → is_en_past (after_w3 mark strong (drop i ts)) ≡ is_en (seen mark strong (get_or ts i L))
+-- what is an ET after W3 is not strong
+et_not_strong : (strong t : Class) → is_et (w3_at (after_w2 strong t)) ≡ true → strong_next strong t ≡ strong
+et_not_strong strong L e = absurd (cc)
+et_not_strong strong R e = absurd (cc)
+et_not_strong strong AL e = absurd (cc)
+et_not_strong strong _ e = refl
+
+pub past_et : (mark strong : Class) (ts : List Class) (i : ℕ) → i < length ts → is_et (seen mark strong (get_or ts i L)) ≡ true → is_en_past (rest_after_w3 mark strong (drop i ts)) ≡ is_en_past (rest_after_w3 (mark_next mark (get_or ts i L)) strong (drop (i + 1) ts))
+past_et mark strong ts i h e = seen_et mark strong ts i h e ∙ ap (λ u. is_en_past (rest_after_w3 (mark_next mark (get_or ts i L)) u (drop (i + 1) ts))) (et_not_strong strong (after_w1 mark (get_or ts i L)) e)
+
+pub past_other : (mark strong : Class) (ts : List Class) (i : ℕ) → i < length ts → is_et (seen mark strong (get_or ts i L)) ≡ false → is_en_past (rest_after_w3 mark strong (drop i ts)) ≡ is_en (seen mark strong (get_or ts i L))
 past_other mark strong ts i h e = ap is_en_past (w3_more mark strong ts i h) ∙ past_at (seen mark strong (get_or ts i L)) (rest_seen mark strong (get_or ts i L) (drop (i + 1) ts)) false e
 
-pub past_end : (mark strong : Class) (ts : List Class) → is_en_past (after_w3 mark strong (drop (length ts) ts)) ≡ false
-past_end mark strong ts = ap (λ xs. is_en_past (after_w3 mark strong xs)) (drop-length ts)
+pub past_end : (mark strong : Class) (ts : List Class) → is_en_past (rest_after_w3 mark strong (drop (length ts) ts)) ≡ false
+past_end mark strong ts = ap (λ xs. is_en_past (rest_after_w3 mark strong xs)) (drop-length ts)
 
 -- what is known of one ET is known of the next of its run
-pub known_next : (mark strong b y x m u : Class) (ts rest : List Class) (i : ℕ) (known : Option Bool) → i < length ts → m ≡ mark_next mark (get_or ts i L) → u ≡ strong_next strong (marked mark (get_or ts i L)) → x ≡ separator b (seen mark strong (get_or ts i L)) y → rest ≡ drop (i + 1) ts → MatchOption known (Unit {0}) (λ a. a ≡ is_en_past (after_w3 mark strong (drop i ts))) → MatchOption known (Unit {0}) (λ a. is_et x ≡ true → a ≡ is_en_past (after_w3 m u rest))
+pub known_next : (mark strong b y x m u : Class) (ts rest : List Class) (i : ℕ) (known : Option Bool) → i < length ts → m ≡ mark_next mark (get_or ts i L) → u ≡ strong_next strong (after_w1 mark (get_or ts i L)) → x ≡ separator b (seen mark strong (get_or ts i L)) y → rest ≡ drop (i + 1) ts → MatchOption known (Unit {0}) (λ a. a ≡ is_en_past (rest_after_w3 mark strong (drop i ts))) → MatchOption known (Unit {0}) (λ a. is_et x ≡ true → a ≡ is_en_past (rest_after_w3 m u rest))
 known_next mark strong b y x m u ts rest i None h em eu ex er k = tt
 known_next mark strong b y x m u ts rest i (Some a) h em eu ex er k = λ f.
     let s : seen mark strong (get_or ts i L) ≡ ET = et_of b (seen mark strong (get_or ts i L)) y (ap is_et (sym ex) ∙ f) in
-    k ∙ past_et mark strong ts i h (ap is_et s) ∙ sym (ap (λ c. is_en_past (after_w3 c u rest)) em ∙ ap (λ c. is_en_past (after_w3 (mark_next mark (get_or ts i L)) c rest)) eu ∙ ap (λ xs. is_en_past (after_w3 (mark_next mark (get_or ts i L)) (strong_next strong (marked mark (get_or ts i L))) xs)) er)
+    k ∙ seen_et mark strong ts i h (ap is_et s) ∙ sym (ap (λ c. is_en_past (rest_after_w3 c u rest)) em ∙ ap (λ c. is_en_past (rest_after_w3 (mark_next mark (get_or ts i L)) c rest)) eu ∙ ap (λ xs. is_en_past (rest_after_w3 (mark_next mark (get_or ts i L)) (strong_next strong (after_w1 mark (get_or ts i L))) xs)) er)
 
-pub known_after : (t mark strong : Class) (ts : List Class) (i : ℕ) (x : Class) (known : Option Bool) → known ≡ ahead t (after_w3 mark strong (drop (i + 1) ts)) → MatchOption known (Unit {0}) (λ a. a ≡ is_en_past (after_w3 mark strong (drop (i + 1) (set ts i x))))
+pub known_after : (t mark strong : Class) (ts : List Class) (i : ℕ) (x : Class) (known : Option Bool) → known ≡ ahead t (rest_after_w3 mark strong (drop (i + 1) ts)) → MatchOption known (Unit {0}) (λ a. a ≡ is_en_past (rest_after_w3 mark strong (drop (i + 1) (set ts i x))))
 known_after t mark strong ts i x known e =
     let d : drop (i + 1) (set ts i x) ≡ drop (i + 1) ts = drop-set-lt (i + 1) ts i x (omega arith) in
-    subst (λ (o : Option Bool). MatchOption o (Unit {0}) (λ a. a ≡ is_en_past (after_w3 mark strong (drop (i + 1) (set ts i x))))) (sym e) (elim (is_et t) as (λ v. MatchOption (elim v as (λ y. Option Bool) [ true ↦ Some (is_en_past (after_w3 mark strong (drop (i + 1) ts))) | false ↦ None ]) (Unit {0}) (λ a. a ≡ is_en_past (after_w3 mark strong (drop (i + 1) (set ts i x))))) [
-      | true ↦ ap (λ xs. is_en_past (after_w3 mark strong xs)) (sym d)
+    subst (λ (o : Option Bool). MatchOption o (Unit {0}) (λ a. a ≡ is_en_past (rest_after_w3 mark strong (drop (i + 1) (set ts i x))))) (sym e) (elim (is_et t) as (λ v. MatchOption (elim v as (λ y. Option Bool) [ true ↦ Some (is_en_past (rest_after_w3 mark strong (drop (i + 1) ts))) | false ↦ None ]) (Unit {0}) (λ a. a ≡ is_en_past (rest_after_w3 mark strong (drop (i + 1) (set ts i x))))) [
+      | true ↦ ap (λ xs. is_en_past (rest_after_w3 mark strong xs)) (sym d)
       | false ↦ tt
     ])
 

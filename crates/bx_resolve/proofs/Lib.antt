@@ -3,13 +3,10 @@ pub mod Run
 pub mod Fused
 pub mod Written
 pub mod Apart
-pub mod Unjoined
-pub mod Waits
-pub mod Walked
-pub mod Keeping
 pub mod PlainRuns
 pub mod PlainPairs
 pub mod PlainLengths
 pub mod PlainTypes
+pub mod RightTypes
 pub mod PlainLevels
 pub mod TestRows

@@ -3,16 +3,17 @@ use Rattle.std.proofs.Common.{◌≡◌, ◌<◌, ◌+◌, ◌∙◌, ℕ, zero,
 use Rattle.std.proofs.lemmas.List.{at_drop_more, length-map}
 use Rattle.std.proofs.Math.Seq.{drop-length}
 use Rattle.bx_ucd.specs.declared.class.Class.{Class}
-use Rattle.bx_ucd.specs.declared.class.Class.TheVariants.{L, EN, ES, ET, CS, NSM, B, S, WS, ON}
+use Rattle.bx_ucd.specs.declared.class.Class.TheVariants.{L, R, AL, EN, ES, ET, CS, NSM, B, S, WS, ON}
 use Rattle.bx_ucd.specs.declared.data.Side.{Side}
 use Rattle.bx_explicit.specs.declared.entry.Kept.{Kept}
 use Rattle.bx_explicit.specs.Sequences.{sequences, direction}
 use Rattle.bx_resolve.specs.Levels.{with_levels, with_sequences, levels_in, sequence_types, sequence_levels, paragraph_levels, types_at}
 use Rattle.bx_resolve.specs.Neutral.{implicit_at}
-use Rattle.bx_resolve.specs.Plain.{is_plain, is_unformatted, all_pass}
+use Rattle.bx_resolve.specs.Plain.{is_plain, is_plain_right, is_unformatted, all_pass}
 use Rattle.bx_resolve.proofs.PlainRuns.{Each, kept_as, explicit_plain, sequences_plain, whole, places_from, chars_whole, types_whole}
 use Rattle.bx_resolve.proofs.PlainLengths.{levels_length}
 use Rattle.bx_resolve.proofs.PlainTypes.{plain_sequence}
+use Rattle.bx_resolve.proofs.RightTypes.{plain_right_sequence}
 
 -- a level that is found
 abbrev pub found : ℕ → Option ℕ
@@ -108,6 +109,39 @@ plain_levels class bracket paragraph chars z e =
     let h : Each is_plain cs = each_pass is_plain cs e in
     let l : length cs ≡ length chars = length-map chars class in
     ap (λ p. paragraph_levels class bracket p chars) z ∙ unformatted_levels class bracket 0 chars (all_unformatted cs h) ∙ ap (map found) (plain_sequence bracket chars cs h) ∙ map_zeros (length cs) ∙ ap (λ n. replicate n (found 0)) l
+
+right_passes : (c : Class) → is_plain_right c ≡ true → is_unformatted c ≡ true
+right_passes R e = refl
+right_passes AL e = refl
+right_passes ES e = refl
+right_passes ET e = refl
+right_passes CS e = refl
+right_passes NSM e = refl
+right_passes B e = refl
+right_passes S e = refl
+right_passes WS e = refl
+right_passes ON e = refl
+right_passes _ e = absurd (cc)
+
+right_unformatted : (cs : List Class) → Each is_plain_right cs → all_pass is_unformatted cs ≡ true
+right_unformatted [] h = refl
+right_unformatted (c ∷ cs) h = pass_at is_unformatted c cs true (right_passes c h.0) ∙ right_unformatted cs h.1
+
+map_ones : (n : ℕ) → map found (replicate n 1) ≡ replicate n (found 1)
+map_ones zero = refl
+map_ones (suc n) = ap (λ ws. found 1 ∷ ws) (map_ones n)
+
+-- the same of level 1
+pub plain_right_levels : (class : ℕ → Class) (bracket : ℕ → Option (Side × ℕ)) (paragraph : ℕ) (chars : List ℕ) → paragraph ≡ 1 → all_pass is_plain_right (map class chars) ≡ true → paragraph_levels class bracket paragraph chars ≡ replicate (length chars) (Some 1)
+plain_right_levels class bracket paragraph chars z e =
+    let cs : List Class = map class chars in
+    let h : Each is_plain_right cs = each_pass is_plain_right cs e in
+    let l : length cs ≡ length chars = length-map chars class in
+    ap (λ p. paragraph_levels class bracket p chars) z
+    ∙ unformatted_levels class bracket 1 chars (right_unformatted cs h)
+    ∙ ap (map found) (plain_right_sequence bracket chars cs h)
+    ∙ map_ones (length cs)
+    ∙ ap (λ n. replicate n (found 1)) l
 
 module _ (p : Class → Bool) where
   pub pass_more : (cs : List Class) (i : ℕ) → i < length cs → p (get_or cs i L) ≡ true → all_pass p (drop i cs) ≡ all_pass p (drop (i + 1) cs)

@@ -4,7 +4,7 @@ use Rattle.std.specs.Prelude.{find, nat_lt, ◌==◌}
 use Rattle.bx_ucd.specs.declared.class.Class.{Class}
 use Rattle.bx_ucd.specs.declared.data.Side.{Side}
 use Rattle.bx_ucd.specs.declared.data.Side.TheVariants.{Opener, Closer}
-use Rattle.bx_brackets.specs.Pairs.{Search, insert_pair, is_open, open_openers, meet, meet_opener, canonical, bracket_at, search_from, pairs}
+use Rattle.bx_brackets.specs.Pairs.{bracket_room, Search, insert_pair, is_open, open_openers, meet, meet_opener, canonical, bracket_at, search_from, pairs}
 use Rattle.bx_brackets.specs.Search.{IsFalling}
 use Rattle.bx_brackets.proofs.Stack.{falling_later, falling_filter, found_below}
 
@@ -30,7 +30,7 @@ pub record IsSound (j : ℕ) (s : Search) : Type 0 where
   pub inside : AreInside j s.pairs
 
 opener_sound : (j c : ℕ) (s : Search) → IsSound j s → IsSound (j + 1) (meet_opener s j c)
-opener_sound j c s h = elim (nat_lt (length (open_openers s)) 63) as (λ b. IsSound (j + 1) (elim b as (λ x. Search) [ true ↦ record s { openers = (j, canonical c) ∷ s.openers } | false ↦ record s { is_over = true } ])) [
+opener_sound j c s h = elim (nat_lt (length (open_openers s)) bracket_room) as (λ b. IsSound (j + 1) (elim b as (λ x. Search) [ true ↦ record s { openers = (j, canonical c) ∷ s.openers } | false ↦ record s { is_over = true } ])) [
   | true ↦ record { falling = (omega arith, h.falling); inside = inside_later j (j + 1) s.pairs (omega arith) h.inside }
   | false ↦ record { falling = falling_later j (j + 1) s.openers (omega arith) h.falling; inside = inside_later j (j + 1) s.pairs (omega arith) h.inside }
 ]

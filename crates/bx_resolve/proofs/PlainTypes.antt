@@ -19,11 +19,11 @@ use Rattle.bx_resolve.proofs.PlainLengths.{places_length, weak_length, change_le
 
 -- a rule that turns each class of one kind into one of another
 module _ (p q : Class → Bool) (rule : List Class → Class → List Class → Class) (turns : (b : List Class) (t : Class) (a : List Class) → Each p b → p t ≡ true → Each p a → q (rule b t a) ≡ true) where
-  each_places : (b ts : List Class) → Each p b → Each p ts → Each q (places rule b ts)
+  pub each_places : (b ts : List Class) → Each p b → Each p ts → Each q (places rule b ts)
   each_places b [] hb h = tt
   each_places b (t ∷ ts) hb h = (turns b t ts hb h.0 h.1, each_places (t ∷ b) ts (h.0, hb) h.1)
 
-each_map : (p q : Class → Bool) (f : Class → Class) → ((t : Class) → p t ≡ true → q (f t) ≡ true) → (ts : List Class) → Each p ts → Each q (map f ts)
+pub each_map : (p q : Class → Bool) (f : Class → Class) → ((t : Class) → p t ≡ true → q (f t) ≡ true) → (ts : List Class) → Each p ts → Each q (map f ts)
 each_map p q f turns [] h = tt
 each_map p q f turns (t ∷ ts) h = (turns t h.0, each_map p q f turns ts h.1)
 
@@ -238,17 +238,17 @@ pair_by false true c e = absurd (cc)
 pair_left : (context : Class) (inside : List Class) → Each is_rest inside → (pair_direction L context inside ≡ None) ⊎ (pair_direction L context inside ≡ Some L)
 pair_left context inside h = pair_by (list_any (counts_as L) inside) (list_any (counts_as (opposite L)) inside) (counts_as L context) (no_right inside h)
 
-each_take : (p : Class → Bool) (n : ℕ) (ts : List Class) → Each p ts → Each p (take n ts)
+pub each_take : (p : Class → Bool) (n : ℕ) (ts : List Class) → Each p ts → Each p (take n ts)
 each_take p zero ts h = tt
 each_take p (suc n) [] h = tt
 each_take p (suc n) (t ∷ ts) h = (h.0, each_take p n ts h.1)
 
-each_drop : (p : Class → Bool) (n : ℕ) (ts : List Class) → Each p ts → Each p (drop n ts)
+pub each_drop : (p : Class → Bool) (n : ℕ) (ts : List Class) → Each p ts → Each p (drop n ts)
 each_drop p zero ts h = h
 each_drop p (suc n) [] h = tt
 each_drop p (suc n) (t ∷ ts) h = each_drop p n ts h.1
 
-each_append : (p : Class → Bool) (xs ys : List Class) → Each p xs → Each p ys → Each p (xs ++ ys)
+pub each_append : (p : Class → Bool) (xs ys : List Class) → Each p xs → Each p ys → Each p (xs ++ ys)
 each_append p [] ys h k = k
 each_append p (x ∷ xs) ys h k = (h.0, each_append p xs ys h.1 k)
 

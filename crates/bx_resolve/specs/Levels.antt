@@ -1,5 +1,5 @@
 -- The levels of a paragraph: all rules, one after another.
-use Rattle.std.specs.Prelude.{ℕ, List, [], ◌∷◌, Option, Some, None, length, map, replicate, slice_index_or, slice_set}
+use Rattle.std.specs.Prelude.{◌≡◌, ℕ, List, [], ◌∷◌, ◌++◌, Option, Some, None, length, map, replicate, slice_index_or, slice_set}
 use Rattle.bx_ucd.specs.declared.class.Class.{Class}
 use Rattle.bx_ucd.specs.declared.class.Class.TheVariants.{ON}
 use Rattle.bx_ucd.specs.declared.data.Side.{Side}
@@ -45,6 +45,10 @@ abbrev pub with_levels : List ℕ → List ℕ → List (Option ℕ) → List (O
 with_levels [] ls each = each
 with_levels (p ∷ ps) [] each = each
 with_levels (p ∷ ps) (l ∷ ls) each = with_levels ps ls (slice_set each p (Some l))
+
+-- levels are written at the places `ps`: what is left of them goes on from there
+abbrev pub WritesRun : List ℕ → List ℕ → List (Option ℕ) → List ℕ → List (Option ℕ) → Type 0
+WritesRun ps levels each left new_each = (rest : List ℕ) → with_levels (ps ++ rest) levels each ≡ with_levels rest left new_each
 
 -- those of all sequences
 abbrev pub with_sequences : (ℕ → Option (Side × ℕ)) → List ℕ → List (Option Kept) → List RunSequence → List (Option ℕ) → List (Option ℕ)

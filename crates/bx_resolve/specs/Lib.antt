@@ -3,6 +3,5 @@ pub mod Weak
 pub mod Turns
 pub mod Neutral
 pub mod Levels
-pub mod Walk
 pub mod Plain
 pub mod TestTables

@@ -34,6 +34,20 @@ is_plain WS = true
 is_plain ON = true
 is_plain _ = false
 
+-- and those that leave a text from right to left as it is: all but L and the numbers
+abbrev pub is_plain_right : Class → Bool
+is_plain_right R = true
+is_plain_right AL = true
+is_plain_right ES = true
+is_plain_right ET = true
+is_plain_right CS = true
+is_plain_right NSM = true
+is_plain_right B = true
+is_plain_right S = true
+is_plain_right WS = true
+is_plain_right ON = true
+is_plain_right _ = false
+
 -- each class passes a test
 abbrev pub all_pass : (Class → Bool) → List Class → Bool
 all_pass p [] = true

@@ -55,7 +55,7 @@ number_after _ = EN
 abbrev pub w2_at : Class → List Class → Class → List Class → Class
 w2_at sos before t after = elim (is_en t) [ true ↦ number_after (nearest_that is_strong sos before) | false ↦ t ]
 
--- W3
+-- W3: AL is R
 abbrev pub w3_at : Class → Class
 w3_at AL = R
 w3_at t = t
@@ -79,7 +79,7 @@ abbrev pub is_en_past : List Class → Bool
 is_en_past [] = false
 is_en_past (t ∷ ts) = elim (is_et t) [ true ↦ is_en_past ts | false ↦ is_en t ]
 
--- W5: an ET of a run that is next to an EN
+-- W5: an ET of a run that is next to an EN is EN
 abbrev pub terminator_of : Bool → Bool → Class
 terminator_of true _ = EN
 terminator_of false true = EN
@@ -88,7 +88,7 @@ terminator_of false false = ET
 abbrev pub w5_at : List Class → Class → List Class → Class
 w5_at before t after = elim (is_et t) [ true ↦ terminator_of (is_en_past before) (is_en_past after) | false ↦ t ]
 
--- W6: the separators and terminators that are left
+-- W6: the separators and terminators that are left are ON
 abbrev pub w6_at : Class → Class
 w6_at ES = ON
 w6_at ET = ON

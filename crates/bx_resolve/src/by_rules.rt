@@ -1,13 +1,14 @@
 //! The levels of a paragraph, by the rules one list after another.
 ghost use Rattle.std.specs.Prelude.{◌≡◌, ◌≤◌, ◌<◌, IfOk, All, None, length, map, replicate, slice_index_or};
+ghost use Rattle.bx_explicit.specs.Stack.{max_depth};
 ghost use Rattle.bx_explicit.specs.Sequences.{sequences};
 ghost use Rattle.bx_resolve.specs.Weak.{is_nsm};
 ghost use Rattle.bx_resolve.specs.Neutral.{implicit};
-ghost use Rattle.bx_resolve.specs.Levels.{type_of, chars_at, types_at, sequence_levels, levels_in, with_levels, with_sequences, paragraph_levels, paragraph_level_under, levels_under};
+ghost use Rattle.bx_resolve.specs.Levels.{type_of, chars_at, types_at, levels_in, with_levels, with_sequences, paragraph_level_under, levels_under};
 
-use crate::answer::Levels;
 use crate::error::ResolveError;
 use crate::neutral::{implicit_at, n1, n2};
+use crate::paragraph::Levels;
 use crate::weak::weak;
 use bx_brackets::{pairs, resolve_pairs};
 use bx_explicit::{Base, Explicit, Kept, Sequence, base_level, direction, explicit, sequences};
@@ -76,36 +77,13 @@ fn marks(alloc: Global, types: &[Class]) -> Result<Vec<bool>, AllocError>
 
 /// The levels of resolved types in a sequence of a level.
 fn implicit(alloc: Global, types: &[Class], level: u8) -> Result<Vec<u8>, AllocError>
-    requires { level ≤ 125 }
+    requires { level ≤ max_depth }
     ensures { IfOk result (λ v. v.items ≡ implicit level types.now) }
 {
     types.iter().map(|t| implicit_at(level, *t)).collect(alloc)
 }
 
-/// The levels of a sequence's characters, from those and their types, rule by rule.
-fn resolve<D: BidiData>(
-    alloc: Global,
-    source: &D,
-    chars: &[char],
-    types: &mut [Class],
-    level: u8,
-    sos: Class,
-    eos: Class,
-) -> Result<Vec<u8>, ResolveError>
-    requires low { level ≤ 125 }
-    requires as_long { length chars.now ≡ length types.old }
-    ensures { IfOk result (λ v. v.items ≡ sequence_levels (D.bracket_of source.now) level sos eos chars.now types.old) }
-{
-    let was_nsm = marks(alloc, types)?;
-    weak(types, sos);
-    let found = pairs(alloc, chars, types, source)?;
-    resolve_pairs(types, &was_nsm, &found, level, sos);
-    n1(types, sos, eos);
-    n2(types, direction(level));
-    Ok(implicit(alloc, types, level)?)
-}
-
-/// The levels of a sequence's characters.
+/// The levels of a sequence's characters, rule by rule.
 fn levels_in<D: BidiData>(
     alloc: Global,
     source: &D,
@@ -113,22 +91,21 @@ fn levels_in<D: BidiData>(
     kept: &[Option<Kept>],
     sequence: &Sequence,
 ) -> Result<Vec<u8>, ResolveError>
-    requires low { sequence.now.level ≤ 125 }
+    requires low { sequence.now.level ≤ max_depth }
     requires within { All (λ p. p < length kept.now) sequence.now.places }
     requires as_long { length chars.now ≡ length kept.now }
     ensures { IfOk result (λ v. v.items ≡ levels_in (D.bracket_of source.now) chars.now kept.now sequence.now) }
 {
-    let found = chars_at(alloc, chars, sequence.places())?;
+    let (level, sos, eos) = (sequence.level(), sequence.sos(), sequence.eos());
+    let chars = chars_at(alloc, chars, sequence.places())?;
     let mut types = types_at(alloc, kept, sequence.places())?;
-    resolve(
-        alloc,
-        source,
-        &found,
-        &mut types,
-        sequence.level(),
-        sequence.sos(),
-        sequence.eos(),
-    )
+    let was_nsm = marks(alloc, &types)?;
+    weak(&mut types, sos);
+    let found = pairs(alloc, &chars, &types, source)?;
+    resolve_pairs(&mut types, &was_nsm, &found, level, sos);
+    n1(&mut types, sos, eos);
+    n2(&mut types, direction(level));
+    Ok(implicit(alloc, &types, level)?)
 }
 
 /// Writes levels at their places.
@@ -161,24 +138,6 @@ fn each_level<D: BidiData>(
     Ok(each)
 }
 
-/// The levels of a paragraph body of a level, from its characters' classes.
-pub fn levels_from<D: BidiData>(
-    alloc: Global,
-    chars: &[char],
-    source: &D,
-    classes: &[Class],
-    paragraph: u8,
-) -> Result<Levels, ResolveError>
-    requires classes { classes.now ≡ map (D.class_of source.now) chars.now }
-    requires low { paragraph ≤ 1 }
-    ensures paragraph { IfOk result (λ v. v.paragraph ≡ paragraph) }
-    ensures each { IfOk result (λ v. v.each.items ≡ paragraph_levels (D.class_of source.now) (D.bracket_of source.now) paragraph chars.now) }
-{
-    let explicit = explicit(alloc, classes, paragraph)?;
-    let each = each_level(alloc, chars, source, &explicit)?;
-    Ok(Levels { paragraph, each })
-}
-
 /// The levels of a paragraph body under a base, by the rules one list after another. It takes memory, and is refused
 /// only where there is none.
 pub fn levels_by_rules<D: BidiData>(
@@ -192,5 +151,7 @@ pub fn levels_by_rules<D: BidiData>(
 {
     let classes = classes_of(alloc, chars, source)?;
     let paragraph = base_level(&classes, base);
-    levels_from(alloc, chars, source, &classes, paragraph)
+    let explicit = explicit(alloc, &classes, paragraph)?;
+    let each = each_level(alloc, chars, source, &explicit)?;
+    Ok(Levels { paragraph, each })
 }

@@ -1,18 +1,17 @@
 //! The levels of a paragraph body with formatting characters, sequence by sequence.
-ghost use Rattle.std.specs.Prelude.{◌≡◌, ◌≤◌, ◌<◌, ◌++◌, IfOk, OnOk, None, false, [], drop, length, map, replicate};
-ghost use Rattle.bx_explicit.specs.Explicit.{explicit_levels};
+ghost use Rattle.std.specs.Prelude.{◌≡◌, ◌≤◌, ◌<◌, ◌++◌, IfOk, OnOk, None, true, drop, length, map, replicate};
+ghost use Rattle.bx_explicit.specs.Stack.{max_depth};
 ghost use Rattle.bx_explicit.specs.LevelPlaces.{level_places, places_from};
-ghost use Rattle.bx_explicit.specs.OpenChains.{is_over, newest_sequence};
 ghost use Rattle.bx_explicit.specs.Sequences.{sequences};
 ghost use Rattle.bx_resolve.specs.Neutral.{implicit};
 ghost use Rattle.bx_resolve.specs.Levels.{chars_at, types_at, sequence_levels, levels_in, with_levels, with_sequences, paragraph_levels};
-ghost use Rattle.bx_resolve.specs.Walk.{runs_with, KeepsWalk, WritesRun};
+ghost use Rattle.bx_resolve.specs.Levels.{WritesRun};
 
-use crate::answer::Levels;
 use crate::error::ResolveError;
 use crate::neutral::implicit_at;
+use crate::paragraph::Levels;
 use crate::scratch::{Ends, Scratch};
-use bx_explicit::{Explicit, Kept, OpenChains, Run, explicit_from, next_run};
+use bx_explicit::{Explicit, Kept, SequenceWalk, explicit};
 use bx_ucd::{BidiData, Class};
 use std::alloc::{AllocError, Global};
 
@@ -108,7 +107,7 @@ fn write_run(
     types: &[Class],
     written: usize,
 ) -> usize
-    requires low { level ≤ 125 }
+    requires low { level ≤ max_depth }
     requires all { length each.old.items ≡ length kept.now }
     ensures all { length each.new.items ≡ length kept.now }
     ensures written { WritesRun (level_places level first (drop first kept.now)) (implicit level (drop written types.now)) each.old.items (implicit level (drop result types.now)) each.new.items }
@@ -136,7 +135,7 @@ fn write_levels(
     level: u8,
     types: &[Class],
 )
-    requires low { level ≤ 125 }
+    requires low { level ≤ max_depth }
     requires all { length each.old.items ≡ length kept.now }
     ensures { each.new.items ≡ with_levels (places_from level kept.now firsts.now) (implicit level types.now) each.old.items }
 {
@@ -146,134 +145,76 @@ fn write_levels(
     }
 }
 
-/// Writes the levels of the newest chain's characters at their places.
+/// Writes the levels of the lent sequence's characters at their places.
 fn write_sequence<D: BidiData>(
     each: &mut Vec<Option<u8>>,
     scratch: &mut Scratch,
     source: &D,
     chars: &[char],
     types: &mut [Class],
-    chains: &OpenChains<'_>,
+    walk: &SequenceWalk<'_>,
     kept: &[Option<Kept>],
 ) -> Result<(), ResolveError>
-    requires some { 0 < length chains.now.chains }
-    requires same { kept.now ≡ chains.now.explicit.kept.items }
+    requires lent { walk.now.has_current ≡ true }
+    requires same { kept.now ≡ walk.now.explicit.kept.items }
     requires as_long { length chars.now ≡ length types.old }
     requires all { length each.old.items ≡ length kept.now }
-    ensures { OnOk result (each.new.items ≡ with_levels (newest_sequence chains.now).places (sequence_levels (D.bracket_of source.now) (newest_sequence chains.now).level (newest_sequence chains.now).sos (newest_sequence chains.now).eos chars.now types.old) each.old.items) }
+    ensures { OnOk result (each.new.items ≡ with_levels walk.now.current.places (sequence_levels (D.bracket_of source.now) walk.now.current.level walk.now.current.sos walk.now.current.eos chars.now types.old) each.old.items) }
 {
     let ends = Ends {
-        level: chains.level(),
-        sos: chains.sos(),
-        eos: chains.eos(),
+        level: walk.level(),
+        sos: walk.sos(),
+        eos: walk.eos(),
     };
     scratch.resolve(source, chars, types, ends)?;
-    write_levels(each, kept, chains.firsts(), ends.level, types);
+    write_levels(each, kept, walk.firsts(), ends.level, types);
     Ok(())
 }
 
-/// Writes the levels of the newest chain.
-fn write_newest<D: BidiData>(
+/// Writes the levels of the sequence that a walk lends.
+fn write_lent<D: BidiData>(
     each: &mut Vec<Option<u8>>,
     room: &mut Room,
     chars: &[char],
     source: &D,
-    chains: &OpenChains<'_>,
+    walk: &SequenceWalk<'_>,
     kept: &[Option<Kept>],
 ) -> Result<(), ResolveError>
-    requires some { 0 < length chains.now.chains }
-    requires same { kept.now ≡ chains.now.explicit.kept.items }
+    requires lent { walk.now.has_current ≡ true }
+    requires same { kept.now ≡ walk.now.explicit.kept.items }
     requires as_long { length chars.now ≡ length kept.now }
     requires all { length each.old.items ≡ length kept.now }
-    ensures { OnOk result (each.new.items ≡ with_levels (newest_sequence chains.now).places (levels_in (D.bracket_of source.now) chars.now kept.now (newest_sequence chains.now)) each.old.items) }
+    ensures { OnOk result (each.new.items ≡ with_levels walk.now.current.places (levels_in (D.bracket_of source.now) chars.now kept.now walk.now.current) each.old.items) }
 {
-    room.gather(chars, kept, chains.firsts(), chains.level())?;
+    room.gather(chars, kept, walk.firsts(), walk.level())?;
     write_sequence(
         each,
         &mut room.scratch,
         source,
         &room.chars,
         &mut room.types,
-        chains,
+        walk,
         kept,
     )
 }
 
-/// Writes the chains that end before a run.
-fn write_over<D: BidiData>(
-    each: &mut Vec<Option<u8>>,
-    room: &mut Room,
-    chars: &[char],
-    source: &D,
-    chains: &mut OpenChains<'_>,
-    explicit: &Explicit,
-    run: Run,
-) -> Result<(), ResolveError>
-    requires own { chains.old.explicit ≡ explicit.now }
-    requires as_long { length chars.now ≡ length explicit.now.kept.items }
-    requires all { length each.old.items ≡ length chars.now }
-    ensures own { chains.new.explicit ≡ explicit.now }
-    ensures over { OnOk result (is_over explicit.now.classes.items chains.new.chains run ≡ false) }
-    ensures kept { OnOk result (KeepsWalk (D.bracket_of source.now) chars.now explicit.now (runs_with explicit.now.kept.items run) chains.old.chains each.old.items chains.new.chains each.new.items) }
-{
-    while chains.is_over(run) {
-        write_newest(each, room, chars, source, chains, &explicit.kept)?;
-        chains.drop_newest();
-    }
-    Ok(())
-}
-
-/// Writes the chains that are left at the end.
-fn write_left<D: BidiData>(
-    each: &mut Vec<Option<u8>>,
-    room: &mut Room,
-    chars: &[char],
-    source: &D,
-    chains: &mut OpenChains<'_>,
-    explicit: &Explicit,
-) -> Result<(), ResolveError>
-    requires own { chains.old.explicit ≡ explicit.now }
-    requires as_long { length chars.now ≡ length explicit.now.kept.items }
-    requires all { length each.old.items ≡ length chars.now }
-    ensures kept { OnOk result (KeepsWalk (D.bracket_of source.now) chars.now explicit.now [] chains.old.chains each.old.items [] each.new.items) }
-{
-    while !chains.is_empty() {
-        write_newest(each, room, chars, source, chains, &explicit.kept)?;
-        chains.drop_newest();
-    }
-    Ok(())
-}
-
-/// The levels of all characters, each at its place. The chains that may go on wait until they end.
+/// The levels of all characters, each at its place, one sequence after another.
+#[tactic(auto, using(crate::proofs::Apart::given_written, crate::proofs::Written::levels_length))]
 fn each_level<D: BidiData>(
     alloc: Global,
     chars: &[char],
     source: &D,
     explicit: &Explicit,
 ) -> Result<Vec<Option<u8>>, ResolveError>
-    requires as_long { length chars.now ≡ length explicit.now.classes.items }
-    requires low { explicit.now.level ≤ 1 }
-    requires levels { explicit.now.kept.items ≡ explicit_levels explicit.now.level explicit.now.classes.items }
+    requires { length chars.now ≡ length explicit.now.classes.items }
     ensures { IfOk result (λ v. v.items ≡ with_sequences (D.bracket_of source.now) chars.now explicit.now.kept.items (sequences explicit.now.level explicit.now.classes.items explicit.now.kept.items) (replicate (length chars.now) None)) }
 {
     let mut each = vec![in alloc; None; chars.len()]?;
     let mut room = Room::new(alloc);
-    let mut chains = OpenChains::new(alloc, explicit);
-    let mut from = 0;
-    while let Some(run) = next_run(&explicit.kept, from) {
-        write_over(
-            &mut each,
-            &mut room,
-            chars,
-            source,
-            &mut chains,
-            explicit,
-            run,
-        )?;
-        chains.take(run)?;
-        from = run.last + 1;
+    let mut walk = SequenceWalk::new(alloc, explicit);
+    while walk.advance()? {
+        write_lent(&mut each, &mut room, chars, source, &walk, &explicit.kept)?;
     }
-    write_left(&mut each, &mut room, chars, source, &mut chains, explicit)?;
     Ok(each)
 }
 
@@ -290,7 +231,8 @@ pub fn formatted_levels<D: BidiData>(
     ensures paragraph { IfOk result (λ v. v.paragraph ≡ paragraph) }
     ensures each { IfOk result (λ v. v.each.items ≡ paragraph_levels (D.class_of source.now) (D.bracket_of source.now) paragraph chars.now) }
 {
-    let explicit = explicit_from(alloc, classes, paragraph)?;
+    let explicit = explicit(alloc, &classes, paragraph)?;
+    drop(classes);
     let each = each_level(alloc, chars, source, &explicit)?;
     Ok(Levels { paragraph, each })
 }

@@ -1,11 +1,11 @@
 //! The levels of the characters of a paragraph body (UAX #9, 3.3).
 #![tactic(auto)]
 
-mod answer;
 mod by_rules;
 mod error;
 mod formatted;
 mod neutral;
+mod paragraph;
 mod plain;
 mod resolve;
 mod scratch;
@@ -13,7 +13,7 @@ mod scratch;
 mod tests;
 mod weak;
 
-pub use answer::Levels;
 pub use by_rules::levels_by_rules;
 pub use error::ResolveError;
+pub use paragraph::Levels;
 pub use resolve::levels;

@@ -1,5 +1,6 @@
 //! The rules for neutral types and the implicit levels.
 ghost use Rattle.std.specs.Prelude.{◌≡◌, ◌≤◌, ◌+◌};
+ghost use Rattle.bx_explicit.specs.Stack.{max_depth};
 ghost use Rattle.bx_resolve.specs.Neutral.{side_of, side, agreed, n1, n2, n2_at, implicit_at};
 
 use bx_ucd::Class;
@@ -86,7 +87,7 @@ fn taken(t: Class, before: Class, after: Class, embedding: Class) -> Class
 
 /// N1 and N2 in one pass.
 #[tactic(auto, using(crate::proofs::Run::run_write, crate::proofs::Run::run_keep, crate::proofs::Fused::neutral_run, crate::proofs::Run::side_more, crate::proofs::Fused::keeps_other))]
-pub fn neutral(types: &mut [Class], sos: Class, eos: Class, embedding: Class)
+pub fn n1_n2(types: &mut [Class], sos: Class, eos: Class, embedding: Class)
     ensures { types.new ≡ n2 embedding (n1 sos eos types.old) }
 {
     let mut before = sos;
@@ -109,7 +110,7 @@ pub fn neutral(types: &mut [Class], sos: Class, eos: Class, embedding: Class)
 
 /// I1 and I2: the level of a character.
 pub fn implicit_at(level: u8, t: Class) -> u8
-    requires { level ≤ 125 }
+    requires { level ≤ max_depth }
     ensures { result ≡ implicit_at level t }
 {
     if level % 2 == 0 {

@@ -1,6 +1,6 @@
 //! Texts in which some rules have nothing to do.
 ghost use Rattle.std.specs.Prelude.{◌≡◌};
-ghost use Rattle.bx_resolve.specs.Plain.{is_plain, is_unformatted, all_pass};
+ghost use Rattle.bx_resolve.specs.Plain.{is_plain, is_plain_right, is_unformatted, all_pass};
 
 use bx_ucd::Class;
 
@@ -10,6 +10,17 @@ fn is_plain(class: Class) -> bool
 {
     match class {
         Class::L | Class::EN | Class::ES | Class::ET | Class::CS => true,
+        Class::NSM | Class::B | Class::S | Class::WS | Class::ON => true,
+        _ => false,
+    }
+}
+
+/// Whether a class leaves a text from right to left as it is.
+fn is_plain_right(class: Class) -> bool
+    ensures { result ≡ is_plain_right class }
+{
+    match class {
+        Class::R | Class::AL | Class::ES | Class::ET | Class::CS => true,
         Class::NSM | Class::B | Class::S | Class::WS | Class::ON => true,
         _ => false,
     }
@@ -29,6 +40,19 @@ pub fn are_plain(classes: &[Class]) -> bool
 {
     for class in classes {
         if !is_plain(*class) {
+            return false;
+        }
+    }
+    true
+}
+
+/// Whether all classes leave a text from right to left as it is.
+#[tactic(auto, using(crate::proofs::PlainLevels::pass_more, crate::proofs::PlainLevels::pass_stop, crate::proofs::PlainLevels::pass_all))]
+pub fn are_plain_right(classes: &[Class]) -> bool
+    ensures { result ≡ all_pass is_plain_right classes.now }
+{
+    for class in classes {
+        if !is_plain_right(*class) {
             return false;
         }
     }

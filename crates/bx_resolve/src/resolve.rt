@@ -1,15 +1,16 @@
 //! The levels of a paragraph.
 ghost use Rattle.std.specs.Prelude.{◌≡◌, ◌≤◌, IfOk, Some, map, true};
+ghost use Rattle.bx_explicit.specs.Stack.{max_depth};
 ghost use Rattle.bx_resolve.specs.Neutral.{implicit_at};
 ghost use Rattle.bx_resolve.specs.Levels.{paragraph_levels, paragraph_level_under, levels_under};
 ghost use Rattle.bx_resolve.specs.Plain.{is_unformatted, all_pass};
 
-use crate::answer::Levels;
 use crate::by_rules::classes_of;
 use crate::error::ResolveError;
 use crate::formatted::formatted_levels;
 use crate::neutral::implicit_at;
-use crate::plain::{are_plain, are_unformatted};
+use crate::paragraph::Levels;
+use crate::plain::{are_plain, are_plain_right, are_unformatted};
 use crate::scratch::{Ends, Scratch};
 use bx_explicit::{Base, base_level, direction};
 use bx_ucd::{BidiData, Class};
@@ -17,7 +18,7 @@ use std::alloc::{AllocError, Global};
 
 /// The levels of resolved types in a sequence of a level, each found.
 fn found_levels(alloc: Global, types: &[Class], level: u8) -> Result<Vec<Option<u8>>, AllocError>
-    requires { level ≤ 125 }
+    requires { level ≤ max_depth }
     ensures { IfOk result (λ v. v.items ≡ map (λ t. Some (implicit_at level t)) types.now) }
 {
     types
@@ -51,9 +52,10 @@ fn unformatted_levels<D: BidiData>(
     Ok(Levels { paragraph, each })
 }
 
-/// The levels of a paragraph body under a base (UAX #9, 3.3). A text from left to right in which no class needs a rule
-/// pays for none, and one with no formatting characters pays for no explicit rule. It takes memory, and is refused only where there is none.
-#[tactic(auto, using(crate::proofs::PlainLevels::plain_levels))]
+/// The levels of a paragraph body under a base (UAX #9, 3.3). A text of one direction in which no class needs a rule pays
+/// for none, and one with no formatting characters pays for no explicit rule. It takes memory, and is refused only where
+/// there is none.
+#[tactic(auto, using(crate::proofs::PlainLevels::plain_levels, crate::proofs::PlainLevels::plain_right_levels))]
 pub fn levels<D: BidiData>(
     alloc: Global,
     chars: &[char],
@@ -67,6 +69,10 @@ pub fn levels<D: BidiData>(
     let paragraph = base_level(&classes, base);
     if paragraph == 0 && are_plain(&classes) {
         let each = vec![in alloc; Some(0); chars.len()]?;
+        return Ok(Levels { paragraph, each });
+    }
+    if paragraph == 1 && are_plain_right(&classes) {
+        let each = vec![in alloc; Some(1); chars.len()]?;
         return Ok(Levels { paragraph, each });
     }
     if are_unformatted(&classes) {

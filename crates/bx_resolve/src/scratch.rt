@@ -4,8 +4,8 @@ ghost use Rattle.bx_resolve.specs.Weak.{is_nsm};
 ghost use Rattle.bx_resolve.specs.Levels.{sequence_types};
 
 use crate::error::ResolveError;
-use crate::neutral::neutral;
-use crate::weak::fast_weak;
+use crate::neutral::n1_n2;
+use crate::weak::weak_in_one_pass;
 use bx_brackets::{PairSearch, resolve_pairs};
 use bx_explicit::direction;
 use bx_ucd::{BidiData, Class};
@@ -62,7 +62,7 @@ impl Scratch {
         ensures { OnOk result (types.new ≡ sequence_types (D.bracket_of source.now) ends.level ends.sos ends.eos chars.now types.old) }
     {
         note_marks(&mut self.marks, types)?;
-        fast_weak(types, ends.sos);
+        weak_in_one_pass(types, ends.sos);
         self.search.find(chars, types, source)?;
         resolve_pairs(
             types,
@@ -71,7 +71,7 @@ impl Scratch {
             ends.level,
             ends.sos,
         );
-        neutral(types, ends.sos, ends.eos, direction(ends.level));
+        n1_n2(types, ends.sos, ends.eos, direction(ends.level));
         Ok(())
     }
 }

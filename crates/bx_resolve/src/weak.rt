@@ -1,6 +1,6 @@
 //! The rules for weak types (W1 to W7), each over a whole sequence.
 ghost use Rattle.std.specs.Prelude.{◌≡◌, MatchOption, true};
-ghost use Rattle.bx_resolve.specs.Turns.{after_w3, marked, mark_next, number_of, strong_next, ahead, terminated, past_next, left_of, side_next};
+ghost use Rattle.bx_resolve.specs.Turns.{rest_after_w3, after_w1, mark_next, after_w2, strong_next, ahead, after_w5, past_next, after_w7, side_next};
 ghost use Rattle.bx_resolve.specs.Weak.{is_nsm, is_en, is_an, is_et, is_left_or_right, mark_after, number_after, w3_at, beside, separator, is_en_past, terminator_of, w6_at, left_number, w1, w2, w3, w4, w5, w6, w7, weak};
 
 use bx_ucd::Class;
@@ -92,8 +92,8 @@ fn w3(types: &mut [Class])
 }
 
 /// The type after W1.
-fn marked(mark: Class, t: Class) -> Class
-    ensures { result ≡ marked mark t }
+fn after_w1(mark: Class, t: Class) -> Class
+    ensures { result ≡ after_w1 mark t }
 {
     match t {
         Class::NSM => mark,
@@ -112,8 +112,8 @@ fn mark_next(mark: Class, t: Class) -> Class
 }
 
 /// The type after W2.
-fn number_of(strong: Class, t: Class) -> Class
-    ensures { result ≡ number_of strong t }
+fn after_w2(strong: Class, t: Class) -> Class
+    ensures { result ≡ after_w2 strong t }
 {
     match t {
         Class::EN => number_after(strong),
@@ -132,7 +132,7 @@ fn strong_next(strong: Class, t: Class) -> Class
 }
 
 /// The type after W3.
-fn w3_at(t: Class) -> Class
+fn after_w3(t: Class) -> Class
     ensures { result ≡ w3_at t }
 {
     match t {
@@ -232,17 +232,17 @@ fn w7(types: &mut [Class], sos: Class)
 
 /// The type after W3 of the first character of a list, or ON where there is none.
 fn beside_ahead(mark: Class, strong: Class, types: &[Class]) -> Class
-    ensures { result ≡ beside (after_w3 mark strong types.now) }
+    ensures { result ≡ beside (rest_after_w3 mark strong types.now) }
 {
     match types {
         [] => Class::ON,
-        [t, ..] => w3_at(number_of(strong, marked(mark, *t))),
+        [t, ..] => after_w3(after_w2(strong, after_w1(mark, *t))),
     }
 }
 
 /// The type after W4, where the one before is `before` after W3. Only a separator looks ahead.
-fn parted(before: Class, t: Class, mark: Class, strong: Class, rest: &[Class]) -> Class
-    ensures { result ≡ separator before t (beside (after_w3 mark strong rest.now)) }
+fn after_w4(before: Class, t: Class, mark: Class, strong: Class, rest: &[Class]) -> Class
+    ensures { result ≡ separator before t (beside (rest_after_w3 mark strong rest.now)) }
 {
     match t {
         Class::ES | Class::CS => separator(before, t, beside_ahead(mark, strong, rest)),
@@ -250,22 +250,18 @@ fn parted(before: Class, t: Class, mark: Class, strong: Class, rest: &[Class]) -
     }
 }
 
-/// Whether the nearest type after W3 that is no ET is EN.
+/// Whether the nearest type after W3 that is no ET is EN. None of those before it is strong.
 #[tactic(auto, using(crate::proofs::Fused::past_et, crate::proofs::Fused::past_other, crate::proofs::Fused::past_end))]
 fn is_en_ahead(mark: Class, strong: Class, types: &[Class]) -> bool
-    ensures { result ≡ is_en_past (after_w3 mark strong types.now) }
+    ensures { result ≡ is_en_past (rest_after_w3 mark strong types.now) }
 {
     let mut mark = mark;
-    let mut strong = strong;
-    for i in 0..types.len() {
-        let t = types[i];
-        let after_w1 = marked(mark, t);
-        let after_w3 = w3_at(number_of(strong, after_w1));
-        if after_w3 != Class::ET {
-            return after_w3 == Class::EN;
+    for t in types {
+        let third = after_w3(after_w2(strong, after_w1(mark, *t)));
+        if third != Class::ET {
+            return third == Class::EN;
         }
-        mark = mark_next(mark, t);
-        strong = strong_next(strong, after_w1);
+        mark = mark_next(mark, *t);
     }
     false
 }
@@ -278,8 +274,8 @@ fn look_ahead(
     strong: Class,
     rest: &[Class],
 ) -> Option<bool>
-    requires { MatchOption known (Unit {0}) (λ a. is_et t ≡ true → a ≡ is_en_past (after_w3 mark strong rest.now)) }
-    ensures { result ≡ ahead t (after_w3 mark strong rest.now) }
+    requires { MatchOption known (Unit {0}) (λ a. is_et t ≡ true → a ≡ is_en_past (rest_after_w3 mark strong rest.now)) }
+    ensures { result ≡ ahead t (rest_after_w3 mark strong rest.now) }
 {
     if t != Class::ET {
         return None;
@@ -291,8 +287,8 @@ fn look_ahead(
 }
 
 /// The type after W5.
-fn terminated(t: Class, before: bool, ahead: Option<bool>) -> Class
-    ensures { result ≡ terminated t before ahead }
+fn after_w5(t: Class, before: bool, ahead: Option<bool>) -> Class
+    ensures { result ≡ after_w5 t before ahead }
 {
     match ahead {
         Some(after) => terminator_of(before, after),
@@ -311,7 +307,7 @@ fn past_next(past: bool, t: Class) -> bool
 }
 
 /// The type after W6.
-fn w6_at(t: Class) -> Class
+fn after_w6(t: Class) -> Class
     ensures { result ≡ w6_at t }
 {
     match t {
@@ -321,8 +317,8 @@ fn w6_at(t: Class) -> Class
 }
 
 /// The type after W7.
-fn left_of(side: Class, t: Class) -> Class
-    ensures { result ≡ left_of side t }
+fn after_w7(side: Class, t: Class) -> Class
+    ensures { result ≡ after_w7 side t }
 {
     match t {
         Class::EN => left_number(side),
@@ -349,7 +345,7 @@ fn is_settled(t: Class) -> bool
 
 /// W1 to W7 in one pass.
 #[tactic(auto, using(crate::proofs::Fused::go_write, crate::proofs::Fused::weak_run, crate::proofs::Fused::known_after, crate::proofs::Fused::settled_keep))]
-pub fn fast_weak(types: &mut [Class], sos: Class)
+pub fn weak_in_one_pass(types: &mut [Class], sos: Class)
     ensures { types.new ≡ weak sos types.old }
 {
     let mut mark = sos;
@@ -370,17 +366,17 @@ pub fn fast_weak(types: &mut [Class], sos: Class)
             known = None;
         } else {
             let rest = &whole[i + 1..];
-            let after_w1 = marked(mark, t);
-            let after_w3 = w3_at(number_of(strong, after_w1));
+            let first = after_w1(mark, t);
+            let third = after_w3(after_w2(strong, first));
             mark = mark_next(mark, t);
-            strong = strong_next(strong, after_w1);
-            let parted = parted(before, after_w3, mark, strong, rest);
-            known = look_ahead(known, parted, mark, strong, rest);
-            let left = w6_at(terminated(parted, past, known));
-            types[i] = left_of(side, left);
-            before = after_w3;
-            past = past_next(past, parted);
-            side = side_next(side, left);
+            strong = strong_next(strong, first);
+            let fourth = after_w4(before, third, mark, strong, rest);
+            known = look_ahead(known, fourth, mark, strong, rest);
+            let sixth = after_w6(after_w5(fourth, past, known));
+            types[i] = after_w7(side, sixth);
+            before = third;
+            past = past_next(past, fourth);
+            side = side_next(side, sixth);
         }
     }
 }

@@ -1,7 +1,7 @@
 use Rattle.std.proofs.Common.{◌≡◌, ℕ, ◌+◌, ◌-◌, ◌∙◌, ap, sym, arith, drop, length}
 use Rattle.std.proofs.Math.ListN.{length-set}
 use Rattle.bx_explicit.specs.ParagraphLevel.{isolate_level}
-use Rattle.bx_explicit.specs.Links.{first_level}
+use Rattle.bx_explicit.specs.TextLevels.{first_level}
 use Rattle.bx_explicit.proofs.Texts.{texts-first}
 use Rattle.bx_explicit.proofs.Backward.{done_more, texts_back}
 use Rattle.bx_explicit.proofs.isolates.isolate_levels.Goals as goal

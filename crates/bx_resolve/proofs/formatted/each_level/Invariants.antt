@@ -1,14 +1,15 @@
--- The runs before `from` are met: their chains are written, or wait.
-use Rattle.std.proofs.Common.{◌≡◌, ◌≤◌, ◌-◌, length, replicate, None}
-use Rattle.bx_resolve.specs.Walk.{IsWalked}
+-- What is written, and what the sequences that are left write over it.
+use Rattle.std.proofs.Common.{◌≡◌, length, replicate, None}
+use Rattle.bx_explicit.specs.Sequences.{sequences}
+use Rattle.bx_resolve.specs.Levels.{with_sequences}
 use Rattle.bx_resolve.proofs.formatted.each_level.Given as goal
 
-abbrev pub invariant-loop-run : goal.invariant-loop-run
-invariant-loop-run g l = record {
-  own : l.chains.explicit ≡ l.explicit;
-  within : l.from ≤ length l.explicit.kept.items;
-  walked : IsWalked (g.D.BidiData.bracket_of l.source) l.chars (replicate (length l.chars) None) l.explicit l.chains.chains l.from l.each.items;
+abbrev pub invariant-loop-walk : goal.invariant-loop-walk
+invariant-loop-walk g l = record {
+  own : l.walk.explicit ≡ l.explicit;
+  all : length l.each.items ≡ length l.chars;
+  written : with_sequences (g.D.BidiData.bracket_of l.source) l.chars l.explicit.kept.items (sequences l.explicit.level l.explicit.classes.items l.explicit.kept.items) (replicate (length l.chars) None) ≡ with_sequences (g.D.BidiData.bracket_of l.source) l.chars l.explicit.kept.items l.walk.left l.each.items;
 }
 
-abbrev pub decreases-loop-run : goal.decreases-loop-run
-decreases-loop-run g l = length l.explicit.kept.items - l.from
+abbrev pub decreases-loop-walk : goal.decreases-loop-walk
+decreases-loop-walk g l = length l.walk.left

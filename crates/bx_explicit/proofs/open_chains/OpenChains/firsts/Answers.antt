@@ -1,17 +1,14 @@
-use Rattle.std.proofs.Common.{◌≡◌, ◌<◌, ◌-◌, ◌∙◌, ◌∷◌, ℕ, List, ap, sym, subst, length, reverse, take, drop}
-use Rattle.std.specs.Prelude.{All}
+use Rattle.std.proofs.Common.{◌≡◌, ◌-◌, ◌∙◌, ◌∷◌, ℕ, List, ap, sym, length, reverse, take, drop}
 use Rattle.std.proofs.lemmas.List.{take_rest}
 use Rattle.bx_explicit.specs.declared.entry.Explicit.{Explicit}
 use Rattle.bx_explicit.specs.declared.open_chains.OpenChain.{OpenChain}
 use Rattle.bx_explicit.specs.LevelPlaces.{places_from}
 use Rattle.bx_explicit.specs.OpenChains.{OpenRuns, newest_sequence}
-use Rattle.bx_explicit.specs.Stacked.{IsOpenChain}
-use Rattle.bx_explicit.proofs.Newest.{level_is, places_is, opened}
-use Rattle.bx_explicit.proofs.RunWalk.{places_below}
+use Rattle.bx_explicit.proofs.Newest.{level_is, places_is}
 use Rattle.bx_explicit.proofs.open_chains.OpenChains.firsts.Goals as goal
 
-pub returns-clause-places : goal.returns-clause-places
-returns-clause-places c =
+pub returns : goal.returns
+returns c =
     let x : Explicit = c.self.inside.explicit.now in
     let os : List OpenChain = reverse c.self.inside.chains.items in
     let rest : List OpenChain = reverse (take (length c.deref.result.now - 1) c.deref.result.now) in
@@ -19,15 +16,9 @@ returns-clause-places c =
     let ps : List ℕ = c.self.inside.firsts.items in
     let e : os ≡ o ∷ rest = ap reverse (sym c.deref.ensures.value) ∙ c.newest-newest.ensures in
     let firsts : take (length c.deref-2.result.now - o.begin) (drop o.begin c.deref-2.result.now) ≡ drop o.begin ps = take_rest c.deref-2.result.now o.begin ∙ ap (drop o.begin) c.deref-2.ensures.value in
-    ap (λ (v : OpenRuns). places_from (newest_sequence v).level v.explicit.kept.items (take (length c.deref-2.result.now - o.begin) (drop o.begin c.deref-2.result.now))) (sym c.self.view_is) ∙ ap (λ l. places_from l x.kept.items (take (length c.deref-2.result.now - o.begin) (drop o.begin c.deref-2.result.now))) (sym (level_is x os rest o ps e c.self.invariant)) ∙ ap (places_from o.level x.kept.items) firsts ∙ places_is x os rest o ps e c.self.invariant ∙ ap (λ (v : OpenRuns). (newest_sequence v).places) c.self.view_is
-
-pub returns-clause-within : goal.returns-clause-within
-returns-clause-within c =
-    let x : Explicit = c.self.inside.explicit.now in
-    let os : List OpenChain = reverse c.self.inside.chains.items in
-    let rest : List OpenChain = reverse (take (length c.deref.result.now - 1) c.deref.result.now) in
-    let o : OpenChain = c.newest-newest.result in
-    let ps : List ℕ = c.self.inside.firsts.items in
-    let e : os ≡ o ∷ rest = ap reverse (sym c.deref.ensures.value) ∙ c.newest-newest.ensures in
-    let w : IsOpenChain x.kept.items o ps = opened x.kept.items os rest o ps e c.self.invariant in
-    subst (λ (v : OpenRuns). All (λ p. p < length v.explicit.kept.items) (newest_sequence v).places) c.self.view_is (subst (All (λ p. p < length x.kept.items)) (places_is x os rest o ps e c.self.invariant) (places_below x.kept.items o.level (drop o.begin ps) w.runs))
+    let given : List ℕ = take (length c.deref-2.result.now - o.begin) (drop o.begin c.deref-2.result.now) in
+    ap (λ (v : OpenRuns). places_from (newest_sequence v).level v.explicit.kept.items given) (sym c.self.view_is)
+    ∙ ap (λ l. places_from l x.kept.items given) (sym (level_is x os rest o ps e c.self.invariant))
+    ∙ ap (places_from o.level x.kept.items) firsts
+    ∙ places_is x os rest o ps e c.self.invariant
+    ∙ ap (λ (v : OpenRuns). (newest_sequence v).places) c.self.view_is

@@ -1,0 +1,135 @@
+//! A walk over the isolating run sequences of a paragraph body, in the order in which they end (BD13).
+ghost use Rattle.std.specs.Prelude.{◌≡◌, ◌<◌, ◌∷◌, [], ◌≤◌, OnErr, IfOk, length, true, false};
+ghost use Rattle.bx_explicit.specs.LevelPlaces.{places_from};
+ghost use Rattle.bx_explicit.specs.OpenChains.{others, newest_sequence};
+ghost use Rattle.bx_explicit.specs.Sequences.{sequences};
+ghost use Rattle.bx_explicit.specs.Stack.{max_depth};
+ghost use Rattle.bx_explicit.specs.Walk.{SequencesLeft, AreGiven, IsToCome, unlent, left_of, IsWalk};
+
+use crate::entry::Explicit;
+use crate::error::ExplicitError;
+use crate::open_chains::OpenChains;
+use crate::runs::{Run, next_run};
+use bx_ucd::Class;
+use std::alloc::Global;
+use std::marker::Model;
+
+/// Takes runs until the newest chain ends: whether there is one.
+fn end_newest(
+    explicit: &Explicit,
+    chains: &mut OpenChains<'_>,
+    run: &mut Option<Run>,
+) -> Result<bool, ExplicitError>
+    requires own { chains.old.explicit ≡ explicit.now }
+    requires run { IsToCome explicit.now.kept.items run.old }
+    ensures own { chains.new.explicit ≡ explicit.now }
+    ensures run { IsToCome explicit.now.kept.items run.new }
+    ensures same { left_of explicit.now chains.new.chains run.new ≡ left_of explicit.now chains.old.chains run.old }
+    ensures some { IfOk result (λ b. b ≡ true → 0 < length chains.new.chains) }
+    ensures first { IfOk result (λ b. b ≡ true → left_of explicit.now chains.new.chains run.new ≡ newest_sequence chains.new ∷ left_of explicit.now (others chains.new.chains) run.new) }
+    ensures none { IfOk result (λ b. b ≡ false → left_of explicit.now chains.new.chains run.new ≡ []) }
+{
+    while let Some(next) = *run {
+        if chains.is_over(next) {
+            return Ok(true);
+        }
+        chains.take(next)?;
+        *run = next_run(&explicit.kept, next.last + 1);
+    }
+    Ok(!chains.is_empty())
+}
+
+/// The isolating run sequences of a paragraph body, lent one after another: inner isolates come before what is around
+/// them, and of each sequence the first place of each of its runs is kept.
+#[derive(Drop)]
+pub struct SequenceWalk<'e> {
+    explicit: &'e Explicit,
+    chains: OpenChains<'e>,
+    /// The first level run that is not met.
+    run: Option<Run>,
+    /// Whether the newest chain is lent.
+    lent: bool,
+}
+
+// Clauses see the sequence that is lent, and those that are left.
+impl<'e> Model for SequenceWalk<'e> {
+    ghost Value = { SequencesLeft };
+
+    ghost view = { λ w. record { explicit = w.explicit.now; has_current = w.lent; current = newest_sequence w.chains; left = left_of w.explicit.now (unlent w.lent w.chains.chains) w.run } };
+
+    ghost invariant = { λ w. IsWalk w.explicit.now w.chains w.run w.lent };
+}
+
+/// Drops the newest chain, if it is lent.
+fn drop_lent(chains: &mut OpenChains<'_>, lent: bool)
+    ensures explicit { chains.new.explicit ≡ chains.old.explicit }
+    ensures chains { chains.new.chains ≡ unlent lent chains.old.chains }
+{
+    if lent {
+        chains.drop_newest();
+    }
+}
+
+impl<'e> SequenceWalk<'e> {
+    /// The sequences of a paragraph body, of which none is lent.
+    pub fn new(alloc: Global, explicit: &'e Explicit) -> Self
+        ensures explicit { result.explicit ≡ explicit.now }
+        ensures given { AreGiven result.left (sequences explicit.now.level explicit.now.classes.items explicit.now.kept.items) }
+    {
+        SequenceWalk {
+            explicit,
+            chains: OpenChains::new(alloc, explicit),
+            run: next_run(&explicit.kept, 0),
+            lent: false,
+        }
+    }
+
+    /// Lends the next sequence, if one is left. It takes memory, and is refused only where there is none: then the same
+    /// sequences are left.
+    pub fn advance(&mut self) -> Result<bool, ExplicitError>
+        ensures explicit { self.new.explicit ≡ self.old.explicit }
+        ensures lent { IfOk result (λ b. b ≡ self.new.has_current) }
+        ensures next { IfOk result (λ b. b ≡ true → self.old.left ≡ self.new.current ∷ self.new.left) }
+        ensures end { IfOk result (λ b. b ≡ false → self.old.left ≡ []) }
+        ensures err { OnErr result (self.new.left ≡ self.old.left) }
+    {
+        drop_lent(&mut self.chains, self.lent);
+        self.lent = false;
+        self.lent = end_newest(self.explicit, &mut self.chains, &mut self.run)?;
+        Ok(self.lent)
+    }
+
+    /// The level of the sequence that is lent.
+    pub fn level(&self) -> u8
+        requires { self.now.has_current ≡ true }
+        ensures value { result ≡ self.now.current.level }
+        ensures low { result ≤ max_depth }
+    {
+        self.chains.level()
+    }
+
+    /// The type before it (X10).
+    pub fn sos(&self) -> Class
+        requires { self.now.has_current ≡ true }
+        ensures { result ≡ self.now.current.sos }
+    {
+        self.chains.sos()
+    }
+
+    /// The type after it (X10).
+    pub fn eos(&self) -> Class
+        requires { self.now.has_current ≡ true }
+        ensures { result ≡ self.now.current.eos }
+    {
+        self.chains.eos()
+    }
+
+    /// The first place of each of its runs, in order. The places of a run are the kept characters of its level from there
+    /// on, up to a kept one of another level.
+    pub fn firsts(&self) -> &[usize]
+        requires { self.now.has_current ≡ true }
+        ensures { places_from self.now.current.level self.now.explicit.kept.items result.now ≡ self.now.current.places }
+    {
+        self.chains.firsts()
+    }
+}
