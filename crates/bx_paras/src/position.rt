@@ -1,8 +1,8 @@
-//! Places of paragraphs.
+//! Positions of paragraphs.
 
 /// Where a paragraph stands.
 #[derive(Clone, Copy, PartialEq, Eq, Debug)]
-pub struct Place {
+pub struct Position {
     /// Its number, from 0.
     pub number: usize,
     /// The offset at which its body begins.

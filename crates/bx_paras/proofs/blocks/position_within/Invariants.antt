@@ -1,7 +1,7 @@
 -- The paragraphs before this one, which end at the offset or before it.
 use Rattle.std.proofs.Common.{◌≡◌, ◌≤◌, take}
-use Rattle.bx_paras.specs.Places.{total}
-use Rattle.bx_paras.proofs.blocks.place_within.Given as goal
+use Rattle.bx_paras.specs.Positions.{total}
+use Rattle.bx_paras.proofs.blocks.position_within.Given as goal
 
 abbrev pub invariant-loop-paragraph : goal.invariant-loop-paragraph
 invariant-loop-paragraph l = record {
