@@ -5,9 +5,9 @@ use Rattle.std.proofs.lemmas.List.{get_or_append_left, take-append-le}
 use Rattle.std.proofs.lemmas.List.Sums.{sum_by-cons}
 use Rattle.std.proofs.Math.Seq.{get_or-append_seam, take-append_seam}
 use Rattle.bx_paras.specs.declared.lengths.Lengths.{Lengths}
-use Rattle.bx_paras.specs.declared.place.Place.{Place}
-use Rattle.bx_paras.specs.Places.{bytes_of, total, spans_from, spans, separators, paragraph_of}
-use Rattle.bx_paras.specs.Flat.{IsPlace}
+use Rattle.bx_paras.specs.declared.position.Position.{Position}
+use Rattle.bx_paras.specs.Positions.{bytes_of, total, spans_from, spans, separators, paragraph_of}
+use Rattle.bx_paras.specs.Flat.{IsPosition}
 use Rattle.bx_paras.proofs.Followed.{has_end, no_end}
 
 -- ---- the paragraph of an offset
@@ -49,12 +49,12 @@ module _ (offset : ℕ) where
       begun_at (at + bytes_of p) n ps u (omega arith) (omega arith) (λ l. let past : offset < at + total (take (suc n + 1) (p ∷ ps)) = e (omega arith) in next_past at n p ps past) in
       begun_first at p (ps ++ u ∷ []) (omega arith) ∙ omega (arith, more)
 
-past_of : (ps : List Lengths) (offset : ℕ) (p : Place) (e : Option ℕ) → p.end ≡ e → IsPlace ps offset p → p.number < length ps → offset < total (take (p.number + 1) ps)
+past_of : (ps : List Lengths) (offset : ℕ) (p : Position) (e : Option ℕ) → p.end ≡ e → IsPosition ps offset p → p.number < length ps → offset < total (take (p.number + 1) ps)
 past_of ps offset p (Some e) k h l = let t = has_end ps offset p e h k in omega (arith, t.end, t.past)
 past_of ps offset p None k h l = absurd (omega (arith, no_end ps offset p h k))
 
-pub place_is : (ps : List Lengths) (u : Lengths) (offset : ℕ) (p : Place) → IsPlace ps offset p → p.number ≡ paragraph_of (ps ++ u ∷ []) offset
-place_is ps u offset p h =
+pub position_is : (ps : List Lengths) (u : Lengths) (offset : ℕ) (p : Position) → IsPosition ps offset p → p.number ≡ paragraph_of (ps ++ u ∷ []) offset
+position_is ps u offset p h =
     let n : begun offset 0 (ps ++ u ∷ []) ≡ p.number + 1 =
     begun_at offset 0 p.number ps u h.number (omega (arith, h.start, h.begun)) (λ l. omega (arith, past_of ps offset p p.end refl h l)) in
     omega (arith, n)

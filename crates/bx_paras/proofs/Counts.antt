@@ -3,7 +3,7 @@ use Rattle.std.proofs.Common.{◌≡◌, ◌<◌, ◌≤◌, ◌+◌, ◌∙◌,
 use Rattle.std.proofs.lemmas.Bool.Decides.{nat_tests}
 use Rattle.bx_ucd.specs.declared.class.Class.{Class}
 use Rattle.bx_paras.specs.declared.lengths.Lengths.{Lengths}
-use Rattle.bx_paras.specs.Places.{total}
+use Rattle.bx_paras.specs.Positions.{total}
 use Rattle.bx_paras.proofs.Cuts.{width, width_is_some, widths, widths_more, unended, grown, joined, lens, ends, is_paired, lens_plain, lens_paired, lens_ended}
 
 length_grown : (w : ℕ) (ls : List Lengths) → length (grown w ls) ≡ length ls

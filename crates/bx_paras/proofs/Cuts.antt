@@ -5,7 +5,7 @@ use Rattle.std.proofs.lemmas.Str.{length-encode, len_utf8_bounds, encodes-append
 use Rattle.bx_ucd.specs.declared.class.Class.{Class}
 use Rattle.bx_paras.specs.declared.lengths.Lengths.{Lengths}
 use Rattle.bx_paras.specs.Paragraphs.{Paragraph, is_separator, begins_with_lf, after_character, after_cr, cut, lengths_of}
-use Rattle.bx_paras.specs.Places.{bytes_of}
+use Rattle.bx_paras.specs.Positions.{bytes_of}
 
 -- ---- lengths, character by character
 

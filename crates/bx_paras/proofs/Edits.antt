@@ -4,7 +4,7 @@ use Rattle.std.proofs.lemmas.Bool.Decides.{nat_tests}
 use Rattle.std.proofs.lemmas.List.{append_cancel_right}
 use Rattle.bx_ucd.specs.declared.class.Class.{Class}
 use Rattle.bx_paras.specs.declared.lengths.Lengths.{Lengths}
-use Rattle.bx_paras.specs.Places.{bytes_of, total}
+use Rattle.bx_paras.specs.Positions.{bytes_of, total}
 use Rattle.bx_paras.specs.Ended.{ended_within}
 use Rattle.bx_paras.proofs.Cuts.{width, width_is_some, widths, widths_more, widths_append, unended, lens, parts, parts_same, parts_append, IsFirst, beginning}
 use Rattle.bx_paras.proofs.Seams.{before_last, seam, lens_append, lens_before, front_of_seam}

@@ -3,10 +3,10 @@ use Rattle.std.proofs.Common.{◌≡◌, ◌<◌, ◌≤◌, ◌+◌, ◌-◌, �
 use Rattle.std.proofs.lemmas.Bool.Decides.{nat_tests}
 use Rattle.std.proofs.lemmas.List.{take-append-drop, take_more, drop_more, take-take, take-append-le, drop-append-le, get_or_append_left, get_or-append-add, get_or_default}
 use Rattle.bx_paras.specs.declared.lengths.Lengths.{Lengths}
-use Rattle.bx_paras.specs.Places.{total}
+use Rattle.bx_paras.specs.Positions.{total}
 use Rattle.std.proofs.Math.Seq.{take-append-add, drop-append-add, take-append_seam, drop-append_seam}
-use Rattle.bx_paras.specs.declared.place.Place.{Place}
-use Rattle.bx_paras.specs.Flat.{flat, IsPlace}
+use Rattle.bx_paras.specs.declared.position.Position.{Position}
+use Rattle.bx_paras.specs.Flat.{flat, IsPosition}
 use Rattle.bx_paras.proofs.Totals.{total_append}
 
 pub flat_append : (bs ds : List (List Lengths)) → flat (bs ++ ds) ≡ flat bs ++ flat ds
@@ -16,7 +16,7 @@ flat_append (b ∷ bs) ds = ap (λ ls. b ++ ls) (flat_append bs ds) ∙ sym (app
 pub flat_one : (b : List Lengths) → flat (b ∷ []) ≡ b
 flat_one b = append-nil b
 
--- the blocks in front of a place, and those behind it
+-- the blocks in front of a position, and those behind it
 pub flat_cut : (n : ℕ) (bs : List (List Lengths)) → flat bs ≡ flat (take n bs) ++ flat (drop n bs)
 flat_cut n bs = ap flat (sym (take-append-drop n bs)) ∙ flat_append (take n bs) (drop n bs)
 
@@ -52,7 +52,7 @@ whole_back bs n m e = ap (drop m) (flat_cut n bs) ∙ ap (λ k. drop k (flat (ta
 pub ordered : (bs : List (List Lengths)) (k n : ℕ) → length (flat (take k bs)) < length (flat (take n bs)) → k < n
 ordered bs k n h = ordered_at bs k n (nat_lt k n) refl h
 
--- ---- a place among the blocks
+-- ---- a position among the blocks
 
 module _ (bs : List (List Lengths)) (i : ℕ) (b : List Lengths) (h : i < length bs) (e : b ≡ get_or bs i b) where
   -- the paragraphs are those in front of a block, the block, and those behind it
@@ -83,10 +83,10 @@ module _ (bs : List (List Lengths)) (i : ℕ) (b : List Lengths) (h : i < length
   pub total_in_block : (k : ℕ) → k ≤ length b → total (take (length (flat (take i bs)) + k) (flat bs)) ≡ total (flat (take i bs)) + total (take k b)
   total_in_block k l = ap total (front_in_block k l) ∙ total_append (flat (take i bs)) (take k b)
 
-  pub place_at : (n s offset within before past : ℕ) → n ≡ length (flat (take i bs)) → s ≡ total (flat (take i bs)) → s ≤ offset
+  pub position_at : (n s offset within before past : ℕ) → n ≡ length (flat (take i bs)) → s ≡ total (flat (take i bs)) → s ≤ offset
       → within < length b → before ≡ total (take within b) → before ≤ offset - s → past ≡ total (take (within + 1) b) → offset - s < past
-      → IsPlace (flat bs) offset (record { number = n + within; start = s + before; end = Some (s + past) })
-  place_at n s offset within before past en es begun inside eb lb ep lp =
+      → IsPosition (flat bs) offset (record { number = n + within; start = s + before; end = Some (s + past) })
+  position_at n s offset within before past en es begun inside eb lb ep lp =
       let there : n + within ≡ length (flat (take i bs)) + within = omega (arith, en) in
       let next : n + within + 1 ≡ length (flat (take i bs)) + (within + 1) = omega (arith, en) in
       record {
@@ -118,5 +118,5 @@ module _ (bs : List (List Lengths)) (i : ℕ) (b : List Lengths) (h : i < length
         found ∙ ap (λ es. get_or (flat es) n (get_or ls left d)) same,
       )
 
-pub IsPlace-same : (bs ds : List (List Lengths)) (offset : ℕ) (p : Place) → bs ≡ ds → IsPlace (flat bs) offset p → IsPlace (flat ds) offset p
-IsPlace-same bs ds offset p e h = subst (λ cs. IsPlace (flat cs) offset p) e h
+pub IsPosition-same : (bs ds : List (List Lengths)) (offset : ℕ) (p : Position) → bs ≡ ds → IsPosition (flat bs) offset p → IsPosition (flat ds) offset p
+IsPosition-same bs ds offset p e h = subst (λ cs. IsPosition (flat cs) offset p) e h

@@ -5,8 +5,8 @@ use Rattle.bx_ucd.specs.declared.class.Class.{Class}
 use Rattle.bx_text.specs.declared.change.Change.{Change}
 use Rattle.bx_text.specs.Edits.{Leads}
 use Rattle.bx_paras.specs.declared.lengths.Lengths.{Lengths}
-use Rattle.bx_paras.specs.Paragraphs.{lengths}
-use Rattle.bx_paras.specs.Places.{bytes_of, total}
+use Rattle.bx_paras.specs.Paragraphs.{lengths, separator_count}
+use Rattle.bx_paras.specs.Positions.{bytes_of, total}
 use Rattle.bx_paras.specs.Ended.{ended_within}
 use Rattle.bx_paras.proofs.Cuts.{widths, widths_append, unended, lens, parts}
 use Rattle.bx_paras.proofs.Totals.{total_append}
@@ -16,10 +16,17 @@ use Rattle.bx_paras.proofs.Edits.{Front, Back, front_of, back_of, last_of, ended
 use Rattle.bx_paras.proofs.Changes.{AreAround, around, cut_at}
 
 -- the paragraphs of a text that stay in front, those that end from there to an offset, and those that stay behind
-pub record IsRewritten (class : ℕ → Class) (text : List ℕ) (front : List Lengths) (stop added : ℕ) (back : List Lengths) : Type 0 where
+pub record IsRewritten (class : ℕ → Class) (text : List ℕ) (front : List Lengths) (stop separators : ℕ) (back : List Lengths) : Type 0 where
   pub bounds : IsCharBoundary text (total front)
   pub kept : lengths class text ≡ front ++ (ended_within (stop - total front) (lengths class (drop (total front) text)) ++ back)
-  pub few : length (ended_within (stop - total front) (lengths class (drop (total front) text))) ≤ added + 2
+  pub few : length (ended_within (stop - total front) (lengths class (drop (total front) text))) ≤ separators + 2
+
+-- what a change adds has no more separators than bytes
+pub few_separators : (class : ℕ → Class) (old : List ℕ) (c : Change) (new : List ℕ) → IsUtf8 old → IsUtf8 new → Leads old c new
+    → separator_count class (take c.added (drop c.start new)) ≤ c.added
+few_separators class old c new utf8 utf8' leads =
+    let cs : List ℕ = chars (take c.added (drop c.start new)) in
+    omega (arith, count_few class cs, length-le-encodes cs, (around old c new utf8 utf8' leads).come)
 
 module _ (class : ℕ → Class) where
   ended_before : (g : List ℕ) → AreEnded (before_last (lens class g))
@@ -28,15 +35,16 @@ module _ (class : ℕ → Class) where
       subst AreEnded (sym (ap before_last c.is ∙ before_last_append c.ended (unended c.last))) c.are_ended
 
   -- what is found anew, where paragraphs stay behind it
-  record IsFound (r : List ℕ) (k added : ℕ) (back : List Lengths) : Type 0 where
+  record IsFound (r : List ℕ) (k separators : ℕ) (back : List Lengths) : Type 0 where
     ends : List Lengths
     are_found : ended_within k (lens class r) ≡ ends
     then_back : lens class r ≡ ends ++ back
-    few : length ends ≤ added + 2
+    few : length ends ≤ separators + 2
 
-  found_before : (h n d : List ℕ) (past k added : ℕ) (back : List Lengths) → count class h ≤ 2 → widths n ≡ added → widths h + (added + past) ≡ k → Back class d past back
-      → IsFound (h ++ (n ++ d)) k added back
-  found_before h n d past k added back few w e b =
+  found_before : (h n d : List ℕ) (past k added separators : ℕ) (back : List Lengths) → count class h ≤ 2 → count class n ≤ separators + 1
+      → widths n ≡ added → widths h + (added + past) ≡ k → Back class d past back
+      → IsFound (h ++ (n ++ d)) k separators back
+  found_before h n d past k added separators back few counted w e b =
       let g : List ℕ = (h ++ n) ++ b.t in
       let es : List Lengths = before_last (lens class g) in
       let all : h ++ (n ++ d) ≡ g ++ b.y = sym (append_assoc h n d) ∙ ap (λ v. (h ++ n) ++ v) b.whole ∙ sym (append_assoc (h ++ n) b.t b.y) in
@@ -50,12 +58,12 @@ module _ (class : ℕ → Class) where
         ends = es;
         are_found = ap (ended_within k) joined ∙ ended_all es back k 0 (ended_before g) len ∙ ap (λ ls. es ++ ls) (ended_in_none back) ∙ append-nil es;
         then_back = joined;
-        few = omega (arith, number, count_together class (h ++ n) b.t, count_together class h n, count_few class n, length-le-encodes n, b.few);
+        few = omega (arith, number, count_together class (h ++ n) b.t, count_together class h n, counted, b.few);
       }
 
-  found_last : (h n d : List ℕ) (added : ℕ) → count class h ≤ 2 → widths n ≡ added → count class d ≤ 1
-      → (last : ℕ) × IsFound (h ++ (n ++ d)) (widths (h ++ (n ++ d))) added (unended last ∷ [])
-  found_last h n d added few w one =
+  found_last : (h n d : List ℕ) (separators : ℕ) → count class h ≤ 2 → count class n ≤ separators + 1 → count class d ≤ 1
+      → (last : ℕ) × IsFound (h ++ (n ++ d)) (widths (h ++ (n ++ d))) separators (unended last ∷ [])
+  found_last h n d separators few counted one =
       let r : List ℕ = h ++ (n ++ d) in
       let c = cut_of class r in
       let sum : total c.ended + total (unended c.last ∷ []) ≡ widths r = sym (total_append c.ended (unended c.last ∷ [])) ∙ ap total (sym c.is) ∙ total_lens class r in
@@ -67,14 +75,14 @@ module _ (class : ℕ → Class) where
           ends = c.ended;
           are_found = ap (ended_within (widths r)) c.is ∙ ended_all c.ended (unended c.last ∷ []) (widths r) c.last c.are_ended len ∙ append-nil c.ended;
           then_back = c.is;
-          few = omega (arith, number, whole, count_together class (h ++ n) d, count_together class h n, count_few class n, length-le-encodes n);
+          few = omega (arith, number, whole, count_together class (h ++ n) d, count_together class h n, counted);
         },
       )
 
   -- the whole text from what is found
-  rewritten : (new x r : List ℕ) (front : List Lengths) (stop added : ℕ) (back : List Lengths) → IsUtf8 new → chars new ≡ x ++ r → widths x ≡ total front
-      → lens class (x ++ r) ≡ front ++ lens class r → IsFound r (stop - total front) added back → IsRewritten class new front stop added back
-  rewritten new x r front stop added back utf8 e w kept f =
+  rewritten : (new x r : List ℕ) (front : List Lengths) (stop separators : ℕ) (back : List Lengths) → IsUtf8 new → chars new ≡ x ++ r → widths x ≡ total front
+      → lens class (x ++ r) ≡ front ++ lens class r → IsFound r (stop - total front) separators back → IsRewritten class new front stop separators back
+  rewritten new x r front stop separators back utf8 e w kept f =
       let c = cut_at new x r (total front) utf8 e w in
       let again : ended_within (stop - total front) (lengths class (drop (total front) new)) ≡ f.ends = ap (λ cs. ended_within (stop - total front) (lens class cs)) c.rest ∙ f.are_found in
       record {
@@ -97,6 +105,13 @@ module _ (class : ℕ → Class) where
 
     d : List ℕ
     d = chars (drop (c.start + c.removed) old)
+
+    abbrev separators : ℕ
+    separators = separator_count class (take c.added (drop c.start new))
+
+    counted : count class n ≤ separators + 1
+    unfolding n
+    counted = omega arith
 
     parted : AreAround old c new a o n d
     unfolding a o n d
@@ -127,23 +142,23 @@ module _ (class : ℕ → Class) where
     -- a paragraph ends behind the change
     pub change_inside : (upto : List Lengths) (q m : Lengths) (back : List Lengths) → lengths class old ≡ upto ++ q ∷ m ∷ back
         → total upto ≤ c.start + c.removed → c.start + c.removed < total upto + bytes_of q
-        → IsRewritten class new front (((total upto + bytes_of q) - (c.start + c.removed)) + (c.start + c.added)) c.added (m ∷ back)
+        → IsRewritten class new front (((total upto + bytes_of q) - (c.start + c.removed)) + (c.start + c.added)) separators (m ∷ back)
     change_inside upto q m back e f g =
         let past : ℕ = (total upto + bytes_of q) - widths (a ++ o) in
         let b : Back class d past (m ∷ back) = back_of class (a ++ o) d upto q m back (replaced ∙ e) (omega (arith, to_rest)) (omega (arith, to_rest)) in
         let len : widths in_front.h + (c.added + past) ≡ (((total upto + bytes_of q) - (c.start + c.removed)) + (c.start + c.added)) - total front = omega (arith, to_rest, to_change) in
-        rewritten new in_front.x found front _ c.added (m ∷ back) utf8' whole in_front.bytes kept
-        (found_before in_front.h n d past _ c.added (m ∷ back) in_front.few parted.come len b)
+        rewritten new in_front.x found front _ separators (m ∷ back) utf8' whole in_front.bytes kept
+        (found_before in_front.h n d past _ c.added separators (m ∷ back) in_front.few counted parted.come len b)
 
     -- the change reaches into the last paragraph
     pub change_at_end : (upto : List Lengths) (q : Lengths) → lengths class old ≡ upto ++ q ∷ [] → total upto ≤ c.start + c.removed
-        → (last : ℕ) × IsRewritten class new front (length new) c.added (unended last ∷ [])
+        → (last : ℕ) × IsRewritten class new front (length new) separators (unended last ∷ [])
     change_at_end upto q e f =
         let one : count class d ≤ 1 = last_of class (a ++ o) d upto q (replaced ∙ e) (omega (arith, to_rest)) in
-        let (last, is_found) = found_last in_front.h n d c.added in_front.few parted.come one in
+        let (last, is_found) = found_last in_front.h n d separators in_front.few counted one in
         let cut = cut_at new in_front.x found (total front) utf8' whole in_front.bytes in
         let len : widths found ≡ length new - total front = omega (arith, cut.bytes) in (
           last,
-          rewritten new in_front.x found front (length new) c.added (unended last ∷ []) utf8' whole in_front.bytes kept
-              (subst (λ k. IsFound found k c.added (unended last ∷ [])) len is_found),
+          rewritten new in_front.x found front (length new) separators (unended last ∷ []) utf8' whole in_front.bytes kept
+              (subst (λ k. IsFound found k separators (unended last ∷ [])) len is_found),
         )

@@ -5,7 +5,7 @@ use Rattle.std.specs.Char.{encode_utf8}
 use Rattle.bx_ucd.specs.declared.class.Class.{Class}
 use Rattle.bx_ucd.specs.declared.class.Class.TheVariants.{B, L}
 use Rattle.bx_paras.specs.Paragraphs.{paragraphs, lengths}
-use Rattle.bx_paras.specs.Places.{spans, separators, paragraph_of}
+use Rattle.bx_paras.specs.Positions.{spans, separators, paragraph_of}
 
 abbrev class : ℕ → Class
 class c = cond (eqb c 10 || eqb c 13 || eqb c 0x2029) B L

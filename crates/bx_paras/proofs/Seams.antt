@@ -4,7 +4,7 @@ use Rattle.std.proofs.lemmas.Bool.Decides.{nat_tests}
 use Rattle.std.proofs.lemmas.List.{append_cancel_right}
 use Rattle.bx_ucd.specs.declared.class.Class.{Class}
 use Rattle.bx_paras.specs.declared.lengths.Lengths.{Lengths}
-use Rattle.bx_paras.specs.Places.{bytes_of, total}
+use Rattle.bx_paras.specs.Positions.{bytes_of, total}
 use Rattle.bx_paras.proofs.Cuts.{width, widths, widths_append, unended, grown, joined, lens, ends, is_paired, lens_plain, lens_paired, lens_ended, parts, parts_append, IsFirst, beginning}
 
 -- all but the last

@@ -4,7 +4,7 @@ use Rattle.std.proofs.lemmas.Bool.Decides.{nat_tests}
 use Rattle.std.proofs.lemmas.List.{take-append-drop, take-append-le, take-take, drop_at, length-take-le, length-take, length-drop, get_or_default}
 use Rattle.std.proofs.Math.Seq.{take-append_seam, get_or-append_seam}
 use Rattle.bx_paras.specs.declared.lengths.Lengths.{Lengths}
-use Rattle.bx_paras.specs.Places.{bytes_of, total}
+use Rattle.bx_paras.specs.Positions.{bytes_of, total}
 use Rattle.bx_paras.specs.Flat.{flat, free_before}
 use Rattle.bx_paras.proofs.Totals.{total_append, total_push, total_cut, total_front}
 use Rattle.bx_paras.proofs.Flats.{flat_append, flat_one, flat_cut, flat_more, total_flat_more, total_flat_front, length_flat_front, length_flat_front_of, whole_back, ordered, front_in_block, back_in_block}
@@ -23,7 +23,7 @@ drop_behind bs ds b n e =
 flat_behind : (bs ds : List (List Lengths)) (b : List Lengths) (n : ℕ) → length bs ≡ n → flat (take (n + 1) (bs ++ b ∷ ds)) ≡ flat bs ++ b
 flat_behind bs ds b n e = ap flat (take_behind bs ds b n e) ∙ flat_append bs (b ∷ []) ∙ ap (λ ls. flat bs ++ ls) (flat_one b)
 
--- the last block in front of a place
+-- the last block in front of a position
 last_block : (bs ds : List (List Lengths)) (b : List Lengths) (n : ℕ) → length bs ≡ n → get_or (bs ++ b ∷ ds) n [] ≡ b
 last_block bs ds b n e = ap (λ k. get_or (bs ++ b ∷ ds) k []) (sym e) ∙ get_or-append_seam bs b ds []
 
@@ -166,7 +166,7 @@ pushed_from bs ds at behind p f b =
       count = omega (arith, ap length new, ap length old, length_among (flat (take at bs)) (flat (drop at bs)) p);
     }
 
--- into the block in front of the place
+-- into the block in front of the position
 pub pushed_in_block : (ds bs new : List (List Lengths)) (i at : ℕ) (p : Lengths) → ds ≡ bs → new ≡ take i ds ++ (get_or ds i [] ++ p ∷ []) ∷ drop (i + 1) ds → i < length bs → i + 1 ≡ at → IsPushed bs new at at p
 pushed_in_block ds bs new i at p same e h n =
     subst (λ cs. IsPushed bs cs at at p) (sym (e ∙ ap (λ cs. take i cs ++ (get_or cs i [] ++ p ∷ []) ∷ drop (i + 1) cs) same))
@@ -214,7 +214,7 @@ pub record IsTaken (bs ds : List (List Lengths)) (from to : ℕ) : Type 0 where
   pub front : take from ds ≡ take from bs
   pub bytes : total (flat ds) ≤ total (flat bs)
   pub count : length (flat ds) ≤ length (flat bs)
-  pub place : from ≤ length ds
+  pub position : from ≤ length ds
   pub fewer : length ds ≤ length bs
 
 pub taken : (bs ds : List (List Lengths)) (from to : ℕ) → ds ≡ take from bs ++ drop to bs → from ≤ to → to ≤ length bs → IsTaken bs ds from to
@@ -228,7 +228,7 @@ taken bs ds from to e l h =
       front = ap (take from) e ∙ ap (λ k. take k (take from bs ++ drop to bs)) (sym long) ∙ take-append_seam (take from bs) (drop to bs);
       bytes = omega (arith, ap total new, total_append (flat (take from bs)) (flat (drop to bs)), ap total whole, total_append (flat (take to bs)) (flat (drop to bs)), total_flat_front from (take to bs), ap (λ cs. total (flat cs)) fronts);
       count = omega (arith, ap length new, length-append (flat (take from bs)) (flat (drop to bs)), ap length whole, length-append (flat (take to bs)) (flat (drop to bs)), length_flat_front from (take to bs), ap (λ cs. length (flat cs)) fronts);
-      place = omega (arith, ap length e, length-append (take from bs) (drop to bs), long);
+      position = omega (arith, ap length e, length-append (take from bs) (drop to bs), long);
       fewer = omega (arith, ap length e, length-append (take from bs) (drop to bs), long, length-drop to bs);
     }
 

@@ -6,7 +6,7 @@ use Rattle.std.proofs.lemmas.Str.{chars-append, chars-nil, length-le-encodes, Is
 use Rattle.bx_ucd.specs.declared.class.Class.{Class}
 use Rattle.bx_paras.specs.declared.lengths.Lengths.{Lengths}
 use Rattle.bx_paras.specs.Paragraphs.{lengths}
-use Rattle.bx_paras.specs.Places.{bytes_of, total}
+use Rattle.bx_paras.specs.Positions.{bytes_of, total}
 use Rattle.bx_paras.specs.Ended.{ended_within, first}
 use Rattle.bx_paras.proofs.Changes.{cut_at, front_len, spelt}
 use Rattle.bx_paras.proofs.Counts.{count_few, total_lens}

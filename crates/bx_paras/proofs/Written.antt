@@ -1,4 +1,4 @@
--- Lists that are written, cut and joined at a place.
+-- Lists that are written, cut and joined at a position.
 use Rattle.std.proofs.Common.{◌≡◌, ◌<◌, ◌+◌, ◌∙◌, ℕ, suc, List, ◌∷◌, ◌++◌, length, take, drop, set, remove, slice_set, ap, sym, arith, length-append}
 use Rattle.std.proofs.lemmas.List.{take-append-drop, take-set, drop-set, take-append-le, take-take, length-take-le, drop_at}
 

@@ -1,7 +1,7 @@
 -- What the blocks of a text keep.
 use Rattle.std.specs.Prelude.{◌<◌, ◌≤◌, ◌^◌, ◌+◌, length, vec_len, vec_capacity}
 use Rattle.bx_paras.specs.declared.blocks.Blocks.TheInside.{Inside}
-use Rattle.bx_paras.specs.Places.{total}
+use Rattle.bx_paras.specs.Positions.{total}
 use Rattle.bx_paras.specs.Flat.{flat, BlocksState}
 
 abbrev pub blocks_of : Inside → BlocksState

@@ -1,7 +1,7 @@
 -- The paragraphs that end in the first bytes of a text.
 use Rattle.std.specs.Prelude.{ℕ, ◌+◌, ◌-◌, ◌==◌, nat_le, List, [], ◌∷◌, if◌then◌else◌}
 use Rattle.bx_paras.specs.declared.lengths.Lengths.{Lengths}
-use Rattle.bx_paras.specs.Places.{bytes_of}
+use Rattle.bx_paras.specs.Positions.{bytes_of}
 
 -- those of some paragraphs that end with a separator in the first k bytes
 abbrev pub ended_within : ℕ → List Lengths → List Lengths

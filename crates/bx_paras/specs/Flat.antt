@@ -1,8 +1,8 @@
--- Paragraphs in blocks, and places among them.
+-- Paragraphs in blocks, and positions among them.
 use Rattle.std.specs.Prelude.{◌≡◌, ◌<◌, ◌≤◌, ℕ, ◌+◌, ◌-◌, ◌*◌, ◌==◌, List, [], ◌∷◌, ◌++◌, length, take, get_or, if◌then◌else◌, MatchOption}
 use Rattle.bx_paras.specs.declared.lengths.Lengths.{Lengths}
-use Rattle.bx_paras.specs.declared.place.Place.{Place}
-use Rattle.bx_paras.specs.Places.{total}
+use Rattle.bx_paras.specs.declared.position.Position.{Position}
+use Rattle.bx_paras.specs.Positions.{total}
 
 -- the paragraphs of all blocks
 abbrev pub flat : List (List Lengths) → List Lengths
@@ -14,16 +14,16 @@ pub record BlocksState : Type 0 where
   pub blocks : List (List Lengths)
   pub spares : ℕ
 
--- how many more paragraphs the block in front of a place among the blocks can hold
+-- how many more paragraphs the block in front of a position among the blocks can hold
 abbrev pub free_before : List (List Lengths) → ℕ → ℕ
 free_before bs at = if at == 0 then 0 else 128 - length (get_or bs (at - 1) [])
 
--- how many paragraphs can be put in at a place among the blocks with no memory
+-- how many paragraphs can be put in at a position among the blocks with no memory
 abbrev pub room_at : BlocksState → ℕ → ℕ
 room_at s at = free_before s.blocks at + 128 * s.spares
 
 -- the paragraph that an offset falls in: it ends past the offset, or it is the one behind all of these
-pub record IsPlace (ps : List Lengths) (offset : ℕ) (p : Place) : Type 0 where
+pub record IsPosition (ps : List Lengths) (offset : ℕ) (p : Position) : Type 0 where
   pub number : p.number ≤ length ps
   pub start : p.start ≡ total (take p.number ps)
   pub begun : p.start ≤ offset

@@ -1,22 +1,22 @@
 -- What an index is seen as: how many bytes each paragraph has, and the room that was made for the next edit.
-use Rattle.std.specs.Prelude.{ℕ, ◌+◌, ◌*◌, ◌≤◌, List, [], ◌∷◌, ◌++◌, length, Option, IfSome}
+use Rattle.std.specs.Prelude.{ℕ, ◌+◌, ◌*◌, ◌≤◌, min, List, [], ◌∷◌, ◌++◌, length, Option, IfSome}
 use Rattle.bx_text.specs.Edits.{largest}
 use Rattle.bx_paras.specs.declared.lengths.Lengths.{Lengths}
 use Rattle.bx_paras.specs.declared.index.Index.TheInside.{Inside}
 use Rattle.bx_paras.specs.Flat.{flat}
-use Rattle.bx_paras.specs.Places.{total}
+use Rattle.bx_paras.specs.Positions.{total}
 
 pub record IndexState : Type 0 where
   pub paragraphs : List Lengths
-  -- where it is Some of a number, the next edit that adds at most so many bytes takes no memory
+  -- where it is Some of a number, the next edit takes no memory if what it adds has at most so many separators
   pub room : Option ℕ
 
 abbrev pub index_of : Inside → IndexState
 index_of i = record { paragraphs = flat i.ended.blocks ++ record { body = i.last; separator = 0 } ∷ []; room = i.room }
 
--- the blocks that an edit cuts, and those that it fills
+-- the blocks that an edit cuts, and those that it fills: no text has more separators than bytes
 abbrev pub HasSpares : ℕ → ℕ → Type 0
-HasSpares spares bytes = bytes + 258 ≤ 128 * spares
+HasSpares spares separators = min separators largest + 258 ≤ 128 * spares
 
 pub record IsIndex (i : Inside) : Type 0 where
   pub short : total (flat i.ended.blocks ++ record { body = i.last; separator = 0 } ∷ []) ≤ largest

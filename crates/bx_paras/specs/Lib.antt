@@ -1,9 +1,10 @@
 pub mod Paragraphs
-pub mod Places
+pub mod Positions
 pub mod Ended
 pub mod Scan
 pub mod OneBlock
 pub mod Flat
+pub mod Touched
 pub mod Blocks
 pub mod Index
 pub mod LineEnds

@@ -1,7 +1,7 @@
 -- What a block of paragraphs keeps.
 use Rattle.std.specs.Prelude.{◌≡◌, ◌≤◌, vec_len, vec_capacity}
 use Rattle.bx_paras.specs.declared.block.Block.TheInside.{Inside}
-use Rattle.bx_paras.specs.Places.{total}
+use Rattle.bx_paras.specs.Positions.{total}
 
 -- a block knows its bytes, and has room for 128 paragraphs
 pub record IsBlock (b : Inside) : Type 0 where

@@ -1,5 +1,5 @@
 -- The paragraphs of a text: the text cut at each paragraph separator (P1). CR LF is one separator.
-use Rattle.std.specs.Prelude.{ℕ, ◌==◌, ◌&&◌, Bool, true, false, List, [], ◌∷◌, ◌++◌, map, length, chars, encode_utf8}
+use Rattle.std.specs.Prelude.{ℕ, ◌-◌, ◌==◌, ◌&&◌, Bool, true, false, List, [], ◌∷◌, ◌++◌, map, length, chars, encode_utf8}
 use Rattle.bx_ucd.specs.declared.class.Class.{Class}
 use Rattle.bx_ucd.specs.declared.class.Class.TheVariants.{B}
 use Rattle.bx_paras.specs.declared.lengths.Lengths.{Lengths}
@@ -55,3 +55,7 @@ lengths_of p = record { body = length p.body; separator = length p.separator }
 -- how many bytes each paragraph of a text has
 abbrev pub lengths : (ℕ → Class) → List ℕ → List Lengths
 lengths class text = map lengths_of (paragraphs class text)
+
+-- how many paragraphs of a text end with a separator
+abbrev pub separator_count : (ℕ → Class) → List ℕ → ℕ
+separator_count class text = length (lengths class text) - 1

@@ -1,14 +1,14 @@
 //! A block of paragraphs.
 
 ghost use Rattle.std.specs.Prelude.{◌≡◌, [], ◌∷◌, ◌++◌, ◌+◌, ◌<◌, ◌≤◌, ◌^◌, length, take, drop, nat_lt, IfOk};
-ghost use Rattle.bx_paras.specs.Places.{bytes_of, total};
+ghost use Rattle.bx_paras.specs.Positions.{bytes_of, total};
 
 use crate::lengths::Lengths;
 use std::alloc::{AllocError, Global};
 use std::marker::Model;
 
-/// How many paragraphs a block holds at most.
-pub const MOST: usize = 128;
+/// How many paragraphs a block has room for.
+pub const BLOCK_CAPACITY: usize = 128;
 
 /// Paragraphs that follow one another, at most 128, and how many bytes they have together.
 #[derive(Drop)]
@@ -48,7 +48,7 @@ impl Block {
         ensures { IfOk result (λ b. b ≡ []) }
     {
         Ok(Block {
-            lengths: Vec::with_capacity(alloc, MOST)?,
+            lengths: Vec::with_capacity(alloc, BLOCK_CAPACITY)?,
             bytes: 0,
         })
     }
@@ -72,7 +72,7 @@ impl Block {
     pub fn has_room(&self) -> bool
         ensures { result ≡ nat_lt (length self.now) 128 }
     {
-        self.lengths.len() < MOST
+        self.lengths.len() < BLOCK_CAPACITY
     }
 
     /// One paragraph more, behind the others. No memory.
@@ -86,7 +86,7 @@ impl Block {
         self.lengths.push(paragraph).unwrap();
     }
 
-    /// Takes the paragraphs from a number on into another block, in the place of those that it had. No memory.
+    /// Takes the paragraphs from a number on into another block, instead of those that it had. No memory.
     #[tactic(auto, using(crate::proofs::Totals::total_rest))]
     pub fn cut(&mut self, at: usize, mut rest: Block) -> Block
         requires { at ≤ length self.old }

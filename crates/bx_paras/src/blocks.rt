@@ -1,15 +1,18 @@
 //! Paragraphs in blocks.
 
 ghost use Rattle.std.specs.Prelude.{◌≡◌, ℕ, [], ◌∷◌, ◌++◌, ◌+◌, ◌-◌, ◌<◌, ◌≤◌, ◌^◌, ◌⊎◌, length, take, drop, get_or, IfOk, OnOk, OnErr, MatchOption, vec_len};
-ghost use Rattle.bx_paras.specs.Places.{bytes_of, total};
-ghost use Rattle.bx_paras.specs.Flat.{flat, BlocksState, room_at, IsPlace};
+ghost use Rattle.bx_paras.specs.Positions.{bytes_of, total};
+ghost use Rattle.bx_paras.specs.Flat.{flat, BlocksState, room_at, IsPosition};
 
-use crate::block::{Block, MOST, total};
+use crate::block::{BLOCK_CAPACITY, Block, total};
 use crate::lengths::Lengths;
-use crate::place::Place;
+use crate::position::Position;
 use crate::splices::{cut_at, join_at, push_at, remove_blocks};
 use std::alloc::{AllocError, Global};
 use std::marker::Model;
+
+/// How many blocks stay made ahead: as many as an edit takes that adds few paragraphs.
+const SPARES_KEPT: usize = 4;
 
 /// Paragraphs that end with a separator, in blocks, and blocks that were made ahead.
 #[derive(Drop)]
@@ -33,7 +36,7 @@ impl Model for Blocks {
 /// Where the paragraph stands that an offset falls in, among the paragraphs of a block that end past it: its number,
 /// where it begins and where it ends.
 #[tactic(auto, using(crate::proofs::Totals::total_more, crate::proofs::Totals::total_front))]
-fn place_within(lengths: &[Lengths], offset: usize) -> (usize, usize, usize)
+fn position_within(lengths: &[Lengths], offset: usize) -> (usize, usize, usize)
     requires inside { offset < total lengths.now }
     requires short { total lengths.now < 2 ^ 64 }
     ensures number { result.0 < length lengths.now }
@@ -79,16 +82,16 @@ impl Blocks {
 
     /// Where the paragraph stands that an offset falls in. No memory.
     #[tactic(auto, using(crate::proofs::Flats::total_flat_more, crate::proofs::Flats::length_flat_more, crate::proofs::Flats::total_flat_front, crate::proofs::Flats::length_flat_front))]
-    pub fn find(&self, offset: usize) -> Place
-        ensures { IsPlace (flat self.now.blocks) offset result }
+    pub fn find(&self, offset: usize) -> Position
+        ensures { IsPosition (flat self.now.blocks) offset result }
     {
         let mut number = 0;
         let mut start = 0;
         for block in &self.blocks {
             let end = start + block.bytes();
             if offset < end {
-                let (within, before, past) = place_within(block.lengths(), offset - start);
-                return Place {
+                let (within, before, past) = position_within(block.lengths(), offset - start);
+                return Position {
                     number: number + within,
                     start: start + before,
                     end: Some(start + past),
@@ -97,7 +100,7 @@ impl Blocks {
             number += block.lengths().len();
             start = end;
         }
-        Place {
+        Position {
             number,
             start,
             end: None,
@@ -176,10 +179,28 @@ impl Blocks {
         ensures no_fewer { self.old.spares ≤ self.new.spares }
         ensures enough { OnOk result (spares ≤ self.new.spares) }
     {
+        let missing = spares > self.spares.len();
         for _made in self.spares.len()..spares {
             self.add_spare()?;
         }
+        if missing {
+            // The one that was made first is used first, so that memory behind the used ones can be given back.
+            self.spares.reverse();
+        }
         Ok(())
+    }
+
+    /// Gives back the blocks that were made ahead, but for a few.
+    pub fn release(&mut self)
+        ensures { self.new.blocks ≡ self.old.blocks }
+    {
+        let extra = self.spares.len().saturating_sub(SPARES_KEPT);
+        if extra == 0 {
+            return;
+        }
+        self.spares.drain(..extra);
+        self.spares.shrink_to(SPARES_KEPT);
+        self.blocks.shrink_to(self.blocks.len() + self.spares.len());
     }
 
     /// Cuts the block that a paragraph stands in, so that the paragraph begins a block, and gives the block's number,
@@ -203,14 +224,14 @@ impl Blocks {
         block + 1
     }
 
-    /// Puts a paragraph behind those of the blocks before a place among the blocks, and gives the place behind it.
+    /// Puts a paragraph behind those of the blocks before a position among the blocks, and gives the position behind it.
     /// No memory.
     pub fn push(&mut self, at: usize, paragraph: Lengths) -> usize
-        requires place { at ≤ length self.old.blocks }
+        requires position { at ≤ length self.old.blocks }
         requires room { 0 < room_at self.old at }
         requires short { total (flat self.old.blocks) + bytes_of paragraph < 2 ^ 64 }
         requires few { length (flat self.old.blocks) + 1 < 2 ^ 64 }
-        ensures place { result ≤ length self.new.blocks }
+        ensures position { result ≤ length self.new.blocks }
         ensures front { flat (take result self.new.blocks) ≡ flat (take at self.old.blocks) ++ paragraph ∷ [] }
         ensures back { flat (drop result self.new.blocks) ≡ flat (drop at self.old.blocks) }
         ensures room { room_at self.new result + 1 ≡ room_at self.old at }
@@ -225,12 +246,12 @@ impl Blocks {
         at + 1
     }
 
-    /// Takes out the paragraphs from one to another, and gives the place among the blocks where they stood. No memory.
+    /// Takes out the paragraphs from one to another, and gives the position among the blocks where they stood. No memory.
     pub fn take_out(&mut self, from: usize, to: usize) -> usize
         requires spares { 2 ≤ self.old.spares }
         requires order { from ≤ to }
         requires inside { to ≤ length (flat self.old.blocks) }
-        ensures place { result ≤ length self.new.blocks }
+        ensures position { result ≤ length self.new.blocks }
         ensures front { flat (take result self.new.blocks) ≡ take from (flat self.old.blocks) }
         ensures back { flat (drop result self.new.blocks) ≡ drop to (flat self.old.blocks) }
         ensures spares { self.old.spares ≤ self.new.spares + 2 }
@@ -243,7 +264,7 @@ impl Blocks {
         first
     }
 
-    /// Joins the blocks before and behind a place among them, where they have room for one another. No memory.
+    /// Joins the blocks before and behind a position among them, where they have room for one another. No memory.
     pub fn join(&mut self, at: usize)
         ensures paragraphs { flat self.new.blocks ≡ flat self.old.blocks }
         ensures spares { self.new.spares ≡ self.old.spares }
@@ -252,7 +273,7 @@ impl Blocks {
             return;
         }
         let behind = self.blocks[at].lengths().len();
-        if self.blocks[at - 1].lengths().len() + behind <= MOST {
+        if self.blocks[at - 1].lengths().len() + behind <= BLOCK_CAPACITY {
             join_at(&mut self.blocks, at - 1);
         }
     }

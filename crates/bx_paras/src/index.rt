@@ -1,18 +1,21 @@
 //! The index.
 
-ghost use Rattle.std.specs.Prelude.{◌≡◌, ℕ, ◌+◌, ◌-◌, ◌<◌, ◌≤◌, List, None, Some, length, slice_get, IsUtf8, IfOk, OnOk, OnErr};
-ghost use Rattle.bx_text.specs.Edits.{Leads};
+ghost use Rattle.std.specs.Prelude.{◌≡◌, ℕ, ◌+◌, ◌-◌, ◌<◌, ◌≤◌, ◌++◌, ◌∷◌, List, [], None, Some, length, take, drop, slice_get, IsUtf8, IfOk, OnOk, OnErr};
+ghost use Rattle.bx_text.specs.Edits.{Leads, largest};
 ghost use Rattle.bx_text.specs.Text.{HasRoomFor};
-ghost use Rattle.bx_paras.specs.Paragraphs.{lengths};
-ghost use Rattle.bx_paras.specs.Places.{spans, separators, paragraph_of};
+ghost use Rattle.bx_paras.specs.Paragraphs.{lengths, separator_count};
+ghost use Rattle.bx_paras.specs.Positions.{total, spans, separators, paragraph_of};
+ghost use Rattle.bx_paras.specs.Flat.{flat};
+ghost use Rattle.bx_paras.specs.Touched.{IsTouched};
 ghost use Rattle.bx_paras.specs.Index.{IndexState};
 
-use crate::block::MOST;
+use crate::block::BLOCK_CAPACITY;
 use crate::blocks::Blocks;
 use crate::error::ParasError;
 use crate::fill::replace;
+use crate::position::Position;
 use crate::scan::paragraph_from;
-use bx_text::{Change, Text};
+use bx_text::{Change, MAX_BYTES, Text};
 use bx_ucd::BidiData;
 use std::alloc::Global;
 use std::marker::Model;
@@ -37,6 +40,25 @@ impl Model for Index {
     ghost invariant = { IsIndex };
 }
 
+/// The paragraphs that a change reached: the one that the byte before it stands in, and the one that goes on behind it.
+fn touched<D: BidiData>(
+    ended: &Blocks,
+    last: u32,
+    text: &Text,
+    source: &D,
+    change: &Change,
+) -> (Position, Position)
+    requires was { (old : List ℕ) × IsUtf8 old × (flat ended.now.blocks ++ record { body = last; separator = 0 } ∷ [] ≡ lengths (D.class_of source.now) old) × Leads old change.now text.now.edited.text }
+    requires short { total (flat ended.now.blocks ++ record { body = last; separator = 0 } ∷ []) ≤ largest }
+    ensures { (old : List ℕ) × IsTouched (D.class_of source.now) old change.now text.now.edited.text (flat ended.now.blocks) (record { body = last; separator = 0 }) result.0 result.1 }
+{
+    let _utf8 = text.len();
+    let _ = source;
+    let first = ended.find(change.start.saturating_sub(1));
+    let last = ended.find(change.start + change.removed);
+    (first, last)
+}
+
 impl Index {
     /// The paragraphs of a text.
     ///
@@ -46,7 +68,7 @@ impl Index {
     {
         let len = text.len();
         let mut ended = Blocks::new(alloc);
-        let mut place = 0;
+        let mut position = 0;
         let mut at = 0;
         while at < len {
             let paragraph = paragraph_from(text, source, at);
@@ -58,7 +80,7 @@ impl Index {
                 });
             }
             ended.ready(1)?;
-            place = ended.push(place, paragraph);
+            position = ended.push(position, paragraph);
             at += paragraph.bytes();
         }
         Ok(Index {
@@ -68,32 +90,33 @@ impl Index {
         })
     }
 
-    /// Makes room: after Ok an edit that adds at most so many bytes can be followed with no memory.
+    /// Makes room: after Ok an edit can be followed with no memory if what it adds has at most so many
+    /// separators, and it has no more of them than bytes. What is left of the room is given back then.
     ///
     /// Errors: `OutOfMemory`, and the index and the room made before are unchanged.
-    pub fn ready(&mut self, bytes: usize) -> Result<(), ParasError>
+    pub fn ready(&mut self, separators: usize) -> Result<(), ParasError>
         ensures paragraphs { self.new.paragraphs ≡ self.old.paragraphs }
-        ensures ok { OnOk result (self.new.room ≡ Some bytes) }
+        ensures ok { OnOk result (self.new.room ≡ Some separators) }
         ensures err { OnErr result (self.new ≡ self.old) }
     {
-        self.ended.ready(bytes / MOST + 4)?;
-        self.room = Some(bytes);
+        let blocks = separators.min(MAX_BYTES) / BLOCK_CAPACITY + 4;
+        self.ended.ready(blocks)?;
+        self.room = Some(separators);
         Ok(())
     }
 
     /// Follows an edit of the text, which it looks at where the change is. No memory, and it always succeeds: the index
-    /// was that of the text before the change, by the same data, and `ready` made room for what was added.
+    /// was that of the text before the change, by the same data, and `ready` made room for the separators among what
+    /// was added.
     pub fn edited<D: BidiData>(&mut self, text: &Text, source: &D, change: &Change)
         requires was { (old : List ℕ) × IsUtf8 old × (self.old.paragraphs ≡ lengths (D.class_of source.now) old) × Leads old change.now text.now.edited.text }
-        requires room { HasRoomFor self.old.room change.now.added }
+        requires room { HasRoomFor self.old.room (separator_count (D.class_of source.now) (take change.now.added (drop change.now.start text.now.edited.text))) }
         ensures { self.new ≡ record { paragraphs = lengths (D.class_of source.now) text.now.edited.text; room = None } }
     {
         let len = text.len();
-        let first = self.ended.find(change.start.saturating_sub(1));
-        let stop = change.start + change.removed;
-        let last = self.ended.find(stop);
+        let (first, last) = touched(&self.ended, self.last, text, source, change);
         if let Some(end) = last.end {
-            let behind = end - stop + change.start + change.added;
+            let behind = end - change.removed + change.added;
             replace(
                 &mut self.ended,
                 text,

@@ -1,7 +1,7 @@
 //! How long paragraphs are.
 
 ghost use Rattle.std.specs.Prelude.{◌≡◌};
-ghost use Rattle.bx_paras.specs.Places.{bytes_of};
+ghost use Rattle.bx_paras.specs.Positions.{bytes_of};
 
 /// How many bytes a paragraph has.
 #[derive(Clone, Copy, PartialEq, Eq, Debug)]

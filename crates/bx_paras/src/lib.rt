@@ -7,7 +7,7 @@ mod error;
 mod fill;
 mod index;
 mod lengths;
-mod place;
+mod position;
 mod scan;
 mod splices;
 

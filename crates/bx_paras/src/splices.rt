@@ -1,14 +1,14 @@
 //! Blocks that are cut, lengthened and joined among others.
 
 ghost use Rattle.std.specs.Prelude.{◌≡◌, [], ◌∷◌, ◌++◌, ◌+◌, ◌<◌, ◌≤◌, ◌^◌, length, take, drop, get_or, vec_len, vec_capacity};
-ghost use Rattle.bx_paras.specs.Places.{bytes_of, total};
+ghost use Rattle.bx_paras.specs.Positions.{bytes_of, total};
 
 use crate::block::Block;
 use crate::lengths::Lengths;
 
 /// Cuts a block in two, the second part in a block that was made ahead. No memory.
 pub fn cut_at(blocks: &mut Vec<Block>, at: usize, within: usize, spare: Block)
-    requires place { at < vec_len blocks.old }
+    requires position { at < vec_len blocks.old }
     requires inside { within ≤ length (get_or blocks.old.items at []) }
     requires room { vec_len blocks.old < vec_capacity blocks.old }
     ensures items { blocks.new.items ≡ take at blocks.old.items ++ take within (get_or blocks.old.items at []) ∷ drop within (get_or blocks.old.items at []) ∷ drop (at + 1) blocks.old.items }
@@ -22,7 +22,7 @@ pub fn cut_at(blocks: &mut Vec<Block>, at: usize, within: usize, spare: Block)
 /// Puts a paragraph behind those of a block. No memory.
 #[tactic(auto, using(crate::proofs::Written::set_parts))]
 pub fn push_at(blocks: &mut Vec<Block>, at: usize, paragraph: Lengths)
-    requires place { at < vec_len blocks.old }
+    requires position { at < vec_len blocks.old }
     requires room { length (get_or blocks.old.items at []) < 128 }
     requires short { total (get_or blocks.old.items at []) + bytes_of paragraph < 2 ^ 64 }
     ensures items { blocks.new.items ≡ take at blocks.old.items ++ (get_or blocks.old.items at [] ++ paragraph ∷ []) ∷ drop (at + 1) blocks.old.items }
@@ -35,7 +35,7 @@ pub fn push_at(blocks: &mut Vec<Block>, at: usize, paragraph: Lengths)
 /// Puts the paragraphs of the next block behind those of a block. No memory.
 #[tactic(auto, using(crate::proofs::Written::join_parts))]
 pub fn join_at(blocks: &mut Vec<Block>, at: usize)
-    requires place { at + 1 < vec_len blocks.old }
+    requires position { at + 1 < vec_len blocks.old }
     requires room { length (get_or blocks.old.items at []) + length (get_or blocks.old.items (at + 1) []) ≤ 128 }
     requires short { total (get_or blocks.old.items at []) + total (get_or blocks.old.items (at + 1) []) < 2 ^ 64 }
     ensures items { blocks.new.items ≡ take at blocks.old.items ++ (get_or blocks.old.items at [] ++ get_or blocks.old.items (at + 1) []) ∷ drop (at + 2) blocks.old.items }

@@ -86,6 +86,7 @@ fn insert(
     let _utf8 = text.len();
     index.ready(added.len())?;
     let change = text.insert(at, added, at, at)?;
+    let _still = text.len();
     index.edited(text, source, &change);
     Ok(())
 }
@@ -104,6 +105,7 @@ fn remove(
     let _utf8 = text.len();
     index.ready(0)?;
     let change = text.remove(start, stop, stop, start)?;
+    let _still = text.len();
     index.edited(text, source, &change);
     Ok(())
 }
@@ -119,6 +121,7 @@ fn undo(text: &mut Text, index: &mut Index, source: &LineEnds) -> Result<(), Fai
     };
     index.ready(next.added)?;
     if let Some(change) = text.undo()? {
+        let _still = text.len();
         index.edited(text, source, &change);
     }
     Ok(())

@@ -1,10 +1,11 @@
 //! Makes an index of paragraphs, has it follow edits, and tells how long that took.
 //!
 //!     bx_paras_bench [--time] build BYTES LINE
-//!     bx_paras_bench [--time] edit BYTES LINE EDITS
+//!     bx_paras_bench [--time] edit|restore BYTES LINE EDITS
 //!
-//! The text has so many bytes, in lines of LINE bytes. Each edit puts a line feed into the text's middle. It prints how many
-//! paragraphs there are in the end. With --time it also prints the processor time of the build, or of the edits.
+//! The text has so many bytes, in lines of LINE bytes. Each edit puts a line feed into the text's middle, or takes the whole
+//! text out and takes that back. It prints how many paragraphs there are in the end. With --time it also prints the
+//! processor time of the build, or of the edits.
 #![tactic(auto)]
 
 mod table;
@@ -40,10 +41,12 @@ fn edit(text: &mut Text, index: &mut Index) -> Result<()>
     requires { index.old.paragraphs ≡ lengths class text.old.edited.text }
     ensures { OnOk result (index.new.paragraphs ≡ lengths class text.new.edited.text) }
 {
-    let at = text.len() / 2;
+    let len = text.len();
+    let at = len / 2;
     index.ready(1)?;
-    let change = text.insert(at, "\n", at, at)?;
-    index.edited(text, &LineEnds, &change);
+    let put = text.insert(at, "\n", at, at)?;
+    let _still = text.len();
+    index.edited(text, &LineEnds, &put);
     Ok(())
 }
 
@@ -58,8 +61,58 @@ fn edit_often(text: &mut Text, index: &mut Index, edits: usize) -> Result<()>
     Ok(())
 }
 
+/// Takes the whole text out, and has the index follow.
+fn clear(text: &mut Text, index: &mut Index) -> Result<()>
+    requires { index.old.paragraphs ≡ lengths class text.old.edited.text }
+    ensures { OnOk result (index.new.paragraphs ≡ lengths class text.new.edited.text) }
+{
+    let len = text.len();
+    index.ready(0)?;
+    let change = text.remove(0, len, 0, 0)?;
+    let _still = text.len();
+    index.edited(text, &LineEnds, &change);
+    Ok(())
+}
+
+/// Takes the latest edit back, and has the index follow.
+fn take_back(text: &mut Text, index: &mut Index) -> Result<()>
+    requires { index.old.paragraphs ≡ lengths class text.old.edited.text }
+    ensures { OnOk result (index.new.paragraphs ≡ lengths class text.new.edited.text) }
+{
+    let _utf8 = text.len();
+    let Some(next) = text.next_undo() else {
+        return Ok(());
+    };
+    index.ready(next.added)?;
+    if let Some(change) = text.undo()? {
+        let _still = text.len();
+        index.edited(text, &LineEnds, &change);
+    }
+    Ok(())
+}
+
+/// Takes the whole text out and takes that back, so many times.
+fn restore_often(text: &mut Text, index: &mut Index, edits: usize) -> Result<()>
+    requires { index.old.paragraphs ≡ lengths class text.old.edited.text }
+    ensures { OnOk result (index.new.paragraphs ≡ lengths class text.new.edited.text) }
+{
+    for _ in 0..edits {
+        clear(text, index)?;
+        take_back(text, index)?;
+    }
+    Ok(())
+}
+
 fn number(word: &String) -> Result<usize> {
     word.as_str().parse::<usize>().context("a number is wanted")
+}
+
+/// What is measured, after the index was built.
+#[derive(Clone, Copy)]
+enum Task {
+    Build,
+    Edit(usize),
+    Restore(usize),
 }
 
 /// How many paragraphs there are in the end, and the time of the build or of the edits.
@@ -67,20 +120,19 @@ fn measured<R: CpuClock + AllocGlobal>(
     rt: &R,
     bytes: usize,
     line: usize,
-    edits: Option<usize>,
+    task: Task,
 ) -> Result<(usize, Duration)> {
     let mut text = Text::open(rt.alloc(), lines(rt.alloc(), bytes, line)?)?;
     let start = rt.thread_cpu_time()?;
     let mut index = Index::build(rt.alloc(), &text, &LineEnds)?;
     let built = rt.thread_cpu_time()?;
-    match edits {
-        None => Ok((index.count(), built.saturating_sub(start))),
-        Some(edits) => {
-            edit_often(&mut text, &mut index, edits)?;
-            let end = rt.thread_cpu_time()?;
-            Ok((index.count(), end.saturating_sub(built)))
-        }
+    match task {
+        Task::Build => return Ok((index.count(), built.saturating_sub(start))),
+        Task::Edit(edits) => edit_often(&mut text, &mut index, edits)?,
+        Task::Restore(edits) => restore_often(&mut text, &mut index, edits)?,
     }
+    let end = rt.thread_cpu_time()?;
+    Ok((index.count(), end.saturating_sub(built)))
 }
 
 fn run<R: Print + Env + CpuClock + AllocGlobal>(rt: &R) -> Result<()> {
@@ -94,12 +146,17 @@ fn run<R: Print + Env + CpuClock + AllocGlobal>(rt: &R) -> Result<()> {
     };
     let (count, time) = match words {
         [task, bytes, line] if task.as_str() == "build" => {
-            measured(rt, number(bytes)?, number(line)?, None)?
+            measured(rt, number(bytes)?, number(line)?, Task::Build)?
         }
         [task, bytes, line, edits] if task.as_str() == "edit" => {
-            measured(rt, number(bytes)?, number(line)?, Some(number(edits)?))?
+            let task = Task::Edit(number(edits)?);
+            measured(rt, number(bytes)?, number(line)?, task)?
         }
-        _ => bail!("usage: bx_paras_bench [--time] build|edit BYTES LINE [EDITS]"),
+        [task, bytes, line, edits] if task.as_str() == "restore" => {
+            let task = Task::Restore(number(edits)?);
+            measured(rt, number(bytes)?, number(line)?, task)?
+        }
+        _ => bail!("usage: bx_paras_bench [--time] build|edit|restore BYTES LINE [EDITS]"),
     };
     println!(rt; "{count} paragraphs")?;
     if is_timed {

@@ -3,7 +3,7 @@ use Rattle.std.proofs.Common.{◌≡◌, ℕ, ◌+◌, ◌-◌, ◌<◌, ◌≤�
 use Rattle.std.proofs.lemmas.Bool.Decides.{nat_tests}
 use Rattle.std.proofs.lemmas.List.{append-nil}
 use Rattle.bx_pieces.specs.declared.piece.Piece.{Piece}
-use Rattle.bx_pieces.specs.Pieces.{total, before, across, after, holding}
+use Rattle.bx_pieces.specs.Pieces.{total, holding, front, back, first_of, rest_of, IsAddressable}
 
 pub total_append : (xs ys : List Piece) → total (xs ++ ys) ≡ total xs + total ys
 total_append [] ys = omega arith
@@ -37,100 +37,89 @@ holding_past (x ∷ xs) ys k past =
 
 -- ---- cuts
 
-before_first_at : (fits : Bool) (x : Piece) (xs ys : List Piece) (k : ℕ) → nat_le x.len k ≡ fits → k < total (x ∷ xs)
-    → (k - x.len < total xs → before (xs ++ ys) (k - x.len) ≡ before xs (k - x.len)) → before (x ∷ xs ++ ys) k ≡ before (x ∷ xs) k
-before_first_at true x xs ys k e inside more = let le : x.len ≤ k = grind (arith, nat_tests) in rw e (ap (λ ps. x ∷ ps) (more (omega arith)))
-before_first_at false x xs ys k e inside more = rw e refl
+front_first_at : (fits : Bool) (x : Piece) (xs ys : List Piece) (k : ℕ) → nat_le x.len k ≡ fits → k < total (x ∷ xs)
+    → (k - x.len < total xs → front (xs ++ ys) (k - x.len) ≡ front xs (k - x.len)) → front (x ∷ xs ++ ys) k ≡ front (x ∷ xs) k
+front_first_at true x xs ys k e inside more = let le : x.len ≤ k = grind (arith, nat_tests) in rw e (ap (λ ps. x ∷ ps) (more (omega arith)))
+front_first_at false x xs ys k e inside more = rw e refl
 
-pub before_first : (xs ys : List Piece) (k : ℕ) → k < total xs → before (xs ++ ys) k ≡ before xs k
-before_first [] ys k inside = absurd (omega arith)
-before_first (x ∷ xs) ys k inside = before_first_at (nat_le x.len k) x xs ys k refl inside (λ h. before_first xs ys (k - x.len) h)
+-- a cut in the first of two sequences
+pub front_first : (xs ys : List Piece) (k : ℕ) → k < total xs → front (xs ++ ys) k ≡ front xs k
+front_first [] ys k inside = absurd (omega arith)
+front_first (x ∷ xs) ys k inside = front_first_at (nat_le x.len k) x xs ys k refl inside (λ h. front_first xs ys (k - x.len) h)
 
-across_first_at : (fits : Bool) (x : Piece) (xs ys : List Piece) (k : ℕ) → nat_le x.len k ≡ fits → k < total (x ∷ xs)
-    → (k - x.len < total xs → across (xs ++ ys) (k - x.len) ≡ across xs (k - x.len)) → across (x ∷ xs ++ ys) k ≡ across (x ∷ xs) k
-across_first_at true x xs ys k e inside more = let le : x.len ≤ k = grind (arith, nat_tests) in rw e (more (omega arith))
-across_first_at false x xs ys k e inside more = rw e refl
+back_inside : (none : Bool) (x y : Piece) (xs ys : List Piece)
+    → (if none then x ∷ (xs ++ ys) else y ∷ (xs ++ ys)) ≡ (if none then x ∷ xs else y ∷ xs) ++ ys
+back_inside true x y xs ys = refl
+back_inside false x y xs ys = refl
 
-pub across_first : (xs ys : List Piece) (k : ℕ) → k < total xs → across (xs ++ ys) k ≡ across xs k
-across_first [] ys k inside = absurd (omega arith)
-across_first (x ∷ xs) ys k inside = across_first_at (nat_le x.len k) x xs ys k refl inside (λ h. across_first xs ys (k - x.len) h)
+back_first_at : (fits : Bool) (x : Piece) (xs ys : List Piece) (k : ℕ) → nat_le x.len k ≡ fits → k < total (x ∷ xs)
+    → (k - x.len < total xs → back (xs ++ ys) (k - x.len) ≡ back xs (k - x.len) ++ ys) → back (x ∷ xs ++ ys) k ≡ back (x ∷ xs) k ++ ys
+back_first_at true x xs ys k e inside more = let le : x.len ≤ k = grind (arith, nat_tests) in rw e (more (omega arith))
+back_first_at false x xs ys k e inside more = rw e (back_inside (k == 0) x (rest_of x k) xs ys)
 
-after_inside : (none : Bool) (x : Piece) (xs ys : List Piece) → (if none then x ∷ (xs ++ ys) else xs ++ ys) ≡ (if none then x ∷ xs else xs) ++ ys
-after_inside true x xs ys = refl
-after_inside false x xs ys = refl
+pub back_first : (xs ys : List Piece) (k : ℕ) → k < total xs → back (xs ++ ys) k ≡ back xs k ++ ys
+back_first [] ys k inside = absurd (omega arith)
+back_first (x ∷ xs) ys k inside = back_first_at (nat_le x.len k) x xs ys k refl inside (λ h. back_first xs ys (k - x.len) h)
 
-after_first_at : (fits : Bool) (x : Piece) (xs ys : List Piece) (k : ℕ) → nat_le x.len k ≡ fits → k < total (x ∷ xs)
-    → (k - x.len < total xs → after (xs ++ ys) (k - x.len) ≡ after xs (k - x.len) ++ ys) → after (x ∷ xs ++ ys) k ≡ after (x ∷ xs) k ++ ys
-after_first_at true x xs ys k e inside more = let le : x.len ≤ k = grind (arith, nat_tests) in rw e (more (omega arith))
-after_first_at false x xs ys k e inside more = rw e (after_inside (k == 0) x xs ys)
-
-pub after_first : (xs ys : List Piece) (k : ℕ) → k < total xs → after (xs ++ ys) k ≡ after xs k ++ ys
-after_first [] ys k inside = absurd (omega arith)
-after_first (x ∷ xs) ys k inside = after_first_at (nat_le x.len k) x xs ys k refl inside (λ h. after_first xs ys (k - x.len) h)
-
-pub before_past : (xs ys : List Piece) (k : ℕ) → total xs ≤ k → before (xs ++ ys) k ≡ xs ++ before ys (k - total xs)
-before_past [] ys k past = let e : k - 0 ≡ k = omega arith in rw e refl
-before_past (x ∷ xs) ys k past =
+-- a cut in the second
+pub front_past : (xs ys : List Piece) (k : ℕ) → total xs ≤ k → front (xs ++ ys) k ≡ xs ++ front ys (k - total xs)
+front_past [] ys k past = let e : k - 0 ≡ k = omega arith in rw e refl
+front_past (x ∷ xs) ys k past =
     let e : k - x.len - total xs ≡ k - (x.len + total xs) = omega arith in
-    rw (le_true x.len k (omega arith)) (ap (λ ps. x ∷ ps) (before_past xs ys (k - x.len) (omega arith) ∙ ap (λ j. xs ++ before ys j) e))
+    rw (le_true x.len k (omega arith)) (ap (λ ps. x ∷ ps) (front_past xs ys (k - x.len) (omega arith) ∙ ap (λ j. xs ++ front ys j) e))
 
-pub across_past : (xs ys : List Piece) (k : ℕ) → total xs ≤ k → across (xs ++ ys) k ≡ across ys (k - total xs)
-across_past [] ys k past = let e : k - 0 ≡ k = omega arith in rw e refl
-across_past (x ∷ xs) ys k past =
+pub back_past : (xs ys : List Piece) (k : ℕ) → total xs ≤ k → back (xs ++ ys) k ≡ back ys (k - total xs)
+back_past [] ys k past = let e : k - 0 ≡ k = omega arith in rw e refl
+back_past (x ∷ xs) ys k past =
     let e : k - x.len - total xs ≡ k - (x.len + total xs) = omega arith in
-    rw (le_true x.len k (omega arith)) (across_past xs ys (k - x.len) (omega arith) ∙ ap (across ys) e)
-
-pub after_past : (xs ys : List Piece) (k : ℕ) → total xs ≤ k → after (xs ++ ys) k ≡ after ys (k - total xs)
-after_past [] ys k past = let e : k - 0 ≡ k = omega arith in rw e refl
-after_past (x ∷ xs) ys k past =
-    let e : k - x.len - total xs ≡ k - (x.len + total xs) = omega arith in
-    rw (le_true x.len k (omega arith)) (after_past xs ys (k - x.len) (omega arith) ∙ ap (after ys) e)
+    rw (le_true x.len k (omega arith)) (back_past xs ys (k - x.len) (omega arith) ∙ ap (back ys) e)
 
 -- ---- the parts are the whole
 
-whole_at : (fits none : Bool) (x : Piece) (xs : List Piece) (k : ℕ) → nat_le x.len k ≡ fits → (k == 0) ≡ none
-    → before xs (k - x.len) ++ (across xs (k - x.len) ++ after xs (k - x.len)) ≡ xs
-    → before (x ∷ xs) k ++ (across (x ∷ xs) k ++ after (x ∷ xs) k) ≡ x ∷ xs
-whole_at true none x xs k e f more = rw e (ap (λ ps. x ∷ ps) more)
-whole_at false true x xs k e f more = rw (e, f) refl
-whole_at false false x xs k e f more = rw (e, f) refl
+total_cut_at : (fits none : Bool) (x : Piece) (xs : List Piece) (k : ℕ) → nat_le x.len k ≡ fits → (k == 0) ≡ none
+    → total (front xs (k - x.len)) + total (back xs (k - x.len)) ≡ total xs
+    → total (front (x ∷ xs) k) + total (back (x ∷ xs) k) ≡ total (x ∷ xs)
+total_cut_at true none x xs k e f more = rw e (omega (arith, more))
+total_cut_at false true x xs k e f more = rw (e, f) (omega arith)
+total_cut_at false false x xs k e f more = let short : k < x.len = grind (arith, nat_tests) in rw (e, f) (omega arith)
 
-pub whole : (ps : List Piece) (k : ℕ) → before ps k ++ (across ps k ++ after ps k) ≡ ps
-whole [] k = refl
-whole (x ∷ xs) k = whole_at (nat_le x.len k) (k == 0) x xs k refl refl (whole xs (k - x.len))
+pub total_cut : (ps : List Piece) (k : ℕ) → total (front ps k) + total (back ps k) ≡ total ps
+total_cut [] k = refl
+total_cut (x ∷ xs) k = total_cut_at (nat_le x.len k) (k == 0) x xs k refl refl (total_cut xs (k - x.len))
 
-pub total_parts : (ps : List Piece) (k : ℕ) → total (before ps k) + (total (across ps k) + total (after ps k)) ≡ total ps
-total_parts ps k =
-    let split : total (before ps k ++ (across ps k ++ after ps k)) ≡ total ps = ap total (whole ps k) in
-    omega (arith, split, total_append (before ps k) (across ps k ++ after ps k), total_append (across ps k) (after ps k))
+pub addressable_first : (xs ys : List Piece) → IsAddressable (xs ++ ys) → IsAddressable xs
+addressable_first [] ys h = tt
+addressable_first (x ∷ xs) ys h = (h.0, addressable_first xs ys h.1)
+
+pub addressable_past : (xs ys : List Piece) → IsAddressable (xs ++ ys) → IsAddressable ys
+addressable_past [] ys h = h
+addressable_past (x ∷ xs) ys h = addressable_past xs ys h.1
 
 -- ---- a piece between two sequences, cut behind the first of them
 
 module _ (left : List Piece) (p : Piece) (right : List Piece) (k : ℕ) (past : total left ≤ k) where
-  pub before_right : p.len ≤ k - total left → before (left ++ p ∷ right) k ≡ left ++ p ∷ before right (k - total left - p.len)
-  before_right fits = before_past left (p ∷ right) k past ∙ ap (λ ps. left ++ ps) (rw (le_true p.len (k - total left) fits) refl)
+  pub front_right : p.len ≤ k - total left → front (left ++ p ∷ right) k ≡ left ++ p ∷ front right (k - total left - p.len)
+  front_right fits = front_past left (p ∷ right) k past ∙ ap (λ ps. left ++ ps) (rw (le_true p.len (k - total left) fits) refl)
 
-  pub across_right : p.len ≤ k - total left → across (left ++ p ∷ right) k ≡ across right (k - total left - p.len)
-  across_right fits = across_past left (p ∷ right) k past ∙ rw (le_true p.len (k - total left) fits) refl
+  pub back_right : p.len ≤ k - total left → back (left ++ p ∷ right) k ≡ back right (k - total left - p.len)
+  back_right fits = back_past left (p ∷ right) k past ∙ rw (le_true p.len (k - total left) fits) refl
 
-  pub after_right : p.len ≤ k - total left → after (left ++ p ∷ right) k ≡ after right (k - total left - p.len)
-  after_right fits = after_past left (p ∷ right) k past ∙ rw (le_true p.len (k - total left) fits) refl
+  pub front_here : 0 < p.len → k - total left ≡ 0 → front (left ++ p ∷ right) k ≡ left
+  front_here some here =
+      let none : (k - total left == 0) ≡ true = grind (arith, nat_tests) in
+      front_past left (p ∷ right) k past ∙ ap (λ ps. left ++ ps) (rw (le_false p.len (k - total left) (omega (arith, here)), none) refl) ∙ append-nil left
 
-  pub before_here : k - total left < p.len → before (left ++ p ∷ right) k ≡ left
-  before_here inside = before_past left (p ∷ right) k past ∙ ap (λ ps. left ++ ps) (rw (le_false p.len (k - total left) inside) refl) ∙ append-nil left
+  pub back_here : 0 < p.len → k - total left ≡ 0 → back (left ++ p ∷ right) k ≡ p ∷ right
+  back_here some here =
+      let none : (k - total left == 0) ≡ true = grind (arith, nat_tests) in
+      back_past left (p ∷ right) k past ∙ rw (le_false p.len (k - total left) (omega (arith, here)), none) refl
 
-  pub across_none : k - total left < p.len → k - total left ≡ 0 → across (left ++ p ∷ right) k ≡ []
-  across_none inside here =
-      across_past left (p ∷ right) k past ∙ rw (le_false p.len (k - total left) inside) (let none : (k - total left == 0) ≡ true = grind (arith, nat_tests) in rw none refl)
+  pub front_within : k - total left < p.len → (k - total left ≡ 0 → ⊥) → front (left ++ p ∷ right) k ≡ left ++ first_of p (k - total left) ∷ []
+  front_within inside there =
+      let some : (k - total left == 0) ≡ false = grind (arith, nat_tests) in
+      front_past left (p ∷ right) k past ∙ ap (λ ps. left ++ ps) (rw (le_false p.len (k - total left) inside, some) refl)
 
-  pub after_none : k - total left < p.len → k - total left ≡ 0 → after (left ++ p ∷ right) k ≡ p ∷ right
-  after_none inside here =
-      after_past left (p ∷ right) k past ∙ rw (le_false p.len (k - total left) inside) (let none : (k - total left == 0) ≡ true = grind (arith, nat_tests) in rw none refl)
-
-  pub across_some : k - total left < p.len → (k - total left ≡ 0 → ⊥) → across (left ++ p ∷ right) k ≡ p ∷ []
-  across_some inside there =
-      across_past left (p ∷ right) k past ∙ rw (le_false p.len (k - total left) inside) (let some : (k - total left == 0) ≡ false = grind (arith, nat_tests) in rw some refl)
-
-  pub after_some : k - total left < p.len → (k - total left ≡ 0 → ⊥) → after (left ++ p ∷ right) k ≡ right
-  after_some inside there =
-      after_past left (p ∷ right) k past ∙ rw (le_false p.len (k - total left) inside) (let some : (k - total left == 0) ≡ false = grind (arith, nat_tests) in rw some refl)
+  pub back_within : k - total left < p.len → (k - total left ≡ 0 → ⊥) → back (left ++ p ∷ right) k ≡ rest_of p (k - total left) ∷ right
+  back_within inside there =
+      let some : (k - total left == 0) ≡ false = grind (arith, nat_tests) in
+      back_past left (p ∷ right) k past ∙ rw (le_false p.len (k - total left) inside, some) refl

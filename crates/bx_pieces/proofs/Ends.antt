@@ -1,5 +1,6 @@
 -- The last piece of sequences that are put together.
-use Rattle.std.proofs.Common.{◌≡◌, Bool, true, false, ℕ, ◌+◌, ◌<◌, List, [], ◌∷◌, ◌++◌, length, Option, Some, None, refl, sym, ap, arith}
+use Rattle.std.proofs.lemmas.Bool.Decides.{nat_tests}
+use Rattle.std.proofs.Common.{◌==◌, ◌≡◌, Bool, true, false, ℕ, ◌+◌, ◌<◌, List, [], ◌∷◌, ◌++◌, length, Option, Some, None, refl, sym, ap, arith}
 use Rattle.std.specs.Option.{option_or}
 use Rattle.bx_pieces.specs.declared.piece.Piece.{Piece}
 use Rattle.bx_pieces.specs.Pieces.{total, last_of, longer, goes_on, pushed, pushed_after}
@@ -37,14 +38,24 @@ total_longer [] n h = absurd (omega (arith, h))
 total_longer (p ∷ []) n h = omega arith
 total_longer (p ∷ x ∷ ps) n h = omega (arith, total_longer (x ∷ ps) n (omega arith))
 
-pushed_total_at : (joins : Bool) (p : Piece) (ps : List Piece) (q : Piece) → goes_on p q ≡ joins → 0 < length ps → total (pushed_after (Some p) ps q) ≡ total ps + q.len
-pushed_total_at true p ps q e h = rw e (total_longer ps q.len h)
-pushed_total_at false p ps q e h = rw e (omega (arith, total_append ps (q ∷ [])))
+pub length_longer : (ps : List Piece) (n : ℕ) → length (longer ps n) ≡ length ps
+length_longer [] n = refl
+length_longer (p ∷ []) n = refl
+length_longer (p ∷ x ∷ ps) n = omega (arith, length_longer (x ∷ ps) n)
 
-pushed_total_after : (o : Option Piece) (ps : List Piece) (q : Piece) → last_of ps ≡ o → total (pushed_after o ps q) ≡ total ps + q.len
-pushed_total_after None ps q e = omega (arith, total_append ps (q ∷ []))
-pushed_total_after (Some p) [] q e = absurd (cc)
-pushed_total_after (Some p) (x ∷ xs) q e = pushed_total_at (goes_on p q) p (x ∷ xs) q refl (omega arith)
+joined_total_at : (joins : Bool) (p : Piece) (ps : List Piece) (q : Piece) → goes_on p q ≡ joins → 0 < length ps
+    → total (pushed_after (Some p) ps q) ≡ total ps + q.len
+joined_total_at true p ps q e h = rw e (total_longer ps q.len h)
+joined_total_at false p ps q e h = rw e (omega (arith, total_append ps (q ∷ [])))
+
+total_after : (o : Option Piece) (ps : List Piece) (q : Piece) → last_of ps ≡ o → total (pushed_after o ps q) ≡ total ps + q.len
+total_after None ps q e = omega (arith, total_append ps (q ∷ []))
+total_after (Some p) [] q e = absurd (cc)
+total_after (Some p) (x ∷ xs) q e = joined_total_at (goes_on p q) p (x ∷ xs) q refl (omega arith)
+
+total_pushed_at : (none : Bool) (ps : List Piece) (q : Piece) → (q.len == 0) ≡ none → total (pushed ps q) ≡ total ps + q.len
+total_pushed_at true ps q e = let zero : q.len ≡ 0 = grind (arith, nat_tests) in rw e (omega (arith, zero))
+total_pushed_at false ps q e = rw e (total_after (last_of ps) ps q refl)
 
 pub total_pushed : (ps : List Piece) (q : Piece) → total (pushed ps q) ≡ total ps + q.len
-total_pushed ps q = pushed_total_after (last_of ps) ps q refl
+total_pushed ps q = total_pushed_at (q.len == 0) ps q refl

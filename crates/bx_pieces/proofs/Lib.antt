@@ -1,3 +1,3 @@
 pub mod Cuts
-pub mod Halves
 pub mod Ends
+pub mod Depths

@@ -9,21 +9,6 @@ abbrev pub total : List Piece → ℕ
 total [] = 0
 total (p ∷ ps) = p.len + total ps
 
--- the pieces that stand whole in the first k bytes
-abbrev pub before : List Piece → ℕ → List Piece
-before [] k = []
-before (p ∷ ps) k = if nat_le p.len k then p ∷ before ps (k - p.len) else []
-
--- the piece, if any, that has bytes on both sides of offset k
-abbrev pub across : List Piece → ℕ → List Piece
-across [] k = []
-across (p ∷ ps) k = if nat_le p.len k then across ps (k - p.len) else if k == 0 then [] else p ∷ []
-
--- the pieces after it
-abbrev pub after : List Piece → ℕ → List Piece
-after [] k = []
-after (p ∷ ps) k = if nat_le p.len k then after ps (k - p.len) else if k == 0 then p ∷ ps else ps
-
 -- the piece that the byte at offset k stands in, and how many bytes of it stand before that one
 abbrev pub holding : List Piece → ℕ → Option (Piece × ℕ)
 holding [] k = None
@@ -66,13 +51,13 @@ longer [] n = []
 longer (p ∷ []) n = record p { len = p.len + n } ∷ []
 longer (p ∷ x ∷ ps) n = p ∷ longer (x ∷ ps) n
 
--- one piece more: where it begins where the last one ends, that one is made longer
+-- one piece more: where it begins where the last one ends, that one is made longer; a piece of no byte is left out
 abbrev pub pushed_after : Option Piece → List Piece → Piece → List Piece
 pushed_after None ps q = ps ++ q ∷ []
 pushed_after (Some p) ps q = if goes_on p q then longer ps q.len else ps ++ q ∷ []
 
 abbrev pub pushed : List Piece → Piece → List Piece
-pushed ps q = pushed_after (last_of ps) ps q
+pushed ps q = if q.len == 0 then ps else pushed_after (last_of ps) ps q
 
 -- each piece ends at an offset that a machine can count
 abbrev pub IsAddressable : List Piece → Type 0

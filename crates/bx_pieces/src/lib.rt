@@ -1,6 +1,8 @@
 //! A sequence of pieces of text, found and cut by offset, in a balanced tree.
 #![tactic(auto)]
 
+mod cutting;
+mod joining;
 mod piece;
 mod pieces;
 mod spares;

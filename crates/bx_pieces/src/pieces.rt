@@ -1,14 +1,17 @@
 //! Sequences of pieces.
 
-ghost use Rattle.std.specs.Prelude.{◌≡◌, [], ◌∷◌, ◌++◌, ◌+◌, ◌<◌, ◌≤◌, ◌^◌, ◌↔◌, IsTrue};
+ghost use Rattle.std.specs.Prelude.{◌≡◌, [], ◌++◌, ◌+◌, ◌/◌, ◌<◌, ◌≤◌, ◌^◌, length};
 ghost use Rattle.bx_pieces.specs.Pieces.{total, front, back, holding, pushed, IsAddressable};
 
+use crate::cutting;
+use crate::joining::{join, join_links};
 use crate::piece::Piece;
 use crate::spares::Spares;
-use crate::tree::{self, Link, Parts};
+use crate::tree::{self, Link};
 use std::marker::Model;
 
-/// Pieces in order. Finding, cutting and joining cost about the logarithm of how many there are.
+/// Pieces in order, each with a byte at least. Finding, cutting and joining cost about the logarithm of how
+/// many there are.
 #[derive(Drop)]
 pub struct Pieces {
     tree: Link,
@@ -32,15 +35,15 @@ impl Pieces {
         Pieces { tree: None }
     }
 
-    /// One piece, in a spare tree. No memory.
+    /// One piece, in a spare tree; none where it has no byte. No memory.
     pub fn of(piece: Piece, spares: &mut Spares) -> Pieces
         requires { 0 < spares.old }
-        ensures pieces { result ≡ piece ∷ [] }
-        ensures fewer { spares.new + 1 ≡ spares.old }
+        ensures pieces { result ≡ pushed [] piece }
+        ensures spares { spares.old ≤ spares.new + 1 }
     {
-        Pieces {
-            tree: Some(spares.tree_of(piece)),
-        }
+        let mut pieces = Pieces::new();
+        pieces.push(piece, spares);
+        pieces
     }
 
     /// How many bytes the pieces have. No memory.
@@ -50,24 +53,38 @@ impl Pieces {
         tree::len(&self.tree)
     }
 
+    /// How many pieces stand one below another in the tree that holds them: so many calls deep goes each
+    /// search, cut, join and drop. It is at most about twice the logarithm of how many pieces there are, and
+    /// below 130. No memory.
+    pub fn depth(&self) -> u8
+        ensures logarithmic { 2 ^ (result / 2) ≤ length self.now + 1 }
+        ensures no_more_than_bytes { length self.now ≤ total self.now }
+        ensures small { result < 130 }
+    {
+        tree::height(&self.tree)
+    }
+
     /// These pieces and then others. No memory.
     pub fn join(self, others: Pieces) -> Pieces
         requires { total self + total others < 2 ^ 64 }
         ensures { result ≡ self ++ others }
     {
         Pieces {
-            tree: tree::join(self.tree, others.tree),
+            tree: join_links(self.tree, others.tree),
         }
     }
 
-    /// Adds a piece behind them: where it begins where the last one ends, that one is made longer.
-    /// No memory.
+    /// Adds a piece behind them: where it begins where the last one ends, that one is made longer. A piece
+    /// of no byte is left out. No memory.
     pub fn push(&mut self, piece: Piece, spares: &mut Spares)
         requires spare { 0 < spares.old }
         requires fits { total self.old + piece.len < 2 ^ 64 }
         ensures pieces { self.new ≡ pushed self.old piece }
         ensures spares { spares.old ≤ spares.new + 1 }
     {
+        if piece.len == 0 {
+            return;
+        }
         if let Some(last) = tree::last(&self.tree)
             && last.goes_on(&piece)
             && let Some(tree) = &mut self.tree
@@ -75,7 +92,7 @@ impl Pieces {
             tree::lengthen(&mut **tree, piece.len);
             return;
         }
-        self.tree = tree::join(self.tree.take(), Some(spares.tree_of(piece)));
+        self.tree = Some(join(spares.node(), self.tree.take(), piece, None));
     }
 
     /// The piece that the byte at an offset stands in, and how many bytes of it stand before that one;
@@ -96,24 +113,7 @@ impl Pieces {
         ensures spares { spares.old ≤ spares.new + 1 }
     {
         let _len = self.len();
-        let Parts {
-            before,
-            across,
-            after,
-        } = tree::cut(self.tree, at);
-        match across {
-            None => (Pieces { tree: before }, Pieces { tree: after }),
-            Some(tree) => {
-                let (first, rest) = tree::halves(tree, at - tree::len(&before), spares);
-                (
-                    Pieces {
-                        tree: tree::join(before, Some(first)),
-                    },
-                    Pieces {
-                        tree: tree::join(Some(rest), after),
-                    },
-                )
-            }
-        }
+        let (before, after) = cutting::cut(self.tree, at, spares);
+        (Pieces { tree: before }, Pieces { tree: after })
     }
 }

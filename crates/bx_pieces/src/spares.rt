@@ -1,8 +1,7 @@
-//! Trees that were made ahead, so that a cut takes no memory.
+//! Trees that were made ahead, so that adding and cutting a piece take no memory.
 
-ghost use Rattle.std.specs.Prelude.{◌≡◌, [], ◌∷◌, ◌+◌, ◌<◌, ◌≤◌, OnOk, OnErr};
+ghost use Rattle.std.specs.Prelude.{◌≡◌, ◌+◌, ◌<◌, ◌≤◌, OnOk, OnErr};
 
-use crate::piece::{Buffer, Piece};
 use crate::tree::Tree;
 use std::alloc::{AllocError, Global};
 use std::marker::Model;
@@ -11,8 +10,6 @@ use std::marker::Model;
 #[derive(Drop)]
 pub struct Spares {
     trees: Vec<Box<Tree>>,
-    // how many trees were taken, which scatters their priorities
-    taken: u32,
 }
 
 impl Model for Spares {
@@ -30,7 +27,6 @@ impl Spares {
     {
         Spares {
             trees: Vec::new(alloc),
-            taken: 0,
         }
     }
 
@@ -38,13 +34,8 @@ impl Spares {
         ensures more { OnOk result (self.new ≡ self.old + 1) }
         ensures err { OnErr result (self.new ≡ self.old) }
     {
-        let nothing = Piece {
-            buffer: Buffer::Opened,
-            start: 0,
-            len: 0,
-        };
         let alloc = *self.trees.allocator();
-        let tree = Box::new(alloc, Tree::new(None, nothing, None, 0))?;
+        let tree = Box::new(alloc, Tree::unused())?;
         self.trees.push(tree)?;
         Ok(())
     }
@@ -67,17 +58,11 @@ impl Spares {
         Ok(())
     }
 
-    /// A tree of one piece. No memory.
-    pub fn tree_of(&mut self, piece: Piece) -> Box<Tree>
+    /// One of them, to hang a piece in. No memory.
+    pub(crate) fn node(&mut self) -> Box<Tree>
         requires { 0 < self.old }
-        ensures tree { result.value ≡ piece ∷ [] }
-        ensures fewer { self.new + 1 ≡ self.old }
+        ensures { self.new + 1 ≡ self.old }
     {
-        self.taken = self.taken.wrapping_add(1);
-        // The golden ratio's multiples spread evenly, so the trees stay about balanced.
-        let priority = self.taken.wrapping_mul(0x9E37_79B1);
-        let mut tree = self.trees.pop().unwrap();
-        *tree = Tree::new(None, piece, None, priority);
-        tree
+        self.trees.pop().unwrap()
     }
 }

@@ -31,6 +31,8 @@ fn a_piece_is_cut_in_two(rt: HostRuntime) -> Result<(), Fail> {
     assert_eq!(rt; whole.len(), 5);
     assert_eq!(rt; whole.holding(2), Some((piece(12, 3), 0)));
     assert_eq!(rt; Pieces::new().len(), 0);
+    spares.fill(1)?;
+    assert_eq!(rt; Pieces::of(piece(10, 0), &mut spares).depth(), 0);
     Ok(())
 }
 
@@ -63,6 +65,8 @@ fn many_pieces_stay_in_order(rt: HostRuntime) -> Result<(), Fail> {
         }
     }
     assert_eq!(rt; pieces.len(), 3000);
+    // A list would be 1000 deep.
+    assert_eq!(rt; pieces.depth(), 10);
     for i in 0..3000usize {
         assert_eq!(rt; pieces.holding(i), Some((piece(i / 3 * 3, 3), i % 3)));
     }

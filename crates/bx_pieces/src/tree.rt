@@ -1,18 +1,17 @@
-//! The tree: a treap, whose forks each know how many bytes they have below them.
+//! The tree: pieces in order, whose two sides are about as deep at each piece (an AVL tree).
 
-ghost use Rattle.std.specs.Prelude.{◌≡◌, [], ◌∷◌, ◌++◌, ◌+◌, ◌<◌, ◌≤◌, ◌^◌, length, map, IfSome};
-ghost use Rattle.bx_pieces.specs.Pieces.{total, before, across, after, holding, first_of, rest_of, last_of, longer, IsAddressable};
-ghost use Rattle.bx_pieces.specs.Tree.{sequence};
+ghost use Rattle.std.specs.Prelude.{◌≡◌, ◌∷◌, ◌++◌, ◌+◌, ◌<◌, ◌≤◌, ◌^◌, length};
+ghost use Rattle.bx_pieces.specs.Pieces.{total, holding, last_of, longer};
+ghost use Rattle.bx_pieces.specs.Tree.{sequence, depth_of, fork, DifferByAtMost, IsShallow};
 
 use crate::piece::{Buffer, Piece};
-use crate::spares::Spares;
 use std::marker::Model;
 use std::mem;
 
 /// A tree, or none.
 pub type Link = Option<Box<Tree>>;
 
-/// Pieces in order.
+/// Pieces in order. It is seen as them and its depth.
 #[cycle(tree)]
 #[derive(Drop)]
 pub struct Tree {
@@ -21,44 +20,55 @@ pub struct Tree {
     right: Option<Box<Tree>>,
     // how many bytes all of them have
     len: usize,
-    // no tree below has a higher one
-    priority: u32,
+    // how many of them stand one below another on the longest way down
+    height: u8,
 }
 
 impl Model for Tree {
-    ghost use Rattle.std.specs.Prelude.{◌≡◌, ◌∷◌, ◌++◌, List, length};
-    ghost use Rattle.bx_pieces.specs.declared.piece.Piece.{Piece};
-    ghost use Rattle.bx_pieces.specs.Pieces.{total};
-    ghost use Rattle.bx_pieces.specs.Tree.{sequence};
+    ghost use Rattle.std.specs.Prelude.{ℕ};
+    ghost use Rattle.bx_pieces.specs.Tree.{Shape, fork, IsBalanced};
 
-    ghost Value = { List Piece };
+    ghost Value = { Shape };
 
-    ghost view = { λ t. sequence t.left ++ t.piece ∷ sequence t.right };
+    ghost view = { λ t. fork t.left t.piece t.right };
 
-    ghost invariant = { λ t. t.len ≡ total (sequence t.left ++ t.piece ∷ sequence t.right) };
+    ghost invariant = { λ t. IsBalanced t.left t.piece t.right t.len t.height };
 
-    ghost size = { length };
+    ghost size = { λ s. s.depth };
 
-    ghost use Rattle.std.proofs.Common.{arith, length-append};
+    ghost use Rattle.std.proofs.Common.{arith};
 
-    ghost size_decreases = { λ a h. Prim.grind (arith, length-append) };
+    ghost size_decreases = { λ a h. Prim.grind arith };
 }
 
 impl Tree {
-    /// A piece between two sequences.
+    /// A piece between two sides that are about as deep.
     #[tactic(auto, using(crate::proofs::Cuts::total_append))]
-    pub fn new(left: Link, piece: Piece, right: Link, priority: u32) -> Tree
-        requires { total (sequence left) + (piece.len + total (sequence right)) < 2 ^ 64 }
-        ensures { result ≡ sequence left ++ piece ∷ sequence right }
+    pub fn new(left: Link, piece: Piece, right: Link) -> Tree
+        requires balanced { DifferByAtMost 1 (depth_of left) (depth_of right) }
+        requires some { 0 < piece.len }
+        requires fits { total (sequence left) + (piece.len + total (sequence right)) < 2 ^ 64 }
+        ensures { result ≡ fork left piece right }
     {
         let len = len(&left) + piece.len + len(&right);
+        let height = height(&left).max(height(&right)) + 1;
         Tree {
             left,
             piece,
             right,
             len,
-            priority,
+            height,
         }
+    }
+
+    /// A tree whose piece nobody reads.
+    pub fn unused() -> Tree {
+        let piece = Piece {
+            buffer: Buffer::Opened,
+            start: 0,
+            len: 1,
+        };
+        Tree::new(None, piece, None)
     }
 }
 
@@ -72,45 +82,43 @@ pub fn len(tree: &Link) -> usize
     }
 }
 
-/// One sequence after another. No memory.
-#[cycle(joining)]
-pub fn join(first: Link, second: Link) -> Link
-    requires { total (sequence first) + total (sequence second) < 2 ^ 64 }
-    ensures { sequence result ≡ sequence first ++ sequence second }
+/// How many pieces stand one below another on the longest way down.
+pub fn height(tree: &Link) -> u8
+    ensures depth { result ≡ depth_of tree.now }
+    ensures shallow { IsShallow (depth_of tree.now) (sequence tree.now) }
+    ensures small { depth_of tree.now < 130 }
 {
-    match (first, second) {
-        (None, second) => second,
-        (first, None) => first,
-        (Some(mut first), Some(mut second)) => {
-            if first.priority >= second.priority {
-                add_after(&mut *first, second);
-                Some(first)
-            } else {
-                add_before(first, &mut *second);
-                Some(second)
-            }
-        }
+    let _len = len(tree);
+    match tree {
+        None => 0,
+        Some(tree) => tree.height,
     }
 }
 
-#[cycle(joining)]
-#[tactic(auto, using(crate::proofs::Cuts::total_append))]
-fn add_after(tree: &mut Tree, second: Box<Tree>)
-    requires { total tree.old + total second.value < 2 ^ 64 }
-    ensures { tree.new ≡ tree.old ++ second.value }
+/// The piece that a tree hangs from, with its two sides. What is left is not for use.
+pub fn take_apart(tree: &mut Tree) -> (Link, Piece, Link)
+    ensures shape { tree.old ≡ fork result.0 result.1 result.2 }
+    ensures balanced { DifferByAtMost 1 (depth_of result.0) (depth_of result.2) }
+    ensures some { 0 < result.1.len }
 {
-    tree.len += second.len;
-    tree.right = join(tree.right.take(), Some(second));
+    let Tree {
+        left,
+        piece,
+        right,
+        ..
+    } = mem::replace(tree, Tree::unused());
+    (left, piece, right)
 }
 
-#[cycle(joining)]
-#[tactic(auto, using(crate::proofs::Cuts::total_append))]
-fn add_before(first: Box<Tree>, tree: &mut Tree)
-    requires { total first.value + total tree.old < 2 ^ 64 }
-    ensures { tree.new ≡ first.value ++ tree.old }
+/// A piece between two sides that are about as deep, in a tree that is at hand.
+pub fn hang(mut node: Box<Tree>, left: Link, piece: Piece, right: Link) -> Box<Tree>
+    requires balanced { DifferByAtMost 1 (depth_of left) (depth_of right) }
+    requires some { 0 < piece.len }
+    requires fits { total (sequence left) + (piece.len + total (sequence right)) < 2 ^ 64 }
+    ensures { result.value ≡ fork left piece right }
 {
-    tree.len += first.len;
-    tree.left = join(Some(first), tree.left.take());
+    *node = Tree::new(left, piece, right);
+    node
 }
 
 /// The last piece. No memory.
@@ -127,17 +135,18 @@ pub fn last(tree: &Link) -> Option<Piece>
 #[cycle(ending)]
 #[tactic(auto, using(crate::proofs::Ends::last_of_append))]
 fn last_in(tree: &Tree) -> Option<Piece>
-    ensures { result ≡ last_of tree.now }
+    ensures { result ≡ last_of tree.now.pieces }
 {
     last(&tree.right).or(Some(tree.piece))
 }
 
 /// Makes the last piece so many bytes longer. No memory.
-#[tactic(auto, using(crate::proofs::Cuts::total_append, crate::proofs::Ends::longer_here, crate::proofs::Ends::longer_later, crate::proofs::Ends::total_longer))]
+#[tactic(auto, using(crate::proofs::Cuts::total_append, crate::proofs::Ends::longer_here, crate::proofs::Ends::longer_later, crate::proofs::Ends::total_longer, crate::proofs::Ends::length_longer))]
 pub fn lengthen(tree: &mut Tree, by: usize)
-    requires { total tree.old + by < 2 ^ 64 }
-    ensures longer { tree.new ≡ longer tree.old by }
-    ensures some { 0 < length tree.old }
+    requires { total tree.old.pieces + by < 2 ^ 64 }
+    ensures longer { tree.new.pieces ≡ longer tree.old.pieces by }
+    ensures depth { tree.new.depth ≡ tree.old.depth }
+    ensures some { 0 < length tree.old.pieces }
 {
     tree.len += by;
     match &mut tree.right {
@@ -161,7 +170,7 @@ pub fn holding(tree: &Link, at: usize) -> Option<(Piece, usize)>
 #[cycle(finding)]
 #[tactic(auto, using(crate::proofs::Cuts::holding_first, crate::proofs::Cuts::holding_past))]
 fn held(tree: &Tree, at: usize) -> Option<(Piece, usize)>
-    ensures { result ≡ holding tree.now at }
+    ensures { result ≡ holding tree.now.pieces at }
 {
     let left = len(&tree.left);
     if at < left {
@@ -172,133 +181,4 @@ fn held(tree: &Tree, at: usize) -> Option<(Piece, usize)>
         return Some((tree.piece, past));
     }
     holding(&tree.right, past - tree.piece.len)
-}
-
-/// A sequence cut at an offset.
-#[derive(Drop)]
-pub struct Parts {
-    /// The pieces before the offset.
-    pub before: Link,
-    /// The piece, if any, that has bytes on both sides of it.
-    pub across: Link,
-    /// The pieces after it.
-    pub after: Link,
-}
-
-/// The piece that a tree hangs from, with what stands before and after it and its priority. What is
-/// left has no byte.
-fn take_apart(tree: &mut Tree) -> (Link, Piece, Link, u32)
-    ensures { tree.old ≡ sequence result.0 ++ result.1 ∷ sequence result.2 }
-{
-    let nothing = Piece {
-        buffer: Buffer::Opened,
-        start: 0,
-        len: 0,
-    };
-    let Tree {
-        left,
-        piece,
-        right,
-        priority,
-        ..
-    } = mem::replace(tree, Tree::new(None, nothing, None, 0));
-    (left, piece, right, priority)
-}
-
-/// Cuts a sequence at an offset. No memory.
-#[cycle(cutting)]
-pub fn cut(tree: Link, at: usize) -> Parts
-    requires { total (sequence tree) < 2 ^ 64 }
-    ensures before { sequence result.before ≡ before (sequence tree) at }
-    ensures across { sequence result.across ≡ across (sequence tree) at }
-    ensures one { IfSome result.across (λ t. length t.value ≡ 1) }
-    ensures after { sequence result.after ≡ after (sequence tree) at }
-{
-    match tree {
-        None => Parts {
-            before: None,
-            across: None,
-            after: None,
-        },
-        Some(mut tree) => {
-            let (left, piece, right, priority) = take_apart(&mut *tree);
-            cut_fork(tree, left, piece, right, priority, at)
-        }
-    }
-}
-
-/// The same of a piece between two sequences, hung from this tree.
-#[cycle(cutting)]
-fn cut_fork(
-    mut tree: Box<Tree>,
-    left: Link,
-    piece: Piece,
-    right: Link,
-    priority: u32,
-    at: usize,
-) -> Parts
-    requires { total (sequence left) + (piece.len + total (sequence right)) < 2 ^ 64 }
-    ensures before { sequence result.before ≡ before (sequence left ++ piece ∷ sequence right) at }
-    ensures across { sequence result.across ≡ across (sequence left ++ piece ∷ sequence right) at }
-    ensures one { IfSome result.across (λ t. length t.value ≡ 1) }
-    ensures after { sequence result.after ≡ after (sequence left ++ piece ∷ sequence right) at }
-{
-    let first = len(&left);
-    if at < first {
-        let parts = cut(left, at);
-        *tree = Tree::new(parts.after, piece, right, priority);
-        return Parts {
-            before: parts.before,
-            across: parts.across,
-            after: Some(tree),
-        };
-    }
-    let past = at - first;
-    if past >= piece.len {
-        let parts = cut(right, past - piece.len);
-        *tree = Tree::new(left, piece, parts.before, priority);
-        return Parts {
-            before: Some(tree),
-            across: parts.across,
-            after: parts.after,
-        };
-    }
-    if past == 0 {
-        *tree = Tree::new(None, piece, right, priority);
-        return Parts {
-            before: left,
-            across: None,
-            after: Some(tree),
-        };
-    }
-    *tree = Tree::new(None, piece, None, priority);
-    Parts {
-        before: left,
-        across: Some(tree),
-        after: right,
-    }
-}
-
-/// The halves of a tree of one piece, the first of so many bytes.
-pub fn halves(mut tree: Box<Tree>, count: usize, spares: &mut Spares) -> (Box<Tree>, Box<Tree>)
-    requires spare { 0 < spares.old }
-    requires one { length tree.value ≡ 1 }
-    requires inside { count ≤ total tree.value }
-    requires fits { IsAddressable tree.value }
-    ensures first { result.0.value ≡ map (λ p. first_of p count) tree.value }
-    ensures rest { result.1.value ≡ map (λ p. rest_of p count) tree.value }
-    ensures fewer { spares.new + 1 ≡ spares.old }
-{
-    let (left, piece, right, priority) = take_apart(&mut *tree);
-    let first = Piece {
-        len: count,
-        ..piece
-    };
-    let rest = Piece {
-        start: piece.start + count,
-        len: piece.len - count,
-        ..piece
-    };
-    *tree = Tree::new(left, first, right, priority);
-    (tree, spares.tree_of(rest))
 }

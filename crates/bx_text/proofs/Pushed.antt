@@ -92,8 +92,18 @@ is_pushed_after : (o : Option Piece) (b : Buffers) (ps : List Piece) (q : Piece)
 is_pushed_after None b ps q h = behind b ps q
 is_pushed_after (Some p) b ps q h = is_pushed_at (goes_on p q) b p ps q refl h
 
+left_out : (b : Buffers) (ps : List Piece) (q : Piece) → q.len ≡ 0 → IsPushed b ps q ps
+left_out b ps q e = record {
+  bytes = sym (ap (λ n. bytes_of b ps ++ take n (drop q.start (buffer_bytes b q.buffer))) e ∙ append-nil (bytes_of b ps));
+  placed = λ hs hq. hs;
+}
+
+is_pushed_if : (none : Bool) (b : Buffers) (ps : List Piece) (q : Piece) → (q.len == 0) ≡ none → IsPushed b ps q (pushed ps q)
+is_pushed_if true b ps q e = rw e (left_out b ps q (grind (arith, nat_tests)))
+is_pushed_if false b ps q e = rw e (is_pushed_after (last_of ps) b ps q refl)
+
 is_pushed : (b : Buffers) (ps : List Piece) (q : Piece) → IsPushed b ps q (pushed ps q)
-is_pushed b ps q = is_pushed_after (last_of ps) b ps q refl
+is_pushed b ps q = is_pushed_if (q.len == 0) b ps q refl
 
 -- ---- added text behind pieces
 
@@ -107,32 +117,17 @@ new_placed : (b : Buffers) (more : List ℕ) → IsUtf8 more → IsPlaced (grown
 new_placed b more utf8 =
     record { inside = omega (arith, length-append b.added more); utf8 = subst IsUtf8 (sym (new_bytes b more)) utf8 }
 
-added_bytes_at : (none : Bool) (b : Buffers) (ps : List Piece) (more : List ℕ) → (length more == 0) ≡ none → ArePlaced b ps
-    → bytes_of (grown b more) (with_added ps (length b.added) (length more)) ≡ bytes_of b ps ++ more
-added_bytes_at true b ps [] e h = bytes_of-grown b [] ps h ∙ sym (append-nil (bytes_of b ps))
-added_bytes_at true b ps (x ∷ xs) e h = absurd (let z : length (x ∷ xs) ≡ 0 = grind (arith, nat_tests) in omega (arith, z))
-added_bytes_at false b ps more e h =
-    rw e ((is_pushed (grown b more) ps (new_piece b more)).bytes
-    ∙ ap (λ xs. xs ++ piece_bytes (grown b more) (new_piece b more)) (bytes_of-grown b more ps h)
-    ∙ ap (λ xs. bytes_of b ps ++ xs) (new_bytes b more))
-
 pub bytes_of-with_added : (b : Buffers) (ps : List Piece) (more : List ℕ) → ArePlaced b ps
     → bytes_of (grown b more) (with_added ps (length b.added) (length more)) ≡ bytes_of b ps ++ more
-bytes_of-with_added b ps more h = added_bytes_at (length more == 0) b ps more refl h
-
-added_placed_at : (none : Bool) (b : Buffers) (ps : List Piece) (more : List ℕ) → (length more == 0) ≡ none → ArePlaced b ps → IsUtf8 more
-    → ArePlaced (grown b more) (with_added ps (length b.added) (length more))
-added_placed_at true b ps more e h utf8 = rw e (ArePlaced-grown b more ps h)
-added_placed_at false b ps more e h utf8 =
-    rw e ((is_pushed (grown b more) ps (new_piece b more)).placed (ArePlaced-grown b more ps h) (new_placed b more utf8))
+bytes_of-with_added b ps more h =
+    (is_pushed (grown b more) ps (new_piece b more)).bytes
+    ∙ ap (λ xs. xs ++ piece_bytes (grown b more) (new_piece b more)) (bytes_of-grown b more ps h)
+    ∙ ap (λ xs. bytes_of b ps ++ xs) (new_bytes b more)
 
 pub ArePlaced-with_added : (b : Buffers) (ps : List Piece) (more : List ℕ) → ArePlaced b ps → IsUtf8 more
     → ArePlaced (grown b more) (with_added ps (length b.added) (length more))
-ArePlaced-with_added b ps more h utf8 = added_placed_at (length more == 0) b ps more refl h utf8
-
-total_with_added_at : (none : Bool) (ps : List Piece) (start len : ℕ) → (len == 0) ≡ none → total (with_added ps start len) ≡ total ps + len
-total_with_added_at true ps start len e = let z : len ≡ 0 = grind (arith, nat_tests) in rw e (omega (arith, z))
-total_with_added_at false ps start len e = rw e (total_pushed ps (record { buffer = Added; start = start; len = len }))
+ArePlaced-with_added b ps more h utf8 =
+    (is_pushed (grown b more) ps (new_piece b more)).placed (ArePlaced-grown b more ps h) (new_placed b more utf8)
 
 pub total_with_added : (ps : List Piece) (start len : ℕ) → total (with_added ps start len) ≡ total ps + len
-total_with_added ps start len = total_with_added_at (len == 0) ps start len refl
+total_with_added ps start len = total_pushed ps (record { buffer = Added; start = start; len = len })

@@ -1,5 +1,5 @@
 -- The bytes that pieces stand for.
-use Rattle.std.specs.Prelude.{◌==◌, if◌then◌else◌, ◌≡◌, ℕ, ◌+◌, ◌<◌, ◌≤◌, List, [], ◌++◌, ◌∷◌, length, take, drop, IsCharBoundary}
+use Rattle.std.specs.Prelude.{◌≡◌, ℕ, ◌+◌, ◌<◌, ◌≤◌, List, [], ◌++◌, ◌∷◌, length, take, drop, IsCharBoundary}
 use Rattle.std.specs.Str.{IsUtf8}
 use Rattle.bx_pieces.specs.declared.piece.Buffer.{Buffer}
 use Rattle.bx_pieces.specs.declared.piece.Buffer.TheVariants.{Opened, Added}
@@ -30,11 +30,11 @@ abbrev pub ArePlaced : Buffers → List Piece → Type 0
 ArePlaced b [] = Unit {0}
 ArePlaced b (p ∷ ps) = IsPlaced b p × ArePlaced b ps
 
--- the pieces with so many added bytes behind them, which stand in their buffer from a place on
+-- the pieces with so many added bytes behind them, which stand in their buffer from an offset on
 abbrev pub with_added : List Piece → ℕ → ℕ → List Piece
-with_added ps start len = if len == 0 then ps else pushed ps (record { buffer = Added; start = start; len = len })
+with_added ps start len = pushed ps (record { buffer = Added; start = start; len = len })
 
--- some bytes that the text goes on with from a place on, up to a place between two characters
+-- some bytes that the text goes on with from an offset on, up to one between two characters
 pub record IsRest (text : List ℕ) (at : ℕ) (rest : List ℕ) : Type 0 where
   pub bytes : take (length rest) (drop at text) ≡ rest
   pub not_empty : 0 < length rest

@@ -7,7 +7,7 @@ ghost use Rattle.bx_text.specs.Edits.{IsRange};
 use crate::text::Text;
 use std::marker::Model;
 
-/// The pieces of a text from one place to another, lent in order, none of them empty. It is seen as the
+/// The pieces of a text from one offset to another, lent in order, none of them empty. It is seen as the
 /// bytes that are left. Each call finds its piece by offset, and takes no memory.
 #[derive(Drop)]
 pub struct Slices<'a> {
@@ -29,7 +29,7 @@ impl<'a> Model for Slices<'a> {
 }
 
 impl<'a> Slices<'a> {
-    /// The pieces between two places.
+    /// The pieces between two offsets.
     pub(crate) fn new(text: &'a Text, start: usize, stop: usize) -> Slices<'a>
         requires { IsRange text.now.edited.text start stop }
         ensures { result ≡ slice_range text.now.edited.text start stop }

@@ -9,7 +9,7 @@ pub struct Step {
     pub span: Pieces,
     /// How many bytes are to give way.
     pub len: usize,
-    /// The place before the edit.
+    /// The place before the edit: the cursor's offset.
     pub before: usize,
     /// The place after the edit.
     pub after: usize,

@@ -41,9 +41,6 @@ fn add(pieces: &mut Pieces, added: &mut String, text: &str, spares: &mut Spares)
 {
     let start = added.len();
     added.push_str(text).unwrap();
-    if text.is_empty() {
-        return;
-    }
     let piece = Piece {
         buffer: Buffer::Added,
         start,

@@ -19,7 +19,7 @@ use std::alloc::{AllocError, Global};
 use std::marker::Model;
 
 /// The most bytes of a text.
-const LONGEST: usize = 16_777_216;
+pub const MAX_BYTES: usize = 16_777_216;
 
 /// A text under edits, with its past and its future.
 #[derive(Drop)]
@@ -60,21 +60,17 @@ impl Text {
         ensures always_a_boundary { IsErrOf result TextError.NotABoundary → ⊥ }
     {
         let len = text.len();
-        if len > LONGEST {
+        if len > MAX_BYTES {
             return Err(TextError::TooLong);
         }
         let mut spares = Spares::new(alloc);
-        let pieces = if len == 0 {
-            Pieces::new()
-        } else {
-            spares.fill(1)?;
-            let piece = Piece {
-                buffer: Buffer::Opened,
-                start: 0,
-                len,
-            };
-            Pieces::of(piece, &mut spares)
+        spares.fill(1)?;
+        let piece = Piece {
+            buffer: Buffer::Opened,
+            start: 0,
+            len,
         };
+        let pieces = Pieces::of(piece, &mut spares);
         Ok(Text {
             opened: text,
             added: String::new(alloc),
@@ -230,7 +226,7 @@ impl Text {
         start <= stop && stop <= len && self.is_boundary(start) && self.is_boundary(stop)
     }
 
-    /// What stands from a place on, as far as the piece that holds it goes, up to a later place. No memory.
+    /// What stands from an offset on, as far as the piece that holds it goes, up to a later offset. No memory.
     pub(crate) fn part_at(&self, at: usize, stop: usize) -> &str
         requires range { IsRange self.now.edited.text at stop }
         requires before { at < stop }
@@ -310,7 +306,7 @@ impl Text {
         if !self.is_boundary(pos) {
             return Err(TextError::NotABoundary);
         }
-        if text.len() > LONGEST - self.len() {
+        if text.len() > MAX_BYTES - self.len() {
             return Err(TextError::TooLong);
         }
         self.make_room(text.len())?;

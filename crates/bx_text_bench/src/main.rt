@@ -1,13 +1,18 @@
 //! Edits a text many times, and tells how long that took.
 //!
 //!     bx_text_bench [--time] open BYTES
-//!     bx_text_bench [--time] scattered|typing|backwards BYTES EDITS
-//!     bx_text_bench [--time] undo|copy BYTES EDITS
+//!     bx_text_bench [--time] scattered|typing|backwards|turning|ranked BYTES EDITS
+//!     bx_text_bench [--time] undo|unturn|unrank|copy|forget BYTES EDITS
 //!
-//! The edits put in or take out one byte at scattered places, put in a letter behind the one before, or put
-//! one in before all. It prints how many bytes and pieces the text has in the end. With --time it also
-//! prints the processor time of what is measured: opening the text, the last thousand edits, taking back the
-//! last thousand scattered edits, or copying the whole text after scattered edits.
+//! The edits put in or take out one byte at scattered offsets, put in a letter behind the one before, or put
+//! one in before all. Those of `turning` put a letter in at the next multiple of the golden ratio, as a part of
+//! the way through the text; those of `ranked` at as many bytes from the front as there are smaller multiples
+//! before it. Such orders make a tree deep that is balanced by those multiples.
+//!
+//! It prints how many bytes and pieces the text has in the end. With --time it also prints the processor time
+//! of what is measured: opening the text, the last thousand edits, taking back the last thousand of them
+//! (`undo`, `unturn`, `unrank`), copying the whole text after scattered edits, or the first edit after all of
+//! the scattered ones were taken back (`forget`).
 #![tactic(auto)]
 
 ghost use Rattle.std.specs.Prelude.{◌≤◌};
@@ -42,6 +47,29 @@ fn scattered(turn: usize, len: usize) -> usize
     turn.wrapping_mul(0x9E37_79B9_7F4A_7C15) % (len.min(usize::MAX - 1) + 1)
 }
 
+/// The multiples of the golden ratio in units of 2^-32, without their whole parts.
+fn multiple(turn: usize) -> u64 {
+    (turn as u64).wrapping_mul(0x9E37_79B1) % 0x1_0000_0000
+}
+
+/// The offset of a turn's multiple of the golden ratio, as a part of a text of so many bytes.
+fn turning(turn: usize, len: usize) -> usize {
+    (multiple(turn).wrapping_mul((len as u64).wrapping_add(1)) >> 32) as usize
+}
+
+/// For each turn, how many turns before it have a smaller multiple.
+fn ranks(alloc: Global, turns: usize) -> Result<Vec<usize>> {
+    let mut sorted = Vec::<u64>::with_capacity(alloc, turns)?;
+    let mut ranks = Vec::with_capacity(alloc, turns)?;
+    for turn in 0..turns {
+        let next = multiple(turn.wrapping_add(1));
+        let rank = sorted.partition_point(|before| *before < next);
+        sorted.insert(rank, next)?;
+        ranks.push(rank)?;
+    }
+    Ok(ranks)
+}
+
 /// The edit of a turn at a scattered place: each third one takes a byte out.
 fn scatter(text: &mut Text, turn: usize) -> Result<()> {
     let at = scattered(turn, text.len());
@@ -60,39 +88,76 @@ fn write_at(text: &mut Text, at: usize) -> Result<()> {
 }
 
 /// Where the edits are made.
-#[derive(Clone, Copy)]
-enum Places {
+#[derive(Clone, Copy, PartialEq)]
+enum Offsets {
     Scattered,
     /// Behind the edit before.
     Typing,
     /// Before all.
     Backwards,
+    /// At the next multiple of the golden ratio.
+    Turning,
+    /// Behind as many bytes as there are smaller multiples.
+    Ranked,
 }
 
-impl Places {
-    fn from_word(word: &str) -> Option<Places> {
+impl Offsets {
+    fn from_word(word: &str) -> Option<Offsets> {
         if word == "scattered" {
-            Some(Places::Scattered)
+            Some(Offsets::Scattered)
         } else if word == "typing" {
-            Some(Places::Typing)
+            Some(Offsets::Typing)
         } else if word == "backwards" {
-            Some(Places::Backwards)
+            Some(Offsets::Backwards)
+        } else if word == "turning" {
+            Some(Offsets::Turning)
+        } else if word == "ranked" {
+            Some(Offsets::Ranked)
         } else {
             None
         }
     }
 }
 
-/// Makes the edits of some turns.
-fn edit(text: &mut Text, places: Places, middle: usize, from: usize, to: usize) -> Result<()> {
-    for turn in from..to {
-        match places {
-            Places::Scattered => scatter(text, turn)?,
-            Places::Typing => write_at(text, middle.wrapping_add(turn))?,
-            Places::Backwards => write_at(text, 0)?,
-        }
+/// Edits to be made.
+#[derive(Drop)]
+struct Edits {
+    offsets: Offsets,
+    /// Where typing begins.
+    middle: usize,
+    /// Of each turn, where the edits are at ranks.
+    ranks: Vec<usize>,
+}
+
+impl Edits {
+    fn new(alloc: Global, offsets: Offsets, bytes: usize, turns: usize) -> Result<Edits> {
+        let ranks = match offsets {
+            Offsets::Ranked => ranks(alloc, turns)?,
+            _ => Vec::new(alloc),
+        };
+        Ok(Edits {
+            offsets,
+            middle: bytes / 2,
+            ranks,
+        })
     }
-    Ok(())
+
+    /// Makes the edits of some turns.
+    fn make(&self, text: &mut Text, from: usize, to: usize) -> Result<()> {
+        for turn in from..to {
+            match self.offsets {
+                Offsets::Scattered => scatter(text, turn)?,
+                Offsets::Typing => write_at(text, self.middle.wrapping_add(turn))?,
+                Offsets::Backwards => write_at(text, 0)?,
+                Offsets::Turning => write_at(text, turning(turn, text.len()))?,
+                Offsets::Ranked => {
+                    let rank = self.ranks.get(turn).context("a turn without a rank")?;
+                    write_at(text, *rank)?
+                }
+            }
+        }
+        Ok(())
+    }
 }
 
 /// A text that is not edited yet.
@@ -104,27 +169,40 @@ fn fresh<R: AllocGlobal>(rt: &R, bytes: usize) -> Result<Text> {
 /// A text after some edits, and the time of the last of them.
 fn edited<R: CpuClock + AllocGlobal>(
     rt: &R,
-    places: Places,
+    offsets: Offsets,
     bytes: usize,
-    edits: usize,
+    turns: usize,
 ) -> Result<(Text, Duration)> {
     let mut text = fresh(rt, bytes)?;
-    let unmeasured = edits.saturating_sub(MEASURED);
-    edit(&mut text, places, bytes / 2, 0, unmeasured)?;
+    let edits = Edits::new(rt.alloc(), offsets, bytes, turns)?;
+    let unmeasured = turns.saturating_sub(MEASURED);
+    edits.make(&mut text, 0, unmeasured)?;
     let start = rt.thread_cpu_time()?;
-    edit(&mut text, places, bytes / 2, unmeasured, edits)?;
+    edits.make(&mut text, unmeasured, turns)?;
     let end = rt.thread_cpu_time()?;
     Ok((text, end.saturating_sub(start)))
 }
 
-/// A text after some scattered edits, the last of them taken back, and the time that this took.
+/// A text after some edits.
+fn after_edits<R: AllocGlobal>(
+    rt: &R,
+    offsets: Offsets,
+    bytes: usize,
+    turns: usize,
+) -> Result<Text> {
+    let mut text = fresh(rt, bytes)?;
+    Edits::new(rt.alloc(), offsets, bytes, turns)?.make(&mut text, 0, turns)?;
+    Ok(text)
+}
+
+/// A text after some edits, the last of them taken back, and the time that this took.
 fn undone<R: CpuClock + AllocGlobal>(
     rt: &R,
+    offsets: Offsets,
     bytes: usize,
-    edits: usize,
+    turns: usize,
 ) -> Result<(Text, Duration)> {
-    let mut text = fresh(rt, bytes)?;
-    edit(&mut text, Places::Scattered, bytes / 2, 0, edits)?;
+    let mut text = after_edits(rt, offsets, bytes, turns)?;
     let start = rt.thread_cpu_time()?;
     for _ in 0..MEASURED {
         text.undo()?;
@@ -133,14 +211,29 @@ fn undone<R: CpuClock + AllocGlobal>(
     Ok((text, end.saturating_sub(start)))
 }
 
+/// A text after scattered edits that were all taken back and one edit more, and the time that this one took.
+fn forgotten<R: CpuClock + AllocGlobal>(
+    rt: &R,
+    bytes: usize,
+    turns: usize,
+) -> Result<(Text, Duration)> {
+    let mut text = after_edits(rt, Offsets::Scattered, bytes, turns)?;
+    for _ in 0..turns {
+        text.undo()?;
+    }
+    let start = rt.thread_cpu_time()?;
+    write_at(&mut text, 0)?;
+    let end = rt.thread_cpu_time()?;
+    Ok((text, end.saturating_sub(start)))
+}
+
 /// A text after some scattered edits, and the time that a copy of all of it took.
 fn copied<R: CpuClock + AllocGlobal>(
     rt: &R,
     bytes: usize,
-    edits: usize,
+    turns: usize,
 ) -> Result<(Text, Duration)> {
-    let mut text = fresh(rt, bytes)?;
-    edit(&mut text, Places::Scattered, bytes / 2, 0, edits)?;
+    let text = after_edits(rt, Offsets::Scattered, bytes, turns)?;
     let start = rt.thread_cpu_time()?;
     let _copy = text.copy_range(0, text.len())?;
     let end = rt.thread_cpu_time()?;
@@ -160,20 +253,34 @@ fn number(word: &String) -> Result<usize> {
     word.as_str().parse::<usize>().context("a number is wanted")
 }
 
+/// What a task with so many edits takes.
+fn task<R: CpuClock + AllocGlobal>(
+    rt: &R,
+    name: &str,
+    bytes: usize,
+    turns: usize,
+) -> Result<(Text, Duration)> {
+    if name == "undo" {
+        undone(rt, Offsets::Scattered, bytes, turns)
+    } else if name == "unturn" {
+        undone(rt, Offsets::Turning, bytes, turns)
+    } else if name == "unrank" {
+        undone(rt, Offsets::Ranked, bytes, turns)
+    } else if name == "copy" {
+        copied(rt, bytes, turns)
+    } else if name == "forget" {
+        forgotten(rt, bytes, turns)
+    } else {
+        let offsets = Offsets::from_word(name).context("what to measure")?;
+        edited(rt, offsets, bytes, turns)
+    }
+}
+
 /// What the words ask for.
 fn measured<R: CpuClock + AllocGlobal>(rt: &R, words: &[String]) -> Result<(Text, Duration)> {
     match words {
-        [task, bytes] if task.as_str() == "open" => opened(rt, number(bytes)?),
-        [task, bytes, edits] if task.as_str() == "undo" => {
-            undone(rt, number(bytes)?, number(edits)?)
-        }
-        [task, bytes, edits] if task.as_str() == "copy" => {
-            copied(rt, number(bytes)?, number(edits)?)
-        }
-        [places, bytes, edits] => {
-            let places = Places::from_word(places.as_str()).context("what to measure")?;
-            edited(rt, places, number(bytes)?, number(edits)?)
-        }
+        [open, bytes] if open.as_str() == "open" => opened(rt, number(bytes)?),
+        [name, bytes, turns] => task(rt, name.as_str(), number(bytes)?, number(turns)?),
         _ => bail!("usage: bx_text_bench [--time] TASK BYTES [EDITS]"),
     }
 }

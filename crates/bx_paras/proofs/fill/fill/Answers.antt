@@ -1,6 +1,6 @@
 use Rattle.std.proofs.Common.{◌∙◌, length, ap, arith}
 use Rattle.bx_paras.specs.declared.lengths.Lengths.{Lengths}
-use Rattle.bx_paras.specs.Places.{total}
+use Rattle.bx_paras.specs.Positions.{total}
 use Rattle.bx_paras.proofs.Spliced.{pushed_from}
 use Rattle.bx_paras.proofs.Turns.{step, none_left, still_all, now_all}
 use Rattle.bx_paras.proofs.fill.fill.Goals as goal
@@ -10,13 +10,13 @@ loop-at-preserved g c =
     let p : Lengths = c.paragraph_from-paragraph.result in
     let s = step (g.D.BidiData.class_of c.args.source.now) c.args.text.now.edited.text c.loop-at.at c.paragraph_from-paragraph.ensures.utf8 c.loop-at.invariant.bounds p c.args.stop c.bytes-at.result
     c.paragraph_from-paragraph.ensures.first (omega (arith, c.if-paragraph-eq0.false)) c.bytes-at.ensures (omega (arith, c.bytes-at.ensures, c.bytes.ensures, c.if-bytes-stop.false)) in
-    let k = pushed_from c.loop-at.blocks.blocks c.push-place.new.self.blocks c.loop-at.place c.push-place.result p c.push-place.ensures.front c.push-place.ensures.back in
+    let k = pushed_from c.loop-at.blocks.blocks c.push-position.new.self.blocks c.loop-at.position c.push-position.result p c.push-position.ensures.front c.push-position.ensures.back in
     record {
       bounds = s.ends_between;
-      place = c.push-place.ensures.place;
-      front = still_all _ _ _ _ _ p c.push-place.ensures.front s.left c.loop-at.invariant.front;
-      back = c.push-place.ensures.back ∙ c.loop-at.invariant.back;
-      room = omega (arith, c.loop-at.invariant.room, ap length s.left, c.push-place.ensures.room);
+      position = c.push-position.ensures.position;
+      front = still_all _ _ _ _ _ p c.push-position.ensures.front s.left c.loop-at.invariant.front;
+      back = c.push-position.ensures.back ∙ c.loop-at.invariant.back;
+      room = omega (arith, c.loop-at.invariant.room, ap length s.left, c.push-position.ensures.room);
       short = omega (arith, c.loop-at.invariant.short, ap total s.left, k.bytes);
       few = omega (arith, c.loop-at.invariant.few, ap length s.left, k.count);
       stop = omega (arith, c.loop-at.invariant.stop, ap total s.left, c.bytes-at.ensures);

@@ -1,7 +1,7 @@
 -- The paragraphs before the offset are put in, and those behind it are still to come.
 use Rattle.std.proofs.Common.{◌≡◌, ◌≤◌, ◌<◌, ◌^◌, ◌+◌, ◌-◌, ◌++◌, IsCharBoundary, take, drop, length}
 use Rattle.bx_paras.specs.Paragraphs.{lengths}
-use Rattle.bx_paras.specs.Places.{total}
+use Rattle.bx_paras.specs.Positions.{total}
 use Rattle.bx_paras.specs.Ended.{ended_within}
 use Rattle.bx_paras.specs.Flat.{flat, room_at}
 use Rattle.bx_paras.proofs.fill.fill.Given as goal
@@ -14,10 +14,10 @@ invariant-loop-at g l =
     let all = ended_within (l.stop - l.start) (lengths class (drop l.start text)) in
     record {
       bounds : IsCharBoundary text l.at;
-      place : l.place ≤ length l.blocks.blocks;
-      front : flat (take l.place l.blocks.blocks) ++ left ≡ flat (take l.fn.place l.fn.blocks.blocks) ++ all;
-      back : flat (drop l.place l.blocks.blocks) ≡ flat (drop l.fn.place l.fn.blocks.blocks);
-      room : length left ≤ room_at l.blocks l.place;
+      position : l.position ≤ length l.blocks.blocks;
+      front : flat (take l.position l.blocks.blocks) ++ left ≡ flat (take l.fn.position l.fn.blocks.blocks) ++ all;
+      back : flat (drop l.position l.blocks.blocks) ≡ flat (drop l.fn.position l.fn.blocks.blocks);
+      room : length left ≤ room_at l.blocks l.position;
       short : total (flat l.blocks.blocks) + total left < 2 ^ 64;
       few : length (flat l.blocks.blocks) + length left < 2 ^ 64;
       stop : l.at + total left ≡ l.start + total all;

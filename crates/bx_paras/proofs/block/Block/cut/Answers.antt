@@ -1,5 +1,5 @@
 use Rattle.std.proofs.Common.{ap, arith}
-use Rattle.bx_paras.specs.Places.{total}
+use Rattle.bx_paras.specs.Positions.{total}
 use Rattle.bx_paras.proofs.Totals.{total_rest}
 use Rattle.bx_paras.proofs.block.Block.cut.Goals as goal
 

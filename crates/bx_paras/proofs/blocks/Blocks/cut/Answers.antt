@@ -1,5 +1,5 @@
 use Rattle.std.proofs.Common.{◌∙◌, length, ap, sym, arith}
-use Rattle.bx_paras.specs.Places.{total}
+use Rattle.bx_paras.specs.Positions.{total}
 use Rattle.bx_paras.specs.Flat.{flat, BlocksState}
 use Rattle.bx_paras.proofs.Flats.{whole_front, whole_back}
 use Rattle.bx_paras.proofs.Spliced.{cut_is}

@@ -1,7 +1,7 @@
 use Rattle.std.proofs.Common.{◌≡◌, ◌∙◌, ◌+◌, length, take, ap, arith}
-use Rattle.bx_paras.specs.Places.{total}
+use Rattle.bx_paras.specs.Positions.{total}
 use Rattle.bx_paras.specs.Flat.{flat, BlocksState}
-use Rattle.bx_paras.proofs.Flats.{place_at, IsPlace-same, total_flat_more, total_flat_front}
+use Rattle.bx_paras.proofs.Flats.{position_at, IsPosition-same, total_flat_more, total_flat_front}
 use Rattle.bx_paras.proofs.Totals.{total_front}
 use Rattle.bx_paras.proofs.blocks.Blocks.find.Goals as goal
 
@@ -9,18 +9,18 @@ pub overflow_add-result-then-offset-end-2 : goal.overflow_add-result-then-offset
 overflow_add-result-then-offset-end-2 c =
     let more = total_flat_more c.deref-block-items.result.now c.loop-block.block-index c.block-item.result c.loop-block-test.true in
     let whole = total_flat_front (c.loop-block.block-index + 1) c.deref-block-items.result.now in
-    let in_block = total_front (c.place_within-within.result.0 + 1) c.lengths.result.now in
-    omega (arith, more, whole, in_block, ap total c.block-item.is, ap total c.lengths.ensures.paragraphs, c.place_within-within.ensures.end, c.self.invariant.short, ap (λ bs. total (flat bs)) c.deref-block-items.ensures.value, c.loop-block.invariant.start)
+    let in_block = total_front (c.position_within-within.result.0 + 1) c.lengths.result.now in
+    omega (arith, more, whole, in_block, ap total c.block-item.is, ap total c.lengths.ensures.paragraphs, c.position_within-within.ensures.end, c.self.invariant.short, ap (λ bs. total (flat bs)) c.deref-block-items.ensures.value, c.loop-block.invariant.start)
 
 pub returns-then-offset-end : goal.returns-then-offset-end
 returns-then-offset-end c =
     let e : c.lengths.result.now ≡ c.block-item.result = c.lengths.ensures.paragraphs in
-    let p = place_at c.deref-block-items.result.now c.loop-block.block-index c.block-item.result c.loop-block-test.true c.block-item.is
-    c.loop-block.number c.loop-block.start c.args.offset c.place_within-within.result.0 c.place_within-within.result.1 c.place_within-within.result.2
+    let p = position_at c.deref-block-items.result.now c.loop-block.block-index c.block-item.result c.loop-block-test.true c.block-item.is
+    c.loop-block.number c.loop-block.start c.args.offset c.position_within-within.result.0 c.position_within-within.result.1 c.position_within-within.result.2
     c.loop-block.invariant.number c.loop-block.invariant.start c.loop-block.invariant.begun
-    (omega (arith, c.place_within-within.ensures.number, ap length e))
-    (c.place_within-within.ensures.start ∙ ap (λ ls. total (take c.place_within-within.result.0 ls)) e)
-    c.place_within-within.ensures.begun
-    (c.place_within-within.ensures.end ∙ ap (λ ls. total (take (c.place_within-within.result.0 + 1) ls)) e)
-    c.place_within-within.ensures.past in
-    IsPlace-same _ _ _ _ (c.deref-block-items.ensures.value ∙ ap (λ (s : BlocksState). s.blocks) c.self.view_is) p
+    (omega (arith, c.position_within-within.ensures.number, ap length e))
+    (c.position_within-within.ensures.start ∙ ap (λ ls. total (take c.position_within-within.result.0 ls)) e)
+    c.position_within-within.ensures.begun
+    (c.position_within-within.ensures.end ∙ ap (λ ls. total (take (c.position_within-within.result.0 + 1) ls)) e)
+    c.position_within-within.ensures.past in
+    IsPosition-same _ _ _ _ (c.deref-block-items.ensures.value ∙ ap (λ (s : BlocksState). s.blocks) c.self.view_is) p

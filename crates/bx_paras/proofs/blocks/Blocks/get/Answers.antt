@@ -1,5 +1,5 @@
 use Rattle.std.proofs.Common.{◌∙◌, ◌+◌, ap, arith}
-use Rattle.bx_paras.specs.Places.{total}
+use Rattle.bx_paras.specs.Positions.{total}
 use Rattle.bx_paras.specs.Flat.{flat, BlocksState}
 use Rattle.bx_paras.proofs.Flats.{entry_at, total_flat_more, total_flat_front}
 use Rattle.bx_paras.proofs.Totals.{total_front}

@@ -1,6 +1,6 @@
 -- The blocks before this one stand before the paragraph.
 use Rattle.std.proofs.Common.{◌≡◌, ◌+◌, take, length}
-use Rattle.bx_paras.specs.Places.{total}
+use Rattle.bx_paras.specs.Positions.{total}
 use Rattle.bx_paras.specs.Flat.{flat}
 use Rattle.bx_paras.proofs.blocks.Blocks.get.Given as goal
 

@@ -1,5 +1,5 @@
 use Rattle.std.proofs.Common.{◌∙◌, ◌-◌, length, ap, arith}
-use Rattle.bx_paras.specs.Places.{total}
+use Rattle.bx_paras.specs.Positions.{total}
 use Rattle.bx_paras.specs.Flat.{flat, BlocksState}
 use Rattle.bx_paras.proofs.Spliced.{joined_is, two_blocks}
 use Rattle.bx_paras.proofs.blocks.Blocks.join.Goals as goal
@@ -16,7 +16,7 @@ invariant_of-self c =
       room = omega (arith, c.join_at.ensures.len, c.join_at.ensures.capacity, c.self.invariant.room);
     }
 
-pub returns-then-lengths-behind-le-MOST-clause-paragraphs : goal.returns-then-lengths-behind-le-MOST-clause-paragraphs
-returns-then-lengths-behind-le-MOST-clause-paragraphs c =
+pub returns-then-lengths-behind-le-BLOCK_CAPACITY-clause-paragraphs : goal.returns-then-lengths-behind-le-BLOCK_CAPACITY-clause-paragraphs
+returns-then-lengths-behind-le-BLOCK_CAPACITY-clause-paragraphs c =
     joined_is c.self.inside.blocks.items c.join_at.new.blocks.items (c.args.at - 1) c.join_at.ensures.items (omega (arith, c.if-at-eq0.false, c.if-at-len.false, c.len.ensures))
     ∙ ap (λ (s : BlocksState). flat s.blocks) c.self.view_is

@@ -1,6 +1,6 @@
 -- The blocks counted so far.
 use Rattle.std.proofs.Common.{◌≡◌, take, length}
-use Rattle.bx_paras.specs.Places.{total}
+use Rattle.bx_paras.specs.Positions.{total}
 use Rattle.bx_paras.specs.Flat.{flat}
 use Rattle.bx_paras.proofs.blocks.Blocks.size.Given as goal
 

@@ -2,7 +2,7 @@ use Rattle.std.proofs.Common.{◌≡◌, ◌∙◌, ◌++◌, [], ◌∷◌, Non
 use Rattle.std.proofs.lemmas.Str.{IsCharBoundary-start}
 use Rattle.bx_paras.specs.declared.lengths.Lengths.{Lengths}
 use Rattle.bx_paras.specs.Paragraphs.{lengths}
-use Rattle.bx_paras.specs.Places.{total}
+use Rattle.bx_paras.specs.Positions.{total}
 use Rattle.bx_paras.specs.Flat.{flat, BlocksState}
 use Rattle.bx_paras.proofs.Cuts.{unended}
 use Rattle.bx_paras.proofs.Spliced.{pushed_behind}
@@ -13,7 +13,7 @@ use Rattle.bx_paras.proofs.index.Index.build.Goals as goal
 pub loop-at-init : goal.loop-at-init
 loop-at-init g c = record {
   bounds = IsCharBoundary-start c.args.text.now.edited.text c.len-len.ensures.utf8;
-  place = omega arith;
+  position = omega arith;
   front = ap (λ (s : BlocksState). flat s.blocks ++ lengths (g.D.BidiData.class_of c.args.source.now) c.args.text.now.edited.text) c.new-ended.ensures;
   behind = ap (λ (s : BlocksState). flat s.blocks) c.new-ended.ensures;
   bytes = ap (λ (s : BlocksState). total (flat s.blocks)) c.new-ended.ensures;
@@ -30,8 +30,8 @@ returns-then-paragraph-eq0 g c =
     let rest = last (g.D.BidiData.class_of c.args.source.now) c.args.text.now.edited.text c.loop-at.at c.len-len.ensures.utf8 c.loop-at.invariant.bounds c.paragraph_from-paragraph.result c.paragraph_from-paragraph.ensures.first (omega (arith, c.if-paragraph-eq0.true)) in
     ap (λ ps. record { paragraphs = ps; room = None }) (ap (λ ls. flat c.loop-at.ended.blocks ++ ls) (sym rest) ∙ c.loop-at.invariant.front)
 
-pub push-place-requires-clause-few : goal.push-place-requires-clause-few
-push-place-requires-clause-few g c =
+pub push-position-requires-clause-few : goal.push-position-requires-clause-few
+push-position-requires-clause-few g c =
     omega (
       arith,
       ap length c.loop-at.invariant.front,
@@ -45,14 +45,14 @@ pub loop-at-preserved : goal.loop-at-preserved
 loop-at-preserved g c =
     let p : Lengths = c.paragraph_from-paragraph.result in
     let t = next (g.D.BidiData.class_of c.args.source.now) c.args.text.now.edited.text c.loop-at.at c.len-len.ensures.utf8 c.loop-at.invariant.bounds p c.bytes-at.result c.paragraph_from-paragraph.ensures.first (omega (arith, c.if-paragraph-eq0.false)) c.bytes-at.ensures in
-    let none : flat (drop c.loop-at.place c.ready.new.self.blocks) ≡ [] = ap (λ bs. flat (drop c.loop-at.place bs)) c.in_ok-ready.ensures.blocks ∙ c.loop-at.invariant.behind in
-    let more = pushed_behind c.ready.new.self.blocks c.push-place.new.self.blocks c.loop-at.place c.push-place.result p c.push-place.ensures.front c.push-place.ensures.back none
+    let none : flat (drop c.loop-at.position c.ready.new.self.blocks) ≡ [] = ap (λ bs. flat (drop c.loop-at.position bs)) c.in_ok-ready.ensures.blocks ∙ c.loop-at.invariant.behind in
+    let more = pushed_behind c.ready.new.self.blocks c.push-position.new.self.blocks c.loop-at.position c.push-position.result p c.push-position.ensures.front c.push-position.ensures.back none
     ∙ ap (λ bs. flat bs ++ p ∷ []) c.in_ok-ready.ensures.blocks in
     record {
       bounds = t.ends_between;
-      place = c.push-place.ensures.place;
+      position = c.push-position.ensures.position;
       front = still_all _ _ _ _ _ p more t.more c.loop-at.invariant.front;
-      behind = c.push-place.ensures.back ∙ none;
+      behind = c.push-position.ensures.back ∙ none;
       bytes = omega (arith, ap total more, total_push (flat c.loop-at.ended.blocks) p, c.loop-at.invariant.bytes, c.bytes-at.ensures);
     }
 

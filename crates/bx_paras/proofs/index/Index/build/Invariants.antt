@@ -1,16 +1,16 @@
 -- The paragraphs before the offset stand in the blocks, and the others follow.
 use Rattle.std.proofs.Common.{◌≡◌, ◌≤◌, ◌-◌, ◌++◌, [], IsCharBoundary, drop, length}
 use Rattle.bx_paras.specs.Paragraphs.{lengths}
-use Rattle.bx_paras.specs.Places.{total}
+use Rattle.bx_paras.specs.Positions.{total}
 use Rattle.bx_paras.specs.Flat.{flat}
 use Rattle.bx_paras.proofs.index.Index.build.Given as goal
 
 abbrev pub invariant-loop-at : goal.invariant-loop-at
 invariant-loop-at g l = record {
   bounds : IsCharBoundary l.text.edited.text l.at;
-  place : l.place ≤ length l.ended.blocks;
+  position : l.position ≤ length l.ended.blocks;
   front : flat l.ended.blocks ++ lengths (g.D.BidiData.class_of l.source) (drop l.at l.text.edited.text) ≡ lengths (g.D.BidiData.class_of l.source) l.text.edited.text;
-  behind : flat (drop l.place l.ended.blocks) ≡ [];
+  behind : flat (drop l.position l.ended.blocks) ≡ [];
   bytes : total (flat l.ended.blocks) ≡ l.at;
 }
 

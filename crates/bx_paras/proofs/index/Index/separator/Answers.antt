@@ -1,6 +1,6 @@
 use Rattle.std.proofs.Common.{◌≡◌, ◌∙◌, ◌∷◌, [], length, slice_get, ap, sym, arith, length-append}
 use Rattle.bx_paras.specs.Flat.{flat}
-use Rattle.bx_paras.specs.Places.{separators}
+use Rattle.bx_paras.specs.Positions.{separators}
 use Rattle.bx_paras.specs.Index.{IndexState}
 use Rattle.bx_paras.proofs.Cuts.{unended}
 use Rattle.bx_paras.proofs.Asked.{separator_of_last}

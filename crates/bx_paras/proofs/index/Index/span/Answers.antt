@@ -1,6 +1,6 @@
 use Rattle.std.proofs.Common.{◌≡◌, ◌∙◌, ◌+◌, ◌∷◌, [], length, slice_get, ap, sym, arith, length-append}
 use Rattle.bx_paras.specs.Flat.{flat}
-use Rattle.bx_paras.specs.Places.{bytes_of, spans}
+use Rattle.bx_paras.specs.Positions.{bytes_of, spans}
 use Rattle.bx_paras.specs.Index.{IndexState}
 use Rattle.bx_paras.proofs.Cuts.{unended}
 use Rattle.bx_paras.proofs.Totals.{total_push, total_more, total_front}

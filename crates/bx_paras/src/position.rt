@@ -1,0 +1,12 @@
+//! Positions of paragraphs.
+
+/// Where a paragraph stands.
+#[derive(Clone, Copy, PartialEq, Eq, Debug)]
+pub struct Position {
+    /// Its number, from 0.
+    pub number: usize,
+    /// The offset at which its body begins.
+    pub start: usize,
+    /// The offset behind its separator; none where it has none.
+    pub end: Option<usize>,
+}
