@@ -5,4 +5,5 @@ pub mod SimpleUnits
 pub mod SimplePush
 pub mod RangeFacts
 pub mod Printable
+pub mod Standing
 mod Rows

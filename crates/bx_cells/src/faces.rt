@@ -40,9 +40,9 @@ fn sized_face(w: u16, columns: usize) -> Face
     }
 }
 
-/// The only character of a text.
+/// The only character of a text, if it has just one.
 #[tactic(auto, using(crate::proofs::FaceSteps::only_of_none, crate::proofs::FaceSteps::only_of_one, crate::proofs::FaceSteps::only_of_more))]
-fn only_char(text: &str) -> Option<char>
+pub fn only_char(text: &str) -> Option<char>
     ensures { result ≡ only_char (chars text.now) }
 {
     let mut chars = text.chars();

@@ -12,6 +12,6 @@ mod unit;
 
 pub use clusters::units;
 pub use error::CellError;
-pub use faces::face;
+pub use faces::{face, only_char};
 pub use fitting::{is_printable, is_simple_within};
 pub use unit::{Face, Unit};

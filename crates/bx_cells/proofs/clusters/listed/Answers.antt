@@ -9,7 +9,7 @@ use Rattle.unicode_segmentation.proofs.SegmentsLemmas.{IsPieceOf, All-IsPieceOf}
 use Rattle.bx_cells.specs.declared.unit.Unit.{Unit}
 use Rattle.bx_cells.specs.Faces.{face}
 use Rattle.bx_cells.specs.Units.{unit_at}
-use Rattle.bx_cells.proofs.clusters.units.Goals as goal
+use Rattle.bx_cells.proofs.clusters.listed.Goals as goal
 
 pub loop-start-init : goal.loop-start-init
 loop-start-init g c =

@@ -3,7 +3,7 @@ use Rattle.std.proofs.Common.{◌≡◌, ◌++◌, map, All}
 use Rattle.unicode_segmentation.specs.Iter.{grapheme_indices_left}
 use Rattle.unicode_segmentation.proofs.SegmentsLemmas.{IsPieceOf}
 use Rattle.bx_cells.specs.Units.{units, unit_at}
-use Rattle.bx_cells.proofs.clusters.units.Given as goal
+use Rattle.bx_cells.proofs.clusters.listed.Given as goal
 
 abbrev pub invariant-loop-start : goal.invariant-loop-start
 invariant-loop-start g l = record {
