@@ -1,0 +1,5 @@
+pub mod Wraps
+pub mod Breaks
+pub mod Resets
+pub mod Reversals
+pub mod OneRow

@@ -1,0 +1,3 @@
+pub mod Wrapping
+pub mod RowLevels
+pub mod VisualOrder
