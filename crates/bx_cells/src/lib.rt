@@ -4,7 +4,7 @@
 mod clusters;
 mod error;
 mod faces;
-pub mod fitting;
+mod fitting;
 pub mod simple;
 #[cfg(test)]
 mod tests;

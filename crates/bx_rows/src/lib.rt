@@ -5,6 +5,8 @@ mod error;
 mod one_row;
 mod order;
 mod row;
+#[cfg(test)]
+mod tests;
 mod unit_levels;
 mod wrapping;
 
