@@ -1,5 +1,5 @@
 -- Steps of L1 from the end, and of the levels of units.
-use Rattle.std.proofs.Common.{◌≡◌, ℕ, zero, suc, ◌+◌, ◌-◌, min, ◌<◌, ◌≤◌, Bool, true, false, List, [], ◌∷◌, ◌++◌, map, reverse, length, get_or, take, drop, chars, append_assoc, Option, Some, None, is_some, unwrap_or, refl, sym, ap, ap₂, subst, ◌∙◌, arith}
+use Rattle.std.proofs.Common.{◌≡◌, ℕ, zero, suc, ◌+◌, ◌-◌, min, ◌<◌, ◌≤◌, true, false, List, [], ◌∷◌, ◌++◌, map, reverse, length, get_or, take, drop, chars, append_assoc, Option, Some, None, is_some, unwrap_or, refl, sym, ap, ap₂, ◌∙◌, arith}
 use Rattle.std.proofs.lemmas.List.{at_drop_more, reverse-append}
 use Rattle.bx_cells.specs.declared.unit.Unit.{Unit}
 use Rattle.bx_rows.specs.RowLevels.{Leveled, chars_before, trails, only_trailing, level_at, l1, first_level, unit_levels, filled}
@@ -61,7 +61,6 @@ drop-capped (suc n) (x ∷ xs) =
 -- the levels from a place on, or none
 pub drop_each_capped : (n : ℕ) (xs : List (Option ℕ)) → drop (min n (length xs)) xs ≡ drop n xs
 drop_each_capped = drop-capped
-
 
 filled-more : (counts : List ℕ) (level : ℕ) (rest : List (Option ℕ)) (l : ℕ) (left : List (Option ℕ)) (done new all : List ℕ) → level ≡ l → rest ≡ left → new ≡ done ++ level ∷ [] → done ++ l ∷ filled l (unit_levels counts left) ≡ all → new ++ filled level (unit_levels counts rest) ≡ all
 filled-more counts level rest l left done new all e g pushed inv =

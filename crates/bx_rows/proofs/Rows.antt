@@ -290,7 +290,7 @@ unfolding unicode_segmentation unicode_width
 mark_alone = refl
 
 -- under an override, a wide character with a mark: its mirrored text is two letters, so two glyphs
-mirrored_to_letters : texts (drawn narrow_mirror Auto 4 (0x202e ∷ 0x4e16 ∷ 0x301 ∷ [])) ≡ codes "oab " ∷ []
+mirrored_to_letters : texts (drawn narrow_mirror Auto 4 (0x202e ∷ 0x4e16 ∷ 0x301 ∷ [])) ≡ codes "Oab " ∷ []
 unfolding unicode_segmentation unicode_width
 mirrored_to_letters = refl
 

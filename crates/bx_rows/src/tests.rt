@@ -91,8 +91,16 @@ fn check_line(rt: &impl Abort, alloc: Global, tables: &Tables, line: &str) -> Re
             add_number(&mut all_orders, alloc, *number, i == 0)?;
         }
     }
-    assert_eq!(rt; all_levels.as_str(), fields.next().ok_or("no levels")?, "in {line}");
-    assert_eq!(rt; all_orders.as_str(), fields.next().ok_or("no order")?, "in {line}");
+    assert_eq!(rt;
+        all_levels.as_str(),
+        fields.next().ok_or("no levels")?,
+        "in {line}"
+    );
+    assert_eq!(rt;
+        all_orders.as_str(),
+        fields.next().ok_or("no order")?,
+        "in {line}"
+    );
     Ok(())
 }
 
