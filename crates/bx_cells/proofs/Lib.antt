@@ -1,0 +1,9 @@
+pub mod FaceSteps
+pub mod SimpleBreaks
+pub mod SimpleColumns
+pub mod SimpleUnits
+pub mod SimplePush
+pub mod RangeFacts
+pub mod Printable
+pub mod Standing
+mod Rows

@@ -1,0 +1,101 @@
+//! Faces.
+ghost use Rattle.std.specs.Prelude.{◌≡◌, chars, length, ◌≤◌};
+ghost use Rattle.std.specs.List.{list_any};
+ghost use Rattle.bx_terms.specs.Characters.{is_control};
+ghost use Rattle.bx_cells.specs.Faces.{face, letter_of, sized_face, only_char, is_tab, format_letter};
+
+use crate::unit::Face;
+use bx_terms::is_control;
+use bx_ucd::{BidiData, Class};
+use unicode_width::UnicodeWidthStr;
+
+/// The letter of an explicit formatting character.
+pub(crate) fn letter_of(class: Class) -> Option<u8>
+    ensures { result ≡ letter_of class }
+{
+    match class {
+        Class::LRE => Some(b'e'),
+        Class::RLE => Some(b'E'),
+        Class::LRO => Some(b'o'),
+        Class::RLO => Some(b'O'),
+        Class::PDF => Some(b'p'),
+        Class::LRI => Some(b'i'),
+        Class::RLI => Some(b'I'),
+        Class::FSI => Some(b'f'),
+        Class::PDI => Some(b'P'),
+        _ => None,
+    }
+}
+
+/// The face of a text of these columns that is neither a tab nor a control nor a formatting character.
+fn sized_face(w: u16, columns: usize) -> Face
+    ensures { result ≡ sized_face w columns }
+{
+    if columns == 0 {
+        Face::Mark(b'~')
+    } else if (w as usize) < columns {
+        Face::Mark(b'#')
+    } else {
+        Face::Own(columns as u16)
+    }
+}
+
+/// The only character of a text, if it has just one.
+#[tactic(auto, using(crate::proofs::FaceSteps::only_of_none, crate::proofs::FaceSteps::only_of_one, crate::proofs::FaceSteps::only_of_more))]
+pub fn only_char(text: &str) -> Option<char>
+    ensures { result ≡ only_char (chars text.now) }
+{
+    let mut chars = text.chars();
+    match chars.next() {
+        None => None,
+        Some(first) => match chars.next() {
+            None => Some(first),
+            Some(_) => None,
+        },
+    }
+}
+
+/// Whether a text holds a control character.
+fn has_control(text: &str) -> bool
+    ensures { result ≡ list_any is_control (chars text.now) }
+{
+    text.chars().any(|c| is_control(c))
+}
+
+/// Whether the only character is a tab.
+fn is_tab(only: Option<char>) -> bool
+    ensures { result ≡ is_tab only }
+{
+    match only {
+        Some(c) => c == '\t',
+        None => false,
+    }
+}
+
+/// The letter of an explicit formatting character that stands alone.
+fn format_letter<D: BidiData>(only: Option<char>, source: &D) -> Option<u8>
+    ensures { result ≡ format_letter (D.class_of source.now) only }
+{
+    match only {
+        Some(c) => letter_of(source.class(c)),
+        None => None,
+    }
+}
+
+/// The face of a cluster in a window of `w` columns.
+#[tactic(auto, using(crate::proofs::FaceSteps::of_tab, crate::proofs::FaceSteps::of_control, crate::proofs::FaceSteps::of_format, crate::proofs::FaceSteps::of_sized))]
+pub fn face<D: BidiData>(cluster: &str, source: &D, w: u16) -> Face
+    ensures { result ≡ face (D.class_of source.now) w cluster.now }
+{
+    let only = only_char(cluster);
+    if is_tab(only) {
+        return Face::Tab;
+    }
+    if has_control(cluster) {
+        return Face::Mark(b'?');
+    }
+    match format_letter(only, source) {
+        Some(letter) => Face::Mark(letter),
+        None => sized_face(w, cluster.width()),
+    }
+}

@@ -1,0 +1,10 @@
+-- The highest of the levels from i on.
+use Rattle.std.proofs.Common.{◌≡◌, ◌≤◌, length, drop}
+use Rattle.bx_rows.specs.VisualOrder.{highest}
+use Rattle.bx_rows.proofs.order.highest.Given as goal
+
+abbrev pub invariant-loop-i : goal.invariant-loop-i
+invariant-loop-i l = record { within : l.i ≤ length l.levels; so_far : l.high ≡ highest (drop l.i l.levels) }
+
+abbrev pub decreases-loop-i : goal.decreases-loop-i
+decreases-loop-i l = l.i

@@ -1,0 +1,75 @@
+-- The levels of a row's units: L1 on the row's characters, and then one level for each unit.
+use Rattle.std.specs.Prelude.{ℕ, ◌&&◌, Bool, true, false, List, [], ◌∷◌, map, flat_map, length, take, drop, Option, Some, None, unwrap_or, chars}
+use Rattle.std.specs.List.{zip}
+use Rattle.bx_ucd.specs.declared.class.Class.{Class}
+use Rattle.bx_ucd.specs.declared.class.Class.TheVariants.{S, WS, FSI, LRI, RLI, PDI}
+use Rattle.bx_cells.specs.declared.unit.Unit.{Unit}
+use Rattle.bx_cells.specs.Units.{unit_chars}
+
+-- a segment separator
+abbrev pub is_segment_separator : Class → Bool
+is_segment_separator S = true
+is_segment_separator _ = false
+
+-- whitespace or an isolate formatting character
+abbrev pub is_trailing : Class → Bool
+is_trailing WS = true
+is_trailing FSI = true
+is_trailing LRI = true
+is_trailing RLI = true
+is_trailing PDI = true
+is_trailing _ = false
+
+-- a character's class, and its level unless X9 removes it
+abbrev pub Leveled : Type 0
+Leveled = Class × Option ℕ
+
+-- whether a character and those behind it trail, given whether those behind it do: one that X9 removes does not count
+abbrev pub trails : Leveled → Bool → Bool
+trails (class, None) after = after
+trails (class, Some level) after = elim (is_segment_separator class) [ true ↦ true | false ↦ is_trailing class && after ]
+
+-- the kept characters, up to a segment separator or the end, are all whitespace or isolate formatting characters
+abbrev pub only_trailing : List Leveled → Bool
+only_trailing [] = true
+only_trailing (c ∷ cs) = trails c (only_trailing cs)
+
+-- a kept character has the paragraph level where it trails
+abbrev pub level_at : ℕ → Leveled → Bool → Option ℕ
+level_at paragraph (class, None) trailing = None
+level_at paragraph (class, Some level) trailing = elim trailing [ true ↦ Some paragraph | false ↦ Some level ]
+
+-- L1: the levels of a row's characters
+abbrev pub l1 : ℕ → List Leveled → List (Option ℕ)
+l1 paragraph [] = []
+l1 paragraph (c ∷ cs) = level_at paragraph c (trails c (only_trailing cs)) ∷ l1 paragraph cs
+
+-- the first level there is
+abbrev pub first_level : List (Option ℕ) → Option ℕ
+first_level [] = None
+first_level (None ∷ ls) = first_level ls
+first_level (Some level ∷ ls) = Some level
+
+-- the level of the first kept character of each unit, the units having these many characters
+abbrev pub unit_levels : List ℕ → List (Option ℕ) → List (Option ℕ)
+unit_levels [] ls = []
+unit_levels (n ∷ ns) ls = first_level (take n ls) ∷ unit_levels ns (drop n ls)
+
+-- a unit with no level takes that of the unit before it
+abbrev pub filled : ℕ → List (Option ℕ) → List ℕ
+filled before [] = []
+filled before (l ∷ ls) = let level = unwrap_or l before in level ∷ filled level ls
+
+-- how many characters of a body stand before its units
+abbrev pub chars_before : List ℕ → List Unit → ℕ
+chars_before body [] = 0
+chars_before body (u ∷ us) = length (chars (take u.start body))
+
+-- the characters of a row's units, with their levels among the levels `each` of the body's characters
+abbrev pub row_chars : (ℕ → Class) → List ℕ → List (Option ℕ) → List Unit → List Leveled
+row_chars class body each us = zip (map class (flat_map (unit_chars body) us)) (drop (chars_before body us) each)
+
+-- the levels of a row's units, in a paragraph of the level `paragraph` whose characters have the levels `each`
+abbrev pub row_levels : (ℕ → Class) → List ℕ → ℕ → List (Option ℕ) → List Unit → List ℕ
+row_levels class body paragraph each us =
+    filled paragraph (unit_levels (map (λ u. length (unit_chars body u)) us) (l1 paragraph (row_chars class body each us)))

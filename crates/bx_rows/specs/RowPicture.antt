@@ -1,0 +1,75 @@
+-- What a row shows: the glyphs of its units in visual order, mirrored where the level is odd (L4), and blanks up to the edge.
+use Rattle.std.specs.Prelude.{ℕ, zero, suc, ◌+◌, ◌-◌, ◌%◌, ◌==◌, Bool, true, false, List, [], ◌∷◌, ◌++◌, map, sum, flat_map, replicate, slice_index_or, Option, unwrap_or, chars, encode_utf8_all}
+use Rattle.std.specs.List.{zip}
+use Rattle.bx_terms.specs.Characters.{are_ascii_printable}
+use Rattle.bx_ucd.specs.declared.class.Class.{Class}
+use Rattle.bx_cells.specs.declared.unit.Face.{Face}
+use Rattle.bx_cells.specs.declared.unit.Face.TheVariants.{Tab, Mark, Own}
+use Rattle.bx_cells.specs.declared.unit.Unit.{Unit}
+use Rattle.bx_cells.specs.Faces.{face}
+use Rattle.bx_cells.specs.Units.{unit_text}
+use Rattle.bx_rows.specs.Wrapping.{columns_at}
+use Rattle.bx_rows.specs.VisualOrder.{visual}
+
+-- a glyph: its bytes, its columns, and whether it is in negative image
+pub record Glyph : Type 0 where
+  pub text : List ℕ
+  pub columns : ℕ
+  pub negative : Bool
+
+abbrev pub glyph : List ℕ → ℕ → Bool → Glyph
+glyph text columns negative = record { text = text; columns = columns; negative = negative }
+
+abbrev pub blank : Glyph
+blank = glyph (32 ∷ []) 1 false
+
+-- own text of n columns: a glyph for each character of printable ASCII, else one glyph
+abbrev pub text_glyphs : ℕ → List ℕ → List Glyph
+text_glyphs n text = elim (are_ascii_printable text) [ true ↦ map (λ b. glyph (b ∷ []) 1 false) text | false ↦ glyph text n false ∷ [] ]
+
+-- a text with each character mirrored that has a mirror
+abbrev pub mirrored : (ℕ → Option ℕ) → List ℕ → List ℕ
+mirrored mirror text = encode_utf8_all (map (λ c. unwrap_or (mirror c) c) (chars text))
+
+-- the face shows its own text in n columns
+abbrev pub is_own : ℕ → Face → Bool
+is_own n (Own m) = m == n
+is_own n _ = false
+
+-- the mirrored text where that is shown as itself in as many columns, else the text
+abbrev pub mirrored_within : (ℕ → Class) → (ℕ → Option ℕ) → ℕ → ℕ → List ℕ → List ℕ
+mirrored_within class mirror w n text = let other = mirrored mirror text in elim (is_own n (face class w other)) [ true ↦ other | false ↦ text ]
+
+-- the text that is shown at a level: mirrored at an odd one
+abbrev pub shown_text : (ℕ → Class) → (ℕ → Option ℕ) → ℕ → ℕ → ℕ → List ℕ → List ℕ
+shown_text class mirror w n level text = elim (level % 2) [ zero ↦ text | suc _ ↦ mirrored_within class mirror w n text ]
+
+-- the glyphs of a face in its columns, with its own text at a level
+abbrev pub face_glyphs : (ℕ → Class) → (ℕ → Option ℕ) → ℕ → List ℕ → Face → ℕ → ℕ → List Glyph
+face_glyphs class mirror w text Tab columns level = replicate columns blank
+face_glyphs class mirror w text (Mark letter) columns level = glyph (letter ∷ []) 1 true ∷ []
+face_glyphs class mirror w text (Own n) columns level = text_glyphs n (shown_text class mirror w n level text)
+
+-- the columns of each unit of a row, of which `c` columns are taken
+abbrev pub unit_columns : ℕ → ℕ → List Unit → List ℕ
+unit_columns w c [] = []
+unit_columns w c (u ∷ us) = let n = columns_at w c u.face in n ∷ unit_columns w (c + n) us
+
+-- the columns of a row's units, all together
+abbrev pub used : ℕ → List Unit → ℕ
+used w us = sum (unit_columns w 0 us)
+
+-- the glyphs of each unit of a row, given the columns and levels of its units
+abbrev pub unit_glyphs : (ℕ → Class) → (ℕ → Option ℕ) → ℕ → List ℕ → List Unit → List ℕ → List ℕ → List (List Glyph)
+unit_glyphs class mirror w body us columns levels =
+    map (λ (u, at). face_glyphs class mirror w (unit_text body u) u.face at.0 at.1) (zip us (zip columns levels))
+
+-- the blanks of a row stand at its end: right in a paragraph of even level, left in one of odd level
+abbrev pub with_blanks : ℕ → ℕ → List Glyph → List Glyph
+with_blanks paragraph n glyphs = elim (paragraph % 2) [ zero ↦ glyphs ++ replicate n blank | suc _ ↦ replicate n blank ++ glyphs ]
+
+-- a row from left to right: the glyphs of its units in visual order, and the blanks
+abbrev pub draw : (ℕ → Class) → (ℕ → Option ℕ) → ℕ → List ℕ → ℕ → List Unit → List ℕ → List Glyph
+draw class mirror w body paragraph us levels =
+    let glyphs = unit_glyphs class mirror w body us (unit_columns w 0 us) levels in
+    with_blanks paragraph (w - used w us) (flat_map (λ k. slice_index_or glyphs k []) (visual levels))

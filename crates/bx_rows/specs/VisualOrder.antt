@@ -1,0 +1,40 @@
+-- The visual order of a row's units, L2.
+use Rattle.std.specs.Prelude.{ℕ, zero, suc, ◌+◌, ◌-◌, ◌%◌, nat_le, max, min, true, false, List, [], ◌∷◌, ◌++◌, map, Option, Some, None}
+use Rattle.std.specs.List.{enumerate_from}
+
+-- units, each by its number and its level; each maximal run at level `n` or higher is reversed
+-- `run` has the units of the run so far, the latest first
+abbrev pub reverse_runs : ℕ → List (ℕ × ℕ) → List (ℕ × ℕ) → List (ℕ × ℕ)
+reverse_runs n run [] = run
+reverse_runs n run (u ∷ us) = elim (nat_le n u.1) [ true ↦ reverse_runs n (u ∷ run) us | false ↦ run ++ u ∷ reverse_runs n [] us ]
+
+-- the runs are reversed at each of the `count` levels from `low` on, from the highest down
+abbrev pub reverse_down : ℕ → ℕ → List (ℕ × ℕ) → List (ℕ × ℕ)
+reverse_down low zero us = us
+reverse_down low (suc count) us = reverse_down low count (reverse_runs (low + count) [] us)
+
+abbrev pub highest : List ℕ → ℕ
+highest [] = 0
+highest (l ∷ ls) = max l (highest ls)
+
+-- the lower of a level and of one that may be there
+abbrev pub lower : ℕ → Option ℕ → ℕ
+lower a None = a
+lower a (Some b) = min a b
+
+-- the lowest odd of a level and of one that may be there
+abbrev pub lower_odd : ℕ → Option ℕ → Option ℕ
+lower_odd l lowest = elim (l % 2) [ zero ↦ lowest | suc n ↦ Some (lower l lowest) ]
+
+abbrev pub lowest_odd : List ℕ → Option ℕ
+lowest_odd [] = None
+lowest_odd (l ∷ ls) = lower_odd l (lowest_odd ls)
+
+-- the units after all reversals, from the highest level down to the lowest odd one
+abbrev pub reversed_from : Option ℕ → ℕ → List (ℕ × ℕ) → List (ℕ × ℕ)
+reversed_from None high us = us
+reversed_from (Some low) high us = reverse_down low (high + 1 - low) us
+
+-- the numbers of a row's units, listed from left to right
+abbrev pub visual : List ℕ → List ℕ
+visual levels = map (λ u. u.0) (reversed_from (lowest_odd levels) (highest levels) (enumerate_from 0 levels))

@@ -1,0 +1,155 @@
+//! Each call with ample memory: worked rows and outside values.
+mod tables;
+mod vectors;
+
+use crate::{Row, has_one_row, row_levels, visual, wrap};
+use bx_cells::{Unit, units};
+use bx_explicit::Base;
+use bx_resolve::{Levels, levels};
+use bx_ucd::Tables;
+use std::alloc::Global;
+use std::process::Abort;
+use std::test::Fail;
+use tables::{BRACKETS, CLASSES, MIRRORING};
+use vectors::VECTORS;
+
+/// The small tables.
+fn test_tables(alloc: Global) -> Result<Tables, Fail> {
+    Ok(Tables::read(
+        alloc,
+        CLASSES.as_bytes(),
+        BRACKETS.as_bytes(),
+        MIRRORING.as_bytes(),
+    )?)
+}
+
+/// The text of a field of hexadecimal codes.
+fn text_of(alloc: Global, field: &str) -> Result<String, Fail> {
+    let mut text = String::new(alloc);
+    for code in field.split(' ') {
+        if code != "-" {
+            let code = u32::from_str_radix(code, 16)?;
+            text.push(char::from_u32(code).ok_or("no character")?)?;
+        }
+    }
+    Ok(text)
+}
+
+/// The base that a field names.
+fn base_of(field: &str) -> Base {
+    if field == "ltr" {
+        Base::Ltr
+    } else if field == "rtl" {
+        Base::Rtl
+    } else {
+        Base::Auto
+    }
+}
+
+/// The levels of a body's characters.
+fn levels_of(alloc: Global, body: &str, tables: &Tables, base: Base) -> Result<Levels, Fail> {
+    let mut chars = Vec::new(alloc);
+    for c in body.chars() {
+        chars.push(c)?;
+    }
+    Ok(levels(alloc, &chars, tables, base)?)
+}
+
+/// Adds a number, after a blank where one stands before it in its row.
+fn add_number(text: &mut String, alloc: Global, number: usize, is_first: bool) -> Result<(), Fail> {
+    if !is_first {
+        text.push(' ')?;
+    }
+    text.push_str(format!(in alloc; "{number}")?.as_str())?;
+    Ok(())
+}
+
+/// One line of the outside values.
+fn check_line(rt: &impl Abort, alloc: Global, tables: &Tables, line: &str) -> Result<(), Fail> {
+    let mut fields = line.split('\t');
+    let body = text_of(alloc, fields.next().ok_or("no text")?)?;
+    let base = base_of(fields.next().ok_or("no base")?);
+    let w: u16 = fields.next().ok_or("no columns")?.parse()?;
+    let found = units(alloc, body.as_str(), tables, w)?;
+    let rows = wrap(alloc, body.as_str(), &found, tables, w)?;
+    let levels = levels_of(alloc, body.as_str(), tables, base)?;
+    let mut all_levels = String::new(alloc);
+    let mut all_orders = String::new(alloc);
+    for row in &rows {
+        if row.start > row.stop || row.stop > found.len() {
+            return Err("a row past the units".into());
+        }
+        if row.start > 0 {
+            all_levels.push('|')?;
+            all_orders.push('|')?;
+        }
+        let each = row_levels(alloc, body.as_str(), &found, *row, &levels, tables)?;
+        for (i, level) in each.iter().enumerate() {
+            add_number(&mut all_levels, alloc, usize::from(*level), i == 0)?;
+        }
+        for (i, number) in visual(alloc, &each)?.iter().enumerate() {
+            add_number(&mut all_orders, alloc, *number, i == 0)?;
+        }
+    }
+    assert_eq!(rt;
+        all_levels.as_str(),
+        fields.next().ok_or("no levels")?,
+        "in {line}"
+    );
+    assert_eq!(rt;
+        all_orders.as_str(),
+        fields.next().ok_or("no order")?,
+        "in {line}"
+    );
+    Ok(())
+}
+
+#[test]
+fn rows_of_random_texts(rt: HostRuntime) -> Result<(), Fail> {
+    let tables = test_tables(rt.alloc())?;
+    for line in VECTORS.lines() {
+        check_line(&rt, rt.alloc(), &tables, line)?;
+    }
+    Ok(())
+}
+
+/// Worked rows: what each shows, and a line in the form of the outside values.
+const ROWS: &str = "\
+right to left in left to right\t0061 0020 05D0 05D1 0020 0062\tauto\t6\t0 0 1 1 0 0\t0 1 3 2 4 5\n\
+a row wraps before it is reordered, and its last blank is reset\t0061 0020 05D0 05D1 0020 05D2\tauto\t5\t0 0 1 1 0|1\t0 1 3 2 4|0\n\
+an isolate in an isolate\t2068 2066 0061 2069 05D1 2069 0063\tauto\t7\t0 1 2 1 1 0 0\t0 4 3 2 1 5 6\n\
+isolates at the end of a row\t0061 202B 05D0 2066 2069 202C\tauto\t7\t0 0 1 0 0 0\t0 1 2 3 4 5\n\
+a wide character in one column\t0061 0062 4E16\tauto\t1\t0|0|0\t0|0|0\n\
+a tab at the edge\t0061 0009 0062\tauto\t4\t0 0|0\t0 1|0\n\
+words\t0061 0062 0020 0063 0064 0020 0065 0066\tauto\t7\t0 0 0 0 0 0|0 0\t0 1 2 3 4 5|0 1\n\
+a word wider than the window\t0061 0062 0063 0064 0065 0066\tauto\t4\t0 0 0 0|0 0\t0 1 2 3|0 1\n\
+a blank alone\t0061 0062 0020 0063 0064\tauto\t2\t0 0|0|0 0\t0 1|0|0 1\n\
+a text from right to left\t0061 0020 05D0 05D1 0020 0062\trtl\t6\t2 1 1 1 1 2\t5 4 3 2 1 0";
+
+#[test]
+fn worked_rows(rt: HostRuntime) -> Result<(), Fail> {
+    let tables = test_tables(rt.alloc())?;
+    for row in ROWS.lines() {
+        let (_shows, line) = row.split_once('\t').ok_or("no row")?;
+        check_line(&rt, rt.alloc(), &tables, line)?;
+    }
+    Ok(())
+}
+
+#[test]
+fn a_body_of_no_units(rt: HostRuntime) -> Result<(), Fail> {
+    let tables = test_tables(rt.alloc())?;
+    let none: [Unit; 0] = [];
+    let rows = wrap(rt.alloc(), "", &none, &tables, 4)?;
+    assert_eq!(rt; rows.as_slice(), [Row { start: 0, stop: 0 }].as_slice());
+    Ok(())
+}
+
+#[test]
+fn bodies_that_fit_in_one_row(rt: HostRuntime) -> Result<(), Fail> {
+    assert_eq!(rt; has_one_row("plain text", 10), true);
+    assert_eq!(rt; has_one_row("plain text", 9), false);
+    assert_eq!(rt; has_one_row("\u{5e9}\u{5b8}\u{5dc}", 2), true);
+    assert_eq!(rt; has_one_row("", 1), true);
+    Ok(())
+}

@@ -1,0 +1,122 @@
+//! Wrapping.
+ghost use Rattle.std.specs.Prelude.{◌≡◌, ◌≤◌, All, IfOk, length};
+ghost use Rattle.bx_cells.specs.Units.{StandsIn};
+ghost use Rattle.bx_rows.specs.Wrapping.{columns_at, fitting, is_blank, is_break, up_to_last, row_len, wrap};
+
+use crate::error::RowError;
+use crate::row::Row;
+use bx_cells::{Face, Unit, only_char};
+use bx_ucd::{BidiData, Class};
+use std::alloc::Global;
+
+/// The columns of a face that begins at column `c`, counted from 0.
+pub(crate) fn columns_at(w: u16, c: u16, face: Face) -> u16
+    requires { c ≤ w }
+    ensures { result ≡ columns_at w c face }
+{
+    match face {
+        Face::Tab => (8 - c % 8).min(w - c),
+        Face::Mark(_) => 1,
+        Face::Own(n) => n,
+    }
+}
+
+/// How many of the units fit in one row.
+#[tactic(auto, using(crate::proofs::Wraps::fits_more, crate::proofs::Wraps::fits_no_more, crate::proofs::Wraps::fits_full, crate::proofs::Wraps::fits_all))]
+fn fitting(units: &[Unit], w: u16) -> usize
+    ensures fitting { result ≡ fitting w units.now }
+    ensures within { result ≤ length units.now }
+{
+    let mut c: u16 = 0;
+    let mut n = 0;
+    for unit in units {
+        if c >= w {
+            return n;
+        }
+        let columns = columns_at(w, c, unit.face);
+        if columns > w - c {
+            return n;
+        }
+        c += columns;
+        n += 1;
+    }
+    n
+}
+
+/// Whether a row may end after a character of a class.
+fn is_blank(class: Class) -> bool
+    ensures { result ≡ is_blank class }
+{
+    matches!(class, Class::WS | Class::S)
+}
+
+/// Whether a row may end after a unit.
+fn is_break<D: BidiData>(body: &str, unit: Unit, source: &D) -> bool
+    requires { StandsIn body.now unit }
+    ensures { result ≡ is_break (D.class_of source.now) body.now unit }
+{
+    match only_char(&body[unit.start..unit.stop]) {
+        Some(c) => is_blank(source.class(c)),
+        None => false,
+    }
+}
+
+/// How many units there are up to the last after which a row may end.
+#[tactic(auto, using(crate::proofs::Breaks::last_here, crate::proofs::Breaks::last_before))]
+fn up_to_last_break<D: BidiData>(body: &str, units: &[Unit], source: &D) -> usize
+    requires { All (StandsIn body.now) units.now }
+    ensures last { result ≡ up_to_last (is_break (D.class_of source.now) body.now) units.now }
+    ensures within { result ≤ length units.now }
+{
+    let mut n = units.len();
+    while n > 0 {
+        if is_break(body, units[n - 1], source) {
+            return n;
+        }
+        n -= 1;
+    }
+    0
+}
+
+/// How many of the remaining units the next row has.
+fn row_len<D: BidiData>(body: &str, units: &[Unit], source: &D, w: u16) -> usize
+    requires { All (StandsIn body.now) units.now }
+    ensures row { result ≡ row_len (is_break (D.class_of source.now) body.now) w units.now }
+    ensures within { result ≤ length units.now }
+{
+    let n = fitting(units, w);
+    if n == units.len() {
+        return n;
+    }
+    match up_to_last_break(body, &units[..n], source) {
+        0 => n,
+        len => len,
+    }
+}
+
+/// The rows of a body's units in a window of `w` columns: a row ends after the last blank or tab among the units that fit,
+/// where not all that are left fit. A body of no units has one row of none.
+pub fn wrap<D: BidiData>(
+    alloc: Global,
+    body: &str,
+    units: &[Unit],
+    source: &D,
+    w: u16,
+) -> Result<Vec<Row>, RowError>
+    requires { All (StandsIn body.now) units.now }
+    ensures { IfOk result (λ v. v.items ≡ wrap (D.class_of source.now) w body.now units.now) }
+{
+    let mut rows = Vec::new(alloc);
+    if units.is_empty() {
+        rows.push(Row { start: 0, stop: 0 })?;
+        return Ok(rows);
+    }
+    let mut start = 0;
+    while start < units.len() {
+        let len = row_len(body, &units[start..], source, w);
+        let stop = start + len;
+        rows.push(Row { start, stop })?;
+        start += len.max(1);
+    }
+    Ok(rows)
+}
