@@ -12,7 +12,7 @@ use Rattle.bx_grid.specs.Seen.{seen, all_seen}
 use Rattle.bx_grid.specs.declared.column.Column.{Column}
 use Rattle.bx_grid.specs.declared.column.Column.TheVariants.{Ascii}
 use Rattle.bx_grid.specs.Columns.{is_ascii_printable}
-use Rattle.bx_grid.specs.Picture.{Cells, HasRoom, IsGrid, IsWithin}
+use Rattle.bx_grid.specs.Picture.{GridState, HasRoom, IsGrid, IsWithin}
 use Rattle.bx_grid.proofs.Laid.{plain_is_one}
 use Rattle.bx_grid.proofs.Pasted.{length-paste, rows_paste}
 use Rattle.bx_grid.proofs.Puts.{run_length}
@@ -57,16 +57,16 @@ sized_blanks h w columns tall wide e =
     }
 
 -- a glyph may be put there
-pub record CanPut (g : Cells) (line column : ℕ) (text : List ℕ) : Type 0 where
+pub record CanPut (g : GridState) (line column : ℕ) (text : List ℕ) : Type 0 where
   pub inside : IsWithin g.height g.width line column
   pub glyph : is_one_glyph text ≡ true
   pub utf8 : IsUtf8 text
   pub room : HasRoom g line column (run_width text)
 
-pub can_along : (g old : Cells) (line column : ℕ) (text : List ℕ) → g ≡ old → CanPut old line column text → CanPut g line column text
-can_along g old line column text e can = subst (λ (x : Cells). CanPut x line column text) (sym e) can
+pub can_along : (g old : GridState) (line column : ℕ) (text : List ℕ) → g ≡ old → CanPut old line column text → CanPut g line column text
+can_along g old line column text e can = subst (λ (x : GridState). CanPut x line column text) (sym e) can
 
-pub plain_seen : (g : Cells) (items : List Column) (line column : ℕ) (text : List ℕ) (byte : ℕ) (negative : Bool) → g.columns ≡ all_seen items
+pub plain_seen : (g : GridState) (items : List Column) (line column : ℕ) (text : List ℕ) (byte : ℕ) (negative : Bool) → g.columns ≡ all_seen items
     → text ≡ byte ∷ [] → is_ascii_printable byte ≡ true → IsGrid g.height g.width g.columns → CanPut g line column text
     → all_seen (set items ((line - 1) * g.width + (column - 1)) (Ascii byte negative)) ≡ paste g.columns ((line - 1) * g.width + (column - 1)) (run_columns negative text)
 plain_seen g items line column text byte negative seen_as e h is can =
@@ -80,7 +80,7 @@ plain_seen g items line column text byte negative seen_as e h is can =
     ∙ ap (λ cs. paste cs (r * g.width + k) (y ∷ [])) (sym seen_as)
     ∙ ap (paste g.columns (r * g.width + k)) (sym (plain_is_one negative text byte e h))
 
-pub put_kept : (g : Cells) (line column : ℕ) (text : List ℕ) (negative : Bool) → IsGrid g.height g.width g.columns → CanPut g line column text
+pub put_kept : (g : GridState) (line column : ℕ) (text : List ℕ) (negative : Bool) → IsGrid g.height g.width g.columns → CanPut g line column text
     → IsGrid g.height g.width (paste g.columns ((line - 1) * g.width + (column - 1)) (run_columns negative text))
 put_kept g line column text negative is can =
     let r = line - 1 in
@@ -121,7 +121,7 @@ row_letters count from columns letters e =
     part_letters count from (all_seen columns) letters e
     ∙ ap letters_of (ap (take count) (drop-map seen from columns) ∙ take-map seen count (drop from columns))
 
-pub put_fits : (g : Cells) (line column : ℕ) (text : List ℕ) (n : ℕ) → IsGrid g.height g.width g.columns → CanPut g line column text → n ≡ run_width text
+pub put_fits : (g : GridState) (line column : ℕ) (text : List ℕ) (n : ℕ) → IsGrid g.height g.width g.columns → CanPut g line column text → n ≡ run_width text
     → (line - 1) * g.width + (column - 1) + n ≤ length g.columns
 put_fits g line column text n is can e =
     span_inside (line - 1) (column - 1) n g.height g.width (length g.columns) is.sized.each (omega (arith, can.inside)) (omega (arith, can.room.fits, e))

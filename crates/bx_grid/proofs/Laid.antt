@@ -50,7 +50,7 @@ laid_next done news k m rest at split =
     ap (λ l. drop l cs) end ∙ drop-append-add done (replicate m blank) (length news) ∙ drop-replicate (length news) m blank ∙ ap (λ l. replicate l blank) left in
     rw (front, back) refl
 
--- ---- all from a place on are blanks
+-- ---- all from an index on are blanks
 
 abbrev pub RestIsBlank : ℕ → List Col → Type 0
 RestIsBlank k columns = drop k columns ≡ replicate (length columns - k) blank

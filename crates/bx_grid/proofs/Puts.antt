@@ -32,7 +32,7 @@ run_more columns start k i run negative x fits low before is =
     ∙ ap (λ y. paste start k (plain_columns negative (take i run) ++ y ∷ [])) is
     ∙ ap (paste start k) (sym (map_more glyph run i 0 low))
 
--- at place j, the next of these
+-- at index j, the next of these
 pub filled_more : (columns : List Column) (start : List Col) (k i j n : ℕ) (y : Col) (x : Column)
     → j ≡ k + i → n ≡ i + 1 → j < length start → all_seen columns ≡ paste start k (replicate i y) → seen x ≡ y
     → all_seen (set columns j x) ≡ paste start k (replicate n y)

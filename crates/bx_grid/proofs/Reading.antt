@@ -115,7 +115,7 @@ place_params_fit line column l c =
     (digits_are_params (decimal line) (digits_decimal own line l))
     (digits_are_params (decimal column) (digits_decimal own column c))
 
-pub command_of-place : (line column : ℕ) → line < 2 ^ 64 → column < 2 ^ 64 → command_of (place_params line column) 0x48 ≡ Move line column
-command_of-place line column l c =
+pub command_of-index : (line column : ℕ) → line < 2 ^ 64 → column < 2 ^ 64 → command_of (place_params line column) 0x48 ≡ Move line column
+command_of-index line column l c =
     let parts = no_semicolon (decimal line) (digits_decimal own line l) (decimal column) in
     rw (parts.0, parts.1, number-decimal line l, number-decimal column c) refl

@@ -6,7 +6,7 @@ use Rattle.unicode_width.proofs.Computing.{unicode_width}
 use Rattle.bx_grid.specs.Columns.{Col, Unknown, Glyph, blank, paste, run_columns, AreBlank}
 use Rattle.bx_grid.specs.Columns.{is_one_glyph}
 use Rattle.bx_grid.specs.Glyphs.{WholeGlyph, IsGlyph, columns_of, all_columns, AreWhole, AreWholeRows}
-use Rattle.bx_grid.specs.Picture.{Image, Shows}
+use Rattle.bx_grid.specs.Picture.{PictureState, Shows}
 use Rattle.bx_grid.specs.Terminal.{Terminal, reads, after_resize}
 use Rattle.bx_grid.proofs.Whole.{whole-append, whole_glyph, whole_blanks, whole_head}
 
@@ -141,7 +141,7 @@ pub no_blank_there : AreBlank 1 1 (paste (replicate 4 blank) 0 (run_columns fals
 unfolding chars unicode_width
 no_blank_there h = cc h
 
-abbrev four : List Col → Image
+abbrev four : List Col → PictureState
 four columns = record { height = 1; width = 4; columns = columns; row = 0; column = 0 }
 
 abbrev wide_row : List Col

@@ -117,7 +117,7 @@ right_kept start row i x low len before reach =
     let test : nat_lt (0 + i) (columns_before (get_or (all_seen start) i Unknown)) ≡ false = rw (← here) (grind (arith, nat_tests)) in
     kept ys start row i x Unknown same low before (here ∙ sym (right_of_at 0 (all_seen start) i Unknown (omega (arith, length-map start seen)) ∙ rw test refl))
 
--- the whole list, once each place has been looked at
+-- the whole list, once each index has been looked at
 pub mixed_all : (ys xs : List Col) (i : ℕ) → length ys ≡ length xs → length xs ≤ i → mixed i ys xs ≡ ys
 mixed_all ys xs i same past =
     ap (λ zs. take i ys ++ zs) (drop_all i xs past) ∙ append-nil (take i ys) ∙ take_all i ys (omega arith)

@@ -234,17 +234,17 @@ rows-blank (suc h) w =
 
 -- ---- what a terminal does for a glyph
 
-effects_past : (place : ℕ) (text : List ℕ) (count n offset : ℕ) (negative : Bool) → 1 ≤ offset → glyphs_at place (glyph_columns_from text count negative offset n) ≡ []
-effects_past place text count zero offset negative low = refl
-effects_past place text count (suc n) offset negative low =
+effects_past : (index : ℕ) (text : List ℕ) (count n offset : ℕ) (negative : Bool) → 1 ≤ offset → glyphs_at index (glyph_columns_from text count negative offset n) ≡ []
+effects_past index text count zero offset negative low = refl
+effects_past index text count (suc n) offset negative low =
     let other : nat_eq offset 0 ≡ false = grind (arith, nat_tests) in
-    rw other (effects_past (place + 1) text count n (offset + 1) negative (omega arith))
+    rw other (effects_past (index + 1) text count n (offset + 1) negative (omega arith))
 
-effects_by : (place : ℕ) (text : List ℕ) (n : ℕ) (negative : Bool) → 1 ≤ n → glyphs_at place (glyph_columns text n negative) ≡ Puts place text negative ∷ []
-effects_by place text zero negative low = absurd (omega arith)
-effects_by place text (suc n) negative low = ap (λ ds. Puts place text negative ∷ ds) (effects_past (place + 1) text (suc n) n 1 negative (omega arith))
+effects_by : (index : ℕ) (text : List ℕ) (n : ℕ) (negative : Bool) → 1 ≤ n → glyphs_at index (glyph_columns text n negative) ≡ Puts index text negative ∷ []
+effects_by index text zero negative low = absurd (omega arith)
+effects_by index text (suc n) negative low = ap (λ ds. Puts index text negative ∷ ds) (effects_past (index + 1) text (suc n) n 1 negative (omega arith))
 
-pub glyph_effects : (place : ℕ) (g : WholeGlyph) → IsGlyph g → glyphs_at place (columns_of g) ≡ Puts place g.text g.negative ∷ []
-glyph_effects place g h =
+pub glyph_effects : (index : ℕ) (g : WholeGlyph) → IsGlyph g → glyphs_at index (columns_of g) ≡ Puts index g.text g.negative ∷ []
+glyph_effects index g h =
     let f = columns_form g h in
-    ap (glyphs_at place) f.2 ∙ effects_by place g.text f.0 g.negative f.1
+    ap (glyphs_at index) f.2 ∙ effects_by index g.text f.0 g.negative f.1

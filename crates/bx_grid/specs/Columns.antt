@@ -23,7 +23,7 @@ abbrev pub columns_before : Col → ℕ
 columns_before Unknown = 0
 columns_before (Glyph text columns offset negative) = offset
 
--- what is left of a row's columns before a place from which others are put: nothing is known of a glyph that reached it
+-- what is left of a row's columns before an index from which others are put: nothing is known of a glyph that reached it
 abbrev pub cut_before : List Col → List Col
 cut_before [] = []
 cut_before (x ∷ xs) = (if nat_lt (length xs) (columns_after x) then Unknown else x) ∷ cut_before xs
@@ -37,11 +37,11 @@ cut_after d (x ∷ xs) = (if nat_lt d (columns_before x) then Unknown else x) �
 abbrev pub paste : List Col → ℕ → List Col → List Col
 paste columns k new = take k columns ++ new ++ drop (k + length new) columns
 
--- so many columns from a place on are blanks
+-- so many columns from an index on are blanks
 abbrev pub AreBlank : ℕ → ℕ → List Col → Type 0
 AreBlank k count columns = take count (drop k columns) ≡ replicate count blank
 
--- columns differ at most in so many from a place on
+-- columns differ at most in so many from an index on
 pub record AreSameAround (k count : ℕ) (old new : List Col) : Type 0 where
   pub before : take k new ≡ take k old
   pub after : drop (k + count) new ≡ drop (k + count) old

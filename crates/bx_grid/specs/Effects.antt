@@ -9,22 +9,22 @@ use Rattle.bx_bytes.specs.declared.fate.Fate.TheVariants.{Waits, Ends, Breaks}
 use Rattle.bx_grid.specs.declared.token.Command.{Command}
 use Rattle.bx_grid.specs.declared.token.Command.TheVariants.{Move, Clear, Erase, Render, Other}
 
--- places count columns, row by row, from 0
+-- indices count columns, row by row, from 0
 pub data Effect : Type 0 where
-  -- a glyph, from a place on
-  Puts : (place : ℕ) (text : List ℕ) (negative : Bool) → Effect
-  -- from a place to the row's end
-  Erases : (place : ℕ) → Effect
+  -- a glyph, from an index on
+  Puts : (index : ℕ) (text : List ℕ) (negative : Bool) → Effect
+  -- from an index to the row's end
+  Erases : (index : ℕ) → Effect
   -- all columns
   Clears : Effect
   Forgets : Effect
 
--- the glyphs of columns, the first of which stands at a place
+-- the glyphs of columns, the first of which stands at an index
 abbrev pub glyphs_at : ℕ → List Col → List Effect
-glyphs_at place [] = []
-glyphs_at place (Unknown ∷ cs) = glyphs_at (place + 1) cs
-glyphs_at place (Glyph text columns offset negative ∷ cs) =
-    if offset == 0 then Puts place text negative ∷ glyphs_at (place + 1) cs else glyphs_at (place + 1) cs
+glyphs_at index [] = []
+glyphs_at index (Unknown ∷ cs) = glyphs_at (index + 1) cs
+glyphs_at index (Glyph text columns offset negative ∷ cs) =
+    if offset == 0 then Puts index text negative ∷ glyphs_at (index + 1) cs else glyphs_at (index + 1) cs
 
 abbrev pub put_effects : Terminal → ℕ × ℕ → List Col → List Effect
 put_effects t p new =

@@ -35,27 +35,27 @@ AreWholeRows (suc rows) width columns = AreWhole (take width columns) × AreWhol
 
 -- ---- two lists of columns
 
--- a column at a place is one of a glyph that stands there with all its columns
-pub record StandsWhole (text : List ℕ) (count offset : ℕ) (negative : Bool) (place : ℕ) (columns : List Col) : Type 0 where
+-- a column at an index is one of a glyph that stands there with all its columns
+pub record StandsWhole (text : List ℕ) (count offset : ℕ) (negative : Bool) (index : ℕ) (columns : List Col) : Type 0 where
   pub glyph : IsGlyph (record { text = text; negative = negative })
   pub counted : count ≡ length (run_columns negative text)
   pub within : offset < count
-  pub begins : offset ≤ place
-  pub all : take count (drop (place - offset) columns) ≡ run_columns negative text
+  pub begins : offset ≤ index
+  pub all : take count (drop (index - offset) columns) ≡ run_columns negative text
 
 abbrev pub IsWholeAt : Col → ℕ → List Col → Type 0
-IsWholeAt Unknown place columns = ⊥
-IsWholeAt (Glyph text count offset negative) place columns = StandsWhole text count offset negative place columns
+IsWholeAt Unknown index columns = ⊥
+IsWholeAt (Glyph text count offset negative) index columns = StandsWhole text count offset negative index columns
 
--- a column that both have at a place is one of a glyph that both have there with all its columns
+-- a column that both have at an index is one of a glyph that both have there with all its columns
 abbrev pub ShareWholeGlyphs : List Col → List Col → Type 0
 ShareWholeGlyphs old new = (i : ℕ) → i < length old → slice_index_or old i Unknown ≡ slice_index_or new i Unknown
     → IsWholeAt (slice_index_or old i Unknown) i old × IsWholeAt (slice_index_or old i Unknown) i new
 
--- another place has a column of the glyph of which this column stands at a place
+-- another index has a column of the glyph of which this column stands at an index
 abbrev pub IsOfGlyph : Col → ℕ → ℕ → Type 0
-IsOfGlyph Unknown place other = ⊥
-IsOfGlyph (Glyph text count offset negative) place other = (place ≤ other + offset) × (other + offset < place + count)
+IsOfGlyph Unknown index other = ⊥
+IsOfGlyph (Glyph text count offset negative) index other = (index ≤ other + offset) × (other + offset < index + count)
 
 -- where a column differs, so do all columns of its glyph
 abbrev pub DifferInWholeGlyphs : List Col → List Col → Type 0

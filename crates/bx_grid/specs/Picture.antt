@@ -6,13 +6,13 @@ use Rattle.bx_terms.specs.Sizes.{is_side}
 use Rattle.bx_grid.specs.Terminal.{Terminal}
 
 -- what a grid shows, row by row
-pub record Cells : Type 0 where
+pub record GridState : Type 0 where
   pub height : ℕ
   pub width : ℕ
   pub columns : List Col
 
 -- a grid's columns, and the cursor's row and column from 0
-pub record Image : Type 0 where
+pub record PictureState : Type 0 where
   pub height : ℕ
   pub width : ℕ
   pub columns : List Col
@@ -25,7 +25,7 @@ pub record IsIdle (t : Terminal) : Type 0 where
   pub no_token : t.half_read ≡ []
 
 -- the terminal shows the picture
-pub record Shows (t : Terminal) (p : Image) : Type 0 where
+pub record Shows (t : Terminal) (p : PictureState) : Type 0 where
   pub nothing_half_read : IsIdle t
   pub same_height : t.height ≡ p.height
   pub same_width : t.width ≡ p.width
@@ -33,7 +33,7 @@ pub record Shows (t : Terminal) (p : Image) : Type 0 where
   pub normal : t.negative ≡ Some false
   pub at_cursor : t.position ≡ Some (p.row, p.column)
 
--- each side is from 1 to 500, and there is a column for each place
+-- each side is from 1 to 500, and there is a column for each index
 pub record IsSized (height width columns : ℕ) : Type 0 where
   pub low : 1 ≤ height
   pub high : height ≤ 500
@@ -57,12 +57,12 @@ pub record IsWithin (height width line column : ℕ) : Type 0 where
   pub right : column ≤ width
 
 -- so many columns from a cell on are in its row, and all are blanks
-pub record HasRoom (g : Cells) (line column count : ℕ) : Type 0 where
+pub record HasRoom (g : GridState) (line column count : ℕ) : Type 0 where
   pub fits : column - 1 + count ≤ g.width
   pub blank : AreBlank ((line - 1) * g.width + (column - 1)) count g.columns
 
 -- a picture is a grid and a cursor inside
-pub record IsPicture (p : Image) : Type 0 where
+pub record IsPicture (p : PictureState) : Type 0 where
   pub grid : IsGrid p.height p.width p.columns
   pub row_inside : p.row < p.height
   pub column_inside : p.column < p.width

@@ -1,13 +1,13 @@
 -- What a screen stands for: a terminal, or nothing once it has failed.
 use Rattle.std.specs.Prelude.{Option, Some, None, if◌then◌else◌}
 use Rattle.bx_grid.specs.Terminal.{Terminal}
-use Rattle.bx_grid.specs.Picture.{Image, Shows}
+use Rattle.bx_grid.specs.Picture.{PictureState, Shows}
 use Rattle.bx_grid.specs.declared.screen.Screen.TheInside.{Inside}
 
 abbrev pub terminal_if_live : Inside → Option Terminal
 terminal_if_live s = if s.failed then None else Some s.live
 
 -- the screen has not failed, and shows the picture
-abbrev pub IfShown : Option Terminal → Image → Type 0
+abbrev pub IfShown : Option Terminal → PictureState → Type 0
 IfShown None p = ⊥
 IfShown (Some t) p = Shows t p

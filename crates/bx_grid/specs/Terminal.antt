@@ -64,7 +64,7 @@ after_command t Other = all_unknown t
 
 -- ---- what a printable run does
 
--- a place in a row of this width; past its end it is unknown
+-- a cell in a row of this width; past its end it is unknown
 abbrev pub within : ℕ → ℕ → ℕ → Option (ℕ × ℕ)
 within width row column = if nat_lt column width then Some (row, column) else None
 

@@ -1,4 +1,4 @@
-/// A place in a grid.
+/// A cell of a grid: its line and its column.
 #[derive(Clone, Copy, PartialEq, Eq, Debug)]
 pub struct Cell {
     /// The row, from 1 at the top.

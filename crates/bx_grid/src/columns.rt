@@ -48,14 +48,14 @@ pub fn fill_unknown(columns: &mut [Column])
     }
 }
 
-/// Blanks from a place up to another.
+/// Blanks from an index up to another.
 pub fn fill_blank(columns: &mut [Column], from: usize, to: usize)
     requires order { from ≤ to }
     requires inside { to ≤ length columns.old }
     ensures { all_seen columns.new ≡ paste (all_seen columns.old) from (replicate (to - from) blank) }
 {
-    for place in from..to {
-        columns[place] = blank_column();
+    for index in from..to {
+        columns[index] = blank_column();
     }
 }
 

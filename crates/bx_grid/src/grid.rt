@@ -3,7 +3,7 @@
 ghost use Rattle.std.specs.Prelude.{◌≡◌, ℕ, ◌*◌, ◌+◌, ◌-◌, ◌<◌, ◌≤◌, ◌↔◌, List, ◌++◌, length, replicate, take, drop, IfOk, OnOk, OnErr, IfErr, IsErrOf, IsOk, IsTrue, true, false};
 ghost use Rattle.bx_grid.specs.Columns.{blank, is_ascii_glyph, is_one_glyph, paste, run_columns, run_width};
 ghost use Rattle.bx_grid.specs.Seen.{seen, all_seen};
-ghost use Rattle.bx_grid.specs.Picture.{Cells, HasRoom, IsGrid, IsWithin, is_size};
+ghost use Rattle.bx_grid.specs.Picture.{GridState, HasRoom, IsGrid, IsWithin, is_size};
 
 use crate::cell::Cell;
 use crate::column::Column;
@@ -26,11 +26,11 @@ pub struct Grid {
 
 impl Model for Grid {
     ghost use Rattle.std.specs.Prelude.{◌≡◌, ◌*◌, ◌≤◌, length};
-    ghost use Rattle.bx_grid.specs.Picture.{Cells, IsGrid};
+    ghost use Rattle.bx_grid.specs.Picture.{GridState, IsGrid};
     ghost use Rattle.bx_grid.specs.Letters.{letters_of};
     ghost use Rattle.bx_grid.specs.Seen.{all_seen};
 
-    ghost Value = { Cells };
+    ghost Value = { GridState };
 
     ghost view = { λ g. record { height = g.height; width = g.width; columns = all_seen g.columns.items } };
 
@@ -74,11 +74,11 @@ impl Grid {
         ensures memory { OnErr result (result ≡ Err GridError.OutOfMemory) }
         ensures plain { is_ascii_glyph text.now ≡ true → IsOk result }
     {
-        let place = (cell.line - 1) as usize * self.width as usize + (cell.column - 1) as usize;
+        let index = (cell.line - 1) as usize * self.width as usize + (cell.column - 1) as usize;
         if let Some(byte) = ascii_glyph(text) {
             let letter = letter(byte, negative);
-            self.columns[place] = Column::Ascii { byte, negative };
-            self.letters[place] = letter;
+            self.columns[index] = Column::Ascii { byte, negative };
+            self.letters[index] = letter;
             return Ok(());
         }
         let alloc = *self.columns.allocator();
@@ -86,7 +86,7 @@ impl Grid {
         put_over_blanks(
             alloc,
             self.columns.as_mut_slice(),
-            place,
+            index,
             text,
             count,
             negative,
@@ -94,8 +94,8 @@ impl Grid {
         note_letters(
             self.letters.as_mut_slice(),
             &self.columns,
-            place,
-            place + count as usize,
+            index,
+            index + count as usize,
         );
         Ok(())
     }
@@ -110,8 +110,8 @@ impl Grid {
         if count > width - column {
             return false;
         }
-        let place = (cell.line - 1) as usize * width + column;
-        are_blank(&self.columns[place..place + count])
+        let index = (cell.line - 1) as usize * width + column;
+        are_blank(&self.columns[index..index + count])
     }
 
     /// The columns, row by row.

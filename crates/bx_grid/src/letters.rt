@@ -42,15 +42,15 @@ pub fn blank_letters(alloc: Global, count: usize) -> Result<Vec<u8>, AllocError>
     vec![in alloc; b' '; count]
 }
 
-/// Notes the letters of columns from a place up to another.
+/// Notes the letters of columns from an index up to another.
 pub fn note_letters(letters: &mut [u8], columns: &[Column], from: usize, to: usize)
     requires as_long { length letters.old ≡ length columns.now }
     requires order { from ≤ to }
     requires inside { to ≤ length columns.now }
     ensures { letters.new ≡ take from letters.old ++ (letters_of (take (to - from) (drop from (all_seen columns.now))) ++ drop to letters.old) }
 {
-    for place in from..to {
-        letters[place] = letter_of(&columns[place]);
+    for index in from..to {
+        letters[index] = letter_of(&columns[index]);
     }
 }
 

@@ -5,7 +5,7 @@ ghost use Rattle.std.specs.Prelude.{◌≡◌, ℕ, List, [], ◌++◌, true};
 ghost use Rattle.std.specs.Str.{IsUtf8};
 ghost use Rattle.bx_bytes.specs.Utf8.{are_printable};
 ghost use Rattle.bx_grid.specs.Glyphs.{ShareWholeGlyphs, DifferInWholeGlyphs};
-ghost use Rattle.bx_grid.specs.Picture.{Image, IsPicture};
+ghost use Rattle.bx_grid.specs.Picture.{PictureState, IsPicture};
 ghost use Rattle.bx_grid.specs.Terminal.{Terminal, reads, after_resize};
 
 mod cell;
@@ -47,8 +47,8 @@ pub fn text_goes_on_with_the_run()
 /// Two pictures of one size differ in whole glyphs: a column that both have is one of a glyph that both have with all
 /// its columns, and where a column differs, so do all columns of the glyph that either has there.
 pub fn pictures_differ_in_whole_glyphs()
-    ensures common { (p q : Image) → IsPicture p → IsPicture q → p.height ≡ q.height → p.width ≡ q.width → ShareWholeGlyphs p.columns q.columns }
-    ensures differing { (p q : Image) → IsPicture p → IsPicture q → p.height ≡ q.height → p.width ≡ q.width
+    ensures common { (p q : PictureState) → IsPicture p → IsPicture q → p.height ≡ q.height → p.width ≡ q.width → ShareWholeGlyphs p.columns q.columns }
+    ensures differing { (p q : PictureState) → IsPicture p → IsPicture q → p.height ≡ q.height → p.width ≡ q.width
         → DifferInWholeGlyphs p.columns q.columns × DifferInWholeGlyphs q.columns p.columns }
 {}
 

@@ -128,7 +128,7 @@ impl Live {
         }
     }
 
-    /// Puts the run's glyphs, in columns from a place on.
+    /// Puts the run's glyphs, in columns from an index on.
     fn put_run(&mut self, row: u16, column: u16, negative: bool) -> Result<(), AllocError>
         requires { (row < self.old.height) × (column < self.old.width) }
         ensures { OnOk result (self.new ≡ glyphs_put self.old (row, column) (run_columns negative self.old.run)) }

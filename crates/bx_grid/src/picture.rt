@@ -1,7 +1,7 @@
 //! A picture: a grid and a cursor in it.
 
 ghost use Rattle.std.specs.Prelude.{◌≡◌, ◌+◌, ◌-◌, ◌*◌, ◌≤◌, ◌<◌, length};
-ghost use Rattle.bx_grid.specs.Picture.{Cells, Image, IsPicture, IsWithin};
+ghost use Rattle.bx_grid.specs.Picture.{GridState, PictureState, IsPicture, IsWithin};
 
 use crate::cell::Cell;
 use crate::grid::Grid;
@@ -16,9 +16,9 @@ pub struct Picture {
 
 impl Model for Picture {
     ghost use Rattle.std.specs.Prelude.{◌-◌, ◌≤◌};
-    ghost use Rattle.bx_grid.specs.Picture.{Image, IsWithin};
+    ghost use Rattle.bx_grid.specs.Picture.{PictureState, IsWithin};
 
-    ghost Value = { Image };
+    ghost Value = { PictureState };
 
     ghost view = { λ p. record { height = p.grid.height; width = p.grid.width; columns = p.grid.columns; row = p.cursor.line - 1; column = p.cursor.column - 1 } };
 

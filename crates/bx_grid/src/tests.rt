@@ -175,15 +175,15 @@ fn a_wide_glyph_stands_in_two_columns(rt: HostRuntime) -> Result<(), Fail> {
     let picture = picture_of_wide(rt.alloc())?;
     let columns = picture.grid().columns();
     assert_eq!(rt; columns.len(), 4);
-    for place in 0..2 {
+    for index in 0..2 {
         let half = Column::Glyph {
             text: String::from_str(rt.alloc(), "\u{4E16}")?,
             columns: 2,
-            offset: place as u16,
+            offset: index as u16,
             negative: false,
         };
-        assert!(rt; columns[place].same(&half), "column {place}");
-        assert!(rt; columns[place + 2].is_blank());
+        assert!(rt; columns[index].same(&half), "column {index}");
+        assert!(rt; columns[index + 2].is_blank());
     }
     Ok(())
 }

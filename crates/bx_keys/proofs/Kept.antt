@@ -12,7 +12,7 @@ use Rattle.bx_bytes.specs.Pattern.{One, is_within, past}
 use Rattle.bx_bytes.specs.Fate.{fate_in}
 use Rattle.bx_bytes.specs.declared.fate.Fate.TheVariants.{Waits, Breaks}
 use Rattle.bx_bytes.proofs.Codes.{too_long}
-use Rattle.bx_keys.specs.Keys.{is_side, size_key, final_byte, before_final, sequence_keys, sequence_key, key_of}
+use Rattle.bx_keys.specs.Keys.{is_side_in_digits, size_key, final_byte, before_final, sequence_keys, sequence_key, key_of}
 use Rattle.bx_keys.specs.Waiting.{fate, kept}
 use Rattle.bx_keys.proofs.Characters.{no_escape}
 use Rattle.bx_keys.proofs.Sequences.{past_by, only_waits, after_escape, after_intermediate, control_more, shift_more, long_more}
@@ -117,16 +117,16 @@ bytes_of_field [] h = omega arith
 bytes_of_field (k ∷ []) h = omega arith
 bytes_of_field (k ∷ l ∷ kind) h = absurd (let e = and_right (nat_eq k 0x38) false refl in cc (e, h))
 
-side_len : (ds : List ℕ) → is_side ds ≡ true → length ds ≤ 3
+side_len : (ds : List ℕ) → is_side_in_digits ds ≡ true → length ds ≤ 3
 side_len ds h =
     let lens = and_parts (nat_le 1 (length ds) && nat_le (length ds) 3) _ h in
     leb-true (length ds) 3 (and_parts (nat_le 1 (length ds)) (nat_le (length ds) 3) lens.0).1
 
-three_fields : (t : Bool) (kind h w : List ℕ) → (bytes_eq kind (codes "8") && (is_side h && is_side w)) ≡ t → 8 ≤ length kind + length h + length w
+three_fields : (t : Bool) (kind h w : List ℕ) → (bytes_eq kind (codes "8") && (is_side_in_digits h && is_side_in_digits w)) ≡ t → 8 ≤ length kind + length h + length w
     → size_key (kind ∷ h ∷ w ∷ []) ≡ None
 three_fields true kind h w e long =
-    let parts = and_parts (bytes_eq kind (codes "8")) (is_side h && is_side w) e in
-    let sides = and_parts (is_side h) (is_side w) parts.1 in
+    let parts = and_parts (bytes_eq kind (codes "8")) (is_side_in_digits h && is_side_in_digits w) e in
+    let sides = and_parts (is_side_in_digits h) (is_side_in_digits w) parts.1 in
     absurd (omega (arith, bytes_of_field kind parts.0, side_len h sides.0, side_len w sides.1))
 three_fields false kind h w e long = rw e refl
 
@@ -137,7 +137,7 @@ long_fields : (fields : List (List ℕ)) → 10 ≤ length (join_with_byte 0x3B 
 long_fields [] l = refl
 long_fields (kind ∷ []) l = refl
 long_fields (kind ∷ h ∷ []) l = refl
-long_fields (kind ∷ h ∷ w ∷ []) l = three_fields (bytes_eq kind (codes "8") && (is_side h && is_side w)) kind h w refl (omega (arith, joined_three kind h w, l))
+long_fields (kind ∷ h ∷ w ∷ []) l = three_fields (bytes_eq kind (codes "8") && (is_side_in_digits h && is_side_in_digits w)) kind h w refl (omega (arith, joined_three kind h w, l))
 long_fields (kind ∷ h ∷ w ∷ x ∷ fields) l = refl
 
 long_size : (between : List ℕ) → 10 ≤ length between → size_key (slice_split (λ b. nat_eq b 0x3B) between) ≡ None

@@ -10,7 +10,7 @@ use Rattle.std.proofs.lemmas.Bool.Decides.{nat_tests}
 use Rattle.std.proofs.lemmas.List.Elements.{All-from_get_or}
 use Rattle.std.proofs.lemmas.List.Sums.{fails_before_first}
 use Rattle.std.proofs.lemmas.List.Splits.{slice_split_first, slice_split_none}
-use Rattle.bx_keys.specs.Keys.{is_side, size_key}
+use Rattle.bx_keys.specs.Keys.{is_side_in_digits, size_key}
 use Rattle.bx_keys.specs.declared.key.Key.{Key}
 use Rattle.bx_keys.specs.declared.key.Key.TheVariants.{Size}
 
@@ -47,12 +47,12 @@ one_or_more (x ∷ xs) = begins_more x xs (semicolon x) refl (one_or_more xs)
 -- ---- the rows and the columns
 
 abbrev sized : List ℕ → List ℕ → Option Key
-sized h w = cond (is_side h && is_side w) (Some (Size (digits_value 10 h) (digits_value 10 w))) None
+sized h w = cond (is_side_in_digits h && is_side_in_digits w) (Some (Size (digits_value 10 h) (digits_value 10 w))) None
 
 no_side : (h w : List ℕ) → all_ascii_digits w ≡ false → sized h w ≡ None
 no_side h w e =
-    let no : is_side w ≡ false = and_right _ _ (and_left (all_ascii_digits w) _ e) in
-    let none : is_side h && is_side w ≡ false = and_right (is_side h) (is_side w) no in
+    let no : is_side_in_digits w ≡ false = and_right _ _ (and_left (all_ascii_digits w) _ e) in
+    let none : is_side_in_digits h && is_side_in_digits w ≡ false = and_right (is_side_in_digits h) (is_side_in_digits w) no in
     ap (λ t. cond t (Some (Size (digits_value 10 h) (digits_value 10 w))) None) none
 
 fields_size : (h w : List ℕ) → size_key (codes "8" ∷ h ∷ slice_split semicolon w) ≡ sized h w

@@ -1,4 +1,5 @@
 -- The key of each item, and the keys of input.
+use Rattle.bx_terms.specs.Sizes.{is_side}
 use Rattle.std.specs.Prelude.{ℕ, zero, suc, ◌-◌, ◌≤◌, max, Bool, ◌&&◌, nat_le, ◌==◌, List, [], ◌∷◌, ◌++◌, length, slice_index, take, drop, Option, Some, None, find, option_map, option_to_list, codes, if◌then◌else◌}
 use Rattle.std.specs.List.{slice_split}
 use Rattle.std.specs.Str.{chars, bytes_eq, all_ascii_digits}
@@ -26,13 +27,13 @@ sequence_keys =
     ∷ (codes "9~", Direction) ∷ []
 
 -- a side of a window, in one to three digits
-abbrev pub is_side : List ℕ → Bool
-is_side ds = (nat_le 1 (length ds) && nat_le (length ds) 3) && (all_ascii_digits ds && (nat_le 1 (digits_value 10 ds) && nat_le (digits_value 10 ds) 500))
+abbrev pub is_side_in_digits : List ℕ → Bool
+is_side_in_digits ds = (nat_le 1 (length ds) && nat_le (length ds) 3) && (all_ascii_digits ds && is_side (digits_value 10 ds))
 
 -- 8 ; rows ; columns
 abbrev pub size_key : List (List ℕ) → Option Key
 size_key (kind ∷ h ∷ w ∷ []) =
-    if bytes_eq kind (codes "8") && (is_side h && is_side w) then Some (Size (digits_value 10 h) (digits_value 10 w)) else None
+    if bytes_eq kind (codes "8") && (is_side_in_digits h && is_side_in_digits w) then Some (Size (digits_value 10 h) (digits_value 10 w)) else None
 size_key _ = None
 
 abbrev pub final_byte : List ℕ → ℕ

@@ -5,12 +5,13 @@ ghost use Rattle.std.specs.List.{slice_split};
 ghost use Rattle.std.specs.Char.{is_ascii_digit};
 ghost use Rattle.std.specs.Str.Parse.{digits_value};
 ghost use Rattle.bx_keys.specs.Keys as spec;
-ghost use Rattle.bx_keys.specs.Keys.{HasSides, is_side};
+ghost use Rattle.bx_keys.specs.Keys.{HasSides, is_side_in_digits};
 ghost use Rattle.bx_keys.specs.Waiting.{fate};
 
 use crate::key::Key;
 use crate::sequence::ESC;
 use bx_bytes::{Fate, character};
+use bx_terms::is_side;
 
 /// The key of the item whose last byte this is.
 pub fn key_of(waiting: &[u8], byte: u8) -> Option<Key>
@@ -125,7 +126,7 @@ fn first_semicolon(bytes: &[u8]) -> Option<usize>
 
 /// A window's side, from 1 to 500, in one to three digits.
 fn side(digits: &[u8]) -> Option<u16>
-    ensures value { result ≡ (if is_side digits.now then Some (digits_value 10 digits.now) else None) }
+    ensures value { result ≡ (if is_side_in_digits digits.now then Some (digits_value 10 digits.now) else None) }
     ensures fits { IfSome result (λ side. (1 ≤ side) × (side ≤ 500)) }
 {
     let side = match digits {
@@ -134,11 +135,7 @@ fn side(digits: &[u8]) -> Option<u16>
         [a, b, c] => (digit(*a)? * 10 + digit(*b)?) * 10 + digit(*c)?,
         _ => return None,
     };
-    if 1 <= side && side <= 500 {
-        Some(side)
-    } else {
-        None
-    }
+    if is_side(side) { Some(side) } else { None }
 }
 
 fn digit(byte: u8) -> Option<u16>

@@ -7,7 +7,7 @@ use Rattle.std.proofs.Math.Bool.{and-false}
 use Rattle.std.proofs.lemmas.List.Elements.{All-head, All-tail}
 use Rattle.bx_grid.specs.Columns.{Col, Unknown, Glyph, blank, is_blank, col_eq, are_equal}
 use Rattle.bx_grid.specs.Glyphs.{WholeGlyph, IsGlyph, columns_of, all_columns, AreWhole, AreWholeRows}
-use Rattle.bx_grid.specs.Picture.{Image, IsGrid}
+use Rattle.bx_grid.specs.Picture.{PictureState, IsGrid}
 use Rattle.bx_grid.proofs.Blanks.{blanks_pass}
 use Rattle.bx_grid.proofs.Equal.{col_is, are_equal_refl}
 use Rattle.bx_paint.specs.Painting.{Sent, Step, nothing_sent, then_sent, before_tail, is_sent, column_sent, columns_sent, tail_sent, row_sent, rows_sent, changes_bytes}
@@ -60,7 +60,7 @@ rows_same (suc count) r width negative xs =
     let after : Sent → Sent = λ s. then_sent s.bytes (rows_sent count (r + 1) width s.negative (drop width xs) (drop width xs)) in
     ap after (row_same r negative (take width xs)) ∙ rows_same count (r + 1) width negative (drop width xs)
 
-pub no_changes : (p : Image) → changes_bytes p p ≡ []
+pub no_changes : (p : PictureState) → changes_bytes p p ≡ []
 no_changes p =
     let row : nat_eq p.row p.row ≡ true = grind (arith, nat_tests) in
     let column : nat_eq p.column p.column ≡ true = grind (arith, nat_tests) in
@@ -86,30 +86,30 @@ one_differs [] (y ∷ ys) same h = absurd (omega (arith, same))
 one_differs (x ∷ xs) [] same h = absurd (omega (arith, same))
 one_differs (x ∷ xs) (y ∷ ys) same h = differ_by (col_eq x y) x y xs ys refl (one_differs xs ys (omega (arith, same))) h
 
-effect_by : (t : Bool) (place : ℕ) (g : WholeGlyph) (olds : List Col) → length olds ≡ length (columns_of g) → are_equal olds (columns_of g) ≡ t
-    → length (glyph_effect place t g) ≤ differing olds (columns_of g)
-effect_by true place g olds same e = omega arith
-effect_by false place g olds same e = one_differs olds (columns_of g) same e
+effect_by : (t : Bool) (index : ℕ) (g : WholeGlyph) (olds : List Col) → length olds ≡ length (columns_of g) → are_equal olds (columns_of g) ≡ t
+    → length (glyph_effect index t g) ≤ differing olds (columns_of g)
+effect_by true index g olds same e = omega arith
+effect_by false index g olds same e = one_differs olds (columns_of g) same e
 
-glyphs_few : (place : ℕ) (gs : List WholeGlyph) (olds : List Col) → All IsGlyph gs → length olds ≡ length (all_columns gs)
-    → length (glyphs_changed place olds (all_columns gs)) ≤ differing olds (all_columns gs)
-glyphs_few place [] olds each same = omega arith
-glyphs_few place (g ∷ gs) olds each same =
+glyphs_few : (index : ℕ) (gs : List WholeGlyph) (olds : List Col) → All IsGlyph gs → length olds ≡ length (all_columns gs)
+    → length (glyphs_changed index olds (all_columns gs)) ≤ differing olds (all_columns gs)
+glyphs_few index [] olds each same = omega arith
+glyphs_few index (g ∷ gs) olds each same =
     let cg = columns_of g in
     let n = length cg in
     let xs = all_columns gs in
     let count : length olds ≡ n + length xs = same ∙ length-append cg xs in
     let first : length (take n olds) ≡ n = length-take-le n olds (omega (arith, count)) in
     let alike = are_equal (take n olds) cg in
-    let by = (by_glyph alike g olds xs (All-head IsGlyph g gs each) refl).changed place in
-    let one = effect_by alike place g (take n olds) first refl in
-    let rest = glyphs_few (place + n) gs (drop n olds) (All-tail IsGlyph g gs each) (length-drop n olds ∙ omega (arith, count)) in
+    let by = (by_glyph alike g olds xs (All-head IsGlyph g gs each) refl).changed index in
+    let one = effect_by alike index g (take n olds) first refl in
+    let rest = glyphs_few (index + n) gs (drop n olds) (All-tail IsGlyph g gs each) (length-drop n olds ∙ omega (arith, count)) in
     let both : differing olds (cg ++ xs) ≡ differing (take n olds) cg + differing (drop n olds) xs =
     ap (λ ys. differing ys (cg ++ xs)) (sym (take-append-drop n olds)) ∙ differing-append (take n olds) (drop n olds) cg xs first in
-    rw (by, both) (omega (arith, one, rest, length-append (glyph_effect place alike g) (glyphs_changed (place + n) (drop n olds) xs)))
+    rw (by, both) (omega (arith, one, rest, length-append (glyph_effect index alike g) (glyphs_changed (index + n) (drop n olds) xs)))
 
-front_few : (place : ℕ) (olds front : List Col) → AreWhole front → length olds ≡ length front → length (glyphs_changed place olds front) ≤ differing olds front
-front_few place olds front whole same = rw whole.are at (glyphs_few place whole.glyphs olds whole.each (same ∙ ap length (sym whole.are)))
+front_few : (index : ℕ) (olds front : List Col) → AreWhole front → length olds ≡ length front → length (glyphs_changed index olds front) ≤ differing olds front
+front_few index olds front whole same = rw whole.are at (glyphs_few index whole.glyphs olds whole.each (same ∙ ap length (sym whole.are)))
 
 one_by : (t : Bool) (c : Col) (cs : List Col) → col_eq c blank ≡ t → (list_all is_blank cs ≡ false → 1 ≤ differing cs (replicate (length cs) blank))
     → list_all is_blank (c ∷ cs) ≡ false → 1 ≤ differing (c ∷ cs) (replicate (length (c ∷ cs)) blank)
@@ -123,12 +123,12 @@ some_differ : (cs : List Col) → list_all is_blank cs ≡ false → 1 ≤ diffe
 some_differ [] h = absurd (cc h)
 some_differ (c ∷ cs) h = one_by (col_eq c blank) c cs refl (some_differ cs) h
 
-tail_by : (t : Bool) (place : ℕ) (olds : List Col) → list_all is_blank olds ≡ t → length (tail_changed place olds) ≤ differing olds (replicate (length olds) blank)
-tail_by true place olds e = rw e (omega arith)
-tail_by false place olds e = rw e (some_differ olds e)
+tail_by : (t : Bool) (index : ℕ) (olds : List Col) → list_all is_blank olds ≡ t → length (tail_changed index olds) ≤ differing olds (replicate (length olds) blank)
+tail_by true index olds e = rw e (omega arith)
+tail_by false index olds e = rw e (some_differ olds e)
 
-row_few : (place : ℕ) (old new : List Col) → AreWhole new → length old ≡ length new → length (row_changed place old new) ≤ differing old new
-row_few place old new whole same =
+row_few : (index : ℕ) (old new : List Col) → AreWhole new → length old ≡ length new → length (row_changed index old new) ≤ differing old new
+row_few index old new whole same =
     let front = before_tail new in
     let f = length front in
     let olds = take f old in
@@ -139,14 +139,14 @@ row_few place old new whole same =
     ap (λ xs. differing xs new) (sym (take-append-drop f old))
     ∙ ap (differing (olds ++ rest)) (sym (front_blanks new) ∙ ap (λ n. front ++ replicate n blank) (sym rlen))
     ∙ differing-append olds rest front (replicate (length rest) blank) olen in
-    let glyphs = front_few place olds front (whole_front new whole) olen in
-    let tail = tail_by (list_all is_blank rest) (place + f) rest refl in
-    omega (arith, both, glyphs, tail, length-append (glyphs_changed place olds front) (tail_changed (place + f) rest))
+    let glyphs = front_few index olds front (whole_front new whole) olen in
+    let tail = tail_by (list_all is_blank rest) (index + f) rest refl in
+    omega (arith, both, glyphs, tail, length-append (glyphs_changed index olds front) (tail_changed (index + f) rest))
 
-rows_few : (count width place : ℕ) (old new : List Col) → AreWholeRows count width new → length old ≡ count * width → length new ≡ count * width
-    → length (rows_changed count width place old new) ≤ differing old new
-rows_few zero width place old new whole tall tall' = omega arith
-rows_few (suc count) width place old new whole tall tall' =
+rows_few : (count width index : ℕ) (old new : List Col) → AreWholeRows count width new → length old ≡ count * width → length new ≡ count * width
+    → length (rows_changed count width index old new) ≤ differing old new
+rows_few zero width index old new whole tall tall' = omega arith
+rows_few (suc count) width index old new whole tall tall' =
     let more : suc count * width ≡ width + count * width = omega arith in
     let olds = take width old in
     let news = take width new in
@@ -156,12 +156,12 @@ rows_few (suc count) width place old new whole tall tall' =
     ap (λ xs. differing xs new) (sym (take-append-drop width old))
     ∙ ap (differing (olds ++ drop width old)) (sym (take-append-drop width new))
     ∙ differing-append olds (drop width old) news (drop width new) (olen ∙ sym nlen) in
-    let row = row_few place olds news whole.0 (olen ∙ sym nlen) in
-    let rest = rows_few count width (place + width) (drop width old) (drop width new) whole.1
+    let row = row_few index olds news whole.0 (olen ∙ sym nlen) in
+    let rest = rows_few count width (index + width) (drop width old) (drop width new) whole.1
     (length-drop width old ∙ omega (arith, tall, more)) (length-drop width new ∙ omega (arith, tall', more)) in
-    omega (arith, both, row, rest, length-append (row_changed place olds news) (rows_changed count width (place + width) (drop width old) (drop width new)))
+    omega (arith, both, row, rest, length-append (row_changed index olds news) (rows_changed count width (index + width) (drop width old) (drop width new)))
 
-pub few_changes : (old new : Image) → IsGrid old.height old.width old.columns → IsGrid new.height new.width new.columns → old.height ≡ new.height → old.width ≡ new.width
+pub few_changes : (old new : PictureState) → IsGrid old.height old.width old.columns → IsGrid new.height new.width new.columns → old.height ≡ new.height → old.width ≡ new.width
     → length (changed old new) ≤ differing old.columns new.columns
 few_changes old new a b eh ew =
     rows_few new.height new.width 0 old.columns new.columns b.rows (a.sized.each ∙ rw (eh, ew) refl) b.sized.each

@@ -34,17 +34,17 @@ rest_sent true r c negative text n inverse offset count olds xs h alone =
     let e : c ≡ c + 0 = omega arith in
     rw none (ap (λ k. columns_sent r k true negative olds xs) e)
 
-rest_changed : (place : ℕ) (text : List ℕ) (n : ℕ) (inverse : Bool) (offset count : ℕ) (olds xs : List Col) → 1 ≤ offset
-    → glyphs_changed place olds (glyph_columns_from text n inverse offset count ++ xs) ≡ glyphs_changed (place + count) (drop count olds) xs
-rest_changed place text n inverse offset zero olds xs h = ap (λ k. glyphs_changed k olds xs) (let e : place ≡ place + zero = omega arith in e)
-rest_changed place text n inverse offset (suc count) olds xs h =
+rest_changed : (index : ℕ) (text : List ℕ) (n : ℕ) (inverse : Bool) (offset count : ℕ) (olds xs : List Col) → 1 ≤ offset
+    → glyphs_changed index olds (glyph_columns_from text n inverse offset count ++ xs) ≡ glyphs_changed (index + count) (drop count olds) xs
+rest_changed index text n inverse offset zero olds xs h = ap (λ k. glyphs_changed k olds xs) (let e : index ≡ index + zero = omega arith in e)
+rest_changed index text n inverse offset (suc count) olds xs h =
     let later : nat_eq offset 0 ≡ false = grind (arith, nat_tests) in
-    let e1 : (place + 1) + count ≡ place + suc count = omega arith in
+    let e1 : (index + 1) + count ≡ index + suc count = omega arith in
     let e2 : 1 + count ≡ suc count = omega arith in
     rw later
-    (rest_changed (place + 1) text n inverse (offset + 1) count (drop 1 olds) xs (omega arith)
+    (rest_changed (index + 1) text n inverse (offset + 1) count (drop 1 olds) xs (omega arith)
     ∙ ap (λ k. glyphs_changed k (drop count (drop 1 olds)) xs) e1
-    ∙ ap (λ ys. glyphs_changed (place + suc count) ys xs) (drop-drop count 1 olds ∙ ap (λ k. drop k olds) e2))
+    ∙ ap (λ ys. glyphs_changed (index + suc count) ys xs) (drop-drop count 1 olds ∙ ap (λ k. drop k olds) e2))
 
 -- ---- a glyph
 
@@ -54,15 +54,15 @@ glyph_sent r c near negative true g = nothing_sent negative
 glyph_sent r c near negative false g = record { bytes = glyph_bytes r c near negative g.text g.negative; near = is_ascii_glyph g.text; negative = g.negative }
 
 abbrev pub glyph_effect : ℕ → Bool → WholeGlyph → List Effect
-glyph_effect place true g = []
-glyph_effect place false g = Puts place g.text g.negative ∷ []
+glyph_effect index true g = []
+glyph_effect index false g = Puts index g.text g.negative ∷ []
 
 -- the columns of a glyph, n of them, with others after them, where same says that the old columns are its own
 pub record IsByGlyph (same : Bool) (g : WholeGlyph) (n : ℕ) (olds xs : List Col) : Type 0 where
   pub sent : (r c : ℕ) (near negative : Bool) → columns_sent r c near negative olds (columns_of g ++ xs)
       ≡ then_sent (glyph_sent r c near negative same g).bytes
       (columns_sent r (c + n) (glyph_sent r c near negative same g).near (glyph_sent r c near negative same g).negative (drop n olds) xs)
-  pub changed : (place : ℕ) → glyphs_changed place olds (columns_of g ++ xs) ≡ glyph_effect place same g ++ glyphs_changed (place + n) (drop n olds) xs
+  pub changed : (index : ℕ) → glyphs_changed index olds (columns_of g ++ xs) ≡ glyph_effect index same g ++ glyphs_changed (index + n) (drop n olds) xs
 
 first_sent : (same : Bool) (r c : ℕ) (near negative : Bool) (g : WholeGlyph) (n : ℕ) (olds cs : List Col) → is_sent olds (Glyph g.text n 0 g.negative ∷ cs) ≡ not same
     → columns_sent r c near negative olds (Glyph g.text n 0 g.negative ∷ cs)
@@ -71,10 +71,10 @@ first_sent : (same : Bool) (r c : ℕ) (near negative : Bool) (g : WholeGlyph) (
 first_sent true r c near negative g n olds cs e = rw e refl
 first_sent false r c near negative g n olds cs e = rw e refl
 
-first_changed : (same : Bool) (place : ℕ) (g : WholeGlyph) (n : ℕ) (olds cs : List Col) → is_sent olds (Glyph g.text n 0 g.negative ∷ cs) ≡ not same
-    → glyphs_changed place olds (Glyph g.text n 0 g.negative ∷ cs) ≡ glyph_effect place same g ++ glyphs_changed (place + 1) (drop 1 olds) cs
-first_changed true place g n olds cs e = rw e refl
-first_changed false place g n olds cs e = rw e refl
+first_changed : (same : Bool) (index : ℕ) (g : WholeGlyph) (n : ℕ) (olds cs : List Col) → is_sent olds (Glyph g.text n 0 g.negative ∷ cs) ≡ not same
+    → glyphs_changed index olds (Glyph g.text n 0 g.negative ∷ cs) ≡ glyph_effect index same g ++ glyphs_changed (index + 1) (drop 1 olds) cs
+first_changed true index g n olds cs e = rw e refl
+first_changed false index g n olds cs e = rw e refl
 
 -- a glyph after which the next is near has one column
 near_alone : (same : Bool) (r c : ℕ) (near negative : Bool) (g : WholeGlyph) (m : ℕ) → columns_of g ≡ glyph_columns g.text (suc m) g.negative
@@ -101,13 +101,13 @@ glyph_by same g m olds xs h is e =
           (rest_sent s.near r (c + 1) s.negative g.text (suc m) g.negative (0 + 1) m (drop 1 olds) xs (omega arith) (near_alone same r c near negative g m is)
           ∙ ap (λ ys. columns_sent r ((c + 1) + m) s.near s.negative ys xs) past
           ∙ ap (λ k. columns_sent r k s.near s.negative (drop (suc m) olds) xs) (let n : (c + 1) + m ≡ c + suc m = omega arith in n));
-      changed = λ place.
-          ap (λ ys. glyphs_changed place olds (ys ++ xs)) is
-          ∙ first_changed same place g (suc m) olds (more ++ xs) test
-          ∙ ap (λ ds. glyph_effect place same g ++ ds)
-          (rest_changed (place + 1) g.text (suc m) g.negative (0 + 1) m (drop 1 olds) xs (omega arith)
-          ∙ ap (λ ys. glyphs_changed ((place + 1) + m) ys xs) past
-          ∙ ap (λ k. glyphs_changed k (drop (suc m) olds) xs) (let n : (place + 1) + m ≡ place + suc m = omega arith in n));
+      changed = λ index.
+          ap (λ ys. glyphs_changed index olds (ys ++ xs)) is
+          ∙ first_changed same index g (suc m) olds (more ++ xs) test
+          ∙ ap (λ ds. glyph_effect index same g ++ ds)
+          (rest_changed (index + 1) g.text (suc m) g.negative (0 + 1) m (drop 1 olds) xs (omega arith)
+          ∙ ap (λ ys. glyphs_changed ((index + 1) + m) ys xs) past
+          ∙ ap (λ k. glyphs_changed k (drop (suc m) olds) xs) (let n : (index + 1) + m ≡ index + suc m = omega arith in n));
     }
 
 by_form : (same : Bool) (g : WholeGlyph) (n : ℕ) (olds xs : List Col) → IsGlyph g → 1 ≤ n → columns_of g ≡ glyph_columns g.text n g.negative

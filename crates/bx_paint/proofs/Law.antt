@@ -6,7 +6,7 @@ use Rattle.bx_grid.specs.Columns.{Col, blank}
 use Rattle.bx_grid.specs.Glyphs.{AreWholeRows}
 use Rattle.bx_grid.specs.Effects.{Effect, Clears, run_effects, pending_effects, clear_effects, effects}
 use Rattle.bx_grid.specs.Terminal.{Terminal, reads, run_put, run_ended, after_rendition, after_clear}
-use Rattle.bx_grid.specs.Picture.{Image, IsGrid, IsIdle, IsPicture, Shows}
+use Rattle.bx_grid.specs.Picture.{PictureState, IsGrid, IsIdle, IsPicture, Shows}
 use Rattle.bx_grid.proofs.Doing.{run, run-append, run_is, sequence_does}
 use Rattle.bx_grid.proofs.Reading.{at, IsFinal, and_left, and_right}
 use Rattle.bx_paint.specs.Painting.{columns_changed, ended, is_none, is_at_cursor_of, changes_bytes, whole_bytes, move_bytes, render_bytes, render_change}
@@ -16,7 +16,7 @@ use Rattle.bx_paint.proofs.Sequences.{screen, Leaves, plain_leaves, Fits, moves,
 use Rattle.bx_paint.proofs.Drawn.{Comes}
 use Rattle.bx_paint.proofs.Painted.{rows_do}
 
-pub fits : (p : Image) → IsPicture p → Fits p
+pub fits : (p : PictureState) → IsPicture p → Fits p
 fits p h = record { height = omega (arith, h.grid.sized.high); width = omega (arith, h.grid.sized.wide); row = h.row_inside; column = h.column_inside }
 
 abbrev made : ℕ → ℕ → List Col → Option (ℕ × ℕ) → Option Bool → List ℕ → List ℕ → Terminal
@@ -36,7 +36,7 @@ no_run t h = (ap (run_put t t.position t.negative) h, ap (run_effects t t.positi
 
 -- ---- the end
 
-at_end : (p : Image) (w : Terminal × List Effect) (columns : List Col) (q : Option (ℕ × ℕ)) (negative : Bool) (all : List Effect)
+at_end : (p : PictureState) (w : Terminal × List Effect) (columns : List Col) (q : Option (ℕ × ℕ)) (negative : Bool) (all : List Effect)
     → Fits p → Leaves p w columns q negative all
     → run w (render_change negative false ++ move_bytes p.row p.column) ≡ (screen p columns (Some (p.row, p.column)) false [], all)
 at_end p w columns q true all fits leaves =
@@ -47,7 +47,7 @@ at_end p w columns q false all fits leaves =
     moves p w columns q false all p.row p.column leaves fits.row fits.column fits.height fits.width
 
 -- all rows, and the end
-pub all_rows : (p : Image) (old : List Col) (w : Terminal × List Effect) (q : Option (ℕ × ℕ)) (all : List Effect)
+pub all_rows : (p : PictureState) (old : List Col) (w : Terminal × List Effect) (q : Option (ℕ × ℕ)) (all : List Effect)
     → IsPicture p → length old ≡ p.height * p.width → AreWholeRows p.height p.width old → Leaves p w old q false all
     → Comes p (run w (columns_changed old p).bytes) p.columns (columns_changed old p).negative (all ++ rows_changed p.height p.width 0 old p.columns)
 all_rows p old w q all is size whole leaves =
@@ -56,7 +56,7 @@ all_rows p old w q all is size whole leaves =
     is.grid.rows leaves in
     rw none at rows
 
-painted : (p : Image) (old : List Col) (w : Terminal × List Effect) (q : Option (ℕ × ℕ)) (all : List Effect)
+painted : (p : PictureState) (old : List Col) (w : Terminal × List Effect) (q : Option (ℕ × ℕ)) (all : List Effect)
     → IsPicture p → length old ≡ p.height * p.width → AreWholeRows p.height p.width old → Leaves p w old q false all
     → run w (ended p (columns_changed old p)) ≡ (screen p p.columns (Some (p.row, p.column)) false [], all ++ rows_changed p.height p.width 0 old p.columns)
 painted p old w q all is size whole leaves =
@@ -65,7 +65,7 @@ painted p old w q all is size whole leaves =
     run-append w s.bytes (render_change s.negative false ++ move_bytes p.row p.column)
     ∙ at_end p (run w s.bytes) p.columns rows.0 s.negative (all ++ rows_changed p.height p.width 0 old p.columns) (fits p is) rows.1
 
-shown : (p : Image) → Shows (screen p p.columns (Some (p.row, p.column)) false []) p
+shown : (p : PictureState) → Shows (screen p p.columns (Some (p.row, p.column)) false []) p
 shown p = record { nothing_half_read = record { no_run = refl; no_token = refl }; same_height = refl; same_width = refl; same_columns = refl; normal = refl; at_cursor = refl }
 
 -- ---- whole
@@ -73,7 +73,7 @@ shown p = record { nothing_half_read = record { no_run = refl; no_token = refl }
 final_J : IsFinal 0x4A
 final_J = record { ends = refl; no_param = refl; no_intermediate = refl }
 
-opening : (p : Image) (t : Terminal) → IsIdle t → t.height ≡ p.height → t.width ≡ p.width
+opening : (p : PictureState) (t : Terminal) → IsIdle t → t.height ≡ p.height → t.width ≡ p.width
     → run (t, []) (0x1B ∷ 0x5B ∷ 0x30 ∷ 0x6D ∷ 0x1B ∷ 0x5B ∷ 0x32 ∷ 0x4A ∷ []) ≡ (screen p (replicate (p.height * p.width) blank) None false [], Clears ∷ [])
 opening p t idle height width =
     let none = no_run t idle.no_run in
@@ -90,7 +90,7 @@ opening p t idle height width =
     ∙ rw (height, width, idle.no_run) refl
 
 -- whatever its state, a terminal of the picture's size with nothing half read shows the picture once it has read the whole painting
-pub whole_shows : (p : Image) → IsPicture p → (t : Terminal) → IsIdle t → t.height ≡ p.height → t.width ≡ p.width → Shows (reads t (whole_bytes p)) p
+pub whole_shows : (p : PictureState) → IsPicture p → (t : Terminal) → IsIdle t → t.height ≡ p.height → t.width ≡ p.width → Shows (reads t (whole_bytes p)) p
 whole_shows p is t idle height width =
     let blanks = replicate (p.height * p.width) blank in
     let start = 0x1B ∷ 0x5B ∷ 0x30 ∷ 0x6D ∷ 0x1B ∷ 0x5B ∷ 0x32 ∷ 0x4A ∷ [] in
@@ -105,7 +105,7 @@ whole_shows p is t idle height width =
 
 -- ---- changes
 
-showing : (old new : Image) (t : Terminal) → old.height ≡ new.height → old.width ≡ new.width → Shows t old
+showing : (old new : PictureState) (t : Terminal) → old.height ≡ new.height → old.width ≡ new.width → Shows t old
     → Leaves new (t, []) old.columns (Some (old.row, old.column)) false []
 showing old new t eh ew h =
     let is : made t.height t.width t.columns t.position t.negative t.run t.half_read ≡ screen new old.columns (Some (old.row, old.column)) false [] =
@@ -117,11 +117,11 @@ none_is : (bs : List ℕ) → is_none bs ≡ true → bs ≡ []
 none_is [] h = refl
 none_is (b ∷ bs) h = absurd (cc h)
 
-pub record Changes (old new : Image) (t : Terminal) (bytes : List ℕ) : Type 0 where
+pub record Changes (old new : PictureState) (t : Terminal) (bytes : List ℕ) : Type 0 where
   pub shows : Shows (reads t bytes) new
   pub sends : effects t bytes ≡ changed old new
 
-by_bytes : (old new : Image) (t : Terminal) (bytes : List ℕ) → run (t, []) bytes ≡ (screen new new.columns (Some (new.row, new.column)) false [], changed old new)
+by_bytes : (old new : PictureState) (t : Terminal) (bytes : List ℕ) → run (t, []) bytes ≡ (screen new new.columns (Some (new.row, new.column)) false [], changed old new)
     → Changes old new t bytes
 by_bytes old new t bytes h =
     let both = sym (run_is t [] bytes) ∙ h in
@@ -130,7 +130,7 @@ by_bytes old new t bytes h =
       sends = ap (λ (v : Terminal × List Effect). v.1) both;
     }
 
-none_sent : (old new : Image) (t : Terminal) (q : Option (ℕ × ℕ)) (negative : Bool) → Shows t old → is_at_cursor_of old new ≡ true
+none_sent : (old new : PictureState) (t : Terminal) (q : Option (ℕ × ℕ)) (negative : Bool) → Shows t old → is_at_cursor_of old new ≡ true
     → Leaves new (t, []) new.columns q negative (changed old new) → Changes old new t []
 none_sent old new t q negative h cursor leaves =
     let row : nat_eq old.row new.row ≡ true = and_left (nat_eq old.row new.row) (nat_eq old.column new.column) cursor in
@@ -151,11 +151,11 @@ none_sent old new t q negative h cursor leaves =
       sends = sym none.1 ∙ leaves.told;
     }
 
-leaves_after : (p : Image) (w : Terminal × List Effect) (bytes : List ℕ) (columns : List Col) (q : Option (ℕ × ℕ)) (negative : Bool) (all : List Effect)
+leaves_after : (p : PictureState) (w : Terminal × List Effect) (bytes : List ℕ) (columns : List Col) (q : Option (ℕ × ℕ)) (negative : Bool) (all : List Effect)
     → bytes ≡ [] → Leaves p (run w bytes) columns q negative all → Leaves p w columns q negative all
 leaves_after p w bytes columns q negative all e h = let none : run w bytes ≡ w = ap (run w) e in rw none at h
 
-changes_by : (old new : Image) (t : Terminal) (none : Bool) → IsGrid old.height old.width old.columns → IsPicture new → old.height ≡ new.height → old.width ≡ new.width → Shows t old
+changes_by : (old new : PictureState) (t : Terminal) (none : Bool) → IsGrid old.height old.width old.columns → IsPicture new → old.height ≡ new.height → old.width ≡ new.width → Shows t old
     → is_none (columns_changed old.columns new).bytes && is_at_cursor_of old new ≡ none
     → Changes old new t (changes_bytes old new)
 changes_by old new t true a b eh ew h e =
@@ -172,6 +172,6 @@ changes_by old new t false a b eh ew h e =
     rw e (by_bytes old new t (ended new (columns_changed old.columns new))
     (painted new old.columns (t, []) (Some (old.row, old.column)) [] b size whole (showing old new t eh ew h)))
 
-pub changes_show : (old new : Image) → IsGrid old.height old.width old.columns → IsPicture new → old.height ≡ new.height → old.width ≡ new.width → (t : Terminal) → Shows t old
+pub changes_show : (old new : PictureState) → IsGrid old.height old.width old.columns → IsPicture new → old.height ≡ new.height → old.width ≡ new.width → (t : Terminal) → Shows t old
     → Changes old new t (changes_bytes old new)
 changes_show old new a b eh ew t h = changes_by old new t (is_none (columns_changed old.columns new).bytes && is_at_cursor_of old new) a b eh ew h refl

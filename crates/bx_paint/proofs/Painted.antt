@@ -6,7 +6,7 @@ use Rattle.bx_grid.specs.Columns.{Col, blank, is_blank, put, cut_after}
 use Rattle.bx_grid.specs.Effects.{Effect, Erases}
 use Rattle.bx_grid.specs.Glyphs.{AreWhole, AreWholeRows}
 use Rattle.bx_grid.specs.Terminal.{Terminal}
-use Rattle.bx_grid.specs.Picture.{Image}
+use Rattle.bx_grid.specs.Picture.{PictureState}
 use Rattle.bx_grid.proofs.Blanks.{blanks_are}
 use Rattle.bx_grid.proofs.Doing.{run, run-append}
 use Rattle.bx_grid.proofs.Whole.{whole-nil, whole-append, whole_along, whole_right, whole_blanks}
@@ -37,15 +37,15 @@ blanks_done k above done before olds below blanks whole =
 tail_put : (r f w k m : ℕ) (above done before olds below : List Col) → IsPlace r f w above done olds → AreWhole (before ++ olds)
     → take k olds ≡ replicate k blank → k + m ≡ length olds
     → put w (partly above done olds below) r (f + k) (replicate m blank) ≡ above ++ ((done ++ replicate (length olds) blank) ++ below)
-tail_put r f w k m above done before olds below place whole first count =
+tail_put r f w k m above done before olds below index whole first count =
     let start = done ++ replicate k blank in
     let news = replicate m blank in
     let left : length (drop k olds) ≡ m = length-drop k olds ∙ omega (arith, count) in
     let there : IsPlace r (f + k) w above start (drop k olds) = record {
-      high = place.high;
-      at = length-append done (replicate k blank) ∙ omega (arith, place.at, length-replicate k blank);
-      wide = omega (arith, left, count, place.wide);
-      whole = whole-append done (replicate k blank) place.whole (whole_blanks k);
+      high = index.high;
+      at = length-append done (replicate k blank) ∙ omega (arith, index.at, length-replicate k blank);
+      wide = omega (arith, left, count, index.wide);
+      whole = whole-append done (replicate k blank) index.whole (whole_blanks k);
     } in
     let none : drop (length news) (drop k olds) ≡ [] = drop_all (length news) (drop k olds) (omega (arith, left, length-replicate m blank)) in
     let blanks : start ++ news ≡ done ++ replicate (length olds) blank =
@@ -55,8 +55,8 @@ tail_put r f w k m above done before olds below place whole first count =
     ∙ ap (λ xs. partly above (start ++ news) xs below) none
     ∙ ap (λ xs. above ++ (xs ++ below)) (append-nil (start ++ news) ∙ blanks)
 
--- an erasure at a place, in whatever rendition
-erased_at : (p : Image) (r c : ℕ) (negative : Bool) (columns : List Col) (w : Terminal × List Effect) (q : Option (ℕ × ℕ)) (all : List Effect)
+-- an erasure at an index, in whatever rendition
+erased_at : (p : PictureState) (r c : ℕ) (negative : Bool) (columns : List Col) (w : Terminal × List Effect) (q : Option (ℕ × ℕ)) (all : List Effect)
     → Fits p → r < p.height → c < p.width → Leaves p w columns q negative all
     → run w (move_bytes r c ++ (render_change negative false ++ erase_bytes))
     ≡ (screen p (put p.width columns r c (replicate (p.width - c) blank)) None false [], all ++ Erases (r * p.width + c) ∷ [])
@@ -67,24 +67,24 @@ erased_at p r c negative columns w q all fits rh small leaves =
     ∙ ap (λ v. run v erase_bytes) (turned p columns (Some (r, c)) negative false all)
     ∙ erases p columns r c all
 
-erased : (p : Image) (r f : ℕ) (negative : Bool) (above done before olds below : List Col) (w : Terminal × List Effect) (q : Option (ℕ × ℕ)) (all : List Effect)
+erased : (p : PictureState) (r f : ℕ) (negative : Bool) (above done before olds below : List Col) (w : Terminal × List Effect) (q : Option (ℕ × ℕ)) (all : List Effect)
     → Fits p → r < p.height → IsPlace r f p.width above done olds → AreWhole (before ++ olds)
     → Leaves p w (partly above done olds below) q negative all → leading_blanks olds < length olds
     → run w (move_bytes r (f + leading_blanks olds) ++ (render_change negative false ++ erase_bytes))
     ≡ (screen p (above ++ ((done ++ replicate (length olds) blank) ++ below)) None false [], all ++ Erases (r * p.width + f + leading_blanks olds) ∷ [])
-erased p r f negative above done before olds below w q all fits rh place whole leaves some =
+erased p r f negative above done before olds below w q all fits rh index whole leaves some =
     let k = leading_blanks olds in
-    let put_is = tail_put r f p.width k (p.width - (f + k)) above done before olds below place whole (blanks_first olds) (omega (arith, some, place.wide)) in
+    let put_is = tail_put r f p.width k (p.width - (f + k)) above done before olds below index whole (blanks_first olds) (omega (arith, some, index.wide)) in
     let next : r * p.width + (f + k) ≡ r * p.width + f + k = omega arith in
-    erased_at p r (f + k) negative (partly above done olds below) w q all fits rh (omega (arith, some, place.wide)) leaves
+    erased_at p r (f + k) negative (partly above done olds below) w q all fits rh (omega (arith, some, index.wide)) leaves
     ∙ rw (put_is, next) refl
 
-tail_by : (t : Bool) (p : Image) (r f : ℕ) (negative : Bool) (above done before olds below : List Col) (w : Terminal × List Effect) (q : Option (ℕ × ℕ)) (all : List Effect)
+tail_by : (t : Bool) (p : PictureState) (r f : ℕ) (negative : Bool) (above done before olds below : List Col) (w : Terminal × List Effect) (q : Option (ℕ × ℕ)) (all : List Effect)
     → Fits p → r < p.height → IsPlace r f p.width above done olds → AreWhole (before ++ olds)
     → Leaves p w (partly above done olds below) q negative all → list_all is_blank olds ≡ t
     → Comes p (run w (tail_sent r f negative olds).bytes) (above ++ ((done ++ replicate (length olds) blank) ++ below)) (tail_sent r f negative olds).negative
     (all ++ tail_changed (r * p.width + f) olds)
-tail_by true p r f negative above done before olds below w q all fits rh place whole leaves e =
+tail_by true p r f negative above done before olds below w q all fits rh index whole leaves e =
     let blanks : cut_after 0 olds ≡ replicate (length olds) blank =
     ap (cut_after 0) (blanks_are olds e) ∙ whole_right 0 (replicate (length olds) blank) (whole_blanks (length olds)) in
     rw e (
@@ -95,14 +95,14 @@ tail_by true p r f negative above done before olds below w q all fits rh place w
         told = leaves.told ∙ sym (append-nil all);
       },
     )
-tail_by false p r f negative above done before olds below w q all fits rh place whole leaves e =
+tail_by false p r f negative above done before olds below w q all fits rh index whole leaves e =
     let some : leading_blanks olds < length olds = omega (arith, leading_blanks_le olds, not_all_lead olds e) in
-    let is = erased p r f negative above done before olds below w q all fits rh place whole leaves some in
+    let is = erased p r f negative above done before olds below w q all fits rh index whole leaves some in
     rw (e, is) (None, plain_leaves p (above ++ ((done ++ replicate (length olds) blank) ++ below)) None false (all ++ Erases (r * p.width + f + leading_blanks olds) ∷ []))
 
 -- ---- a row
 
-row_does : (p : Image) (r : ℕ) (negative : Bool) (above old new below : List Col) (w : Terminal × List Effect) (q : Option (ℕ × ℕ)) (all : List Effect)
+row_does : (p : PictureState) (r : ℕ) (negative : Bool) (above old new below : List Col) (w : Terminal × List Effect) (q : Option (ℕ × ℕ)) (all : List Effect)
     → Fits p → r < p.height → length above ≡ r * p.width → length old ≡ p.width → length new ≡ p.width → AreWhole old → AreWhole new
     → Leaves p w (above ++ (old ++ below)) q negative all
     → Comes p (run w (row_sent r negative old new).bytes) ((above ++ new) ++ below) (row_sent r negative old new).negative (all ++ row_changed (r * p.width) old new)
@@ -127,8 +127,8 @@ row_does p r negative above old new below w q all fits rh high wide wide' whole 
     let s = columns_sent r 0 false negative olds front in
     let zero_place : r * p.width + 0 ≡ r * p.width = omega arith in
     let effects = all ++ glyphs_changed (r * p.width + 0) olds front in
-    let place : IsPlace r f p.width above front rest = record { high = high; at = refl; wide = omega (arith, rlen, fle, wide'); whole = whole_front new whole' } in
-    let second = tail_by (list_all is_blank rest) p r f s.negative above front olds rest below (run w s.bytes) first.0 effects fits rh place parts_whole first.1 refl in
+    let index : IsPlace r f p.width above front rest = record { high = high; at = refl; wide = omega (arith, rlen, fle, wide'); whole = whole_front new whole' } in
+    let second = tail_by (list_all is_blank rest) p r f s.negative above front olds rest below (run w s.bytes) first.0 effects fits rh index parts_whole first.1 refl in
     let t = tail_sent r f s.negative rest in
     let new_is : front ++ replicate (length rest) blank ≡ new =
     ap (λ n. front ++ replicate n blank) (let e : length rest ≡ length new - f = omega (arith, rlen, wide') in e) ∙ front_blanks new in
@@ -141,7 +141,7 @@ row_does p r negative above old new below w q all fits rh high wide wide' whole 
 
 -- ---- all rows
 
-pub rows_do : (p : Image) (count r : ℕ) (negative : Bool) (above old new : List Col) (w : Terminal × List Effect) (q : Option (ℕ × ℕ)) (all : List Effect)
+pub rows_do : (p : PictureState) (count r : ℕ) (negative : Bool) (above old new : List Col) (w : Terminal × List Effect) (q : Option (ℕ × ℕ)) (all : List Effect)
     → Fits p → r + count ≤ p.height → length above ≡ r * p.width → length old ≡ count * p.width → length new ≡ count * p.width
     → AreWholeRows count p.width old → AreWholeRows count p.width new
     → Leaves p w (above ++ old) q negative all

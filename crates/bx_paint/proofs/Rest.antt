@@ -8,7 +8,7 @@ use Rattle.bx_grid.specs.Glyphs.{WholeGlyph, IsGlyph, columns_of, AreWhole}
 use Rattle.bx_grid.proofs.Pasted.{past_blanks}
 use Rattle.bx_grid.proofs.Whole.{columns_form, whole_split, whole_after, whole_left, whole_right}
 
--- ---- what is left of columns after a place
+-- ---- what is left of columns after an index
 
 right_by : (t : Bool) (e d : ℕ) (x : Col) (xs : List Col) → nat_lt d (columns_before x) ≡ t → e ≤ d → cut_after (e + 1) (cut_after (d + 1) xs) ≡ cut_after (e + 1) xs
     → cut_after e (cut_after d (x ∷ xs)) ≡ cut_after e (x ∷ xs)

@@ -5,7 +5,7 @@ use Rattle.std.specs.Str.{chars}
 use Rattle.std.specs.Prelude.{codes}
 use Rattle.unicode_width.proofs.Computing.{unicode_width}
 use Rattle.bx_grid.specs.Columns.{Col, Glyph, blank}
-use Rattle.bx_grid.specs.Picture.{Image}
+use Rattle.bx_grid.specs.Picture.{PictureState}
 use Rattle.bx_grid.specs.Terminal.{Terminal, reads}
 use Rattle.bx_grid.specs.Effects.{Puts, Erases, effects}
 use Rattle.bx_paint.specs.Painting.{whole_bytes, changes_bytes}
@@ -19,19 +19,19 @@ abbrev wide : List Col
 wide = Glyph (0xE4 ∷ 0xB8 ∷ 0x96 ∷ []) 2 0 false ∷ Glyph (0xE4 ∷ 0xB8 ∷ 0x96 ∷ []) 2 1 false ∷ []
 
 -- one row
-abbrev five : List Col → ℕ → Image
+abbrev five : List Col → ℕ → PictureState
 five columns column = record { height = 1; width = 5; columns = columns; row = 0; column = column }
 
-abbrev four : List Col → ℕ → Image
+abbrev four : List Col → ℕ → PictureState
 four columns column = record { height = 1; width = 4; columns = columns; row = 0; column = column }
 
-abbrev status : Image
+abbrev status : PictureState
 status = record { height = 2; width = 10; columns = replicate 10 blank ++ (g 0x2D ∷ blank ∷ g 0x31 ∷ g 0x3A ∷ g 0x31 ∷ replicate 5 blank); row = 0; column = 0 }
 
-abbrev ab : Image
+abbrev ab : PictureState
 ab = five (g 0x61 ∷ g 0x62 ∷ replicate 3 blank) 0
 
-abbrev xab : Image
+abbrev xab : PictureState
 xab = five (g 0x78 ∷ g 0x61 ∷ g 0x62 ∷ replicate 2 blank) 1
 
 -- ---- whole
@@ -84,7 +84,7 @@ before_wide = refl
 
 -- ---- what a terminal does on them
 
-abbrev showing : Image → Terminal
+abbrev showing : PictureState → Terminal
 showing p = record { height = p.height; width = p.width; columns = p.columns; position = Some (p.row, p.column); negative = Some false; run = []; half_read = [] }
 
 pub shown : reads (showing xab) (changes_bytes xab ab) ≡ showing ab
@@ -99,10 +99,10 @@ pub was_to_be_done : changed xab ab ≡ Puts 0 (0x61 ∷ []) false ∷ Puts 1 (0
 was_to_be_done = refl
 
 -- a wide glyph moves on by a column: none of its columns is left of where it stood
-abbrev before : Image
+abbrev before : PictureState
 before = four (wide ++ replicate 2 blank) 0
 
-abbrev after : Image
+abbrev after : PictureState
 after = four (g 0x78 ∷ wide ++ blank ∷ []) 1
 
 pub wide_shown : reads (showing before) (changes_bytes before after) ≡ showing after
@@ -123,7 +123,7 @@ unfolding digits chars unicode_width
 wide_back_done = refl
 
 -- `e` and U+0301, one glyph of one column, with a letter after it
-abbrev accented : Image
+abbrev accented : PictureState
 accented = four (Glyph (0x65 ∷ 0xCC ∷ 0x81 ∷ []) 1 0 false ∷ g 0x78 ∷ replicate 2 blank) 0
 
 pub accent_shown : reads (showing before) (changes_bytes before accented) ≡ showing accented

@@ -1,4 +1,4 @@
--- A terminal that reads the sequences of a painting: a place, a rendition, an erasure.
+-- A terminal that reads the sequences of a painting: a cell, a rendition, an erasure.
 use Rattle.std.proofs.Common.{◌≡◌, ℕ, ◌+◌, ◌*◌, ◌<◌, ◌^◌, Bool, true, false, nat_le, List, [], ◌∷◌, ◌++◌, replicate, ◌-◌, Option, Some, None, refl, ap, ◌∙◌, arith}
 use Rattle.std.specs.List.{list_all}
 use Rattle.std.proofs.lemmas.Bool.Decides.{nat_tests}
@@ -9,13 +9,13 @@ use Rattle.bx_grid.specs.declared.token.Command.TheVariants.{Move}
 use Rattle.bx_grid.specs.Tokens.{is_param, command_of}
 use Rattle.bx_grid.specs.Effects.{Effect, Erases, pending_effects, command_effects}
 use Rattle.bx_grid.specs.Terminal.{Terminal, run_ended, after_command}
-use Rattle.bx_grid.specs.Picture.{Image}
-use Rattle.bx_grid.proofs.Reading.{at, IsFinal, place_params, place_params_fit, command_of-place}
+use Rattle.bx_grid.specs.Picture.{PictureState}
+use Rattle.bx_grid.proofs.Reading.{at, IsFinal, place_params, place_params_fit, command_of-index}
 use Rattle.bx_grid.proofs.Doing.{run, sequence_does}
 use Rattle.bx_paint.specs.Painting.{move_bytes, render_bytes, render_change, erase_bytes}
 
 -- a terminal of the picture's size, of which at most a run is half read
-abbrev pub screen : Image → List Col → Option (ℕ × ℕ) → Bool → List ℕ → Terminal
+abbrev pub screen : PictureState → List Col → Option (ℕ × ℕ) → Bool → List ℕ → Terminal
 screen p columns position negative half_read = record {
   height = p.height;
   width = p.width;
@@ -27,13 +27,13 @@ screen p columns position negative half_read = record {
 }
 
 -- a terminal whose run, once it has taken effect, leaves these columns, and whose effects are then these
-pub record Leaves (p : Image) (w : Terminal × List Effect) (columns : List Col) (q : Option (ℕ × ℕ)) (negative : Bool) (all : List Effect) : Type 0 where
+pub record Leaves (p : PictureState) (w : Terminal × List Effect) (columns : List Col) (q : Option (ℕ × ℕ)) (negative : Bool) (all : List Effect) : Type 0 where
   pub no_token : w.0.half_read ≡ []
   pub effect : run_ended w.0 ≡ screen p columns q negative []
   pub told : w.1 ++ pending_effects w.0 ≡ all
 
 -- one that has nothing half read
-pub plain_leaves : (p : Image) (columns : List Col) (q : Option (ℕ × ℕ)) (negative : Bool) (all : List Effect)
+pub plain_leaves : (p : PictureState) (columns : List Col) (q : Option (ℕ × ℕ)) (negative : Bool) (all : List Effect)
     → Leaves p (screen p columns q negative [], all) columns q negative all
 plain_leaves p columns q negative all = record { no_token = refl; effect = refl; told = append-nil all }
 
@@ -51,7 +51,7 @@ final_K = record { ends = refl; no_param = refl; no_intermediate = refl }
 abbrev pair : Terminal → List Effect → Terminal × List Effect
 pair t effects = (t, effects)
 
-moved_is : (p : Image) (columns : List Col) (q : Option (ℕ × ℕ)) (negative : Bool) (half_read : List ℕ) (all : List Effect) (r c : ℕ)
+moved_is : (p : PictureState) (columns : List Col) (q : Option (ℕ × ℕ)) (negative : Bool) (half_read : List ℕ) (all : List Effect) (r c : ℕ)
     → r < p.height → c < p.width
     → pair (after_command (screen p columns q negative []) (Move (r + 1) (c + 1))) (all ++ command_effects (at (screen p columns q negative []) half_read) (Move (r + 1) (c + 1)))
     ≡ pair (screen p columns (Some (r, c)) negative []) all
@@ -65,7 +65,7 @@ moved_is p columns q negative half_read all r c h w =
     rw (t1, t2, t3, t4, e1, e2, append-nil all) refl
 
 -- a sequence, where a run that is half read takes effect first
-obeys : (p : Image) (w : Terminal × List Effect) (columns : List Col) (q : Option (ℕ × ℕ)) (negative : Bool) (all : List Effect) (ps : List ℕ) (f : ℕ) (command : Command)
+obeys : (p : PictureState) (w : Terminal × List Effect) (columns : List Col) (q : Option (ℕ × ℕ)) (negative : Bool) (all : List Effect) (ps : List ℕ) (f : ℕ) (command : Command)
     → Leaves p w columns q negative all → list_all is_param ps ≡ true → IsFinal f → command_of ps f ≡ command
     → run w (0x1B ∷ 0x5B ∷ (ps ++ f ∷ []))
     ≡ (after_command (screen p columns q negative []) command, all ++ command_effects (at (screen p columns q negative []) (0x1B ∷ 0x5B ∷ ps)) command)
@@ -79,17 +79,17 @@ obeys p w columns q negative all ps f command h fit final is =
     ∙ ap (λ v. after v done command) h.effect
     ∙ ap (λ log. after (screen p columns q negative []) log command) h.told
 
-pub moves : (p : Image) (w : Terminal × List Effect) (columns : List Col) (q : Option (ℕ × ℕ)) (negative : Bool) (all : List Effect) (r c : ℕ)
+pub moves : (p : PictureState) (w : Terminal × List Effect) (columns : List Col) (q : Option (ℕ × ℕ)) (negative : Bool) (all : List Effect) (r c : ℕ)
     → Leaves p w columns q negative all → r < p.height → c < p.width → p.height < 2 ^ 16 → p.width < 2 ^ 16
     → run w (move_bytes r c) ≡ (screen p columns (Some (r, c)) negative [], all)
 moves p w columns q negative all r c h rh cw ph pw =
     let r64 : r + 1 < 2 ^ 64 = omega arith in
     let c64 : c + 1 < 2 ^ 64 = omega arith in
     obeys p w columns q negative all (place_params (r + 1) (c + 1)) 0x48 (Move (r + 1) (c + 1)) h
-    (place_params_fit (r + 1) (c + 1) r64 c64) final_H (command_of-place (r + 1) (c + 1) r64 c64)
+    (place_params_fit (r + 1) (c + 1) r64 c64) final_H (command_of-index (r + 1) (c + 1) r64 c64)
     ∙ moved_is p columns q negative (0x1B ∷ 0x5B ∷ place_params (r + 1) (c + 1)) all r c rh cw
 
-pub renders : (p : Image) (w : Terminal × List Effect) (columns : List Col) (q : Option (ℕ × ℕ)) (negative inverse : Bool) (all : List Effect)
+pub renders : (p : PictureState) (w : Terminal × List Effect) (columns : List Col) (q : Option (ℕ × ℕ)) (negative inverse : Bool) (all : List Effect)
     → Leaves p w columns q negative all
     → run w (render_bytes inverse) ≡ (screen p columns q inverse [], all)
 renders p w columns q negative true all h =
@@ -97,21 +97,21 @@ renders p w columns q negative true all h =
 renders p w columns q negative false all h =
     obeys p w columns q negative all (0x30 ∷ []) 0x6D _ h refl final_m refl ∙ ap (λ log. (screen p columns q false [], log)) (append-nil all)
 
-pub turned : (p : Image) (columns : List Col) (q : Option (ℕ × ℕ)) (negative inverse : Bool) (all : List Effect)
+pub turned : (p : PictureState) (columns : List Col) (q : Option (ℕ × ℕ)) (negative inverse : Bool) (all : List Effect)
     → run (screen p columns q negative [], all) (render_change negative inverse) ≡ (screen p columns q inverse [], all)
 turned p columns q true true all = refl
 turned p columns q true false all = renders p (screen p columns q true [], all) columns q true false all (plain_leaves p columns q true all)
 turned p columns q false true all = renders p (screen p columns q false [], all) columns q false true all (plain_leaves p columns q false all)
 turned p columns q false false all = refl
 
-pub erases : (p : Image) (columns : List Col) (r c : ℕ) (all : List Effect)
+pub erases : (p : PictureState) (columns : List Col) (r c : ℕ) (all : List Effect)
     → run (screen p columns (Some (r, c)) false [], all) erase_bytes
     ≡ (screen p (put p.width columns r c (replicate (p.width - c) blank)) None false [], all ++ Erases (r * p.width + c) ∷ [])
 erases p columns r c all =
     obeys p (screen p columns (Some (r, c)) false [], all) columns (Some (r, c)) false all (0x30 ∷ []) 0x4B _ (plain_leaves p columns (Some (r, c)) false all) refl final_K refl
 
--- the cursor has a place, and each place has few digits
-pub record Fits (p : Image) : Type 0 where
+-- the cursor has a cell, and each number of it has few digits
+pub record Fits (p : PictureState) : Type 0 where
   pub height : p.height < 2 ^ 16
   pub width : p.width < 2 ^ 16
   pub row : p.row < p.height

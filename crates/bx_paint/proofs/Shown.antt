@@ -6,7 +6,7 @@ use Rattle.bx_grid.specs.Columns.{Col, Unknown, Glyph, put, run_columns}
 use Rattle.bx_grid.specs.Effects.{Effect, Puts, pending_effects, put_effects, glyphs_at}
 use Rattle.bx_grid.specs.Glyphs.{WholeGlyph, IsGlyph, columns_of}
 use Rattle.bx_grid.specs.Terminal.{Terminal, run_ended, glyphs_put, within}
-use Rattle.bx_grid.specs.Picture.{Image}
+use Rattle.bx_grid.specs.Picture.{PictureState}
 use Rattle.bx_grid.proofs.Doing.{run}
 use Rattle.bx_grid.proofs.Texts.{glyph_does}
 use Rattle.bx_grid.proofs.Whole.{columns_some, glyph_effects}
@@ -29,44 +29,44 @@ within_is w r c h =
     rw test refl
 
 -- a run, taken to its effect
-record Flushed (p : Image) (t : Terminal) (columns : List Col) (r c : ℕ) (negative : Bool) (effects : List Effect) : Type 0 where
+record Flushed (p : PictureState) (t : Terminal) (columns : List Col) (r c : ℕ) (negative : Bool) (effects : List Effect) : Type 0 where
   pub position : Option (ℕ × ℕ)
   pub effect : run_ended t ≡ screen p columns position negative []
   pub effects_are : pending_effects t ≡ effects
   pub at_place : c < p.width → position ≡ Some (r, c)
 
-flushed : (p : Image) (above start over below : List Col) (r from : ℕ) (negative : Bool) (half_read : List ℕ)
+flushed : (p : PictureState) (above start over below : List Col) (r from : ℕ) (negative : Bool) (half_read : List ℕ)
     → IsPlace r from p.width above start over → (1 ≤ length half_read → 1 ≤ length (run_columns negative half_read)) → from + length (run_columns negative half_read) ≤ p.width
     → Flushed p (screen p (partly above start over below) (Some (r, from)) negative half_read)
     (partly above (start ++ run_columns negative half_read) (drop (length (run_columns negative half_read)) over) below) r (from + length (run_columns negative half_read)) negative
     (glyphs_at (r * p.width + from) (run_columns negative half_read))
-flushed p above start over below r from negative [] place some fits = record {
+flushed p above start over below r from negative [] index some fits = record {
   position = Some (r, from);
   effect = ap (λ xs. screen p (partly above xs over below) (Some (r, from)) negative []) (sym (append-nil start));
   effects_are = refl;
   at_place = λ _. ap (λ x. Some (r, x)) (let e : from ≡ from + 0 = omega arith in e);
 }
-flushed p above start over below r from negative (b ∷ bs) place some fits =
+flushed p above start over below r from negative (b ∷ bs) index some fits =
     let new = run_columns negative (b ∷ bs) in
     let t = screen p (partly above start over below) (Some (r, from)) negative (b ∷ bs) in
     let does = room_put t r from new (some (omega arith)) fits in
     record {
       position = within p.width r (from + length new);
-      effect = does.0 ∙ ap (λ cs. screen p cs (within p.width r (from + length new)) negative []) (put_partly above start over below new r from p.width place);
+      effect = does.0 ∙ ap (λ cs. screen p cs (within p.width r (from + length new)) negative []) (put_partly above start over below new r from p.width index);
       effects_are = does.1;
       at_place = within_is p.width r (from + length new);
     }
 
 -- ---- the state before a text
 
--- a run is half read, or nothing is, from a place in this row on; once it has taken effect the row is done up to column c
-pub record Ready (p : Image) (w : Terminal × List Effect) (negative : Bool) (above done rest below : List Col) (r c : ℕ) (all : List Effect) : Type 0 where
+-- a run is half read, or nothing is, from an index in this row on; once it has taken effect the row is done up to column c
+pub record Ready (p : PictureState) (w : Terminal × List Effect) (negative : Bool) (above done rest below : List Col) (r c : ℕ) (all : List Effect) : Type 0 where
   pub half_read : List ℕ
   pub from : ℕ
   pub start : List Col
   pub over : List Col
   pub is : w.0 ≡ screen p (partly above start over below) (Some (r, from)) negative half_read
-  pub place : IsPlace r from p.width above start over
+  pub index : IsPlace r from p.width above start over
   pub some : 1 ≤ length half_read → 1 ≤ length (run_columns negative half_read)
   pub done_is : start ++ run_columns negative half_read ≡ done
   pub rest_is : drop (length (run_columns negative half_read)) over ≡ rest
@@ -74,12 +74,12 @@ pub record Ready (p : Image) (w : Terminal × List Effect) (negative : Bool) (ab
   pub fits : c ≤ p.width
   pub told : w.1 ++ glyphs_at (r * p.width + from) (run_columns negative half_read) ≡ all
 
-pub ready_leaves : (p : Image) (w : Terminal × List Effect) (negative : Bool) (above done rest below : List Col) (r c : ℕ) (all : List Effect)
+pub ready_leaves : (p : PictureState) (w : Terminal × List Effect) (negative : Bool) (above done rest below : List Col) (r c : ℕ) (all : List Effect)
     → Ready p w negative above done rest below r c all
     → (q : Option (ℕ × ℕ)) × Leaves p w (partly above done rest below) q negative all × (c < p.width → q ≡ Some (r, c))
 ready_leaves p w negative above done rest below r c all h =
     let new = run_columns negative h.half_read in
-    let f = flushed p above h.start h.over below r h.from negative h.half_read h.place h.some (omega (arith, h.column, h.fits)) in (
+    let f = flushed p above h.start h.over below r h.from negative h.half_read h.index h.some (omega (arith, h.column, h.fits)) in (
       f.position,
       record {
         no_token = ap (λ (u : Terminal). u.half_read) h.is;
@@ -93,22 +93,22 @@ ready_leaves p w negative above done rest below r c all h =
     )
 
 -- nothing is half read
-pub place_ready : (p : Image) (w : Terminal × List Effect) (negative : Bool) (above done rest below : List Col) (r c : ℕ) (all : List Effect)
+pub place_ready : (p : PictureState) (w : Terminal × List Effect) (negative : Bool) (above done rest below : List Col) (r c : ℕ) (all : List Effect)
     → IsPlace r c p.width above done rest → w ≡ (screen p (partly above done rest below) (Some (r, c)) negative [], all)
     → (h : Ready p w negative above done rest below r c all) × (h.half_read ≡ [])
-place_ready p w negative above done rest below r c all place is = (
+place_ready p w negative above done rest below r c all index is = (
   record {
     half_read = [];
     from = c;
     start = done;
     over = rest;
     is = ap (λ (v : Terminal × List Effect). v.0) is;
-    place = place;
+    index = index;
     some = λ none. absurd (omega (arith, none));
     done_is = append-nil done;
     rest_is = refl;
     column = omega arith;
-    fits = omega (arith, place.wide);
+    fits = omega (arith, index.wide);
     told = append-nil w.1 ∙ ap (λ (v : Terminal × List Effect). v.1) is;
   },
   refl,
@@ -116,24 +116,24 @@ place_ready p w negative above done rest below r c all place is = (
 
 -- ---- a text is read
 
-glyphs_by : (t : Bool) (place : ℕ) (text : List ℕ) (columns offset : ℕ) (negative : Bool) (xs ys : List Col) → nat_eq offset 0 ≡ t
-    → glyphs_at (place + 1) (xs ++ ys) ≡ glyphs_at (place + 1) xs ++ glyphs_at (place + 1 + length xs) ys
-    → glyphs_at place (Glyph text columns offset negative ∷ xs ++ ys)
-    ≡ glyphs_at place (Glyph text columns offset negative ∷ xs) ++ glyphs_at (place + 1 + length xs) ys
-glyphs_by true place text columns offset negative xs ys e more = rw e (ap (λ ds. Puts place text negative ∷ ds) more)
-glyphs_by false place text columns offset negative xs ys e more = rw e more
+glyphs_by : (t : Bool) (index : ℕ) (text : List ℕ) (columns offset : ℕ) (negative : Bool) (xs ys : List Col) → nat_eq offset 0 ≡ t
+    → glyphs_at (index + 1) (xs ++ ys) ≡ glyphs_at (index + 1) xs ++ glyphs_at (index + 1 + length xs) ys
+    → glyphs_at index (Glyph text columns offset negative ∷ xs ++ ys)
+    ≡ glyphs_at index (Glyph text columns offset negative ∷ xs) ++ glyphs_at (index + 1 + length xs) ys
+glyphs_by true index text columns offset negative xs ys e more = rw e (ap (λ ds. Puts index text negative ∷ ds) more)
+glyphs_by false index text columns offset negative xs ys e more = rw e more
 
-glyphs_at-append : (place : ℕ) (xs ys : List Col) → glyphs_at place (xs ++ ys) ≡ glyphs_at place xs ++ glyphs_at (place + length xs) ys
-glyphs_at-append place [] ys = ap (λ n. glyphs_at n ys) (let e : place ≡ place + 0 = omega arith in e)
-glyphs_at-append place (Unknown ∷ xs) ys =
-    glyphs_at-append (place + 1) xs ys
-    ∙ ap (λ n. glyphs_at (place + 1) xs ++ glyphs_at n ys) (let e : (place + 1) + length xs ≡ place + length (Unknown ∷ xs) = omega arith in e)
-glyphs_at-append place (Glyph text columns offset negative ∷ xs) ys =
-    glyphs_by (nat_eq offset 0) place text columns offset negative xs ys refl (glyphs_at-append (place + 1) xs ys)
-    ∙ ap (λ n. glyphs_at place (Glyph text columns offset negative ∷ xs) ++ glyphs_at n ys)
-    (let e : (place + 1) + length xs ≡ place + length (Glyph text columns offset negative ∷ xs) = omega arith in e)
+glyphs_at-append : (index : ℕ) (xs ys : List Col) → glyphs_at index (xs ++ ys) ≡ glyphs_at index xs ++ glyphs_at (index + length xs) ys
+glyphs_at-append index [] ys = ap (λ n. glyphs_at n ys) (let e : index ≡ index + 0 = omega arith in e)
+glyphs_at-append index (Unknown ∷ xs) ys =
+    glyphs_at-append (index + 1) xs ys
+    ∙ ap (λ n. glyphs_at (index + 1) xs ++ glyphs_at n ys) (let e : (index + 1) + length xs ≡ index + length (Unknown ∷ xs) = omega arith in e)
+glyphs_at-append index (Glyph text columns offset negative ∷ xs) ys =
+    glyphs_by (nat_eq offset 0) index text columns offset negative xs ys refl (glyphs_at-append (index + 1) xs ys)
+    ∙ ap (λ n. glyphs_at index (Glyph text columns offset negative ∷ xs) ++ glyphs_at n ys)
+    (let e : (index + 1) + length xs ≡ index + length (Glyph text columns offset negative ∷ xs) = omega arith in e)
 
-pub ready_text : (p : Image) (w : Terminal × List Effect) (g : WholeGlyph) (above done rest below : List Col) (r c : ℕ) (all : List Effect)
+pub ready_text : (p : PictureState) (w : Terminal × List Effect) (g : WholeGlyph) (above done rest below : List Col) (r c : ℕ) (all : List Effect)
     → IsGlyph g → (h : Ready p w g.negative above done rest below r c all)
     → run_columns g.negative (h.half_read ++ g.text) ≡ run_columns g.negative h.half_read ++ columns_of g → c + length (columns_of g) ≤ p.width
     → (k : Ready p (run w g.text) g.negative above (done ++ columns_of g) (drop (length (columns_of g)) rest) below r (c + length (columns_of g))
@@ -141,12 +141,12 @@ pub ready_text : (p : Image) (w : Terminal × List Effect) (g : WholeGlyph) (abo
 ready_text p w g above done rest below r c all is h joins fits =
     let a = run_columns g.negative h.half_read in
     let b = columns_of g in
-    let place = r * p.width + h.from in
+    let index = r * p.width + h.from in
     let idle : w.0.half_read ≡ [] = ap (λ (u : Terminal). u.half_read) h.is in
     let next : run w g.text ≡ (record (w.0) { run = w.0.run ++ g.text; half_read = [] }, w.1) =
     glyph_does w.0 w.1 g is idle in
     let count : length (run_columns g.negative (h.half_read ++ g.text)) ≡ length a + length b = ap length joins ∙ length-append a b in
-    let end : place + length a ≡ r * p.width + c = omega (arith, h.column) in
+    let end : index + length a ≡ r * p.width + c = omega (arith, h.column) in
     let some : 1 ≤ length b = columns_some g is in (
       record {
         half_read = h.half_read ++ g.text;
@@ -154,18 +154,18 @@ ready_text p w g above done rest below r c all is h joins fits =
         start = h.start;
         over = h.over;
         is = ap (λ (v : Terminal × List Effect). v.0) next ∙ ap (λ (u : Terminal). record u { run = u.run ++ g.text; half_read = [] }) h.is;
-        place = h.place;
+        index = h.index;
         some = λ _. omega (arith, count, some);
         done_is = ap (λ xs. h.start ++ xs) joins ∙ sym (append_assoc h.start a b) ∙ ap (λ xs. xs ++ b) h.done_is;
         rest_is = ap (λ n. drop n h.over) count ∙ sym (drop-drop (length b) (length a) h.over) ∙ ap (drop (length b)) h.rest_is;
         column = omega (arith, count, h.column);
         fits = fits;
         told =
-            ap (λ (v : Terminal × List Effect). v.1 ++ glyphs_at place (run_columns g.negative (h.half_read ++ g.text))) next
-            ∙ ap (λ xs. w.1 ++ glyphs_at place xs) joins
-            ∙ ap (λ ds. w.1 ++ ds) (glyphs_at-append place a b)
-            ∙ sym (append_assoc w.1 (glyphs_at place a) (glyphs_at (place + length a) b))
-            ∙ ap (λ ds. ds ++ glyphs_at (place + length a) b) h.told
+            ap (λ (v : Terminal × List Effect). v.1 ++ glyphs_at index (run_columns g.negative (h.half_read ++ g.text))) next
+            ∙ ap (λ xs. w.1 ++ glyphs_at index xs) joins
+            ∙ ap (λ ds. w.1 ++ ds) (glyphs_at-append index a b)
+            ∙ sym (append_assoc w.1 (glyphs_at index a) (glyphs_at (index + length a) b))
+            ∙ ap (λ ds. ds ++ glyphs_at (index + length a) b) h.told
             ∙ ap (λ n. all ++ glyphs_at n b) end
             ∙ ap (λ ds. all ++ ds) (glyph_effects (r * p.width + c) g is);
       },

@@ -3,34 +3,34 @@ use Rattle.std.specs.Prelude.{ℕ, zero, suc, ◌+◌, List, [], ◌∷◌, ◌+
 use Rattle.std.specs.List.{list_all}
 use Rattle.bx_grid.specs.Columns.{Col, Unknown, Glyph, is_blank, col_eq}
 use Rattle.bx_grid.specs.Effects.{Effect, Puts, Erases}
-use Rattle.bx_grid.specs.Picture.{Image}
+use Rattle.bx_grid.specs.Picture.{PictureState}
 use Rattle.bx_paint.specs.Painting.{before_tail, leading_blanks, is_sent}
 
--- the glyphs of columns before a row's tail, of which a column differs; the first column has this place
+-- the glyphs of columns before a row's tail, of which a column differs; the first column has this index
 abbrev pub glyphs_changed : ℕ → List Col → List Col → List Effect
-glyphs_changed place old [] = []
-glyphs_changed place old (Unknown ∷ cs) = glyphs_changed (place + 1) (drop 1 old) cs
-glyphs_changed place old (Glyph text columns offset negative ∷ cs) =
+glyphs_changed index old [] = []
+glyphs_changed index old (Unknown ∷ cs) = glyphs_changed (index + 1) (drop 1 old) cs
+glyphs_changed index old (Glyph text columns offset negative ∷ cs) =
     if is_sent old (Glyph text columns offset negative ∷ cs)
-    then Puts place text negative ∷ glyphs_changed (place + 1) (drop 1 old) cs
-    else glyphs_changed (place + 1) (drop 1 old) cs
+    then Puts index text negative ∷ glyphs_changed (index + 1) (drop 1 old) cs
+    else glyphs_changed (index + 1) (drop 1 old) cs
 
 -- a row's tail, from its first column that differs
 abbrev pub tail_changed : ℕ → List Col → List Effect
-tail_changed place old = if list_all is_blank old then [] else Erases (place + leading_blanks old) ∷ []
+tail_changed index old = if list_all is_blank old then [] else Erases (index + leading_blanks old) ∷ []
 
 abbrev pub row_changed : ℕ → List Col → List Col → List Effect
-row_changed place old new =
+row_changed index old new =
     let front = before_tail new in
-    glyphs_changed place (take (length front) old) front ++ tail_changed (place + length front) (drop (length front) old)
+    glyphs_changed index (take (length front) old) front ++ tail_changed (index + length front) (drop (length front) old)
 
--- so many rows, the first of which begins at this place
+-- so many rows, the first of which begins at this index
 abbrev pub rows_changed : ℕ → ℕ → ℕ → List Col → List Col → List Effect
-rows_changed zero width place old new = []
-rows_changed (suc count) width place old new =
-    row_changed place (take width old) (take width new) ++ rows_changed count width (place + width) (drop width old) (drop width new)
+rows_changed zero width index old new = []
+rows_changed (suc count) width index old new =
+    row_changed index (take width old) (take width new) ++ rows_changed count width (index + width) (drop width old) (drop width new)
 
-abbrev pub changed : Image → Image → List Effect
+abbrev pub changed : PictureState → PictureState → List Effect
 changed old new = rows_changed new.height new.width 0 old.columns new.columns
 
 -- how many columns differ

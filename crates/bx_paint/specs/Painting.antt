@@ -2,7 +2,7 @@
 use Rattle.std.specs.Prelude.{ℕ, zero, suc, ◌+◌, ◌*◌, Bool, true, false, not, ◌&&◌, ◌==◌, List, [], ◌∷◌, ◌++◌, length, take, drop, replicate, if◌then◌else◌, decimal}
 use Rattle.std.specs.List.{list_all}
 use Rattle.bx_grid.specs.Columns.{Col, Unknown, Glyph, blank, is_blank, is_ascii_glyph, are_equal}
-use Rattle.bx_grid.specs.Picture.{Image}
+use Rattle.bx_grid.specs.Picture.{PictureState}
 
 -- ---- sequences
 
@@ -110,27 +110,27 @@ rows_sent (suc count) row width negative old new =
     (λ after. rows_sent count (row + 1) width after (drop width old) (drop width new))
 
 -- a picture, where these columns stand now
-abbrev pub columns_changed : List Col → Image → Sent
+abbrev pub columns_changed : List Col → PictureState → Sent
 columns_changed old p = rows_sent p.height 0 p.width false old p.columns
 
 -- normal rendition, and the cursor
-abbrev pub ended : Image → Sent → List ℕ
+abbrev pub ended : PictureState → Sent → List ℕ
 ended p s = s.bytes ++ (render_change s.negative false ++ move_bytes p.row p.column)
 
-abbrev pub is_at_cursor_of : Image → Image → Bool
+abbrev pub is_at_cursor_of : PictureState → PictureState → Bool
 is_at_cursor_of p q = (p.row == q.row) && (p.column == q.column)
 
 abbrev pub is_none : List ℕ → Bool
 is_none [] = true
 is_none (b ∷ bs) = false
 
-abbrev pub if_changed : Image → Image → Sent → List ℕ
+abbrev pub if_changed : PictureState → PictureState → Sent → List ℕ
 if_changed old new s = if is_none s.bytes && is_at_cursor_of old new then [] else ended new s
 
 -- what leads from one picture to another of its size
-abbrev pub changes_bytes : Image → Image → List ℕ
+abbrev pub changes_bytes : PictureState → PictureState → List ℕ
 changes_bytes old new = if_changed old new (columns_changed old.columns new)
 
 -- `\e[0m\e[2J`, and then the picture, over blanks
-abbrev pub whole_bytes : Image → List ℕ
+abbrev pub whole_bytes : PictureState → List ℕ
 whole_bytes p = 0x1B ∷ 0x5B ∷ 0x30 ∷ 0x6D ∷ 0x1B ∷ 0x5B ∷ 0x32 ∷ 0x4A ∷ ended p (columns_changed (replicate (p.height * p.width) blank) p)

@@ -2,7 +2,7 @@
 
 ghost use Rattle.std.specs.Prelude.{◌≡◌, ◌+◌, ◌-◌, ◌≤◌, ◌<◌, ◌++◌, [], length, false, IfOk, OnOk, OnErr};
 ghost use Rattle.bx_grid.specs.Effects.{effects};
-ghost use Rattle.bx_grid.specs.Picture.{Image, IsGrid, IsIdle, IsPicture, Shows};
+ghost use Rattle.bx_grid.specs.Picture.{PictureState, IsGrid, IsIdle, IsPicture, Shows};
 ghost use Rattle.bx_grid.specs.Terminal.{Terminal, reads};
 ghost use Rattle.bx_paint.specs.Changed.{changed, differing};
 ghost use Rattle.bx_paint.specs.Painting.{whole_bytes, changes_bytes, columns_changed, ended, render_change, move_bytes};

@@ -20,8 +20,8 @@ pub fn write_move(out: &mut Vec<u8>, row: u16, column: u16) -> Result<(), AllocE
     let mut line = Buffer::new();
     out.extend_from_slice(line.format(row + 1).as_bytes())?;
     out.extend_from_slice(b";")?;
-    let mut place = Buffer::new();
-    out.extend_from_slice(place.format(column + 1).as_bytes())?;
+    let mut index = Buffer::new();
+    out.extend_from_slice(index.format(column + 1).as_bytes())?;
     out.extend_from_slice(b"H")?;
     Ok(())
 }

@@ -160,6 +160,16 @@ impl Blocks {
         (self.blocks.len(), 0)
     }
 
+    /// Room in the lists for so many blocks made ahead.
+    fn reserve(&mut self, spares: usize) -> Result<(), AllocError>
+        ensures blocks { self.new.blocks ≡ self.old.blocks }
+        ensures spares { self.new.spares ≡ self.old.spares }
+    {
+        self.spares.reserve(spares)?;
+        self.blocks.reserve(spares)?;
+        Ok(())
+    }
+
     /// Makes one block ahead.
     fn add_spare(&mut self) -> Result<(), AllocError>
         ensures blocks { self.new.blocks ≡ self.old.blocks }
@@ -180,6 +190,10 @@ impl Blocks {
         ensures enough { OnOk result (spares ≤ self.new.spares) }
     {
         let missing = spares > self.spares.len();
+        if missing {
+            // The lists come first, so that no block made ahead stands below them and keeps its memory from being given back.
+            self.reserve(spares)?;
+        }
         for _made in self.spares.len()..spares {
             self.add_spare()?;
         }

@@ -6,7 +6,7 @@ use Rattle.std.proofs.Math.Nat.{div-add-mod}
 use Rattle.std.proofs.lemmas.Bool.Decides.{nat_tests}
 use Rattle.std.proofs.lemmas.List.{map_more, map-append, length-map, length-take, length-take-le, append-nil, replicate-append-replicate, take_all, drop_all}
 use Rattle.bx_grid.specs.Columns.{run_width, Col, Glyph, blank, paste, plain_columns, run_columns, AreBlank}
-use Rattle.bx_grid.specs.Picture.{Image, is_size}
+use Rattle.bx_grid.specs.Picture.{PictureState, is_size}
 use Rattle.bx_grid.specs.Columns.{is_ascii_printable}
 use Rattle.bx_grid.proofs.Laid.{plain_is_one, blank_next, laid_next}
 use Rattle.bx_grid.proofs.Reading.{and_left, and_right}
@@ -126,11 +126,11 @@ shown_fits h low = shown_at_most h (nat_le 2 h) refl low
 
 -- ---- pictures
 
-image_height : (ended : Bool) (p q : Image) (h : ℕ) → p.height ≡ h → q.height ≡ h → (if ended then p else q).height ≡ h
+image_height : (ended : Bool) (p q : PictureState) (h : ℕ) → p.height ≡ h → q.height ≡ h → (if ended then p else q).height ≡ h
 image_height true p q h e f = e
 image_height false p q h e f = f
 
-image_width : (ended : Bool) (p q : Image) (w : ℕ) → p.width ≡ w → q.width ≡ w → (if ended then p else q).width ≡ w
+image_width : (ended : Bool) (p q : PictureState) (w : ℕ) → p.width ≡ w → q.width ≡ w → (if ended then p else q).width ≡ w
 image_width true p q w e f = e
 image_width false p q w e f = f
 

@@ -1,7 +1,7 @@
 -- The rows of the text, and the picture that shows them.
 use Rattle.std.specs.Prelude.{ℕ, zero, suc, ◌+◌, ◌-◌, ◌*◌, ◌/◌, ◌≤◌, ◌<◌, min, max, false, nat_le, List, [], ◌++◌, length, take, drop, replicate, if◌then◌else◌}
 use Rattle.bx_grid.specs.Columns.{Col, blank, plain_columns}
-use Rattle.bx_grid.specs.Picture.{Image}
+use Rattle.bx_grid.specs.Picture.{PictureState}
 use Rattle.bx_session.specs.Editor.{EditorState}
 
 -- the last row of a text, from 0: each row takes as many characters as it has columns; a text of none has one row
@@ -36,11 +36,11 @@ abbrev pub rows_columns : ℕ → ℕ → List ℕ → List Col
 rows_columns width zero text = []
 rows_columns width (suc count) text = row_columns width (take width text) ++ rows_columns width count (drop width text)
 
-abbrev pub blank_image : ℕ → ℕ → Image
+abbrev pub blank_image : ℕ → ℕ → PictureState
 blank_image height width = record { height = height; width = width; columns = replicate (height * width) blank; row = 0; column = 0 }
 
 -- the rows from the top on, and a blank row for the status
-abbrev pub text_image : EditorState → ℕ → Image
+abbrev pub text_image : EditorState → ℕ → PictureState
 text_image e top = record {
   height = e.height;
   width = e.width;
@@ -51,7 +51,7 @@ text_image e top = record {
 }
 
 -- all blank once the session has ended
-abbrev pub picture : EditorState → ℕ → Image
+abbrev pub picture : EditorState → ℕ → PictureState
 picture e top = if e.ended then blank_image e.height e.width else text_image e top
 
 -- the cursor's row is one of those shown from the top on

@@ -1,6 +1,6 @@
 -- The session's state, and what a byte makes of it.
 use Rattle.std.specs.Prelude.{◌≡◌, ℕ, Bool, true, false, not, ◌&&◌, is_some, List, ◌++◌, Option, Some, None, Result, Ok, Err, if◌then◌else◌}
-use Rattle.bx_grid.specs.Picture.{Image, IsIdle, Shows}
+use Rattle.bx_grid.specs.Picture.{PictureState, IsIdle, Shows}
 use Rattle.bx_grid.specs.Terminal.{Terminal, reads}
 use Rattle.bx_paint.specs.Painting.{whole_bytes}
 use Rattle.bx_session.specs.declared.key.Key.{Key}
@@ -20,7 +20,7 @@ pub record SessionState : Type 0 where
   -- bytes for the terminal
   pub pending : List ℕ
 
-abbrev pub shown_picture : SessionState → Image
+abbrev pub shown_picture : SessionState → PictureState
 shown_picture s = picture s.editor s.top
 
 -- the top follows the cursor, and the picture is painted whole

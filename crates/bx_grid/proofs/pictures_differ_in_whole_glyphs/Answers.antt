@@ -1,14 +1,14 @@
 use Rattle.std.proofs.Common.{◌≡◌, ◌*◌, ◌∙◌, ap, sym, length, ℕ}
-use Rattle.bx_grid.specs.Picture.{Image, IsPicture}
+use Rattle.bx_grid.specs.Picture.{PictureState, IsPicture}
 use Rattle.bx_grid.proofs.Shared.{share, differ}
 use Rattle.bx_grid.proofs.Whole.{rows_whole}
 use Rattle.bx_grid.specs.Glyphs.{AreWhole}
 use Rattle.bx_grid.proofs.pictures_differ_in_whole_glyphs.Goals as goal
 
-whole : (p : Image) → IsPicture p → AreWhole p.columns
+whole : (p : PictureState) → IsPicture p → AreWhole p.columns
 whole p is = rows_whole p.height p.width p.columns is.grid.sized.each is.grid.rows
 
-same_size : (p q : Image) → IsPicture p → IsPicture q → p.height ≡ q.height → p.width ≡ q.width → length p.columns ≡ length q.columns
+same_size : (p q : PictureState) → IsPicture p → IsPicture q → p.height ≡ q.height → p.width ≡ q.width → length p.columns ≡ length q.columns
 same_size p q a b eh ew = a.grid.sized.each ∙ ap (λ (h : ℕ). h * p.width) eh ∙ ap (λ (w : ℕ). q.height * w) ew ∙ sym b.grid.sized.each
 
 pub returns-clause-common : goal.returns-clause-common

@@ -3,5 +3,5 @@ use Rattle.bx_grid.specs.Columns.{blank, paste}
 use Rattle.bx_grid.specs.Seen.{all_seen}
 use Rattle.bx_grid.proofs.columns.fill_blank.Given as goal
 
-abbrev pub invariant-loop-place : goal.invariant-loop-place
-invariant-loop-place l = all_seen l.columns ≡ paste (all_seen l.initial.columns) l.from (replicate (l.place - l.from) blank)
+abbrev pub invariant-loop-index : goal.invariant-loop-index
+invariant-loop-index l = all_seen l.columns ≡ paste (all_seen l.initial.columns) l.from (replicate (l.index - l.from) blank)

@@ -4,14 +4,14 @@ use Rattle.bx_grid.specs.Seen.{seen, all_seen}
 use Rattle.bx_grid.proofs.Lettered.{note_more}
 use Rattle.bx_grid.proofs.letters.note_letters.Goals as goal
 
-pub loop-place-preserved : goal.loop-place-preserved
-loop-place-preserved c =
+pub loop-index-preserved : goal.loop-index-preserved
+loop-index-preserved c =
     let columns = c.args.columns.now in
-    let i = c.loop-place.place in
-    let x = c.index-columns-place.result in
+    let i = c.loop-index.index in
+    let x = c.index-columns-index.result in
     let len : length (all_seen columns) ≡ length columns = length-map columns seen in
-    let inside : i < length columns = omega (arith, c.loop-place-test.true, c.requires.inside, len) in
-    ap (λ b. set c.loop-place.letters i b) c.letter_of.ensures
-    ∙ note_more c.loop-place.letters c.args.letters.now (all_seen columns) c.args.from i c.args.to (seen x)
-    (omega (arith, c.loop-place.auto.place)) c.loop-place-test.true (omega (arith, c.requires.inside, len)) (c.requires.as_long ∙ sym len)
-    (ap seen c.index-columns-place.is ∙ sym (get_or-map seen columns i x (seen x) inside)) c.loop-place.invariant
+    let inside : i < length columns = omega (arith, c.loop-index-test.true, c.requires.inside, len) in
+    ap (λ b. set c.loop-index.letters i b) c.letter_of.ensures
+    ∙ note_more c.loop-index.letters c.args.letters.now (all_seen columns) c.args.from i c.args.to (seen x)
+    (omega (arith, c.loop-index.auto.index)) c.loop-index-test.true (omega (arith, c.requires.inside, len)) (c.requires.as_long ∙ sym len)
+    (ap seen c.index-columns-index.is ∙ sym (get_or-map seen columns i x (seen x) inside)) c.loop-index.invariant

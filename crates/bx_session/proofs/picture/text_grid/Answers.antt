@@ -1,7 +1,7 @@
 use Rattle.std.proofs.Common.{◌+◌, ◌-◌, ◌*◌, ◌/◌, ◌%◌, ◌≡◌, ◌∙◌, ◌∷◌, [], List, false, true, ap, sym, subst, length, get_or, arith}
 use Rattle.std.proofs.lemmas.Str.{encode_ascii}
 use Rattle.bx_grid.specs.Columns.{Col, paste, run_columns, run_width, is_ascii_glyph, AreBlank}
-use Rattle.bx_grid.specs.Picture.{Cells}
+use Rattle.bx_grid.specs.Picture.{GridState}
 use Rattle.bx_grid.proofs.Laid.{plain_text, plain_glyph, plain_run_width}
 use Rattle.bx_session.proofs.Drawing.{drawn, next_is_blank, printable_at, ascii, size_is, cell_at}
 use Rattle.bx_session.proofs.picture.text_grid.Goals as goal
@@ -21,14 +21,14 @@ put-requires-clause-glyph c = plain_glyph c.encode_utf8.result.now (plain c)
 
 pub put-requires-clause-room : goal.put-requires-clause-room
 put-requires-clause-room c =
-    let wide : c.loop-i.grid.width ≡ c.args.width = ap (λ (g : Cells). g.width) c.loop-i.invariant in
+    let wide : c.loop-i.grid.width ≡ c.args.width = ap (λ (g : GridState). g.width) c.loop-i.invariant in
     let low = (size_is c.args.height c.args.width c.requires.sized).width_low in
     let i = c.loop-i.i in
     let w = c.args.width in
     let bytes = c.encode_utf8.result.now in
     record {
       fits = omega (arith, plain_run_width bytes (plain c));
-      blank = subst (λ (g : Cells). AreBlank ((i / w + 1 - 1) * g.width + (i % w + 1 - 1)) (run_width bytes) g.columns) (sym c.loop-i.invariant)
+      blank = subst (λ (g : GridState). AreBlank ((i / w + 1 - 1) * g.width + (i % w + 1 - 1)) (run_width bytes) g.columns) (sym c.loop-i.invariant)
           (next_is_blank (c.args.height * w) i ((i / w + 1 - 1) * w + (i % w + 1 - 1)) c.args.text.now bytes (omega arith) c.requires.room
           (cell_at i w (size_is c.args.height w c.requires.sized).width_low) (plain_run_width bytes (plain c)));
     }
@@ -41,7 +41,7 @@ loop-i-preserved c =
     let bytes = c.encode_utf8.result.now in
     let printed = printable_at text i c.requires.printable (omega arith) in
     c.in_ok-put.ensures.ok
-    ∙ ap (λ (g : Cells). record { height = g.height; width = g.width; columns = paste g.columns ((i / w + 1 - 1) * g.width + (i % w + 1 - 1)) (run_columns false bytes) }) c.loop-i.invariant
+    ∙ ap (λ (g : GridState). record { height = g.height; width = g.width; columns = paste g.columns ((i / w + 1 - 1) * g.width + (i % w + 1 - 1)) (run_columns false bytes) }) c.loop-i.invariant
     ∙ ap (λ (cs : List Col). record { height = c.args.height; width = w; columns = cs })
     (drawn (c.args.height * w) i ((i / w + 1 - 1) * w + (i % w + 1 - 1)) text bytes (omega arith) c.requires.room (cell_at i w (size_is c.args.height w c.requires.sized).width_low)
     (c.encode_utf8.ensures.value ∙ encode_ascii (get_or text i 0) (ascii (get_or text i 0) printed)) printed)

@@ -2,7 +2,7 @@ use Rattle.std.proofs.Common.{◌≡◌, ◌∙◌, ◌*◌, ◌+◌, ◌-◌, �
 use Rattle.std.proofs.lemmas.List.{take_at}
 use Rattle.bx_grid.specs.Columns.{Col, paste, run_columns}
 use Rattle.bx_grid.specs.Letters.{letters_of}
-use Rattle.bx_grid.specs.Picture.{Cells, IsGrid}
+use Rattle.bx_grid.specs.Picture.{GridState, IsGrid}
 use Rattle.bx_grid.specs.Seen.{all_seen}
 use Rattle.bx_grid.proofs.Grids.{CanPut, can_along, letter_set, plain_seen, put_kept, put_fits}
 use Rattle.bx_grid.proofs.Lettered.{noted}
@@ -13,7 +13,7 @@ use Rattle.bx_grid.proofs.grid.Grid.put.Goals as goal
 
 pub invariant_of-self : goal.invariant_of-self
 invariant_of-self c =
-    let g : Cells = record { height = c.self.inside.height; width = c.self.inside.width; columns = all_seen c.self.inside.columns.items } in
+    let g : GridState = record { height = c.self.inside.height; width = c.self.inside.width; columns = all_seen c.self.inside.columns.items } in
     let cell = c.args.cell in
     let text = c.args.text.now in
     let can : CanPut g cell.line cell.column text = can_along g c.args.self.now cell.line cell.column text c.self.view_is
@@ -26,35 +26,35 @@ invariant_of-self c =
 
 pub returns-in-Some-clause-ok : goal.returns-in-Some-clause-ok
 returns-in-Some-clause-ok c =
-    let g : Cells = record { height = c.self.inside.height; width = c.self.inside.width; columns = all_seen c.self.inside.columns.items } in
+    let g : GridState = record { height = c.self.inside.height; width = c.self.inside.width; columns = all_seen c.self.inside.columns.items } in
     let cell = c.args.cell in
     let text = c.args.text.now in
     let can : CanPut g cell.line cell.column text = can_along g c.args.self.now cell.line cell.column text c.self.view_is
     (record { inside = c.requires.inside; glyph = c.requires.glyph; utf8 = c.utf8.text; room = c.requires.room }) in
     ap (λ (cs : List Col). record { height = g.height; width = g.width; columns = cs })
     (plain_seen g c.self.inside.columns.items cell.line cell.column text c.in-Some.byte c.args.negative refl c.in-Some.ensures.0 c.in-Some.ensures.1 c.self.invariant.0 can)
-    ∙ ap (λ (x : Cells). record { height = x.height; width = x.width; columns = paste x.columns ((cell.line - 1) * x.width + (cell.column - 1)) (run_columns c.args.negative text) }) c.self.view_is
+    ∙ ap (λ (x : GridState). record { height = x.height; width = x.width; columns = paste x.columns ((cell.line - 1) * x.width + (cell.column - 1)) (run_columns c.args.negative text) }) c.self.view_is
 
 -- ---- any other glyph
 
 pub invariant_of-self-2 : goal.invariant_of-self-2
 invariant_of-self-2 c =
-    let g : Cells = record { height = c.self.inside.height; width = c.self.inside.width; columns = all_seen c.self.inside.columns.items } in
+    let g : GridState = record { height = c.self.inside.height; width = c.self.inside.width; columns = all_seen c.self.inside.columns.items } in
     let cell = c.args.cell in
     let text = c.args.text.now in
     let news = run_columns c.args.negative text in
     let can : CanPut g cell.line cell.column text = can_along g c.args.self.now cell.line cell.column text c.self.view_is
     (record { inside = c.requires.inside; glyph = c.requires.glyph; utf8 = c.utf8.text; room = c.requires.room }) in
-    let place = (cell.line - 1) * g.width + (cell.column - 1) in
-    let new : all_seen c.put_over_blanks.new.columns ≡ paste g.columns place news =
-    c.in_ok-put_over_blanks.ensures.ok ∙ ap (λ xs. paste (all_seen xs) place news) c.as_mut_slice.ensures.value in
+    let index = (cell.line - 1) * g.width + (cell.column - 1) in
+    let new : all_seen c.put_over_blanks.new.columns ≡ paste g.columns index news =
+    c.in_ok-put_over_blanks.ensures.ok ∙ ap (λ xs. paste (all_seen xs) index news) c.as_mut_slice.ensures.value in
     let columns = take_at c.put_over_blanks.new.columns _ c.self.inside.columns.len (c.put_over_blanks.auto.columns ∙ c.as_mut_slice.ensures.len) in
     let now = ap all_seen columns ∙ new in
     let count : length news ≡ c.run_width-count.result = run_length c.args.negative text ∙ sym c.run_width-count.ensures in
-    let fits : place + c.run_width-count.result ≤ length g.columns = put_fits g cell.line cell.column text c.run_width-count.result c.self.invariant.0 can c.run_width-count.ensures in (
+    let fits : index + c.run_width-count.result ≤ length g.columns = put_fits g cell.line cell.column text c.run_width-count.result c.self.invariant.0 can c.run_width-count.ensures in (
       subst (λ (cs : List Col). IsGrid g.height g.width cs) (sym now) (put_kept g cell.line cell.column text c.args.negative c.self.invariant.0 can),
       take_at c.note_letters.new.letters _ c.self.inside.letters.len (c.note_letters.auto.letters ∙ c.as_mut_slice-2.ensures.len)
-          ∙ noted g.columns (all_seen c.deref.result.now) news c.as_mut_slice-2.result.now c.note_letters.new.letters place (place + c.run_width-count.result) c.run_width-count.result
+          ∙ noted g.columns (all_seen c.deref.result.now) news c.as_mut_slice-2.result.now c.note_letters.new.letters index (index + c.run_width-count.result) c.run_width-count.result
           (c.as_mut_slice-2.ensures.value ∙ c.self.invariant.1) (ap all_seen c.deref.ensures.value ∙ now) count (omega arith) fits c.note_letters.ensures
           ∙ ap (λ cs. letters_of (all_seen cs)) c.deref.ensures.value,
     )

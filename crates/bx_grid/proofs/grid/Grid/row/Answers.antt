@@ -1,5 +1,5 @@
 use Rattle.std.proofs.Common.{◌*◌, take, drop, ap, ◌∙◌}
-use Rattle.bx_grid.specs.Picture.{Cells}
+use Rattle.bx_grid.specs.Picture.{GridState}
 use Rattle.bx_grid.proofs.Grids.{row_seen, row_letters}
 use Rattle.bx_grid.proofs.grid.Grid.row.Goals as goal
 
@@ -11,4 +11,4 @@ pub returns-clause-row : goal.returns-clause-row
 returns-clause-row c =
     (rw (c.deref.ensures.value) at c.new.ensures)
     ∙ row_seen c.args.row c.self.inside.width c.self.inside.columns.items
-    ∙ ap (λ (g : Cells). take g.width (drop (c.args.row * g.width) g.columns)) c.self.view_is
+    ∙ ap (λ (g : GridState). take g.width (drop (c.args.row * g.width) g.columns)) c.self.view_is
