@@ -1,4 +1,5 @@
 -- Isolating run sequences and the types at their ends, BD13 and X10.
+pub use Rattle.bx_ucd.specs.Class.{direction}
 use Rattle.std.specs.Prelude.{◌==◌, ℕ, ◌+◌, ◌%◌, Bool, true, false, List, [], ◌∷◌, ◌++◌, Option, Some, None, take, drop, reverse, max}
 use Rattle.std.specs.List.{list_any}
 use Rattle.std.proofs.Common.{zero, suc}
@@ -40,10 +41,6 @@ chain_places kept (r ∷ rs) = places_of kept r ++ chain_places kept rs
 abbrev pub last_run : Run → List Run → Run
 last_run r [] = r
 last_run r (q ∷ qs) = last_run q qs
-
--- the direction of a level
-abbrev pub direction : ℕ → Class
-direction level = elim (level % 2) [ zero ↦ L | suc n ↦ R ]
 
 -- the level of the first kept character of a list, or the paragraph level
 abbrev pub level_of_first : ℕ → List (Option Kept) → ℕ

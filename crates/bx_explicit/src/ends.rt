@@ -5,14 +5,7 @@ ghost use Rattle.bx_explicit.specs.Sequences.{direction, level_of_first, start_c
 use crate::entry::{Explicit, Kept};
 use crate::runs::Run;
 use bx_ucd::Class;
-use bx_ucd::class::is_initiator;
-
-/// The direction of a level: L or R.
-pub fn direction(level: u8) -> Class
-    ensures { result ≡ direction level }
-{
-    if level % 2 == 0 { Class::L } else { Class::R }
-}
+use bx_ucd::class::{direction, is_initiator};
 
 /// The level of the last kept character, or the paragraph level.
 #[tactic(auto, using(crate::proofs::Nearest::before_more, crate::proofs::Nearest::before_here))]

@@ -19,7 +19,6 @@ mod tests;
 mod walk;
 
 pub use base::Base;
-pub use ends::direction;
 pub use entry::{Explicit, Kept};
 pub use error::ExplicitError;
 pub use isolating::{Sequence, sequences};

@@ -15,7 +15,8 @@ use crate::error::ParasError;
 use crate::fill::replace;
 use crate::position::Position;
 use crate::scan::paragraph_from;
-use bx_text::{Change, MAX_BYTES, Text};
+use bx_terms::LARGEST_TEXT;
+use bx_text::{Change, Text};
 use bx_ucd::BidiData;
 use std::alloc::Global;
 use std::marker::Model;
@@ -99,7 +100,7 @@ impl Index {
         ensures ok { OnOk result (self.new.room ≡ Some separators) }
         ensures err { OnErr result (self.new ≡ self.old) }
     {
-        let blocks = separators.min(MAX_BYTES) / BLOCK_CAPACITY + 4;
+        let blocks = separators.min(LARGEST_TEXT) / BLOCK_CAPACITY + 4;
         self.ended.ready(blocks)?;
         self.room = Some(separators);
         Ok(())

@@ -11,7 +11,8 @@ use crate::neutral::{implicit_at, n1, n2};
 use crate::paragraph::Levels;
 use crate::weak::weak;
 use bx_brackets::{pairs, resolve_pairs};
-use bx_explicit::{Base, Explicit, Kept, Sequence, base_level, direction, explicit, sequences};
+use bx_explicit::{Base, Explicit, Kept, Sequence, base_level, explicit, sequences};
+use bx_ucd::class::direction;
 use bx_ucd::{BidiData, Class};
 use std::alloc::{AllocError, Global};
 

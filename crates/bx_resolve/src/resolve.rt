@@ -12,7 +12,8 @@ use crate::neutral::implicit_at;
 use crate::paragraph::Levels;
 use crate::plain::{are_plain, are_plain_right, are_unformatted};
 use crate::scratch::{Ends, Scratch};
-use bx_explicit::{Base, base_level, direction};
+use bx_explicit::{Base, base_level};
+use bx_ucd::class::direction;
 use bx_ucd::{BidiData, Class};
 use std::alloc::{AllocError, Global};
 

@@ -7,7 +7,7 @@ use crate::error::ResolveError;
 use crate::neutral::n1_n2;
 use crate::weak::weak_in_one_pass;
 use bx_brackets::{PairSearch, resolve_pairs};
-use bx_explicit::direction;
+use bx_ucd::class::direction;
 use bx_ucd::{BidiData, Class};
 use std::alloc::{AllocError, Global};
 

@@ -6,7 +6,7 @@ use Rattle.bx_pieces.specs.Pieces.{total, front, back}
 use Rattle.bx_text.specs.declared.step.Step.{Step}
 use Rattle.std.specs.Str.{IsUtf8}
 use Rattle.bx_text.specs.Buffers.{Buffers, bytes_of, ArePlaced, with_added}
-use Rattle.bx_text.specs.Edits.{Edit, IsRange, edit_of, replaced, spliced, largest}
+use Rattle.bx_text.specs.Edits.{Edit, IsRange, edit_of, replaced, spliced, largest_text}
 use Rattle.bx_text.specs.Steps.{swapped, past_of, AreSteps}
 use Rattle.bx_text.proofs.Characters.{IsRange-spliced}
 use Rattle.bx_text.proofs.Bytes.{length-bytes_of, IsUtf8-bytes_of, bytes_of-append, bytes_of-front, ArePlaced-append, ArePlaced-front}
@@ -67,7 +67,7 @@ module _ (b : Buffers) (ps : List Piece) (more : List ℕ) (start len before aft
       let removed : (start + len) - start ≡ len = omega arith in
       rw (back_again, bytes_after, old_total, removed, past_of-grown b more (bytes_of b ps) ss steps) refl
 
-  pub steps_after : (ss : List Step) → length (bytes_of b ps) ≤ largest → AreSteps b (bytes_of b ps) ss
+  pub steps_after : (ss : List Step) → length (bytes_of b ps) ≤ largest_text → AreSteps b (bytes_of b ps) ss
       → AreSteps (grown b more) (bytes_of (grown b more) (pieces_after b ps more start len)) (step_back ps more start len before after ∷ ss)
   steps_after ss short steps = (
     subst (λ t. IsRange t start (start + length more)) (sym bytes_after) (IsRange-spliced (bytes_of b ps) more start len (IsUtf8-bytes_of b ps placed) utf8 range),
@@ -89,11 +89,11 @@ edited_after b ps more start len before after placed utf8 range ss future steps 
 
 pub record IsReplaced (B : Buffers) (P : List Piece) (S : List Step) : Type 0 where
   pub placed : ArePlaced B P
-  pub short : length (bytes_of B P) ≤ largest
+  pub short : length (bytes_of B P) ≤ largest_text
   pub steps : AreSteps B (bytes_of B P) S
 
 pub sound_after : (b : Buffers) (ps : List Piece) (more : List ℕ) (start len before after : ℕ) → ArePlaced b ps → IsUtf8 more → IsRange (bytes_of b ps) start (start + len)
-    → (ss : List Step) → length (bytes_of b ps) ≤ largest → length (bytes_of b ps) + length more ≤ largest + len → AreSteps b (bytes_of b ps) ss
+    → (ss : List Step) → length (bytes_of b ps) ≤ largest_text → length (bytes_of b ps) + length more ≤ largest_text + len → AreSteps b (bytes_of b ps) ss
     → (B : Buffers) (P : List Piece) (S : List Step) → B ≡ grown b more → P ≡ pieces_after b ps more start len → S ≡ step_back ps more start len before after ∷ ss
     → IsReplaced B P S
 sound_after b ps more start len before after placed utf8 range ss short fits steps B P S eB eP eS =

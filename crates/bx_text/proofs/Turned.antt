@@ -5,7 +5,7 @@ use Rattle.bx_pieces.specs.declared.piece.Piece.{Piece}
 use Rattle.bx_pieces.specs.Pieces.{total, front, back}
 use Rattle.bx_text.specs.declared.step.Step.{Step}
 use Rattle.bx_text.specs.Buffers.{Buffers, bytes_of, ArePlaced}
-use Rattle.bx_text.specs.Edits.{Edit, IsRange, Leads, spliced, undone, redone, next_undo, next_redo, largest}
+use Rattle.bx_text.specs.Edits.{Edit, IsRange, Leads, spliced, undone, redone, next_undo, next_redo, largest_text}
 use Rattle.bx_text.specs.Steps.{swapped, past_of, future_of, AreSteps, turned_pieces, turned_step, Turns}
 use Rattle.bx_text.proofs.Characters.{IsRange-spliced}
 use Rattle.bx_text.proofs.Bytes.{length-bytes_of, IsUtf8-bytes_of}
@@ -31,7 +31,7 @@ module _ (b : Buffers) (ps : List Piece) (s : Step) (placed : ArePlaced b ps) (r
       ∙ ap (λ n. spliced (swapped b (bytes_of b ps) s) s.start (s.start + n) (take s.len (drop s.start (bytes_of b ps)))) (sym (length-bytes_of b s.span span_placed))
       ∙ spliced_back (bytes_of b ps) (bytes_of b s.span) s.start s.len range.stop_bounds.0
 
-  pub turned_steps : (steps others : List Step) → length (bytes_of b ps) ≤ largest → AreSteps b (bytes_of b ps) others
+  pub turned_steps : (steps others : List Step) → length (bytes_of b ps) ≤ largest_text → AreSteps b (bytes_of b ps) others
       → AreSteps b (bytes_of b (turned_pieces ps s)) (turned_step ps s ∷ others)
   turned_steps steps others short h = (
     subst (λ t. IsRange t s.start (s.start + total s.span)) (sym turned_bytes)
@@ -88,21 +88,21 @@ reverse_last : (rest items : List Step) (s : Step) → items ≡ rest ++ s ∷ [
 reverse_last rest items s e = ap reverse e ∙ reverse-append rest (s ∷ [])
 
 -- what a step puts in fits beside the text
-pub span_short : (b : Buffers) (ps : List Piece) (items rest : List Step) (s : Step) → ArePlaced b ps → length (bytes_of b ps) ≤ largest
+pub span_short : (b : Buffers) (ps : List Piece) (items rest : List Step) (s : Step) → ArePlaced b ps → length (bytes_of b ps) ≤ largest_text
     → AreSteps b (bytes_of b ps) (reverse items) → items ≡ rest ++ s ∷ [] → total ps + total s.span < 2 ^ 64
 span_short b ps items rest s placed short steps e =
     let h : AreSteps b (bytes_of b ps) (s ∷ reverse rest) = subst (AreSteps b (bytes_of b ps)) (reverse_last rest items s e) steps in
     let range : IsRange (bytes_of b ps) s.start (s.start + s.len) = h.0 in
-    let after : length (swapped b (bytes_of b ps) s) ≤ largest = h.2 in
+    let after : length (swapped b (bytes_of b ps) s) ≤ largest_text = h.2 in
     omega (arith, length-spliced (bytes_of b ps) (bytes_of b s.span) s.start s.len range.stop_bounds.0, length-bytes_of b s.span h.1, length-bytes_of b ps placed)
 
 pub record IsTurned (b : Buffers) (P : List Piece) (from to : List Step) : Type 0 where
   pub placed : ArePlaced b P
-  pub short : length (bytes_of b P) ≤ largest
+  pub short : length (bytes_of b P) ≤ largest_text
   pub from_steps : AreSteps b (bytes_of b P) (reverse from)
   pub to_steps : AreSteps b (bytes_of b P) (reverse to)
 
-pub turned_sound : (b : Buffers) (ps : List Piece) (from to : List Step) (P : List Piece) (from' to' : List Step) → ArePlaced b ps → length (bytes_of b ps) ≤ largest
+pub turned_sound : (b : Buffers) (ps : List Piece) (from to : List Step) (P : List Piece) (from' to' : List Step) → ArePlaced b ps → length (bytes_of b ps) ≤ largest_text
     → AreSteps b (bytes_of b ps) (reverse from) → AreSteps b (bytes_of b ps) (reverse to) → Turns ps from to P from' to' → IsTurned b P from' to'
 turned_sound b ps from to P from' to' placed short from_steps to_steps t =
     let s = t.0 in

@@ -5,7 +5,7 @@ use Rattle.bx_pieces.specs.declared.piece.Piece.{Piece}
 use Rattle.bx_pieces.specs.Pieces.{total, front, back}
 use Rattle.bx_text.specs.declared.step.Step.{Step}
 use Rattle.bx_text.specs.Buffers.{Buffers, bytes_of, ArePlaced}
-use Rattle.bx_text.specs.Edits.{Edit, IsRange, spliced, largest}
+use Rattle.bx_text.specs.Edits.{Edit, IsRange, spliced, largest_text}
 
 -- the text with the step's pieces in the place of what stands there
 abbrev pub swapped : Buffers → List ℕ → Step → List ℕ
@@ -39,7 +39,7 @@ future_of b text (s ∷ ss) =
 abbrev pub AreSteps : Buffers → List ℕ → List Step → Type 0
 AreSteps b text [] = Unit {0}
 AreSteps b text (s ∷ ss) =
-    IsRange text s.start (s.start + s.len) × ArePlaced b s.span × (length (swapped b text s) ≤ largest) × AreSteps b (swapped b text s) ss
+    IsRange text s.start (s.start + s.len) × ArePlaced b s.span × (length (swapped b text s) ≤ largest_text) × AreSteps b (swapped b text s) ss
 
 -- the last of some steps puts in no more than a machine can count beside the pieces
 abbrev pub IsShort : List Piece → List Step → Type 0

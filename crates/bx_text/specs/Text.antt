@@ -2,7 +2,7 @@
 use Rattle.std.specs.Prelude.{ℕ, ◌+◌, ◌≤◌, List, length, reverse, Option, None, Some, IfSome, string_bytes, string_len, string_capacity, vec_len, vec_capacity}
 use Rattle.bx_text.specs.declared.text.Text.TheInside.{Inside}
 use Rattle.bx_text.specs.Buffers.{Buffers, bytes_of, ArePlaced}
-use Rattle.bx_text.specs.Edits.{Edited, largest}
+use Rattle.bx_text.specs.Edits.{Edited, largest_text}
 use Rattle.bx_text.specs.Steps.{past_of, future_of, AreSteps}
 
 pub record TextState : Type 0 where
@@ -34,7 +34,7 @@ pub record HasRoom (t : Inside) (bytes : ℕ) : Type 0 where
 
 pub record IsText (t : Inside) : Type 0 where
   pub placed : ArePlaced (buffers_of t) t.pieces
-  pub short : length (bytes_in t) ≤ largest
+  pub short : length (bytes_in t) ≤ largest_text
   pub past_steps : AreSteps (buffers_of t) (bytes_in t) (reverse t.past.items)
   pub future_steps : AreSteps (buffers_of t) (bytes_in t) (reverse t.future.items)
   pub has_room : IfSome t.room (HasRoom t)

@@ -12,7 +12,7 @@ mod text;
 pub use change::Change;
 pub use error::TextError;
 pub use slices::Slices;
-pub use text::{MAX_BYTES, Text};
+pub use text::Text;
 
 #[cfg(test)]
 mod tests;

@@ -2,7 +2,7 @@
 
 ghost use Rattle.std.specs.Prelude.{◌≡◌, ℕ, List, slice_range, ◌+◌, ◌-◌, IsSome, ◌<◌, ◌≤◌, ◌^◌, ◌↔◌, [], None, Some, true, false, IfSome, take, drop, length, IsOk, string_bytes, IsTrue, IsCharBoundary, IfOk, OnOk, OnErr, IsErrOf};
 ghost use Rattle.std.specs.Str.{IsUtf8};
-ghost use Rattle.bx_text.specs.Edits.{opened, largest, next_undo, next_redo, replaced, inserted, removed, undone, redone, fits, IsRange, Leads};
+ghost use Rattle.bx_text.specs.Edits.{opened, largest_text, next_undo, next_redo, replaced, inserted, removed, undone, redone, fits, IsRange, Leads};
 ghost use Rattle.bx_text.specs.Text.{TextState, HasRoomFor};
 ghost use Rattle.bx_text.specs.Slices.{lends, joined};
 ghost use Rattle.std.specs.Iterator.{Drains};
@@ -15,11 +15,9 @@ use crate::slices::Slices;
 use crate::step::Step;
 use crate::swap::{put, turn};
 use bx_pieces::{Buffer, Piece, Pieces, Spares};
+use bx_terms::LARGEST_TEXT;
 use std::alloc::{AllocError, Global};
 use std::marker::Model;
-
-/// The most bytes of a text.
-pub const MAX_BYTES: usize = 16_777_216;
 
 /// A text under edits, with its past and its future.
 #[derive(Drop)]
@@ -55,12 +53,12 @@ impl Text {
     /// Errors: `TooLong` above 16,777,216 bytes; `OutOfMemory`.
     pub fn open(alloc: Global, text: String) -> Result<Text, TextError>
         ensures ok { IfOk result (λ t. t ≡ record { edited = opened (string_bytes text); room = None }) }
-        ensures short { OnOk result (length (string_bytes text) ≤ largest) }
-        ensures too_long { IsErrOf result TextError.TooLong ↔ (largest < length (string_bytes text)) }
+        ensures short { OnOk result (length (string_bytes text) ≤ largest_text) }
+        ensures too_long { IsErrOf result TextError.TooLong ↔ (largest_text < length (string_bytes text)) }
         ensures always_a_boundary { IsErrOf result TextError.NotABoundary → ⊥ }
     {
         let len = text.len();
-        if len > MAX_BYTES {
+        if len > LARGEST_TEXT {
             return Err(TextError::TooLong);
         }
         let mut spares = Spares::new(alloc);
@@ -85,7 +83,7 @@ impl Text {
     /// How many bytes the text has. No memory.
     pub fn len(&self) -> usize
         ensures len { result ≡ length self.now.edited.text }
-        ensures short { length self.now.edited.text ≤ largest }
+        ensures short { length self.now.edited.text ≤ largest_text }
         ensures utf8 { IsUtf8 self.now.edited.text }
     {
         self.pieces.len()
@@ -165,7 +163,7 @@ impl Text {
     ) -> Change
         requires room { HasRoomFor self.old.room (length text.now) }
         requires range { IsRange self.old.edited.text start (start + len) }
-        requires short { length self.old.edited.text + length text.now ≤ largest + len }
+        requires short { length self.old.edited.text + length text.now ≤ largest_text + len }
         ensures text { self.new ≡ record { edited = replaced self.old.edited start (start + len) text.now before after; room = None } }
         ensures change { result ≡ record { start = start; removed = len; added = length text.now; place = after } }
         ensures leads { Leads self.old.edited.text result self.new.edited.text }
@@ -219,7 +217,7 @@ impl Text {
     /// Whether two offsets bound characters and stand in order. No memory.
     fn is_range(&self, start: usize, stop: usize) -> bool
         ensures range { IsTrue result ↔ IsRange self.now.edited.text start stop }
-        ensures short { length self.now.edited.text ≤ largest }
+        ensures short { length self.now.edited.text ≤ largest_text }
     {
         // Past the end there is no piece to look for.
         let len = self.len();
@@ -306,7 +304,7 @@ impl Text {
         if !self.is_boundary(pos) {
             return Err(TextError::NotABoundary);
         }
-        if text.len() > MAX_BYTES - self.len() {
+        if text.len() > LARGEST_TEXT - self.len() {
             return Err(TextError::TooLong);
         }
         self.make_room(text.len())?;

@@ -1,5 +1,5 @@
 -- The groups of bidirectional classes that the rules name.
-use Rattle.std.specs.Prelude.{Bool, true, false}
+use Rattle.std.specs.Prelude.{ℕ, zero, suc, ◌%◌, Bool, true, false}
 use Rattle.bx_ucd.specs.declared.class.Class.{Class}
 use Rattle.bx_ucd.specs.declared.class.Class.TheVariants.{L, R, AL, B, S, WS, ON, LRI, RLI, FSI, PDI}
 
@@ -28,3 +28,7 @@ is_neutral LRI = true
 is_neutral RLI = true
 is_neutral PDI = true
 is_neutral _ = false
+
+-- the direction of a level: L of an even one, R of an odd one
+abbrev pub direction : ℕ → Class
+direction level = elim (level % 2) [ zero ↦ L | suc n ↦ R ]

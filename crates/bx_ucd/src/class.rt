@@ -1,7 +1,7 @@
 //! The values of the property Bidi_Class (UAX #9, 3.2).
 
 ghost use Rattle.std.specs.Prelude.{◌≡◌};
-ghost use Rattle.bx_ucd.specs.Class.{is_initiator, is_strong, is_neutral};
+ghost use Rattle.bx_ucd.specs.Class.{is_initiator, is_strong, is_neutral, direction};
 
 /// A bidirectional class, under its short name in the data files.
 #[derive(Clone, Copy, PartialEq, Eq, Debug)]
@@ -77,4 +77,11 @@ pub fn is_neutral(class: Class) -> bool
         Class::FSI | Class::LRI | Class::RLI | Class::PDI => true,
         _ => false,
     }
+}
+
+/// The direction of a level: L of an even one, R of an odd one (UAX #9, BD2).
+pub fn direction(level: u8) -> Class
+    ensures { result ≡ direction level }
+{
+    if level % 2 == 0 { Class::L } else { Class::R }
 }
