@@ -4,7 +4,7 @@ use Rattle.std.proofs.lemmas.Bool.Decides.{nat_tests}
 use Rattle.std.proofs.lemmas.List.{take-append-drop, take-take, drop_more, take_all, drop_all}
 use Rattle.bx_ucd.specs.declared.class.Class.{Class}
 use Rattle.bx_text.specs.declared.change.Change.{Change}
-use Rattle.bx_text.specs.Edits.{Leads, largest}
+use Rattle.bx_text.specs.Edits.{Leads, largest_text}
 use Rattle.bx_paras.specs.declared.lengths.Lengths.{Lengths}
 use Rattle.bx_paras.specs.declared.position.Position.{Position}
 use Rattle.bx_paras.specs.Paragraphs.{lengths, separator_count}
@@ -197,9 +197,9 @@ module _ {class : ℕ → Class} {old : List ℕ} {c : Change} {new : List ℕ} 
   few_in fs v e = omega (arith, ap length e, length-append fs (v ∷ []), few_lengths class new touched.new_utf8)
 
 -- the room that was made covers what was added
-pub has_spares : (room : Option ℕ) (spares separators : ℕ) → IfSome room (HasSpares spares) → HasRoomFor room separators → separators ≤ largest → separators + 258 ≤ 128 * spares
+pub has_spares : (room : Option ℕ) (spares separators : ℕ) → IfSome room (HasSpares spares) → HasRoomFor room separators → separators ≤ largest_text → separators + 258 ≤ 128 * spares
 has_spares None spares separators h k few = absurd k
-has_spares (Some room) spares separators h k few = let enough : min room largest + 258 ≤ 128 * spares = h in omega (arith, k)
+has_spares (Some room) spares separators h k few = let enough : min room largest_text + 258 ≤ 128 * spares = h in omega (arith, k)
 
 -- so does as much room as bytes
 pub room_for_bytes : (class : ℕ → Class) (old : List ℕ) (c : Change) (new : List ℕ) → IsUtf8 old → IsUtf8 new → Leads old c new

@@ -1,6 +1,6 @@
 -- What an index is seen as: how many bytes each paragraph has, and the room that was made for the next edit.
 use Rattle.std.specs.Prelude.{ℕ, ◌+◌, ◌*◌, ◌≤◌, min, List, [], ◌∷◌, ◌++◌, length, Option, IfSome}
-use Rattle.bx_text.specs.Edits.{largest}
+use Rattle.bx_text.specs.Edits.{largest_text}
 use Rattle.bx_paras.specs.declared.lengths.Lengths.{Lengths}
 use Rattle.bx_paras.specs.declared.index.Index.TheInside.{Inside}
 use Rattle.bx_paras.specs.Flat.{flat}
@@ -16,9 +16,9 @@ index_of i = record { paragraphs = flat i.ended.blocks ++ record { body = i.last
 
 -- the blocks that an edit cuts, and those that it fills: no text has more separators than bytes
 abbrev pub HasSpares : ℕ → ℕ → Type 0
-HasSpares spares separators = min separators largest + 258 ≤ 128 * spares
+HasSpares spares separators = min separators largest_text + 258 ≤ 128 * spares
 
 pub record IsIndex (i : Inside) : Type 0 where
-  pub short : total (flat i.ended.blocks ++ record { body = i.last; separator = 0 } ∷ []) ≤ largest
-  pub few : length (flat i.ended.blocks) ≤ largest
+  pub short : total (flat i.ended.blocks ++ record { body = i.last; separator = 0 } ∷ []) ≤ largest_text
+  pub few : length (flat i.ended.blocks) ≤ largest_text
   pub has_room : IfSome i.room (HasSpares i.ended.spares)

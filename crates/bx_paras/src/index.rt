@@ -1,7 +1,7 @@
 //! The index.
 
 ghost use Rattle.std.specs.Prelude.{◌≡◌, ℕ, ◌+◌, ◌-◌, ◌<◌, ◌≤◌, ◌++◌, ◌∷◌, List, [], None, Some, length, take, drop, slice_get, IsUtf8, IfOk, OnOk, OnErr};
-ghost use Rattle.bx_text.specs.Edits.{Leads, largest};
+ghost use Rattle.bx_text.specs.Edits.{Leads, largest_text};
 ghost use Rattle.bx_text.specs.Text.{HasRoomFor};
 ghost use Rattle.bx_paras.specs.Paragraphs.{lengths, separator_count};
 ghost use Rattle.bx_paras.specs.Positions.{total, spans, separators, paragraph_of};
@@ -50,7 +50,7 @@ fn touched<D: BidiData>(
     change: &Change,
 ) -> (Position, Position)
     requires was { (old : List ℕ) × IsUtf8 old × (flat ended.now.blocks ++ record { body = last; separator = 0 } ∷ [] ≡ lengths (D.class_of source.now) old) × Leads old change.now text.now.edited.text }
-    requires short { total (flat ended.now.blocks ++ record { body = last; separator = 0 } ∷ []) ≤ largest }
+    requires short { total (flat ended.now.blocks ++ record { body = last; separator = 0 } ∷ []) ≤ largest_text }
     ensures { (old : List ℕ) × IsTouched (D.class_of source.now) old change.now text.now.edited.text (flat ended.now.blocks) (record { body = last; separator = 0 }) result.0 result.1 }
 {
     let _utf8 = text.len();

@@ -1,5 +1,5 @@
 use Rattle.std.proofs.Common.{◌≡◌, ◌≤◌, ◌∙◌, ◌+◌, ◌-◌, [], ◌∷◌, None, ap, sym, subst, arith}
-use Rattle.bx_text.specs.Edits.{largest}
+use Rattle.bx_text.specs.Edits.{largest_text}
 use Rattle.bx_text.specs.Text.{HasRoomFor}
 use Rattle.bx_paras.specs.Positions.{total}
 use Rattle.bx_paras.specs.Flat.{flat}
@@ -47,7 +47,7 @@ replace-requires-clause-room g c =
     let touched = c.touched.ensures.1 in
     let f = inside touched c.in-Some.end c.in-Some.is in
     let room = subst (λ r. HasRoomFor r (added_separators touched)) (sym (ap (λ (s : IndexState). s.room) c.self.view_is)) c.requires.room in
-    let few : added_separators touched ≤ largest = omega (arith, few_added touched, added_in touched, c.len-len.ensures.short) in
+    let few : added_separators touched ≤ largest_text = omega (arith, few_added touched, added_in touched, c.len-len.ensures.short) in
     omega (arith, f.few, has_spares c.self.inside.room c.self.inside.ended.spares (added_separators touched) c.self.invariant.has_room room few)
 
 pub replace-requires-clause-short : goal.replace-requires-clause-short
@@ -89,7 +89,7 @@ replace-at-requires-clause-room g c =
     let touched = c.touched.ensures.1 in
     let (r, f) = at_end touched c.len-len.result c.len-len.ensures.len c.in_default.is in
     let room = subst (λ r. HasRoomFor r (added_separators touched)) (sym (ap (λ (s : IndexState). s.room) c.self.view_is)) c.requires.room in
-    let few : added_separators touched ≤ largest = omega (arith, few_added touched, added_in touched, c.len-len.ensures.short) in
+    let few : added_separators touched ≤ largest_text = omega (arith, few_added touched, added_in touched, c.len-len.ensures.short) in
     omega (arith, f.few, has_spares c.self.inside.room c.self.inside.ended.spares (added_separators touched) c.self.invariant.has_room room few)
 
 pub replace-at-requires-clause-short : goal.replace-at-requires-clause-short
