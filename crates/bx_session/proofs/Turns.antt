@@ -2,7 +2,7 @@
 use Rattle.std.proofs.Common.{◌≡◌, ◌≢◌, ℕ, ◌+◌, ◌<◌, ◌≤◌, Bool, true, false, List, [], ◌∷◌, ◌++◌, length, take, drop, Option, Some, None, Result, Ok, Err, refl, sym, ap, subst, ◌∙◌, append_assoc, if◌then◌else◌, arith}
 use Rattle.std.specs.Io.KnownBytes.{Appends, Consumes, Keeps}
 use Rattle.std.proofs.KnownBytes.{Consumes-nil, Consumes-trans, Consumes-kept, Appends-nil, Appends-trans, Appends-kept}
-use Rattle.std.proofs.lemmas.List.{append-nil, map-append, take-append-drop, length-drop}
+use Rattle.std.proofs.lemmas.List.{append-nil, length-append, map-append, take-append-drop, length-drop}
 use Rattle.bx_paint.specs.Painting.{whole_bytes}
 use Rattle.bx_session.specs.declared.key.Key.{Key}
 use Rattle.bx_session.specs.declared.status.Status.{Status}
@@ -10,7 +10,7 @@ use Rattle.bx_session.specs.declared.error.Refused.{Refused}
 use Rattle.bx_session.specs.declared.error.Refused.TheVariants.{Edit, Paint}
 use Rattle.bx_session.specs.Rows.{top_row, picture}
 use Rattle.bx_session.specs.Session.{SessionState, Feeds, repainted, key_applied, key_of_byte, byte_applied, is_idle}
-use Rattle.bx_session.specs.Running.{Answered, bytes_of, FeedsAll, FedUntilEnd, Sent, HasRun}
+use Rattle.bx_session.specs.Running.{Answered, bytes_of, FeedsAll, FedUntilEnd, HasRead, Sent, HasRun}
 
 -- ---- what was pending before does not matter
 
@@ -149,6 +149,11 @@ run_kept old s r r1 r2 w w1 answered dropped written all run k = record {
   order = run.order;
   session = run.session;
 }
+
+-- one more read that gave a byte
+pub read_more : (n : ℕ) (r r1 r2 : Option (List ℕ)) (bytes : List ℕ) → HasRead n r r1 → Consumes r1 r2 bytes → 1 ≤ length bytes → HasRead (n + 1) r r2
+read_more n r r1 r2 bytes h more some =
+    (h.0 ++ bytes, omega (arith, h.1, some, length-append h.0 bytes), Consumes-trans r r1 r2 h.0 bytes h.2 more)
 
 pub sent_none : (s s1 : SessionState) (w w1 w2 : Option (List ℕ)) (written buffer : List ℕ) (count : ℕ) → Sent s s1 w w1 written
     → count ≡ 0 → Appends w1 w2 (take count buffer) → Sent s s1 w w2 written

@@ -1,5 +1,5 @@
 -- A session run over a reader and a writer.
-use Rattle.std.specs.Prelude.{◌≡◌, ◌≢◌, ℕ, true, false, List, [], ◌∷◌, ◌++◌, map, Option, Result, Ok, Err}
+use Rattle.std.specs.Prelude.{◌≡◌, ◌≢◌, ◌≤◌, length, ℕ, true, false, List, [], ◌∷◌, ◌++◌, map, Option, Result, Ok, Err}
 use Rattle.std.specs.Io.KnownBytes.{Appends, Consumes, IsAtEnd}
 use Rattle.bx_session.specs.declared.status.Status.{Status}
 use Rattle.bx_session.specs.declared.error.Refused.{Refused}
@@ -33,6 +33,10 @@ pub record Sent (old new : SessionState) (writer writer' : Option (List ℕ)) (w
   pub writes : Appends writer writer' written
   pub order : old.pending ≡ written ++ new.pending
   pub session : new ≡ record old { pending = new.pending }
+
+-- so many bytes at least were read
+abbrev pub HasRead : ℕ → Option (List ℕ) → Option (List ℕ) → Type 0
+HasRead count reader reader' = (bytes : List ℕ) × (count ≤ length bytes) × Consumes reader reader' bytes
 
 -- how far a run has come: `answered` are the bytes up to the session's end, `dropped` those read after it, `written` what
 -- was written; `all` is the session if nothing had been, so what was pending at the start and all that was appended since

@@ -1,7 +1,7 @@
 //! A session run over a reader and a writer.
 
-ghost use Rattle.std.specs.Prelude.{◌≡◌, ◌++◌, [], List, ℕ, OnOk, OnErr};
-ghost use Rattle.bx_session.specs.Running.{Answered, FedUntilEnd, Sent, Runs, EndsWith};
+ghost use Rattle.std.specs.Prelude.{◌≡◌, ◌++◌, [], List, ℕ, OnOk, OnErr, IsErrOf};
+ghost use Rattle.bx_session.specs.Running.{Answered, FedUntilEnd, HasRead, Sent, Runs, EndsWith};
 
 use crate::end::{End, RunFault};
 use crate::session::Session;
@@ -54,11 +54,12 @@ pub fn run<R: Read, W: Write>(
 ) -> Result<End, RunFault>
     ensures runs { Runs session.old session.new (R.remaining reader.old) (R.remaining reader.new) (W.contents writer.old) (W.contents writer.new) }
     ensures ends { EndsWith result session.new (R.remaining reader.new) }
+    ensures limit { IsErrOf result RunFault.ReadLimit → HasRead 1000000000 (R.remaining reader.old) (R.remaining reader.new) }
 {
     run_within(READS, reader, writer, session)
 }
 
-/// Runs a session as [`run`] does, with so many reads at most.
+/// Runs a session as [`run`] does, with so many reads at most. `ReadLimit` comes after as many, each of which gave a byte.
 pub fn run_within<R: Read, W: Write>(
     limit: u64,
     reader: &mut R,
@@ -67,10 +68,11 @@ pub fn run_within<R: Read, W: Write>(
 ) -> Result<End, RunFault>
     ensures runs { Runs session.old session.new (R.remaining reader.old) (R.remaining reader.new) (W.contents writer.old) (W.contents writer.new) }
     ensures ends { EndsWith result session.new (R.remaining reader.new) }
+    ensures limit { IsErrOf result RunFault.ReadLimit → HasRead limit (R.remaining reader.old) (R.remaining reader.new) }
 {
     send(writer, session)?;
     let mut buffer = [0; 256];
-    'reads: for _ in 0..limit {
+    'reads: for read in 0..limit {
         if session.ended() {
             return Ok(End::Quit);
         }

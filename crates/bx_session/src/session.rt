@@ -8,7 +8,7 @@ ghost use Rattle.bx_session.specs.Session.{SessionState, Feeds, PaintsWhole, Sho
 use crate::editor::Editor;
 use crate::error::Refused;
 use crate::key::key_of;
-use crate::picture::{top_row, picture};
+use crate::picture::{picture, top_row};
 use crate::status::Status;
 use bx_paint::whole;
 use std::alloc::Global;

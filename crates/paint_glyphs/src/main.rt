@@ -11,8 +11,8 @@ ghost use Rattle.bx_grid.specs.Picture.{IsWithin};
 
 use anyhow::{Context, Result, bail};
 use bx_grid::{Cell, Grid, Picture};
-use bx_terms::{is_glyph, run_width};
 use bx_paint::{changes, whole};
+use bx_terms::{is_glyph, run_width};
 use std::alloc::Global;
 use std::rt::Env;
 use std::{env, str};
