@@ -208,11 +208,12 @@ impl Blocks {
     pub fn release(&mut self)
         ensures { self.new.blocks ≡ self.old.blocks }
     {
-        let extra = self.spares.len().saturating_sub(SPARES_KEPT);
-        if extra == 0 {
+        if self.spares.len() <= SPARES_KEPT {
             return;
         }
-        self.spares.drain(..extra);
+        // The one that was made last is freed last, so that the memory behind those in use goes back at once.
+        self.spares.reverse();
+        self.spares.truncate(SPARES_KEPT);
         self.spares.shrink_to(SPARES_KEPT);
         self.blocks.shrink_to(self.blocks.len() + self.spares.len());
     }

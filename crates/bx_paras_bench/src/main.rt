@@ -79,6 +79,8 @@ fn take_back(text: &mut Text, index: &mut Index) -> Result<()>
     requires { index.old.paragraphs ≡ lengths class text.old.edited.text }
     ensures { OnOk result (index.new.paragraphs ≡ lengths class text.new.edited.text) }
 {
+    // before the index makes its room, so that what it gives back stands behind all else
+    text.ready(0)?;
     let _utf8 = text.len();
     let Some(next) = text.next_undo() else {
         return Ok(());
