@@ -3,12 +3,8 @@ use Rattle.std.proofs.Common.{◌≡◌, ◌≢◌, ℕ, zero, suc, ◌+◌, ◌
 use Rattle.std.proofs.lemmas.List.{reverse-append, append-nil}
 use Rattle.std.proofs.lemmas.Bool.{cases_lt}
 use Rattle.bx_rows.specs.VisualOrder.{reverse_runs, reverse_down}
+use Rattle.bx_rows.specs.Ordered.{Every}
 use Rattle.bx_rows.proofs.Reversals.{high, low}
-
--- each unit's level is such
-abbrev pub Every : (ℕ → Type 0) → List (ℕ × ℕ) → Type 0
-Every P [] = Unit {0}
-Every P (u ∷ us) = P u.1 × Every P us
 
 pub every_map : (P Q : ℕ → Type 0) (us : List (ℕ × ℕ)) → ((l : ℕ) → P l → Q l) → Every P us → Every Q us
 every_map P Q [] f h = tt

@@ -2,17 +2,19 @@
 use Rattle.std.proofs.Common.{◌≡◌, ℕ, zero, suc, ◌+◌, ◌-◌, ◌*◌, ◌/◌, ◌%◌, ◌<◌, ◌≤◌, List, [], ◌∷◌, ◌++◌, reverse, refl, sym, ap, ◌∙◌, arith, append_assoc, ◌⊎◌, inl, inr}
 use Rattle.std.proofs.lemmas.List.{reverse-append, append-nil}
 use Rattle.bx_rows.specs.VisualOrder.{reverse_runs, reverse_down}
-use Rattle.bx_rows.proofs.Cancels.{Every, every_map, every_append, descend, top_same, split_down, turned}
+use Rattle.bx_rows.specs.Ordered.{Every, ordered, joined}
+use Rattle.bx_rows.proofs.Cancels.{every_map, every_append, descend, top_same, split_down, turned}
 
--- the runs reversed at each level from 256 down to 1
-abbrev pub ordered : List (ℕ × ℕ) → List (ℕ × ℕ)
-ordered us = reverse_down 1 256 us
+-- no odd level is below `1 + 2 * m`
+pub from_odds : (m : ℕ) (us : List (ℕ × ℕ)) → 2 * m ≤ 256 → Every (λ l. (i : ℕ) → l ≡ 1 + 2 * i → m ≤ i) us → ordered us ≡ reverse_down (1 + 2 * m) (256 - 2 * m) us
+unfolding ordered
+from_odds m us b h =
+    let e : 256 ≡ 2 * m + (256 - 2 * m) = omega arith in
+    ap (λ k. reverse_down 1 k us) e ∙ descend m 1 (256 - 2 * m) us h
 
 from_level : (m : ℕ) (us : List (ℕ × ℕ)) → 2 * m ≤ 256 → Every (λ l. 2 * m ≤ l) us → ordered us ≡ reverse_down (1 + 2 * m) (256 - 2 * m) us
 from_level m us b h =
-    let e : 256 ≡ 2 * m + (256 - 2 * m) = omega arith in
-    ap (λ k. reverse_down 1 k us) e
-    ∙ descend m 1 (256 - 2 * m) us (every_map (λ l. 2 * m ≤ l) (λ l. (i : ℕ) → l ≡ 1 + 2 * i → m ≤ i) us (λ l k i e. omega (arith, k, e)) h)
+    from_odds m us b (every_map (λ l. 2 * m ≤ l) (λ l. (i : ℕ) → l ≡ 1 + 2 * i → m ≤ i) us (λ l k i e. omega (arith, k, e)) h)
 
 -- a unit between two lists of units that are at its level or higher
 around : (P : ℕ → Type 0) (xs : List (ℕ × ℕ)) (u : ℕ × ℕ) (ys : List (ℕ × ℕ)) → P u.1 → Every P xs → Every P ys → Every P (xs ++ u ∷ ys)
@@ -46,11 +48,7 @@ odd_pivot m xs u ys b e a c =
     ∙ ap (λ r. r ++ u ∷ reverse (back xs)) (sym (from_odd m ys b c))
     ∙ ap (λ r. ordered ys ++ u ∷ r) (sym (from_odd m xs b a))
 
--- a unit between what is ordered before it and after it
-abbrev pub joined : ℕ × ℕ → List (ℕ × ℕ) → List (ℕ × ℕ) → List (ℕ × ℕ)
-joined u before after = elim (u.1 % 2) [ zero ↦ before ++ u ∷ after | suc n ↦ after ++ u ∷ before ]
-
-parity : (n : ℕ) → (n % 2 ≡ 0) ⊎ (n % 2 ≡ 1)
+pub parity : (n : ℕ) → (n % 2 ≡ 0) ⊎ (n % 2 ≡ 1)
 parity n = grind arith
 
 pub pivot : (xs : List (ℕ × ℕ)) (u : ℕ × ℕ) (ys : List (ℕ × ℕ)) → u.1 ≤ 255 → Every (λ l. u.1 ≤ l) xs → Every (λ l. u.1 ≤ l) ys → ordered (xs ++ u ∷ ys) ≡ joined u (ordered xs) (ordered ys)

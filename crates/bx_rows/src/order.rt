@@ -75,7 +75,7 @@ fn highest(levels: &[u8]) -> u8
 }
 
 /// The lowest odd of a level and of one that may be there.
-#[tactic(auto, using(crate::proofs::Pivots::pivot))]
+#[tactic(auto, using(crate::proofs::Growth::whole, crate::proofs::FromLevels::visual_ordered))]
 fn lower_odd(level: u8, lowest: Option<u8>) -> Option<u8>
     ensures { result ≡ lower_odd level lowest }
 {
