@@ -1,5 +1,5 @@
 -- The lowest odd level and the highest bound the levels at which runs are reversed, and nothing changes at the others.
-use Rattle.std.proofs.Common.{◌≡◌, ℕ, zero, suc, ◌+◌, ◌-◌, ◌*◌, ◌/◌, ◌%◌, ◌<◌, ◌≤◌, max, min, List, [], ◌∷◌, map, Option, Some, None, refl, sym, ap, ◌∙◌, subst, arith, ◌⊎◌, inl, inr}
+use Rattle.std.proofs.Common.{◌≡◌, ℕ, zero, suc, ◌+◌, ◌-◌, ◌*◌, ◌/◌, ◌%◌, ◌<◌, ◌≤◌, max, min, List, [], ◌∷◌, map, Option, Some, None, refl, sym, ap, ◌∙◌, subst, arith, get_or, ◌⊎◌, inl, inr}
 use Rattle.std.specs.List.{enumerate_from}
 use Rattle.bx_rows.specs.VisualOrder.{reverse_down, highest, lower, lower_odd, lowest_odd, reversed_from, visual}
 use Rattle.bx_rows.specs.Ordered.{Every, ordered}
@@ -93,3 +93,10 @@ same_order (Some low) high us b odd up from h =
 pub visual_ordered : (ls : List ℕ) → highest ls ≤ 255 → visual ls ≡ map (λ u. u.0) (ordered (enumerate_from 0 ls))
 visual_ordered ls b =
     ap (map (λ u. u.0)) (sym (same_order (lowest_odd ls) (highest ls) (enumerate_from 0 ls) b (lowest_is_odd ls) (lowest_up_to ls) (every_from 0 ls) (every_highest 0 ls)))
+
+pub highest_fits : (ls : List ℕ) → ((i : ℕ) → get_or ls i 0 ≤ 255) → highest ls ≤ 255
+highest_fits [] h = omega arith
+highest_fits (l ∷ ls) h =
+    let here : l ≤ 255 = h 0 in
+    let more : highest ls ≤ 255 = highest_fits ls (λ i. h (suc i)) in
+    omega (arith, here, more)

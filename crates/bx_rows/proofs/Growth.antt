@@ -1,10 +1,14 @@
 -- A run grows by a unit that is at none of its units' levels or below them, and by the run of the higher units after it.
-use Rattle.std.proofs.Common.{◌≡◌, ℕ, zero, suc, ◌+◌, ◌-◌, ◌*◌, ◌%◌, ◌<◌, ◌≤◌, List, [], ◌∷◌, ◌++◌, refl, sym, ap, ◌∙◌, subst, arith, append_assoc}
-use Rattle.std.proofs.lemmas.List.{append-nil}
+use Rattle.std.proofs.Common.{◌≡◌, ℕ, zero, suc, ◌+◌, ◌-◌, ◌*◌, ◌%◌, ◌<◌, ◌≤◌, List, [], ◌∷◌, ◌++◌, refl, sym, ap, ◌∙◌, subst, arith, append_assoc, length, get_or, drop}
+use Rattle.std.proofs.lemmas.List.{append-nil, at_drop_more}
+use Rattle.std.proofs.lemmas.List.FromFn.{get_or-enumerate_from, length-enumerate_from}
+use Rattle.std.proofs.Math.Seq.{drop-length}
+use Rattle.std.specs.List.{enumerate_from}
 use Rattle.bx_rows.specs.VisualOrder.{reverse_down}
 use Rattle.bx_rows.specs.Ordered.{Every, ordered, joined, BeginsBelow, IsRun}
 use Rattle.bx_rows.proofs.Cancels.{every_map, every_append}
 use Rattle.bx_rows.proofs.Pivots.{pivot}
+
 
 -- no unit of `run` is below the first of `rest`
 abbrev pub IsOver : List (ℕ × ℕ) → List (ℕ × ℕ) → Type 0
@@ -62,3 +66,27 @@ nothing_left (u ∷ us) b = absurd (omega (arith, b))
 pub whole : (us items rest : List (ℕ × ℕ)) → IsRun 0 us items rest → items ≡ ordered us
 whole us items rest r =
     r.order ∙ ap ordered (sym (append-nil r.run)) ∙ ap (λ t. ordered (r.run ++ t)) (sym (nothing_left rest r.next)) ∙ ap ordered (sym r.split)
+
+-- ---- the units of a list of levels
+
+rest_at : (ls : List ℕ) (i : ℕ) → i < length ls → drop i (enumerate_from 0 ls) ≡ (i, get_or ls i 0) ∷ drop (i + 1) (enumerate_from 0 ls)
+rest_at ls i h =
+    let within : i < length (enumerate_from 0 ls) = omega (arith, h, length-enumerate_from 0 ls) in
+    let first : 0 + i ≡ i = omega arith in
+    at_drop_more (λ us. us) (enumerate_from 0 ls) i (0, 0) within
+    ∙ ap (λ u. u ∷ drop (i + 1) (enumerate_from 0 ls)) (get_or-enumerate_from 0 ls i (0, 0) h)
+    ∙ ap (λ k. (k, get_or ls i 0) ∷ drop (i + 1) (enumerate_from 0 ls)) first
+
+pub level_more : (ls : List ℕ) (low i stop : ℕ) (us before after items : List (ℕ × ℕ)) → i < length ls → get_or ls i 0 ≤ 255 → low ≤ get_or ls i 0 → IsGrown low us before (drop i (enumerate_from 0 ls)) → IsRun (get_or ls i 0 + 1) (drop (i + 1) (enumerate_from 0 ls)) after (drop stop (enumerate_from 0 ls)) → items ≡ joined (i, get_or ls i 0) before after → IsGrown low us items (drop stop (enumerate_from 0 ls))
+level_more ls low i stop us before after items h b k g r e =
+    grown_more low (i, get_or ls i 0) us (drop (i + 1) (enumerate_from 0 ls)) before after items (drop stop (enumerate_from 0 ls)) b k
+      (subst (λ (rest : List (ℕ × ℕ)). IsGrown low us before rest) (rest_at ls i h) g) r e
+
+pub level_below : (ls : List ℕ) (low i : ℕ) → i < length ls → get_or ls i 0 < low → BeginsBelow low (drop i (enumerate_from 0 ls))
+level_below ls low i h k = subst (λ (rest : List (ℕ × ℕ)). BeginsBelow low rest) (sym (rest_at ls i h)) k
+
+pub levels_end : (ls : List ℕ) (low i : ℕ) → i ≡ length ls → BeginsBelow low (drop i (enumerate_from 0 ls))
+levels_end ls low i h =
+    let all : drop (length (enumerate_from 0 ls)) (enumerate_from 0 ls) ≡ [] = rw drop-length in
+    let e : i ≡ length (enumerate_from 0 ls) = h ∙ sym (length-enumerate_from 0 ls) in
+    subst (λ (rest : List (ℕ × ℕ)). BeginsBelow low rest) (sym (ap (λ k. drop k (enumerate_from 0 ls)) e ∙ all)) tt
