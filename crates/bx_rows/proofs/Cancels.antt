@@ -1,5 +1,5 @@
 -- Reversals that cancel: at a level that no unit has, and at the next one.
-use Rattle.std.proofs.Common.{◌≡◌, ◌≢◌, ℕ, zero, suc, ◌+◌, ◌-◌, ◌*◌, ◌<◌, ◌≤◌, nat_le, true, false, List, [], ◌∷◌, ◌++◌, reverse, refl, sym, ap, ◌∙◌, arith, append_assoc, ◌⊎◌, inl, inr}
+use Rattle.std.proofs.Common.{◌≡◌, ◌≢◌, ℕ, zero, suc, ◌+◌, ◌*◌, ◌<◌, ◌≤◌, nat_le, true, false, List, [], ◌∷◌, ◌++◌, reverse, refl, sym, ap, ◌∙◌, arith, append_assoc, inl, inr}
 use Rattle.std.proofs.lemmas.List.{reverse-append, append-nil}
 use Rattle.std.proofs.lemmas.Bool.{cases_lt}
 use Rattle.bx_rows.specs.VisualOrder.{reverse_runs, reverse_down}
@@ -39,8 +39,8 @@ split n run [] u ys h = low n run u ys h
 split n run (x ∷ xs) u ys h =
     elim (cases_lt x.1 n) as (λ e. reverse_runs n run (x ∷ (xs ++ u ∷ ys)) ≡ reverse_runs n run (x ∷ xs) ++ u ∷ reverse_runs n [] ys) [
       | inl k ↦ low n run x (xs ++ u ∷ ys) k ∙ ap (λ r. run ++ x ∷ r) (split n [] xs u ys h)
-        ∙ sym (append_assoc run (x ∷ reverse_runs n [] xs) (u ∷ reverse_runs n [] ys))
-        ∙ ap (λ r. r ++ u ∷ reverse_runs n [] ys) (sym (low n run x xs k))
+          ∙ sym (append_assoc run (x ∷ reverse_runs n [] xs) (u ∷ reverse_runs n [] ys))
+          ∙ ap (λ r. r ++ u ∷ reverse_runs n [] ys) (sym (low n run x xs k))
       | inr k ↦ high n run x (xs ++ u ∷ ys) k ∙ split n (x ∷ run) xs u ys h ∙ ap (λ r. r ++ u ∷ reverse_runs n [] ys) (sym (high n run x xs k))
     ]
 
@@ -50,10 +50,10 @@ twice n run [] h = all_high n [] run h
 twice n run (u ∷ us) h =
     elim (cases_lt u.1 n) as (λ e. reverse_runs n [] (reverse_runs n run (u ∷ us)) ≡ reverse run ++ u ∷ us) [
       | inl k ↦ ap (reverse_runs n []) (low n run u us k) ∙ split n [] run u (reverse_runs n [] us) k
-        ∙ ap (λ r. r ++ u ∷ reverse_runs n [] (reverse_runs n [] us)) (all_high n [] run h ∙ append-nil (reverse run))
-        ∙ ap (λ r. reverse run ++ u ∷ r) (twice n [] us tt)
+          ∙ ap (λ r. r ++ u ∷ reverse_runs n [] (reverse_runs n [] us)) (all_high n [] run h ∙ append-nil (reverse run))
+          ∙ ap (λ r. reverse run ++ u ∷ r) (twice n [] us tt)
       | inr k ↦ ap (reverse_runs n []) (high n run u us k) ∙ twice n (u ∷ run) us (k, h)
-        ∙ ap (λ r. r ++ us) (reverse-append (u ∷ []) run) ∙ append_assoc (reverse run) (u ∷ []) us
+          ∙ ap (λ r. r ++ us) (reverse-append (u ∷ []) run) ∙ append_assoc (reverse run) (u ∷ []) us
     ]
 
 -- no unit has the level

@@ -1,5 +1,5 @@
 -- The lowest odd level and the highest bound the levels at which runs are reversed, and nothing changes at the others.
-use Rattle.std.proofs.Common.{◌≡◌, ℕ, zero, suc, ◌+◌, ◌-◌, ◌*◌, ◌/◌, ◌%◌, ◌<◌, ◌≤◌, max, min, List, [], ◌∷◌, map, Option, Some, None, refl, sym, ap, ◌∙◌, subst, arith, get_or, ◌⊎◌, inl, inr}
+use Rattle.std.proofs.Common.{◌≡◌, ℕ, zero, suc, ◌+◌, ◌-◌, ◌*◌, ◌/◌, ◌%◌, ◌<◌, ◌≤◌, max, List, [], ◌∷◌, map, Option, Some, None, sym, ap, ◌∙◌, subst, arith, get_or, inl, inr}
 use Rattle.std.specs.List.{enumerate_from}
 use Rattle.bx_rows.specs.VisualOrder.{reverse_down, highest, lower, lower_odd, lowest_odd, reversed_from, visual}
 use Rattle.bx_rows.specs.Ordered.{Every, ordered}
@@ -68,7 +68,7 @@ every_from n [] = tt
 every_from n (l ∷ ls) = (
   either (λ o. IsOddFrom o l) l (lowest_odd ls) (from_even (lowest_odd ls) l) (λ e. from_lower (lowest_odd ls) l),
   every_map (IsOddFrom (lowest_odd ls)) (IsOddFrom (lower_odd l (lowest_odd ls))) (enumerate_from (n + 1) ls)
-    (λ k h. either (λ o. IsOddFrom o k) l (lowest_odd ls) (λ e. h) (λ e. from_other (lowest_odd ls) l k h)) (every_from (n + 1) ls),
+      (λ k h. either (λ o. IsOddFrom o k) l (lowest_odd ls) (λ e. h) (λ e. from_other (lowest_odd ls) l k h)) (every_from (n + 1) ls),
 )
 
 every_highest : (n : ℕ) (ls : List ℕ) → Every (λ l. l ≤ highest ls) (enumerate_from n ls)

@@ -1,5 +1,5 @@
 -- A run grows by a unit that is at none of its units' levels or below them, and by the run of the higher units after it.
-use Rattle.std.proofs.Common.{◌≡◌, ℕ, zero, suc, ◌+◌, ◌-◌, ◌*◌, ◌%◌, ◌<◌, ◌≤◌, List, [], ◌∷◌, ◌++◌, refl, sym, ap, ◌∙◌, subst, arith, append_assoc, length, get_or, drop}
+use Rattle.std.proofs.Common.{◌≡◌, ℕ, zero, suc, ◌+◌, ◌<◌, ◌≤◌, List, [], ◌∷◌, ◌++◌, refl, sym, ap, ◌∙◌, subst, arith, append_assoc, length, get_or, drop}
 use Rattle.std.proofs.lemmas.List.{append-nil, at_drop_more}
 use Rattle.std.proofs.lemmas.List.FromFn.{get_or-enumerate_from, length-enumerate_from}
 use Rattle.std.proofs.Math.Seq.{drop-length}
@@ -8,7 +8,6 @@ use Rattle.bx_rows.specs.VisualOrder.{reverse_down}
 use Rattle.bx_rows.specs.Ordered.{Every, ordered, joined, BeginsBelow, IsRun}
 use Rattle.bx_rows.proofs.Cancels.{every_map, every_append}
 use Rattle.bx_rows.proofs.Pivots.{pivot}
-
 
 -- no unit of `run` is below the first of `rest`
 abbrev pub IsOver : List (ℕ × ℕ) → List (ℕ × ℕ) → Type 0
@@ -80,7 +79,7 @@ rest_at ls i h =
 pub level_more : (ls : List ℕ) (low i stop : ℕ) (us before after items : List (ℕ × ℕ)) → i < length ls → get_or ls i 0 ≤ 255 → low ≤ get_or ls i 0 → IsGrown low us before (drop i (enumerate_from 0 ls)) → IsRun (get_or ls i 0 + 1) (drop (i + 1) (enumerate_from 0 ls)) after (drop stop (enumerate_from 0 ls)) → items ≡ joined (i, get_or ls i 0) before after → IsGrown low us items (drop stop (enumerate_from 0 ls))
 level_more ls low i stop us before after items h b k g r e =
     grown_more low (i, get_or ls i 0) us (drop (i + 1) (enumerate_from 0 ls)) before after items (drop stop (enumerate_from 0 ls)) b k
-      (subst (λ (rest : List (ℕ × ℕ)). IsGrown low us before rest) (rest_at ls i h) g) r e
+    (subst (λ (rest : List (ℕ × ℕ)). IsGrown low us before rest) (rest_at ls i h) g) r e
 
 pub level_below : (ls : List ℕ) (low i : ℕ) → i < length ls → get_or ls i 0 < low → BeginsBelow low (drop i (enumerate_from 0 ls))
 level_below ls low i h k = subst (λ (rest : List (ℕ × ℕ)). BeginsBelow low rest) (sym (rest_at ls i h)) k

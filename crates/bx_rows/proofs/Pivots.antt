@@ -1,9 +1,9 @@
 -- The order of a list round one of its lowest units: what is before it and what is after it are ordered each for itself.
-use Rattle.std.proofs.Common.{◌≡◌, ℕ, zero, suc, ◌+◌, ◌-◌, ◌*◌, ◌/◌, ◌%◌, ◌<◌, ◌≤◌, List, [], ◌∷◌, ◌++◌, reverse, refl, sym, ap, ◌∙◌, arith, append_assoc, ◌⊎◌, inl, inr}
-use Rattle.std.proofs.lemmas.List.{reverse-append, append-nil}
-use Rattle.bx_rows.specs.VisualOrder.{reverse_runs, reverse_down}
+use Rattle.std.proofs.Common.{◌≡◌, ℕ, zero, suc, ◌+◌, ◌-◌, ◌*◌, ◌/◌, ◌%◌, ◌<◌, ◌≤◌, List, [], ◌∷◌, ◌++◌, reverse, sym, ap, ◌∙◌, arith, append_assoc, ◌⊎◌, inl, inr}
+use Rattle.std.proofs.lemmas.List.{reverse-append}
+use Rattle.bx_rows.specs.VisualOrder.{reverse_down}
 use Rattle.bx_rows.specs.Ordered.{Every, ordered, joined}
-use Rattle.bx_rows.proofs.Cancels.{every_map, every_append, descend, top_same, split_down, turned}
+use Rattle.bx_rows.proofs.Cancels.{every_map, every_append, descend, split_down, turned}
 
 -- no odd level is below `1 + 2 * m`
 pub from_odds : (m : ℕ) (us : List (ℕ × ℕ)) → 2 * m ≤ 256 → Every (λ l. (i : ℕ) → l ≡ 1 + 2 * i → m ≤ i) us → ordered us ≡ reverse_down (1 + 2 * m) (256 - 2 * m) us
@@ -57,11 +57,11 @@ pivot xs u ys b a c =
     let m : ℕ = u.1 / 2 in
     elim (parity u.1) as (λ e. ordered (xs ++ u ∷ ys) ≡ choice (u.1 % 2)) [
       | inl e ↦
-        let l : u.1 ≡ 2 * m = omega (arith, e) in
-        even_pivot m xs u ys (omega (arith, l, b)) l (every_map (λ k. u.1 ≤ k) (λ k. 2 * m ≤ k) xs (λ k h. omega (arith, h, l)) a) (every_map (λ k. u.1 ≤ k) (λ k. 2 * m ≤ k) ys (λ k h. omega (arith, h, l)) c)
-        ∙ ap choice (sym e)
+          let l : u.1 ≡ 2 * m = omega (arith, e) in
+          even_pivot m xs u ys (omega (arith, l, b)) l (every_map (λ k. u.1 ≤ k) (λ k. 2 * m ≤ k) xs (λ k h. omega (arith, h, l)) a) (every_map (λ k. u.1 ≤ k) (λ k. 2 * m ≤ k) ys (λ k h. omega (arith, h, l)) c)
+          ∙ ap choice (sym e)
       | inr e ↦
-        let l : u.1 ≡ 1 + 2 * m = omega (arith, e) in
-        odd_pivot m xs u ys (omega (arith, l, b)) l (every_map (λ k. u.1 ≤ k) (λ k. 1 + 2 * m ≤ k) xs (λ k h. omega (arith, h, l)) a) (every_map (λ k. u.1 ≤ k) (λ k. 1 + 2 * m ≤ k) ys (λ k h. omega (arith, h, l)) c)
-        ∙ ap choice (sym e)
+          let l : u.1 ≡ 1 + 2 * m = omega (arith, e) in
+          odd_pivot m xs u ys (omega (arith, l, b)) l (every_map (λ k. u.1 ≤ k) (λ k. 1 + 2 * m ≤ k) xs (λ k h. omega (arith, h, l)) a) (every_map (λ k. u.1 ≤ k) (λ k. 1 + 2 * m ≤ k) ys (λ k h. omega (arith, h, l)) c)
+          ∙ ap choice (sym e)
     ]

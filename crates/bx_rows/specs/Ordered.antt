@@ -1,5 +1,5 @@
 -- Runs of units in visual order, for the function that puts a row into it run by run.
-use Rattle.std.specs.Prelude.{◌≡◌, ℕ, zero, suc, ◌+◌, ◌%◌, ◌<◌, ◌≤◌, List, [], ◌∷◌, ◌++◌}
+use Rattle.std.specs.Prelude.{◌≡◌, ℕ, zero, suc, ◌%◌, ◌<◌, ◌≤◌, List, [], ◌∷◌, ◌++◌}
 use Rattle.bx_rows.specs.VisualOrder.{reverse_down}
 
 -- each unit's level is such

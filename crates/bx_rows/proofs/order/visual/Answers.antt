@@ -1,4 +1,4 @@
-use Rattle.std.proofs.Common.{◌≡◌, ◌≤◌, ℕ, List, ◌∙◌, sym, ap, map, arith, get_or}
+use Rattle.std.proofs.Common.{◌≤◌, ℕ, ◌∙◌, sym, ap, map, arith, get_or}
 use Rattle.bx_rows.specs.VisualOrder.{highest}
 use Rattle.bx_rows.proofs.FromLevels.{visual_ordered, highest_fits}
 use Rattle.bx_rows.proofs.order.visual.Goals as goal
