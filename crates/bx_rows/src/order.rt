@@ -8,26 +8,7 @@ use crate::error::RowError;
 use std::alloc::{AllocError, Global};
 use std::collections::VecDeque;
 
-/// One list behind another: the shorter of them is moved.
-fn concat(
-    first: VecDeque<(usize, u8)>,
-    second: VecDeque<(usize, u8)>,
-) -> Result<VecDeque<(usize, u8)>, AllocError>
-    ensures { IfOk result (λ q. q.items ≡ first.items ++ second.items) }
-{
-    let mut first = first;
-    let mut second = second;
-    if first.len() >= second.len() {
-        first.append(&mut second)?;
-        return Ok(first);
-    }
-    while let Some(unit) = first.pop_back() {
-        second.push_front(unit)?;
-    }
-    Ok(second)
-}
-
-/// One list, a unit, and another list.
+/// One list, a unit, and another list: the shorter list is moved.
 fn surround(
     first: VecDeque<(usize, u8)>,
     unit: (usize, u8),
@@ -36,8 +17,17 @@ fn surround(
     ensures { IfOk result (λ q. q.items ≡ first.items ++ unit ∷ second.items) }
 {
     let mut first = first;
-    first.push_back(unit)?;
-    concat(first, second)
+    let mut second = second;
+    if first.len() >= second.len() {
+        first.push_back(unit)?;
+        first.append(&mut second)?;
+        return Ok(first);
+    }
+    second.push_front(unit)?;
+    while let Some(last) = first.pop_back() {
+        second.push_front(last)?;
+    }
+    Ok(second)
 }
 
 /// A unit between what is before it and after it in the text, all of it at the unit's level or higher: at an odd level
