@@ -34,7 +34,8 @@ all_low : (n : ℕ) (run us : List (ℕ × ℕ)) → Every (λ l. l < n) us → 
 all_low n run [] h = sym (append-nil run)
 all_low n run (u ∷ us) h = low n run u us h.0 ∙ ap (λ r. run ++ u ∷ r) (all_low n [] us h.1)
 
-split : (n : ℕ) (run xs : List (ℕ × ℕ)) (u : ℕ × ℕ) (ys : List (ℕ × ℕ)) → u.1 < n → reverse_runs n run (xs ++ u ∷ ys) ≡ reverse_runs n run xs ++ u ∷ reverse_runs n [] ys
+split : (n : ℕ) (run xs : List (ℕ × ℕ)) (u : ℕ × ℕ) (ys : List (ℕ × ℕ)) → u.1 < n
+    → reverse_runs n run (xs ++ u ∷ ys) ≡ reverse_runs n run xs ++ u ∷ reverse_runs n [] ys
 split n run [] u ys h = low n run u ys h
 split n run (x ∷ xs) u ys h =
     elim (cases_lt x.1 n) as (λ e. reverse_runs n run (x ∷ (xs ++ u ∷ ys)) ≡ reverse_runs n run (x ∷ xs) ++ u ∷ reverse_runs n [] ys) [
@@ -109,7 +110,8 @@ bottom n (suc c) us =
     let e : n + suc c ≡ n + 1 + c = omega arith in
     bottom n c (reverse_runs (n + suc c) [] us) ∙ ap (λ k. reverse_runs n [] (reverse_down (n + 1) c (reverse_runs k [] us))) e
 
-pub split_down : (n c : ℕ) (xs : List (ℕ × ℕ)) (u : ℕ × ℕ) (ys : List (ℕ × ℕ)) → u.1 < n → reverse_down n c (xs ++ u ∷ ys) ≡ reverse_down n c xs ++ u ∷ reverse_down n c ys
+pub split_down : (n c : ℕ) (xs : List (ℕ × ℕ)) (u : ℕ × ℕ) (ys : List (ℕ × ℕ)) → u.1 < n
+    → reverse_down n c (xs ++ u ∷ ys) ≡ reverse_down n c xs ++ u ∷ reverse_down n c ys
 split_down n zero xs u ys h = refl
 split_down n (suc c) xs u ys h =
     let k : u.1 < n + c = omega arith in

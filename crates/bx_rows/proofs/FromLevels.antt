@@ -77,7 +77,8 @@ every_highest n (l ∷ ls) =
     let here : l ≤ max l (highest ls) = omega arith in
     (here, every_map (λ k. k ≤ highest ls) (λ k. k ≤ max l (highest ls)) (enumerate_from (n + 1) ls) (λ k h. omega (arith, h)) (every_highest (n + 1) ls))
 
-same_order : (o : Option ℕ) (high : ℕ) (us : List (ℕ × ℕ)) → high ≤ 255 → IsOdd o → IsUpTo high o → Every (IsOddFrom o) us → Every (λ l. l ≤ high) us → ordered us ≡ reversed_from o high us
+same_order : (o : Option ℕ) (high : ℕ) (us : List (ℕ × ℕ)) → high ≤ 255 → IsOdd o → IsUpTo high o → Every (IsOddFrom o) us → Every (λ l. l ≤ high) us
+    → ordered us ≡ reversed_from o high us
 same_order None high us b odd up from h =
     from_odds 128 us (omega arith) (every_map (λ l. l % 2 ≡ 0) (λ l. (i : ℕ) → l ≡ 1 + 2 * i → 128 ≤ i) us (λ l k i e. absurd (omega (arith, k, e))) from)
 same_order (Some low) high us b odd up from h =

@@ -41,7 +41,8 @@ below_over : (n : ℕ) (rest run : List (ℕ × ℕ)) → BeginsBelow (n + 1) re
 below_over n [] run b h = tt
 below_over n (u ∷ us) run b h = every_map (λ l. n ≤ l) (λ l. u.1 ≤ l) run (λ l k. omega (arith, k, b)) h
 
-pub grown_more : (low : ℕ) (u : ℕ × ℕ) (us mid before after items rest : List (ℕ × ℕ)) → u.1 ≤ 255 → low ≤ u.1 → IsGrown low us before (u ∷ mid) → IsRun (u.1 + 1) mid after rest → items ≡ joined u before after → IsGrown low us items rest
+pub grown_more : (low : ℕ) (u : ℕ × ℕ) (us mid before after items rest : List (ℕ × ℕ)) → u.1 ≤ 255 → low ≤ u.1 → IsGrown low us before (u ∷ mid)
+    → IsRun (u.1 + 1) mid after rest → items ≡ joined u before after → IsGrown low us items rest
 grown_more low u us mid before after items rest b k g r e =
     let higher : Every (λ l. u.1 ≤ l) r.run = every_map (λ l. u.1 + 1 ≤ l) (λ l. u.1 ≤ l) r.run (λ l h. omega (arith, h)) r.high in
     let here : u.1 ≤ u.1 = omega arith in
@@ -76,7 +77,10 @@ rest_at ls i h =
     ∙ ap (λ u. u ∷ drop (i + 1) (enumerate_from 0 ls)) (get_or-enumerate_from 0 ls i (0, 0) h)
     ∙ ap (λ k. (k, get_or ls i 0) ∷ drop (i + 1) (enumerate_from 0 ls)) first
 
-pub level_more : (ls : List ℕ) (low i stop : ℕ) (us before after items : List (ℕ × ℕ)) → i < length ls → get_or ls i 0 ≤ 255 → low ≤ get_or ls i 0 → IsGrown low us before (drop i (enumerate_from 0 ls)) → IsRun (get_or ls i 0 + 1) (drop (i + 1) (enumerate_from 0 ls)) after (drop stop (enumerate_from 0 ls)) → items ≡ joined (i, get_or ls i 0) before after → IsGrown low us items (drop stop (enumerate_from 0 ls))
+pub level_more : (ls : List ℕ) (low i stop : ℕ) (us before after items : List (ℕ × ℕ)) → i < length ls → get_or ls i 0 ≤ 255 → low ≤ get_or ls i 0
+    → IsGrown low us before (drop i (enumerate_from 0 ls))
+    → IsRun (get_or ls i 0 + 1) (drop (i + 1) (enumerate_from 0 ls)) after (drop stop (enumerate_from 0 ls))
+    → items ≡ joined (i, get_or ls i 0) before after → IsGrown low us items (drop stop (enumerate_from 0 ls))
 level_more ls low i stop us before after items h b k g r e =
     grown_more low (i, get_or ls i 0) us (drop (i + 1) (enumerate_from 0 ls)) before after items (drop stop (enumerate_from 0 ls)) b k
     (subst (λ (rest : List (ℕ × ℕ)). IsGrown low us before rest) (rest_at ls i h) g) r e

@@ -6,7 +6,8 @@ use Rattle.bx_rows.specs.Ordered.{Every, ordered, joined}
 use Rattle.bx_rows.proofs.Cancels.{every_map, every_append, descend, split_down, turned}
 
 -- no odd level is below `1 + 2 * m`
-pub from_odds : (m : ℕ) (us : List (ℕ × ℕ)) → 2 * m ≤ 256 → Every (λ l. (i : ℕ) → l ≡ 1 + 2 * i → m ≤ i) us → ordered us ≡ reverse_down (1 + 2 * m) (256 - 2 * m) us
+pub from_odds : (m : ℕ) (us : List (ℕ × ℕ)) → 2 * m ≤ 256 → Every (λ l. (i : ℕ) → l ≡ 1 + 2 * i → m ≤ i) us
+    → ordered us ≡ reverse_down (1 + 2 * m) (256 - 2 * m) us
 unfolding ordered
 from_odds m us b h =
     let e : 256 ≡ 2 * m + (256 - 2 * m) = omega arith in
@@ -20,7 +21,8 @@ from_level m us b h =
 around : (P : ℕ → Type 0) (xs : List (ℕ × ℕ)) (u : ℕ × ℕ) (ys : List (ℕ × ℕ)) → P u.1 → Every P xs → Every P ys → Every P (xs ++ u ∷ ys)
 around P xs u ys p a b = every_append P xs (u ∷ ys) a (p, b)
 
-even_pivot : (m : ℕ) (xs : List (ℕ × ℕ)) (u : ℕ × ℕ) (ys : List (ℕ × ℕ)) → 2 * m ≤ 256 → u.1 ≡ 2 * m → Every (λ l. 2 * m ≤ l) xs → Every (λ l. 2 * m ≤ l) ys → ordered (xs ++ u ∷ ys) ≡ ordered xs ++ u ∷ ordered ys
+even_pivot : (m : ℕ) (xs : List (ℕ × ℕ)) (u : ℕ × ℕ) (ys : List (ℕ × ℕ)) → 2 * m ≤ 256 → u.1 ≡ 2 * m → Every (λ l. 2 * m ≤ l) xs
+    → Every (λ l. 2 * m ≤ l) ys → ordered (xs ++ u ∷ ys) ≡ ordered xs ++ u ∷ ordered ys
 even_pivot m xs u ys b e a c =
     let p : 2 * m ≤ u.1 = omega (arith, e) in
     let k : u.1 < 1 + 2 * m = omega (arith, e) in
@@ -38,7 +40,8 @@ reverse_around : (xs : List (ℕ × ℕ)) (u : ℕ × ℕ) (ys : List (ℕ × �
 reverse_around xs u ys =
     reverse-append xs (u ∷ ys) ∙ ap (λ r. r ++ reverse xs) (reverse-append (u ∷ []) ys) ∙ append_assoc (reverse ys) (u ∷ []) (reverse xs)
 
-odd_pivot : (m : ℕ) (xs : List (ℕ × ℕ)) (u : ℕ × ℕ) (ys : List (ℕ × ℕ)) → 2 * m ≤ 255 → u.1 ≡ 1 + 2 * m → Every (λ l. 1 + 2 * m ≤ l) xs → Every (λ l. 1 + 2 * m ≤ l) ys → ordered (xs ++ u ∷ ys) ≡ ordered ys ++ u ∷ ordered xs
+odd_pivot : (m : ℕ) (xs : List (ℕ × ℕ)) (u : ℕ × ℕ) (ys : List (ℕ × ℕ)) → 2 * m ≤ 255 → u.1 ≡ 1 + 2 * m → Every (λ l. 1 + 2 * m ≤ l) xs
+    → Every (λ l. 1 + 2 * m ≤ l) ys → ordered (xs ++ u ∷ ys) ≡ ordered ys ++ u ∷ ordered xs
 odd_pivot m xs u ys b e a c =
     let p : 1 + 2 * m ≤ u.1 = omega (arith, e) in
     let k : u.1 < 1 + 2 * m + 1 = omega (arith, e) in
@@ -51,7 +54,8 @@ odd_pivot m xs u ys b e a c =
 pub parity : (n : ℕ) → (n % 2 ≡ 0) ⊎ (n % 2 ≡ 1)
 parity n = grind arith
 
-pub pivot : (xs : List (ℕ × ℕ)) (u : ℕ × ℕ) (ys : List (ℕ × ℕ)) → u.1 ≤ 255 → Every (λ l. u.1 ≤ l) xs → Every (λ l. u.1 ≤ l) ys → ordered (xs ++ u ∷ ys) ≡ joined u (ordered xs) (ordered ys)
+pub pivot : (xs : List (ℕ × ℕ)) (u : ℕ × ℕ) (ys : List (ℕ × ℕ)) → u.1 ≤ 255 → Every (λ l. u.1 ≤ l) xs → Every (λ l. u.1 ≤ l) ys
+    → ordered (xs ++ u ∷ ys) ≡ joined u (ordered xs) (ordered ys)
 pivot xs u ys b a c =
     let choice : ℕ → List (ℕ × ℕ) = λ p. elim p as (λ n. List (ℕ × ℕ)) [ zero ↦ ordered xs ++ u ∷ ordered ys | suc n ↦ ordered ys ++ u ∷ ordered xs ] in
     let m : ℕ = u.1 / 2 in
