@@ -91,8 +91,10 @@ descend (suc m) j c us h =
     let a : 2 * suc m + c ≡ suc (suc (2 * m + c)) = omega arith in
     let b : j + 2 + 2 * m ≡ j + 2 * suc m = omega arith in
     ap (λ k. reverse_down j k us) a
-    ∙ skip_two j (2 * m + c) us (every_map (λ l. (i : ℕ) → l ≡ j + 2 * i → suc m ≤ i) (λ l. l ≢ j) us (λ l f e. let k : suc m ≤ 0 = f 0 (omega (arith, e)) in absurd (omega (arith, k))) h)
-    ∙ descend m (j + 2) c us (every_map (λ l. (i : ℕ) → l ≡ j + 2 * i → suc m ≤ i) (λ l. (i : ℕ) → l ≡ j + 2 + 2 * i → m ≤ i) us (λ l f i e. let k : suc m ≤ suc i = f (suc i) (omega (arith, e)) in omega (arith, k)) h)
+    ∙ skip_two j (2 * m + c) us (every_map (λ l. (i : ℕ) → l ≡ j + 2 * i → suc m ≤ i) (λ l. l ≢ j) us
+    (λ l f e. let k : suc m ≤ 0 = f 0 (omega (arith, e)) in absurd (omega (arith, k))) h)
+    ∙ descend m (j + 2) c us (every_map (λ l. (i : ℕ) → l ≡ j + 2 * i → suc m ≤ i) (λ l. (i : ℕ) → l ≡ j + 2 + 2 * i → m ≤ i) us
+    (λ l f i e. let k : suc m ≤ suc i = f (suc i) (omega (arith, e)) in omega (arith, k)) h)
     ∙ ap (λ k. reverse_down k c us) b
 
 -- no unit is so high

@@ -44,7 +44,8 @@ lower_up_to l high (Some b) = omega arith
 lowest_up_to : (ls : List ℕ) → IsUpTo (highest ls) (lowest_odd ls)
 lowest_up_to [] = tt
 lowest_up_to (l ∷ ls) =
-    either (IsUpTo (max l (highest ls))) l (lowest_odd ls) (λ e. up_to_more l (highest ls) (lowest_odd ls) (lowest_up_to ls)) (λ e. lower_up_to l (highest ls) (lowest_odd ls))
+    either (IsUpTo (max l (highest ls))) l (lowest_odd ls) (λ e. up_to_more l (highest ls) (lowest_odd ls)
+    (lowest_up_to ls)) (λ e. lower_up_to l (highest ls) (lowest_odd ls))
 
 -- a level is even, or no lower than the lowest odd one
 abbrev pub IsOddFrom : Option ℕ → ℕ → Type 0
@@ -86,14 +87,16 @@ same_order (Some low) high us b odd up from h =
     let l : low ≡ 1 + 2 * m = omega (arith, odd) in
     let c : ℕ = high + 1 - low in
     let e : 256 - 2 * m ≡ c + (256 - high) = omega (arith, l, up, b) in
-    from_odds m us (omega (arith, l, up, b)) (every_map (IsOddFrom (Some low)) (λ k. (i : ℕ) → k ≡ 1 + 2 * i → m ≤ i) us (λ k f i s. let t : low ≤ k = f (omega (arith, s)) in omega (arith, t, s, l)) from)
+    from_odds m us (omega (arith, l, up, b)) (every_map (IsOddFrom (Some low)) (λ k. (i : ℕ) → k ≡ 1 + 2 * i → m ≤ i) us
+    (λ k f i s. let t : low ≤ k = f (omega (arith, s)) in omega (arith, t, s, l)) from)
     ∙ ap (λ k. reverse_down (1 + 2 * m) k us) e
     ∙ top_same (1 + 2 * m) c (256 - high) us (every_map (λ k. k ≤ high) (λ k. k < 1 + 2 * m + c) us (λ k s. omega (arith, s, l, up)) h)
     ∙ ap (λ k. reverse_down k c us) (sym l)
 
 pub visual_ordered : (ls : List ℕ) → highest ls ≤ 255 → visual ls ≡ map (λ u. u.0) (ordered (enumerate_from 0 ls))
 visual_ordered ls b =
-    ap (map (λ u. u.0)) (sym (same_order (lowest_odd ls) (highest ls) (enumerate_from 0 ls) b (lowest_is_odd ls) (lowest_up_to ls) (every_from 0 ls) (every_highest 0 ls)))
+    ap (map (λ u. u.0)) (sym (same_order (lowest_odd ls) (highest ls) (enumerate_from 0 ls) b (lowest_is_odd ls)
+    (lowest_up_to ls) (every_from 0 ls) (every_highest 0 ls)))
 
 pub highest_fits : (ls : List ℕ) → ((i : ℕ) → get_or ls i 0 ≤ 255) → highest ls ≤ 255
 highest_fits [] h = omega arith

@@ -62,10 +62,12 @@ pivot xs u ys b a c =
     elim (parity u.1) as (λ e. ordered (xs ++ u ∷ ys) ≡ choice (u.1 % 2)) [
       | inl e ↦
           let l : u.1 ≡ 2 * m = omega (arith, e) in
-          even_pivot m xs u ys (omega (arith, l, b)) l (every_map (λ k. u.1 ≤ k) (λ k. 2 * m ≤ k) xs (λ k h. omega (arith, h, l)) a) (every_map (λ k. u.1 ≤ k) (λ k. 2 * m ≤ k) ys (λ k h. omega (arith, h, l)) c)
+          even_pivot m xs u ys (omega (arith, l, b)) l (every_map (λ k. u.1 ≤ k) (λ k. 2 * m ≤ k) xs (λ k h. omega (arith, h, l)) a) (every_map
+          (λ k. u.1 ≤ k) (λ k. 2 * m ≤ k) ys (λ k h. omega (arith, h, l)) c)
           ∙ ap choice (sym e)
       | inr e ↦
           let l : u.1 ≡ 1 + 2 * m = omega (arith, e) in
-          odd_pivot m xs u ys (omega (arith, l, b)) l (every_map (λ k. u.1 ≤ k) (λ k. 1 + 2 * m ≤ k) xs (λ k h. omega (arith, h, l)) a) (every_map (λ k. u.1 ≤ k) (λ k. 1 + 2 * m ≤ k) ys (λ k h. omega (arith, h, l)) c)
+          odd_pivot m xs u ys (omega (arith, l, b)) l (every_map (λ k. u.1 ≤ k) (λ k. 1 + 2 * m ≤ k) xs (λ k h. omega (arith, h, l)) a) (every_map
+          (λ k. u.1 ≤ k) (λ k. 1 + 2 * m ≤ k) ys (λ k h. omega (arith, h, l)) c)
           ∙ ap choice (sym e)
     ]
