@@ -4,4 +4,10 @@ pub mod Resets
 pub mod Reversals
 pub mod OneRow
 pub mod Computed
+pub mod GlyphTexts
+pub mod PictureSums
+pub mod Pieces
+pub mod FaceGlyphs
+pub mod NumbersBelow
+pub mod PictureLaws
 mod Rows

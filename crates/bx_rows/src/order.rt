@@ -1,5 +1,5 @@
 //! Visual order.
-ghost use Rattle.std.specs.Prelude.{◌≡◌, ◌≤◌, ◌+◌, ◌++◌, [], OnOk, IfOk, map, reverse};
+ghost use Rattle.std.specs.Prelude.{◌≡◌, ◌≤◌, ◌<◌, ◌+◌, ◌++◌, [], All, OnOk, IfOk, length, map, reverse};
 ghost use Rattle.std.specs.List.{enumerate_from};
 ghost use Rattle.bx_rows.specs.VisualOrder.{highest, lower_odd, lowest_odd, reverse_down, reverse_runs, reversed_from, visual};
 
@@ -130,10 +130,20 @@ fn reversed(alloc: Global, levels: &[u8]) -> Result<Vec<(usize, u8)>, AllocError
     }
 }
 
-/// The numbers of a row's units from 0, from left to right: L2, by the units' levels.
-pub fn visual(alloc: Global, levels: &[u8]) -> Result<Vec<usize>, RowError>
+/// The numbers of a row's units in visual order.
+fn ordered(alloc: Global, levels: &[u8]) -> Result<Vec<usize>, AllocError>
     ensures { IfOk result (λ v. v.items ≡ visual levels.now) }
 {
     let units = reversed(alloc, levels)?;
-    Ok(numbers(alloc, &units)?)
+    numbers(alloc, &units)
+}
+
+/// The numbers of a row's units from 0, from left to right: L2, by the units' levels.
+#[tactic(auto, using(crate::proofs::NumbersBelow::below_if_visual))]
+pub fn visual(alloc: Global, levels: &[u8]) -> Result<Vec<usize>, RowError>
+    ensures order { IfOk result (λ v. v.items ≡ visual levels.now) }
+    ensures below { IfOk result (λ v. All (λ k. k < length levels.now) v.items) }
+{
+    let order = ordered(alloc, levels)?;
+    Ok(order)
 }
