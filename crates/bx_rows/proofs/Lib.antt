@@ -10,4 +10,5 @@ pub mod Pieces
 pub mod FaceGlyphs
 pub mod NumbersBelow
 pub mod PictureLaws
+pub mod RowsFit
 mod Rows

@@ -36,7 +36,7 @@ pieces-more f order i k old items new piece h at inv pushed is =
     ∙ ap (λ xs. old ++ xs) (sym (flat_map-append f (take i order) (get_or order i 0 ∷ [])))
     ∙ ap (λ xs. old ++ flat_map f xs) (sym (take_more order i 0 h))
 
-map-length : {A B : Type 0} (f : A → B) (xs : List A) → length (map f xs) ≡ length xs
+pub map-length : {A B : Type 0} (f : A → B) (xs : List A) → length (map f xs) ≡ length xs
 map-length f [] = refl
 map-length f (x ∷ xs) = ap suc (map-length f xs)
 
