@@ -8,4 +8,11 @@ pub mod Growth
 pub mod FromLevels
 pub mod OneRow
 pub mod Computed
+pub mod GlyphTexts
+pub mod PictureSums
+pub mod Pieces
+pub mod FaceGlyphs
+pub mod NumbersBelow
+pub mod PictureLaws
+pub mod RowsFit
 mod Rows

@@ -1,5 +1,5 @@
 //! Visual order.
-ghost use Rattle.std.specs.Prelude.{◌≡◌, ◌≤◌, ◌<◌, ◌++◌, ◌∷◌, length, drop, IfOk, map};
+ghost use Rattle.std.specs.Prelude.{◌≡◌, ◌≤◌, ◌<◌, ◌++◌, ◌∷◌, All, length, drop, IfOk, map};
 ghost use Rattle.std.specs.List.{enumerate_from};
 ghost use Rattle.bx_rows.specs.VisualOrder.{visual};
 ghost use Rattle.bx_rows.specs.Ordered.{IsRun, joined, ordered};
@@ -87,10 +87,20 @@ fn numbers(alloc: Global, units: &VecDeque<(usize, u8)>) -> Result<Vec<usize>, A
     units.iter().map(|u| u.0).collect(alloc)
 }
 
-/// The numbers of a row's units from 0, from left to right: L2, by the units' levels.
-pub fn visual(alloc: Global, levels: &[u8]) -> Result<Vec<usize>, RowError>
+/// The numbers of a row's units in visual order.
+fn numbers_in_order(alloc: Global, levels: &[u8]) -> Result<Vec<usize>, AllocError>
     ensures { IfOk result (λ v. v.items ≡ visual levels.now) }
 {
     let units = order_units(alloc, levels)?;
     Ok(numbers(alloc, &units)?)
+}
+
+/// The numbers of a row's units from 0, from left to right: L2, by the units' levels.
+#[tactic(auto, using(crate::proofs::NumbersBelow::below_if_visual))]
+pub fn visual(alloc: Global, levels: &[u8]) -> Result<Vec<usize>, RowError>
+    ensures order { IfOk result (λ v. v.items ≡ visual levels.now) }
+    ensures below { IfOk result (λ v. All (λ k. k < length levels.now) v.items) }
+{
+    let order = numbers_in_order(alloc, levels)?;
+    Ok(order)
 }

@@ -1,7 +1,7 @@
 use Rattle.std.proofs.Common.{◌≤◌, ℕ, ◌∙◌, sym, ap, map, arith, get_or}
 use Rattle.bx_rows.specs.VisualOrder.{highest}
 use Rattle.bx_rows.proofs.FromLevels.{visual_ordered, highest_fits}
-use Rattle.bx_rows.proofs.order.visual.Goals as goal
+use Rattle.bx_rows.proofs.order.numbers_in_order.Goals as goal
 
 pub returns : goal.returns
 returns c =
