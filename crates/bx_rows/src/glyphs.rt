@@ -14,7 +14,8 @@ use std::alloc::{AllocError, Global};
 use std::borrow::CowStr;
 
 /// The characters from SPACE to TILDE.
-const LETTERS: &str = " !\"#$%&'()*+,-./0123456789:;<=>?@ABCDEFGHIJKLMNOPQRSTUVWXYZ[\\]^_`abcdefghijklmnopqrstuvwxyz{|}~";
+const LETTERS: &str =
+    " !\"#$%&'()*+,-./0123456789:;<=>?@ABCDEFGHIJKLMNOPQRSTUVWXYZ[\\]^_`abcdefghijklmnopqrstuvwxyz{|}~";
 
 /// The text of one of these letters.
 fn letter_of<'a>(letters: &'a str, byte: u8) -> &'a str
@@ -35,11 +36,7 @@ fn letter<'a>(byte: u8) -> &'a str
 }
 
 /// Adds a glyph of one character from SPACE to TILDE.
-fn push_letter<'a>(
-    glyphs: &mut Vec<Drawn<'a>>,
-    byte: u8,
-    negative: bool,
-) -> Result<(), AllocError>
+fn push_letter<'a>(glyphs: &mut Vec<Drawn<'a>>, byte: u8, negative: bool) -> Result<(), AllocError>
     requires { is_ascii_printable byte ≡ true }
     ensures { OnOk result (map shown glyphs.new.items ≡ map shown glyphs.old.items ++ glyph (byte ∷ []) 1 negative ∷ []) }
 {

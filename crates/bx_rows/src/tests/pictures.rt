@@ -1,6 +1,6 @@
 //! What rows show, on the call itself: `_` is a blank, `*` stands behind a mark in negative image, `|` between rows.
-use super::{levels_of, test_tables};
 use super::tables::{BRACKETS, CLASSES};
+use super::{levels_of, test_tables};
 use crate::{RowPicture, draw, row_levels, wrap};
 use bx_cells::units;
 use bx_explicit::Base;
@@ -72,15 +72,31 @@ fn shows(
 const PICTURES: [(&str, u16, &str); 23] = [
     ("a \u{5d0}\u{5d1} b", 6, "a_\u{5d1}\u{5d0}_b"),
     ("\u{5d0}\u{5d1} 12", 8, "___12_\u{5d1}\u{5d0}"),
-    ("\u{5d0}\u{5d1} (a) \u{5d2}", 8, "\u{5d2}_(a)_\u{5d1}\u{5d0}"),
-    ("a \u{5d0}\u{5d1} \u{5d2}", 5, "a_\u{5d1}\u{5d0}_|\u{5d2}____"),
+    (
+        "\u{5d0}\u{5d1} (a) \u{5d2}",
+        8,
+        "\u{5d2}_(a)_\u{5d1}\u{5d0}",
+    ),
+    (
+        "a \u{5d0}\u{5d1} \u{5d2}",
+        5,
+        "a_\u{5d1}\u{5d0}_|\u{5d2}____",
+    ),
     ("a\u{2067}\u{5d1}\u{2069}c", 5, "aI*\u{5d1}P*c"),
     ("a\u{2067}\u{5d1}\u{2069}!1", 6, "aI*\u{5d1}P*!1"),
-    ("\u{2068}\u{2066}a\u{2069}\u{5d1}\u{2069}c", 7, "f*\u{5d1}P*ai*P*c"),
+    (
+        "\u{2068}\u{2066}a\u{2069}\u{5d1}\u{2069}c",
+        7,
+        "f*\u{5d1}P*ai*P*c",
+    ),
     ("ab\u{4e16}", 3, "ab_|\u{4e16}_"),
     ("ab\u{4e16}", 1, "a|b|#*"),
     ("\u{5d0}\t\u{5d1}", 16, "_______\u{5d1}_______\u{5d0}"),
-    ("a\u{5d1}((\u{5d2})\u{5d0}d)", 9, "a\u{5d1}((\u{5d2})\u{5d0}d)"),
+    (
+        "a\u{5d1}((\u{5d2})\u{5d0}d)",
+        9,
+        "a\u{5d1}((\u{5d2})\u{5d0}d)",
+    ),
     ("\u{627}1,2", 8, "____1,2\u{627}"),
     ("\u{627}1+2", 8, "____2+1\u{627}"),
     ("a\tb", 4, "a___|b___"),
@@ -92,7 +108,11 @@ const PICTURES: [(&str, u16, &str); 23] = [
     ("ab cd ef", 7, "ab_cd__|ef_____"),
     ("abcdef", 4, "abcd|ef__"),
     ("ab cd", 2, "ab|__|cd"),
-    ("a\u{202b}\u{5d0}\u{2066}\u{2069}\u{202c}", 7, "aE*\u{5d0}i*P*p*_"),
+    (
+        "a\u{202b}\u{5d0}\u{2066}\u{2069}\u{202c}",
+        7,
+        "aE*\u{5d0}i*P*p*_",
+    ),
 ];
 
 #[test]
@@ -107,8 +127,24 @@ fn pictures_of_worked_rows(rt: HostRuntime) -> Result<(), Fail> {
 #[test]
 fn pictures_under_a_base(rt: HostRuntime) -> Result<(), Fail> {
     let tables = test_tables(rt.alloc())?;
-    shows(&rt, rt.alloc(), &tables, "a \u{5d0}\u{5d1} b", Base::Rtl, 6, "b_\u{5d1}\u{5d0}_a")?;
-    shows(&rt, rt.alloc(), &tables, "\u{5d0}\u{5d1} 12", Base::Ltr, 8, "12_\u{5d1}\u{5d0}___")?;
+    shows(
+        &rt,
+        rt.alloc(),
+        &tables,
+        "a \u{5d0}\u{5d1} b",
+        Base::Rtl,
+        6,
+        "b_\u{5d1}\u{5d0}_a",
+    )?;
+    shows(
+        &rt,
+        rt.alloc(),
+        &tables,
+        "\u{5d0}\u{5d1} 12",
+        Base::Ltr,
+        8,
+        "12_\u{5d1}\u{5d0}___",
+    )?;
     Ok(())
 }
 
@@ -116,8 +152,29 @@ fn pictures_under_a_base(rt: HostRuntime) -> Result<(), Fail> {
 fn mirrored_only_where_as_wide(rt: HostRuntime) -> Result<(), Fail> {
     let classes = CLASSES.as_bytes();
     let wide = Tables::read(rt.alloc(), classes, BRACKETS.as_bytes(), b"0028; 4E16\n")?;
-    shows(&rt, rt.alloc(), &wide, "\u{5d0}(\u{5d1}", Base::Auto, 3, "\u{5d1}(\u{5d0}")?;
-    let narrow = Tables::read(rt.alloc(), classes, BRACKETS.as_bytes(), b"4E16; 0061\n0301; 0062\n")?;
-    shows(&rt, rt.alloc(), &narrow, "\u{4e16}\u{301}", Base::Rtl, 2, "ab")?;
+    shows(
+        &rt,
+        rt.alloc(),
+        &wide,
+        "\u{5d0}(\u{5d1}",
+        Base::Auto,
+        3,
+        "\u{5d1}(\u{5d0}",
+    )?;
+    let narrow = Tables::read(
+        rt.alloc(),
+        b"4E16 ; R\n0301 ; NSM\n",
+        b"",
+        b"4E16; 0061\n0301; 0062\n",
+    )?;
+    shows(
+        &rt,
+        rt.alloc(),
+        &narrow,
+        "\u{4e16}\u{301}",
+        Base::Auto,
+        2,
+        "ab",
+    )?;
     Ok(())
 }
