@@ -1,6 +1,6 @@
 //! The units of a body.
 ghost use Rattle.std.specs.Prelude.{◌≡◌, IfOk, All};
-ghost use Rattle.bx_cells.specs.Units.{units, StandsIn};
+ghost use Rattle.bx_cells.specs.Units.{units, HasFace, StandsIn};
 
 use crate::error::CellError;
 use crate::faces::face;
@@ -32,7 +32,7 @@ fn listed<D: BidiData>(
 
 /// The units of a paragraph's body in a window of `w` columns: its extended grapheme clusters, each with its face. It is
 /// refused only where memory runs out.
-#[tactic(auto, using(crate::proofs::Standing::stand_if_units))]
+#[tactic(auto, using(crate::proofs::Standing::stand_if_units, crate::proofs::Standing::faces_if_units))]
 pub fn units<D: BidiData>(
     alloc: Global,
     body: &str,
@@ -41,6 +41,7 @@ pub fn units<D: BidiData>(
 ) -> Result<Vec<Unit>, CellError>
     ensures units { IfOk result (λ v. v.items ≡ units (D.class_of source.now) w body.now) }
     ensures stand { IfOk result (λ v. All (StandsIn body.now) v.items) }
+    ensures faces { IfOk result (λ v. All (HasFace (D.class_of source.now) w body.now) v.items) }
 {
     let units = listed(alloc, body, source, w)?;
     Ok(units)

@@ -2,7 +2,10 @@
 use Rattle.std.proofs.Common.{◌≡◌, ℕ, zero, suc, ◌+◌, ◌-◌, min, ◌<◌, ◌≤◌, true, false, List, [], ◌∷◌, ◌++◌, map, reverse, length, get_or, take, drop, chars, append_assoc, Option, Some, None, is_some, unwrap_or, refl, sym, ap, ap₂, ◌∙◌, arith}
 use Rattle.std.proofs.lemmas.List.{at_drop_more, reverse-append}
 use Rattle.bx_cells.specs.declared.unit.Unit.{Unit}
-use Rattle.bx_rows.specs.RowLevels.{Leveled, chars_before, trails, only_trailing, level_at, l1, first_level, unit_levels, filled}
+use Rattle.bx_rows.specs.RowLevels.{Leveled, chars_before, trails, only_trailing, level_at, l1, first_level, unit_levels, filled, row_chars, row_levels}
+use Rattle.bx_ucd.specs.declared.class.Class.{Class}
+use Rattle.bx_cells.specs.Units.{unit_chars}
+use Rattle.bx_rows.proofs.Pieces.{map-length}
 
 -- the character before place n, and those from there on
 at_before : {B : Type 0} (f : List Leveled → B) (cs : List Leveled) (n : ℕ) (d : Leveled) → 0 < n → n ≤ length cs → f (drop (n - 1) cs) ≡ f (get_or cs (n - 1) d ∷ drop n cs)
@@ -77,3 +80,19 @@ fill_more f us i d before n m ls own rest first level done new all h counted cap
     let here : level ≡ unwrap_or (first_level (take count ls)) before = lev ∙ ap (λ o. unwrap_or o before) (found ∙ ap first_level own_is) in
     let there : rest ≡ drop count ls = back ∙ ap (λ k. drop k ls) capped ∙ drop-capped n ls ∙ ap (λ k. drop k ls) counted in
     filled-more (map f (drop (i + 1) us)) level rest _ _ done new all here there pushed (ap (λ xs. done ++ xs) (sym (at_drop_more (λ xs. filled before (unit_levels (map f xs) ls)) us i d h)) ∙ inv)
+
+-- ---- each unit has a level
+
+filled-length : (before : ℕ) (ls : List (Option ℕ)) → length (filled before ls) ≡ length ls
+filled-length before [] = refl
+filled-length before (l ∷ ls) = ap suc (filled-length (unwrap_or l before) ls)
+
+levels-length : (ns : List ℕ) (ls : List (Option ℕ)) → length (unit_levels ns ls) ≡ length ns
+levels-length [] ls = refl
+levels-length (n ∷ ns) ls = ap suc (levels-length ns (drop n ls))
+
+pub one_each : (class : ℕ → Class) (body : List ℕ) (paragraph : ℕ) (each : List (Option ℕ)) (us : List Unit) (v : List ℕ) → v ≡ row_levels class body paragraph each us → length v ≡ length us
+one_each class body paragraph each us v e =
+    let counts = map (λ u. length (unit_chars body u)) us in
+    ap length e ∙ filled-length paragraph (unit_levels counts (l1 paragraph (row_chars class body each us)))
+    ∙ levels-length counts (l1 paragraph (row_chars class body each us)) ∙ map-length (λ u. length (unit_chars body u)) us

@@ -1,18 +1,23 @@
 //! The rows of a paragraph: where they wrap, the levels of a row's units, their visual order, and what a row shows.
 #![tactic(auto)]
 
+mod drawn;
 mod error;
+mod glyphs;
 mod one_row;
 mod order;
+mod picture;
 mod row;
 #[cfg(test)]
 mod tests;
 mod unit_levels;
 mod wrapping;
 
+pub use drawn::{Drawn, RowPicture};
 pub use error::RowError;
 pub use one_row::has_one_row;
 pub use order::visual;
+pub use picture::draw;
 pub use row::Row;
 pub use unit_levels::row_levels;
 pub use wrapping::wrap;

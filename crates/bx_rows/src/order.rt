@@ -1,139 +1,106 @@
 //! Visual order.
-ghost use Rattle.std.specs.Prelude.{◌≡◌, ◌≤◌, ◌+◌, ◌++◌, [], OnOk, IfOk, map, reverse};
+ghost use Rattle.std.specs.Prelude.{◌≡◌, ◌≤◌, ◌<◌, ◌++◌, ◌∷◌, All, length, drop, IfOk, map};
 ghost use Rattle.std.specs.List.{enumerate_from};
-ghost use Rattle.bx_rows.specs.VisualOrder.{highest, lower_odd, lowest_odd, reverse_down, reverse_runs, reversed_from, visual};
+ghost use Rattle.bx_rows.specs.VisualOrder.{visual};
+ghost use Rattle.bx_rows.specs.Ordered.{IsRun, joined, ordered};
 
 use crate::error::RowError;
 use std::alloc::{AllocError, Global};
+use std::collections::VecDeque;
 
-/// Moves a run behind what is done, its last unit first.
-fn end_run(done: &mut Vec<(usize, u8)>, run: &mut Vec<(usize, u8)>) -> Result<(), AllocError>
-    ensures done { OnOk result (done.new.items ≡ done.old.items ++ reverse run.old.items) }
-    ensures emptied { OnOk result (run.new.items ≡ []) }
+/// One list, a unit, and another list: the shorter list is moved.
+fn surround(
+    first: VecDeque<(usize, u8)>,
+    unit: (usize, u8),
+    second: VecDeque<(usize, u8)>,
+) -> Result<VecDeque<(usize, u8)>, AllocError>
+    ensures { IfOk result (λ q. q.items ≡ first.items ++ unit ∷ second.items) }
 {
-    while let Some(unit) = run.pop() {
-        done.push(unit)?;
+    let mut first = first;
+    let mut second = second;
+    if first.len() >= second.len() {
+        first.push_back(unit)?;
+        first.append(&mut second)?;
+        return Ok(first);
     }
-    Ok(())
+    second.push_front(unit)?;
+    while let Some(last) = first.pop_back() {
+        second.push_front(last)?;
+    }
+    Ok(second)
 }
 
-/// The units with each maximal run at level `n` or higher reversed.
-#[tactic(auto, using(crate::proofs::Reversals::turn_high, crate::proofs::Reversals::turn_low, crate::proofs::Reversals::turns_done))]
-fn reverse_runs(
-    alloc: Global,
-    units: &[(usize, u8)],
-    n: u16,
-) -> Result<Vec<(usize, u8)>, AllocError>
-    ensures { IfOk result (λ v. v.items ≡ reverse_runs n [] units.now) }
+/// A unit between what is before it and after it in the text, all of it at the unit's level or higher: at an odd level
+/// what is after it stands to its left.
+fn join(
+    unit: (usize, u8),
+    before: VecDeque<(usize, u8)>,
+    after: VecDeque<(usize, u8)>,
+) -> Result<VecDeque<(usize, u8)>, AllocError>
+    ensures { IfOk result (λ q. q.items ≡ joined unit before.items after.items) }
 {
-    let mut done = Vec::new(alloc);
-    let mut run = Vec::new(alloc);
-    for unit in units {
-        if u16::from(unit.1) >= n {
-            run.push(*unit)?;
-        } else {
-            end_run(&mut done, &mut run)?;
-            done.push(*unit)?;
-        }
+    if unit.1 % 2 == 0 {
+        surround(before, unit, after)
+    } else {
+        surround(after, unit, before)
     }
-    end_run(&mut done, &mut run)?;
-    Ok(done)
 }
 
-/// The units with their runs reversed at each of the `count` levels from `low` on, from the highest down.
-#[tactic(auto, using(crate::proofs::Reversals::down_more))]
-fn reverse_down(
+/// The units at level `low` or higher from index `from` on in their order, and the index behind them.
+fn order_run(
     alloc: Global,
-    units: Vec<(usize, u8)>,
+    levels: &[u8],
+    from: usize,
     low: u16,
-    count: u16,
-) -> Result<Vec<(usize, u8)>, AllocError>
-    requires { low + count ≤ 256 }
-    ensures { IfOk result (λ v. v.items ≡ reverse_down low count units.items) }
+) -> Result<(VecDeque<(usize, u8)>, usize), AllocError>
+    requires { from ≤ length levels.now }
+    ensures within { IfOk result (λ r. (from ≤ r.1) × (r.1 ≤ length levels.now)) }
+    ensures run { IfOk result (λ r. IsRun low (drop from (enumerate_from 0 levels.now)) r.0.items (drop r.1 (enumerate_from 0 levels.now))) }
 {
-    let mut units = units;
-    let mut left = count;
-    while left > 0 {
-        left -= 1;
-        units = reverse_runs(alloc, &units, low + left)?;
+    let mut run = VecDeque::new(alloc);
+    let mut i = from;
+    while i < levels.len() {
+        let level = levels[i];
+        if u16::from(level) < low {
+            return Ok((run, i));
+        }
+        let (after, stop) = order_run(alloc, levels, i + 1, u16::from(level) + 1)?;
+        run = join((i, level), run, after)?;
+        i = stop;
     }
-    Ok(units)
+    Ok((run, i))
 }
 
-/// The highest level, or 0.
-#[tactic(auto, using(crate::proofs::Reversals::highest_before))]
-fn highest(levels: &[u8]) -> u8
-    ensures { result ≡ highest levels.now }
+/// The units in their order, each with its level.
+#[tactic(auto, using(crate::proofs::Growth::whole))]
+fn order_units(alloc: Global, levels: &[u8]) -> Result<VecDeque<(usize, u8)>, AllocError>
+    ensures { IfOk result (λ q. q.items ≡ ordered (enumerate_from 0 levels.now)) }
 {
-    let mut high = 0;
-    let mut i = levels.len();
-    while i > 0 {
-        i -= 1;
-        high = levels[i].max(high);
-    }
-    high
-}
-
-/// The lowest odd of a level and of one that may be there.
-fn lower_odd(level: u8, lowest: Option<u8>) -> Option<u8>
-    ensures { result ≡ lower_odd level lowest }
-{
-    if level % 2 == 0 {
-        return lowest;
-    }
-    match lowest {
-        Some(other) => Some(level.min(other)),
-        None => Some(level),
-    }
-}
-
-/// The lowest odd level.
-#[tactic(auto, using(crate::proofs::Reversals::lowest_before))]
-fn lowest_odd(levels: &[u8]) -> Option<u8>
-    ensures { result ≡ lowest_odd levels.now }
-{
-    let mut lowest = None;
-    let mut i = levels.len();
-    while i > 0 {
-        i -= 1;
-        lowest = lower_odd(levels[i], lowest);
-    }
-    lowest
-}
-
-/// The units by their numbers, each with its level.
-fn numbered(alloc: Global, levels: &[u8]) -> Result<Vec<(usize, u8)>, AllocError>
-    ensures { IfOk result (λ v. v.items ≡ enumerate_from 0 levels.now) }
-{
-    levels.iter().copied().enumerate().collect(alloc)
+    let (run, _) = order_run(alloc, levels, 0, 0)?;
+    Ok(run)
 }
 
 /// The numbers of units.
-fn numbers(alloc: Global, units: &[(usize, u8)]) -> Result<Vec<usize>, AllocError>
-    ensures { IfOk result (λ v. v.items ≡ map (λ u. u.0) units.now) }
+fn numbers(alloc: Global, units: &VecDeque<(usize, u8)>) -> Result<Vec<usize>, AllocError>
+    ensures { IfOk result (λ v. v.items ≡ map (λ u. u.0) units.now.items) }
 {
     units.iter().map(|u| u.0).collect(alloc)
 }
 
-/// The units after all reversals.
-fn reversed(alloc: Global, levels: &[u8]) -> Result<Vec<(usize, u8)>, AllocError>
-    ensures { IfOk result (λ v. v.items ≡ reversed_from (lowest_odd levels.now) (highest levels.now) (enumerate_from 0 levels.now)) }
+/// The numbers of a row's units in visual order.
+fn numbers_in_order(alloc: Global, levels: &[u8]) -> Result<Vec<usize>, AllocError>
+    ensures { IfOk result (λ v. v.items ≡ visual levels.now) }
 {
-    let units = numbered(alloc, levels)?;
-    match lowest_odd(levels) {
-        Some(low) => {
-            let low = u16::from(low);
-            let count = (u16::from(highest(levels)) + 1).saturating_sub(low);
-            reverse_down(alloc, units, low, count)
-        }
-        None => Ok(units),
-    }
+    let units = order_units(alloc, levels)?;
+    Ok(numbers(alloc, &units)?)
 }
 
 /// The numbers of a row's units from 0, from left to right: L2, by the units' levels.
+#[tactic(auto, using(crate::proofs::NumbersBelow::below_if_visual))]
 pub fn visual(alloc: Global, levels: &[u8]) -> Result<Vec<usize>, RowError>
-    ensures { IfOk result (λ v. v.items ≡ visual levels.now) }
+    ensures order { IfOk result (λ v. v.items ≡ visual levels.now) }
+    ensures below { IfOk result (λ v. All (λ k. k < length levels.now) v.items) }
 {
-    let units = reversed(alloc, levels)?;
-    Ok(numbers(alloc, &units)?)
+    let order = numbers_in_order(alloc, levels)?;
+    Ok(order)
 }

@@ -1,4 +1,5 @@
 //! Each call with ample memory: worked rows and outside values.
+mod pictures;
 mod tables;
 mod vectors;
 

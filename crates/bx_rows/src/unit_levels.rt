@@ -179,16 +179,15 @@ fn filled(
     Ok(found)
 }
 
-/// The levels of a row's units, by L1: the row's end counts, not the paragraph's. A unit has the level of its first
-/// character that X9 keeps, else that of the unit before it, else the paragraph level.
-pub fn row_levels<D: BidiData>(
+/// The levels of a row's units.
+fn each_level<D: BidiData>(
     alloc: Global,
     body: &str,
     units: &[Unit],
     row: Row,
     levels: &Levels,
     source: &D,
-) -> Result<Vec<u8>, RowError>
+) -> Result<Vec<u8>, AllocError>
     requires units { All (StandsIn body.now) units.now }
     requires row { row.start ≤ row.stop }
     requires within { row.stop ≤ length units.now }
@@ -200,5 +199,26 @@ pub fn row_levels<D: BidiData>(
     let classes = row_classes(alloc, body, units, source)?;
     let chars = leveled(alloc, &classes, &each[first..])?;
     let reset = l1(alloc, &chars, levels.paragraph)?;
-    Ok(filled(alloc, body, units, &reset, levels.paragraph)?)
+    filled(alloc, body, units, &reset, levels.paragraph)
+}
+
+/// The levels of a row's units, by L1: the row's end counts, not the paragraph's. A unit has the level of its first
+/// character that X9 keeps, else that of the unit before it, else the paragraph level.
+#[tactic(auto, using(crate::proofs::Resets::one_each))]
+pub fn row_levels<D: BidiData>(
+    alloc: Global,
+    body: &str,
+    units: &[Unit],
+    row: Row,
+    levels: &Levels,
+    source: &D,
+) -> Result<Vec<u8>, RowError>
+    requires units { All (StandsIn body.now) units.now }
+    requires row { row.start ≤ row.stop }
+    requires within { row.stop ≤ length units.now }
+    ensures levels { IfOk result (λ v. v.items ≡ row_levels (D.class_of source.now) body.now levels.now.paragraph levels.now.each.items (row_units units.now row)) }
+    ensures one_each { IfOk result (λ v. length v.items ≡ length (row_units units.now row)) }
+{
+    let found = each_level(alloc, body, units, row, levels, source)?;
+    Ok(found)
 }

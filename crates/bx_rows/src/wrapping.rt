@@ -1,13 +1,14 @@
 //! Wrapping.
 ghost use Rattle.std.specs.Prelude.{◌≡◌, ◌≤◌, All, IfOk, length};
 ghost use Rattle.bx_cells.specs.Units.{StandsIn};
+ghost use Rattle.bx_rows.specs.Shown.{IsRowOf};
 ghost use Rattle.bx_rows.specs.Wrapping.{columns_at, fitting, is_blank, is_break, up_to_last, row_len, wrap};
 
 use crate::error::RowError;
 use crate::row::Row;
 use bx_cells::{Face, Unit, only_char};
 use bx_ucd::{BidiData, Class};
-use std::alloc::Global;
+use std::alloc::{AllocError, Global};
 
 /// The columns of a face that begins at column `c`, counted from 0.
 pub(crate) fn columns_at(w: u16, c: u16, face: Face) -> u16
@@ -94,15 +95,14 @@ fn row_len<D: BidiData>(body: &str, units: &[Unit], source: &D, w: u16) -> usize
     }
 }
 
-/// The rows of a body's units in a window of `w` columns: a row ends after the last blank or tab among the units that fit,
-/// where not all that are left fit. A body of no units has one row of none.
-pub fn wrap<D: BidiData>(
+/// The rows of a body's units, one after another.
+fn listed<D: BidiData>(
     alloc: Global,
     body: &str,
     units: &[Unit],
     source: &D,
     w: u16,
-) -> Result<Vec<Row>, RowError>
+) -> Result<Vec<Row>, AllocError>
     requires { All (StandsIn body.now) units.now }
     ensures { IfOk result (λ v. v.items ≡ wrap (D.class_of source.now) w body.now units.now) }
 {
@@ -118,5 +118,22 @@ pub fn wrap<D: BidiData>(
         rows.push(Row { start, stop })?;
         start += len.max(1);
     }
+    Ok(rows)
+}
+
+/// The rows of a body's units in a window of `w` columns: a row ends after the last blank or tab among the units that fit,
+/// where not all that are left fit. A body of no units has one row of none.
+pub fn wrap<D: BidiData>(
+    alloc: Global,
+    body: &str,
+    units: &[Unit],
+    source: &D,
+    w: u16,
+) -> Result<Vec<Row>, RowError>
+    requires { All (StandsIn body.now) units.now }
+    ensures rows { IfOk result (λ v. v.items ≡ wrap (D.class_of source.now) w body.now units.now) }
+    ensures fit { IfOk result (λ v. All (IsRowOf w units.now) v.items) }
+{
+    let rows = listed(alloc, body, units, source, w)?;
     Ok(rows)
 }

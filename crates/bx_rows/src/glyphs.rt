@@ -1,0 +1,171 @@
+//! The glyphs of a unit.
+ghost use Rattle.std.specs.Prelude.{◌≡◌, ◌≤◌, ◌++◌, ◌∷◌, [], IfOk, OnOk, List, map, replicate, string_bytes, false, true};
+ghost use Rattle.std.specs.List.{range_with_len};
+ghost use Rattle.std.specs.Cow.{cow_str_bytes};
+ghost use Rattle.bx_terms.specs.Characters.{are_ascii_printable, is_ascii_printable};
+ghost use Rattle.bx_rows.specs.RowPicture.{Glyph, blank, face_glyphs, glyph, is_own, mirrored, mirrored_within, shown_text, text_glyphs};
+ghost use Rattle.bx_rows.specs.Shown.{HasLetter, shown};
+
+use crate::drawn::Drawn;
+use bx_cells::{Face, face};
+use bx_terms::are_ascii_printable;
+use bx_ucd::BidiData;
+use std::alloc::{AllocError, Global};
+use std::borrow::CowStr;
+
+/// The characters from SPACE to TILDE.
+const LETTERS: &str =
+    " !\"#$%&'()*+,-./0123456789:;<=>?@ABCDEFGHIJKLMNOPQRSTUVWXYZ[\\]^_`abcdefghijklmnopqrstuvwxyz{|}~";
+
+/// The text of one of these letters.
+fn letter_of<'a>(letters: &'a str, byte: u8) -> &'a str
+    requires letters { letters.now ≡ range_with_len 32 95 }
+    requires byte { is_ascii_printable byte ≡ true }
+    ensures { result.now ≡ byte ∷ [] }
+{
+    let place = (byte - b' ') as usize;
+    &letters[place..place + 1]
+}
+
+/// A fixed text of one character from SPACE to TILDE.
+fn letter<'a>(byte: u8) -> &'a str
+    requires { is_ascii_printable byte ≡ true }
+    ensures { result.now ≡ byte ∷ [] }
+{
+    letter_of(LETTERS, byte)
+}
+
+/// Adds a glyph of one character from SPACE to TILDE.
+fn push_letter<'a>(glyphs: &mut Vec<Drawn<'a>>, byte: u8, negative: bool) -> Result<(), AllocError>
+    requires { is_ascii_printable byte ≡ true }
+    ensures { OnOk result (map shown glyphs.new.items ≡ map shown glyphs.old.items ++ glyph (byte ∷ []) 1 negative ∷ []) }
+{
+    glyphs.push(Drawn {
+        text: CowStr::Borrowed(letter(byte)),
+        columns: 1,
+        negative,
+    })?;
+    Ok(())
+}
+
+/// Adds blanks.
+pub(crate) fn push_blanks<'a>(glyphs: &mut Vec<Drawn<'a>>, count: u16) -> Result<(), AllocError>
+    ensures { OnOk result (map shown glyphs.new.items ≡ map shown glyphs.old.items ++ replicate count blank) }
+{
+    for _ in 0..count {
+        push_letter(glyphs, b' ', false)?;
+    }
+    Ok(())
+}
+
+/// Adds a glyph for each character of a text that has only characters from SPACE to TILDE.
+fn push_letters<'a>(glyphs: &mut Vec<Drawn<'a>>, text: &[u8]) -> Result<(), AllocError>
+    requires { are_ascii_printable text.now ≡ true }
+    ensures { OnOk result (map shown glyphs.new.items ≡ map shown glyphs.old.items ++ map (λ b. glyph (b ∷ []) 1 false) text.now) }
+{
+    for byte in text {
+        push_letter(glyphs, *byte, false)?;
+    }
+    Ok(())
+}
+
+/// Adds the glyphs of own text of these columns.
+fn push_text<'a>(
+    glyphs: &mut Vec<Drawn<'a>>,
+    text: CowStr<'a, Global>,
+    columns: u16,
+) -> Result<(), AllocError>
+    ensures { OnOk result (map shown glyphs.new.items ≡ map shown glyphs.old.items ++ text_glyphs columns (cow_str_bytes text.entry)) }
+{
+    if are_ascii_printable(text.as_str()) {
+        return push_letters(glyphs, text.as_str().as_bytes());
+    }
+    glyphs.push(Drawn {
+        text,
+        columns,
+        negative: false,
+    })?;
+    Ok(())
+}
+
+/// A text with each character mirrored that has a mirror.
+fn mirrored<D: BidiData>(alloc: Global, text: &str, source: &D) -> Result<String, AllocError>
+    ensures { IfOk result (λ t. string_bytes t ≡ mirrored (D.mirror_of source.now) text.now) }
+{
+    let mut other = String::new(alloc);
+    for c in text.chars() {
+        other.push(source.mirror(c).unwrap_or(c))?;
+    }
+    Ok(other)
+}
+
+/// Whether a face is own text of so many columns.
+fn is_own(face: Face, n: u16) -> bool
+    ensures { result ≡ is_own n face }
+{
+    match face {
+        Face::Own(m) => m == n,
+        _ => false,
+    }
+}
+
+/// The mirrored text where that is shown as itself in as many columns, else the text.
+fn mirrored_within<'a, D: BidiData>(
+    alloc: Global,
+    text: &'a str,
+    columns: u16,
+    source: &D,
+    w: u16,
+) -> Result<CowStr<'a, Global>, AllocError>
+    ensures { IfOk result (λ t. cow_str_bytes t ≡ mirrored_within (D.class_of source.now) (D.mirror_of source.now) w columns text.entry.now) }
+{
+    let other = mirrored(alloc, text, source)?;
+    let found = face(other.as_str(), source, w);
+    if is_own(found, columns) {
+        Ok(CowStr::Owned(other))
+    } else {
+        Ok(CowStr::Borrowed(text))
+    }
+}
+
+/// The text that is shown at a level: mirrored at an odd one.
+fn shown_text<'a, D: BidiData>(
+    alloc: Global,
+    text: &'a str,
+    columns: u16,
+    level: u8,
+    source: &D,
+    w: u16,
+) -> Result<CowStr<'a, Global>, AllocError>
+    ensures { IfOk result (λ t. cow_str_bytes t ≡ shown_text (D.class_of source.now) (D.mirror_of source.now) w columns level text.entry.now) }
+{
+    if level % 2 == 0 {
+        Ok(CowStr::Borrowed(text))
+    } else {
+        mirrored_within(alloc, text, columns, source, w)
+    }
+}
+
+/// Adds the glyphs of a face in its columns, with its own text at a level.
+pub(crate) fn push_face<'a, D: BidiData>(
+    glyphs: &mut Vec<Drawn<'a>>,
+    alloc: Global,
+    text: &'a str,
+    face: Face,
+    columns: u16,
+    level: u8,
+    source: &D,
+    w: u16,
+) -> Result<(), AllocError>
+    requires { HasLetter face }
+    ensures { OnOk result (map shown glyphs.new.items ≡ map shown glyphs.old.items ++ face_glyphs (D.class_of source.now) (D.mirror_of source.now) w text.entry.now face columns level) }
+{
+    match face {
+        Face::Tab => push_blanks(glyphs, columns),
+        Face::Mark(byte) => push_letter(glyphs, byte, true),
+        Face::Own(own) => {
+            let shown = shown_text(alloc, text, own, level, source, w)?;
+            push_text(glyphs, shown, own)
+        }
+    }
+}

@@ -1,0 +1,180 @@
+//! What rows show, on the call itself: `_` is a blank, `*` stands behind a mark in negative image, `|` between rows.
+use super::tables::{BRACKETS, CLASSES};
+use super::{levels_of, test_tables};
+use crate::{RowPicture, draw, row_levels, wrap};
+use bx_cells::units;
+use bx_explicit::Base;
+use bx_ucd::Tables;
+use std::alloc::Global;
+use std::process::Abort;
+use std::test::Fail;
+
+/// Adds what a row shows, from left to right.
+fn add_picture(text: &mut String, picture: &RowPicture<'_>) -> Result<(), Fail> {
+    for glyph in &picture.glyphs {
+        let shown = glyph.text.as_str();
+        text.push_str(if shown == " " { "_" } else { shown })?;
+        if glyph.negative {
+            text.push('*')?;
+        }
+    }
+    Ok(())
+}
+
+/// What the rows of a body show.
+fn pictures(
+    alloc: Global,
+    tables: &Tables,
+    body: &str,
+    base: Base,
+    w: u16,
+) -> Result<String, Fail> {
+    let found = units(alloc, body, tables, w)?;
+    let rows = wrap(alloc, body, &found, tables, w)?;
+    let levels = levels_of(alloc, body, tables, base)?;
+    let mut text = String::new(alloc);
+    for row in &rows {
+        let each = row_levels(alloc, body, &found, *row, &levels, tables)?;
+        let picture = draw(
+            alloc,
+            body,
+            &found,
+            *row,
+            &each,
+            levels.paragraph,
+            tables,
+            w,
+        )?;
+        if row.start > 0 {
+            text.push('|')?;
+        }
+        add_picture(&mut text, &picture)?;
+    }
+    Ok(text)
+}
+
+/// A body under a base in so many columns shows this.
+fn shows(
+    rt: &impl Abort,
+    alloc: Global,
+    tables: &Tables,
+    body: &str,
+    base: Base,
+    w: u16,
+    wanted: &str,
+) -> Result<(), Fail> {
+    let text = pictures(alloc, tables, body, base, w)?;
+    assert_eq!(rt; text.as_str(), wanted, "of {body}");
+    Ok(())
+}
+
+/// Bodies with no base of their own, the columns of the window, and what their rows show.
+const PICTURES: [(&str, u16, &str); 23] = [
+    ("a \u{5d0}\u{5d1} b", 6, "a_\u{5d1}\u{5d0}_b"),
+    ("\u{5d0}\u{5d1} 12", 8, "___12_\u{5d1}\u{5d0}"),
+    (
+        "\u{5d0}\u{5d1} (a) \u{5d2}",
+        8,
+        "\u{5d2}_(a)_\u{5d1}\u{5d0}",
+    ),
+    (
+        "a \u{5d0}\u{5d1} \u{5d2}",
+        5,
+        "a_\u{5d1}\u{5d0}_|\u{5d2}____",
+    ),
+    ("a\u{2067}\u{5d1}\u{2069}c", 5, "aI*\u{5d1}P*c"),
+    ("a\u{2067}\u{5d1}\u{2069}!1", 6, "aI*\u{5d1}P*!1"),
+    (
+        "\u{2068}\u{2066}a\u{2069}\u{5d1}\u{2069}c",
+        7,
+        "f*\u{5d1}P*ai*P*c",
+    ),
+    ("ab\u{4e16}", 3, "ab_|\u{4e16}_"),
+    ("ab\u{4e16}", 1, "a|b|#*"),
+    ("\u{5d0}\t\u{5d1}", 16, "_______\u{5d1}_______\u{5d0}"),
+    (
+        "a\u{5d1}((\u{5d2})\u{5d0}d)",
+        9,
+        "a\u{5d1}((\u{5d2})\u{5d0}d)",
+    ),
+    ("\u{627}1,2", 8, "____1,2\u{627}"),
+    ("\u{627}1+2", 8, "____2+1\u{627}"),
+    ("a\tb", 4, "a___|b___"),
+    ("a\tb", 8, "a_______|b_______"),
+    ("\u{5d0}(\u{5d1}", 3, "\u{5d1})\u{5d0}"),
+    ("\u{1}", 2, "?*_"),
+    ("\u{301}", 2, "~*_"),
+    ("", 3, "___"),
+    ("ab cd ef", 7, "ab_cd__|ef_____"),
+    ("abcdef", 4, "abcd|ef__"),
+    ("ab cd", 2, "ab|__|cd"),
+    (
+        "a\u{202b}\u{5d0}\u{2066}\u{2069}\u{202c}",
+        7,
+        "aE*\u{5d0}i*P*p*_",
+    ),
+];
+
+#[test]
+fn pictures_of_worked_rows(rt: HostRuntime) -> Result<(), Fail> {
+    let tables = test_tables(rt.alloc())?;
+    for (body, w, wanted) in &PICTURES {
+        shows(&rt, rt.alloc(), &tables, body, Base::Auto, *w, wanted)?;
+    }
+    Ok(())
+}
+
+#[test]
+fn pictures_under_a_base(rt: HostRuntime) -> Result<(), Fail> {
+    let tables = test_tables(rt.alloc())?;
+    shows(
+        &rt,
+        rt.alloc(),
+        &tables,
+        "a \u{5d0}\u{5d1} b",
+        Base::Rtl,
+        6,
+        "b_\u{5d1}\u{5d0}_a",
+    )?;
+    shows(
+        &rt,
+        rt.alloc(),
+        &tables,
+        "\u{5d0}\u{5d1} 12",
+        Base::Ltr,
+        8,
+        "12_\u{5d1}\u{5d0}___",
+    )?;
+    Ok(())
+}
+
+#[test]
+fn mirrored_only_where_as_wide(rt: HostRuntime) -> Result<(), Fail> {
+    let classes = CLASSES.as_bytes();
+    let wide = Tables::read(rt.alloc(), classes, BRACKETS.as_bytes(), b"0028; 4E16\n")?;
+    shows(
+        &rt,
+        rt.alloc(),
+        &wide,
+        "\u{5d0}(\u{5d1}",
+        Base::Auto,
+        3,
+        "\u{5d1}(\u{5d0}",
+    )?;
+    let narrow = Tables::read(
+        rt.alloc(),
+        b"4E16 ; R\n0301 ; NSM\n",
+        b"",
+        b"4E16; 0061\n0301; 0062\n",
+    )?;
+    shows(
+        &rt,
+        rt.alloc(),
+        &narrow,
+        "\u{4e16}\u{301}",
+        Base::Auto,
+        2,
+        "ab",
+    )?;
+    Ok(())
+}
