@@ -78,7 +78,8 @@ completion_outside low high (One a b ∷ p) h e =
     let range : a ≤ b = leb-true a b parts.0 in
     grind (arith, nat_tests)
 completion_outside low high (Many a b ∷ p) h e =
-    completion_outside low high p (and_parts (needs_byte p && excludes a b p) (is_sound p) h).1 (and_parts (are_disjoint low high a b) (excludes low high p) e).1
+    completion_outside low high p (and_parts (needs_byte p && excludes a b p) (is_sound p) h).1
+    (and_parts (are_disjoint low high a b) (excludes low high p) e).1
 
 completes : (p : List Piece) (bs : List ℕ) → is_sound p ≡ true → begins p bs ≡ true → matches p (bs ++ completion p bs) ≡ true
 completes [] [] h g = refl
@@ -97,7 +98,8 @@ completes (Many low high ∷ p) bs h g =
     let end : matches p (rest ++ completion p rest) ≡ true = completes p rest parts.1 g in
     elim (past_left low high bs (completion p rest)) [
       | inl none ↦ (
-          let out : starts_outside low high (completion p rest) ≡ true = ap (λ r. starts_outside low high (completion p r)) none ∙ completion_outside low high p parts.1 apart.1 in
+          let out : starts_outside low high (completion p rest) ≡ true = ap (λ r. starts_outside low high (completion p r)) none
+          ∙ completion_outside low high p parts.1 apart.1 in
           ap (matches p) (past_all low high bs (completion p rest) none ∙ past_outside low high (completion p rest) out)
           ∙ ap (λ r. matches p (r ++ completion p rest)) (sym none) ∙ end)
       | inr some ↦ ap (matches p) some ∙ end
@@ -119,7 +121,8 @@ begins_any_front (p ∷ ps) bs cs h = elim (or_cases (begins p (bs ++ cs)) (begi
   | inr later ↦ or_right (begins p bs) (begins_any ps bs) (begins_any_front ps bs cs later)
 ]
 
-completes_any : (ps : List (List Piece)) (bs : List ℕ) → list_all is_sound ps ≡ true → begins_any ps bs ≡ true → (more : List ℕ) × (matches_any ps (bs ++ more) ≡ true)
+completes_any : (ps : List (List Piece)) (bs : List ℕ) → list_all is_sound ps ≡ true → begins_any ps bs ≡ true
+    → (more : List ℕ) × (matches_any ps (bs ++ more) ≡ true)
 completes_any [] bs h g = absurd (cc g)
 completes_any (p ∷ ps) bs h g =
     let sound = and_parts (is_sound p) (list_all is_sound ps) h in
@@ -175,14 +178,16 @@ other_longer (One a b ∷ p) (One c d ∷ q) (x ∷ bs) more h g =
     ]
 
 -- a pattern apart from the others, on either side
-forward : (p : List Piece) (ps : List (List Piece)) (bs more : List ℕ) → list_all (λ q. are_apart p q && are_apart q p) ps ≡ true → matches p bs ≡ true → begins_any ps (bs ++ more) ≡ false
+forward : (p : List Piece) (ps : List (List Piece)) (bs more : List ℕ) → list_all (λ q. are_apart p q && are_apart q p) ps ≡ true → matches p bs ≡ true
+    → begins_any ps (bs ++ more) ≡ false
 forward p [] bs more h g = refl
 forward p (q ∷ ps) bs more h g =
     let parts = and_parts (are_apart p q && are_apart q p) (list_all (λ r. are_apart p r && are_apart r p) ps) h in
     or_from (begins q (bs ++ more)) (begins_any ps (bs ++ more))
     (other_longer p q bs more (and_parts (are_apart p q) (are_apart q p) parts.0).0 g) (forward p ps bs more parts.1 g)
 
-backward : (p : List Piece) (ps : List (List Piece)) (bs more : List ℕ) → list_all (λ q. are_apart p q && are_apart q p) ps ≡ true → matches_any ps bs ≡ true → begins p (bs ++ more) ≡ false
+backward : (p : List Piece) (ps : List (List Piece)) (bs more : List ℕ) → list_all (λ q. are_apart p q && are_apart q p) ps ≡ true → matches_any ps bs ≡ true
+    → begins p (bs ++ more) ≡ false
 backward p [] bs more h g = absurd (cc g)
 backward p (q ∷ ps) bs more h g =
     let parts = and_parts (are_apart p q && are_apart q p) (list_all (λ r. are_apart p r && are_apart r p) ps) h in
@@ -198,8 +203,10 @@ any_longer (p ∷ ps) bs b more s h g =
     let sound = and_parts (is_sound p) (list_all is_sound ps) s in
     let apart = and_parts (list_all (λ q. are_apart p q && are_apart q p) ps) (all_apart ps) h in
     elim (or_cases (matches p bs) (matches_any ps bs) g) [
-      | inl here ↦ or_from (begins p (bs ++ b ∷ more)) (begins_any ps (bs ++ b ∷ more)) (itself_longer p bs b more sound.0 here) (forward p ps bs (b ∷ more) apart.0 here)
-      | inr later ↦ or_from (begins p (bs ++ b ∷ more)) (begins_any ps (bs ++ b ∷ more)) (backward p ps bs (b ∷ more) apart.0 later) (any_longer ps bs b more sound.1 apart.1 later)
+      | inl here ↦ or_from (begins p (bs ++ b ∷ more)) (begins_any ps (bs ++ b ∷ more)) (itself_longer p bs b more sound.0 here)
+          (forward p ps bs (b ∷ more) apart.0 here)
+      | inr later ↦ or_from (begins p (bs ++ b ∷ more)) (begins_any ps (bs ++ b ∷ more)) (backward p ps bs (b ∷ more) apart.0 later)
+          (any_longer ps bs b more sound.1 apart.1 later)
     ]
 
 pub none_begins_longer : (ps : List (List Piece)) → is_grammar ps ≡ true → NoneBeginsLonger ps

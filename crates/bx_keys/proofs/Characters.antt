@@ -21,7 +21,8 @@ key_by_chars a b bs c n e =
     let other : nat_eq a 0x1B ≡ false = grind (arith, nat_tests) in
     rw (other, e) refl
 
-pub character_key_more : (bs : List ℕ) (b c : ℕ) → 1 ≤ length bs → (get_or bs 0 0 ≡ 0x1B → ⊥) → chars (bs ++ b ∷ []) ≡ c ∷ [] → key_of (bs ++ b ∷ []) ≡ Some (Insert c)
+pub character_key_more : (bs : List ℕ) (b c : ℕ) → 1 ≤ length bs → (get_or bs 0 0 ≡ 0x1B → ⊥) → chars (bs ++ b ∷ []) ≡ c ∷ []
+    → key_of (bs ++ b ∷ []) ≡ Some (Insert c)
 character_key_more [] b c l n e = absurd (omega arith)
 character_key_more (a ∷ []) b c l n e = key_by_chars a b [] c n e
 character_key_more (a ∷ x ∷ bs) b c l n e = key_by_chars a x (bs ++ b ∷ []) c n e

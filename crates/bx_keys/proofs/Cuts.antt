@@ -1,5 +1,6 @@
 -- The cuts of input, and input that comes in pieces.
-use Rattle.std.proofs.Common.{◌≡◌, ℕ, ◌+◌, ◌<◌, ◌≤◌, ◌⊎◌, inl, inr, max, true, false, cond, nat_eq, List, [], ◌∷◌, ◌++◌, length, take, drop, get_or, Option, refl, ap, sym, ◌∙◌, zero, suc, arith, append_assoc, length-append}
+use Rattle.std.proofs.Common.{◌≡◌, ℕ, ◌+◌, ◌<◌, ◌≤◌, ◌⊎◌, inl, inr, max, true, false, cond, nat_eq, List, [], ◌∷◌, ◌++◌, length, take, drop, get_or, Option}
+use Rattle.std.proofs.Common.{refl, ap, sym, ◌∙◌, zero, suc, arith, append_assoc, length-append}
 use Rattle.std.specs.Option.{option_to_list}
 use Rattle.std.proofs.lemmas.List.{take-take, take_more, take-append-le, drop-append-le, length-drop, take-append-drop}
 use Rattle.std.proofs.lemmas.Bool.{cases_eq, cases_Bool, cond-true, cond-false, ne_eqb, eq-eqb, both_ways}
@@ -25,7 +26,8 @@ longer_not k n bs h le = elim (cases_Bool (begins_item (take n bs))) [
   | inl begun ↦ absurd (
       let front : take n bs ≡ take k (take n bs) ++ drop k (take n bs) = sym (take-append-drop k (take n bs)) in
       let same : take k (take n bs) ≡ take k bs = take-take k n bs le in
-      let short : begins_item (take k (take n bs)) ≡ true = begins_any_front items (take k (take n bs)) (drop k (take n bs)) (ap begins_item (sym front) ∙ begun) in
+      let short : begins_item (take k (take n bs)) ≡ true =
+      begins_any_front items (take k (take n bs)) (drop k (take n bs)) (ap begins_item (sym front) ∙ begun) in
       both_ways (begins_item (take k bs)) h (ap begins_item (sym same) ∙ short))
 ]
 
@@ -110,9 +112,12 @@ same_cuts n m b bs hn hm rest =
       | inl item ↦ cond-true (is_item (take long all)) (with_key (key_of (take long all)) (decoded_within n (drop long all))) _ item
           ∙ ap (with_key (key_of (take long all))) (rest (drop long all) (drop_shorter long (length bs) all (item_not_empty long all item) (omega arith)))
           ∙ sym (cond-true (is_item (take long all)) (with_key (key_of (take long all)) (decoded_within m (drop long all))) _ item)
-      | inr other ↦ cond-false (is_item (take long all)) _ (cond (nat_eq long (length all)) (record { keys = []; rest = all }) (decoded_within n (drop (max 1 long) all))) other
-          ∙ ap (λ d. cond (nat_eq long (length all)) (record { keys = []; rest = all }) d) (rest (drop (max 1 long) all) (drop_shorter (max 1 long) (length bs) all (omega arith) (omega arith)))
-          ∙ sym (cond-false (is_item (take long all)) _ (cond (nat_eq long (length all)) (record { keys = []; rest = all }) (decoded_within m (drop (max 1 long) all))) other)
+      | inr other ↦ cond-false (is_item (take long all)) _
+          (cond (nat_eq long (length all)) (record { keys = []; rest = all }) (decoded_within n (drop (max 1 long) all))) other
+          ∙ ap (λ d. cond (nat_eq long (length all)) (record { keys = []; rest = all }) d)
+          (rest (drop (max 1 long) all) (drop_shorter (max 1 long) (length bs) all (omega arith) (omega arith)))
+          ∙ sym (cond-false (is_item (take long all)) _
+          (cond (nat_eq long (length all)) (record { keys = []; rest = all }) (decoded_within m (drop (max 1 long) all))) other)
     ]
 
 enough : (n m : ℕ) (bs : List ℕ) → length bs ≤ n → length bs ≤ m → decoded_within n bs ≡ decoded_within m bs
@@ -123,7 +128,8 @@ enough (suc n) (suc m) (b ∷ bs) hn hm = same_cuts n m b bs (omega arith) (omeg
 
 -- ---- the three ways, on all of the input
 
-item_first : (bs : List ℕ) → is_item (take (beginning bs) bs) ≡ true → decoded bs ≡ with_key (key_of (take (beginning bs) bs)) (decoded (drop (beginning bs) bs))
+item_first : (bs : List ℕ) → is_item (take (beginning bs) bs) ≡ true
+    → decoded bs ≡ with_key (key_of (take (beginning bs) bs)) (decoded (drop (beginning bs) bs))
 item_first [] h = absurd (cc h)
 item_first (b ∷ bs) h =
     let all : List ℕ = b ∷ bs in
@@ -157,9 +163,11 @@ abbrev continued : Decoded → List ℕ → Decoded
 continued d ys = after_keys d.keys (decoded (d.rest ++ ys))
 
 after_with_key : (key : Option Key) (d : Decoded) (ys : List ℕ) → with_key key (continued d ys) ≡ continued (with_key key d) ys
-after_with_key key d ys = ap (λ keys. record { keys = keys; rest = (decoded (d.rest ++ ys)).rest }) (sym (append_assoc (option_to_list key) d.keys (decoded (d.rest ++ ys)).keys))
+after_with_key key d ys = ap (λ keys. record { keys = keys; rest = (decoded (d.rest ++ ys)).rest })
+    (sym (append_assoc (option_to_list key) d.keys (decoded (d.rest ++ ys)).keys))
 
-item_more : (bs ys : List ℕ) → is_item (take (beginning bs) bs) ≡ true → decoded (drop (beginning bs) bs ++ ys) ≡ continued (decoded (drop (beginning bs) bs)) ys
+item_more : (bs ys : List ℕ) → is_item (take (beginning bs) bs) ≡ true
+    → decoded (drop (beginning bs) bs ++ ys) ≡ continued (decoded (drop (beginning bs) bs)) ys
     → decoded (bs ++ ys) ≡ continued (decoded bs) ys
 item_more bs ys h more =
     let long : ℕ = beginning bs in
@@ -203,7 +211,8 @@ pieces_within (suc n) (b ∷ bs) ys l =
     ]
 
 -- however input is cut in two, its keys are the keys of the first part and then those of what waited and the second
-pub in_pieces : (bs ys : List ℕ) → decoded (bs ++ ys) ≡ record { keys = (decoded bs).keys ++ (decoded ((decoded bs).rest ++ ys)).keys; rest = (decoded ((decoded bs).rest ++ ys)).rest }
+pub in_pieces : (bs ys : List ℕ) → decoded (bs ++ ys)
+    ≡ record { keys = (decoded bs).keys ++ (decoded ((decoded bs).rest ++ ys)).keys; rest = (decoded ((decoded bs).rest ++ ys)).rest }
 in_pieces bs ys = pieces_within (length bs) bs ys (omega arith)
 
 -- ---- the bytes that are left wait
@@ -218,7 +227,8 @@ left_waits (suc n) (b ∷ bs) l =
     let all : List ℕ = b ∷ bs in
     let long : ℕ = beginning all in
     elim (cases_Bool (is_item (take long all))) [
-      | inl item ↦ ap (λ (d : Decoded). fate d.rest) (item_first all item) ∙ left_waits n (drop long all) (drop_shorter long n all (item_not_empty long all item) l)
+      | inl item ↦ ap (λ (d : Decoded). fate d.rest) (item_first all item)
+          ∙ left_waits n (drop long all) (drop_shorter long n all (item_not_empty long all item) l)
       | inr other ↦ elim (cases_eq long (length all)) [
         | inl whole ↦ (
             let front : take long all ≡ all = ap (λ k. take k all) whole ∙ take_whole all in

@@ -23,7 +23,10 @@ none_fed before = record {
 }
 
 one_more : (rest bytes : List ℕ) (b : ℕ) → decoded (rest ++ (bytes ++ b ∷ []))
-    ≡ record { keys = (decoded (rest ++ bytes)).keys ++ option_to_list (key_fed (decoded (rest ++ bytes)).rest b); rest = rest_fed (decoded (rest ++ bytes)).rest b }
+    ≡ record {
+      keys = (decoded (rest ++ bytes)).keys ++ option_to_list (key_fed (decoded (rest ++ bytes)).rest b);
+      rest = rest_fed (decoded (rest ++ bytes)).rest b;
+    }
 one_more rest bytes b = ap decoded (sym (append_assoc rest bytes (b ∷ []))) ∙ byte_by_byte (rest ++ bytes) b
 
 pub more_fed : (before bytes : List ℕ) (keys : List Key) (after next : List ℕ) (b : ℕ) (key : Option Key) → IsFed before bytes keys after
@@ -36,6 +39,7 @@ more_fed before bytes keys after next b key fed is_key is_rest = record {
       ∙ ap (λ k. (decoded (rest ++ bytes)).keys ++ option_to_list k) (is_key (decoded (rest ++ bytes)).rest (fed.stands rest s))
       ∙ sym (ap (λ (d : Decoded). d.keys) (one_more rest bytes b));
   stands = λ rest s.
-      let left : (decoded (rest ++ (bytes ++ b ∷ []))).rest ≡ rest_fed (decoded (rest ++ bytes)).rest b = ap (λ (d : Decoded). d.rest) (one_more rest bytes b) in
+      let left : (decoded (rest ++ (bytes ++ b ∷ []))).rest ≡ rest_fed (decoded (rest ++ bytes)).rest b =
+      ap (λ (d : Decoded). d.rest) (one_more rest bytes b) in
       rw left (is_rest (decoded (rest ++ bytes)).rest (fed.stands rest s));
 }

@@ -13,7 +13,8 @@ added d b h room = take-set_at d.bytes d.len (d.len + 1) b refl (omega (arith, h
 pub added_kept : (d : Inside) (b : ℕ) → IsDecoder d → d.len < 12 → take (d.len + 1) (set d.bytes d.len b) ≡ kept (bytes_kept d ++ b ∷ [])
 added_kept d b h room =
     added d b h room
-    ∙ sym (take_all 12 (bytes_kept d ++ b ∷ []) (omega (arith, length-append (bytes_kept d) (b ∷ []), length-take-le d.len d.bytes (omega (arith, h.len_bytes)))))
+    ∙ sym (take_all 12 (bytes_kept d ++ b ∷ [])
+    (omega (arith, length-append (bytes_kept d) (b ∷ []), length-take-le d.len d.bytes (omega (arith, h.len_bytes)))))
 
 zeros_after : (d : Inside) (b : ℕ) → IsDecoder d → d.len < 12 → drop (d.len + 1) (set d.bytes d.len b) ≡ replicate (12 - (d.len + 1)) 0
 zeros_after d b h room =

@@ -1,5 +1,6 @@
 -- The first twelve bytes of what waits do what all of it does.
-use Rattle.std.proofs.Common.{◌≡◌, ℕ, ◌+◌, ◌-◌, ◌≤◌, ◌⊎◌, inl, inr, Bool, true, false, ◌&&◌, nat_eq, nat_le, List, [], ◌∷◌, ◌++◌, length, take, None, refl, ap, sym, ◌∙◌, zero, suc, arith, length-append}
+use Rattle.std.proofs.Common.{◌≡◌, ℕ, ◌+◌, ◌-◌, ◌≤◌, ◌⊎◌, inl, inr, Bool, true, false, ◌&&◌, nat_eq, nat_le, List, [], ◌∷◌, ◌++◌, length, take, None, refl, ap}
+use Rattle.std.proofs.Common.{sym, ◌∙◌, zero, suc, arith, length-append}
 use Rattle.std.specs.Prelude.{codes}
 use Rattle.std.specs.List.{slice_split, find, join_with_byte}
 use Rattle.std.specs.Option.{option_map}
@@ -65,7 +66,8 @@ cut_at a (b ∷ []) l h = absurd (omega arith)
 cut_at a (b ∷ c ∷ []) l h = absurd (omega arith)
 cut_at a (b ∷ c ∷ d ∷ []) l h = absurd (omega arith)
 cut_at a (b ∷ c ∷ d ∷ e ∷ bs) l h = elim (cases_eq a 0x1B) [
-  | inl esc ↦ (let cut : IsCut (0x1B ∷ b ∷ c ∷ d ∷ e ∷ bs) = cut_sequence b (c ∷ d ∷ e ∷ bs) (omega arith) (ap (λ y. fate (y ∷ b ∷ c ∷ d ∷ e ∷ bs)) (sym esc) ∙ h) in
+  | inl esc ↦ (let cut : IsCut (0x1B ∷ b ∷ c ∷ d ∷ e ∷ bs) = cut_sequence b (c ∷ d ∷ e ∷ bs) (omega arith)
+      (ap (λ y. fate (y ∷ b ∷ c ∷ d ∷ e ∷ bs)) (sym esc) ∙ h) in
       record { second = cut.second; others = cut.others; bytes = ap (λ y. y ∷ b ∷ c ∷ d ∷ e ∷ bs) esc ∙ cut.bytes; many = cut.many; waits = cut.waits })
   | inr other ↦ absurd (let no : Breaks ≡ Waits = sym (too_long a b c d e bs) ∙ (sym (no_escape a (b ∷ c ∷ d ∷ e ∷ bs) other) ∙ h) in cc no)
 ]
@@ -88,7 +90,8 @@ kept_waits rest h = elim (whole_or_cut rest h) [
 
 -- ---- a byte does the same
 
-cut_fate : (x : ℕ) (bs cs : List ℕ) (b : ℕ) → fate (0x1B ∷ x ∷ bs) ≡ Waits → fate (0x1B ∷ x ∷ cs) ≡ Waits → fate (0x1B ∷ x ∷ (bs ++ b ∷ [])) ≡ fate (0x1B ∷ x ∷ (cs ++ b ∷ []))
+cut_fate : (x : ℕ) (bs cs : List ℕ) (b : ℕ) → fate (0x1B ∷ x ∷ bs) ≡ Waits → fate (0x1B ∷ x ∷ cs) ≡ Waits
+    → fate (0x1B ∷ x ∷ (bs ++ b ∷ [])) ≡ fate (0x1B ∷ x ∷ (cs ++ b ∷ []))
 cut_fate x bs cs b h g = elim (cases_eq x 0x5B) [
   | inl csi ↦ control_more (x ∷ bs) b (omega arith) csi h ∙ sym (control_more (x ∷ cs) b (omega arith) csi g)
   | inr not_csi ↦ elim (cases_eq x 0x4F) [
@@ -122,7 +125,8 @@ side_len ds h =
     let lens = and_parts (nat_le 1 (length ds) && nat_le (length ds) 3) _ h in
     leb-true (length ds) 3 (and_parts (nat_le 1 (length ds)) (nat_le (length ds) 3) lens.0).1
 
-three_fields : (t : Bool) (kind h w : List ℕ) → (bytes_eq kind (codes "8") && (is_side_in_digits h && is_side_in_digits w)) ≡ t → 8 ≤ length kind + length h + length w
+three_fields : (t : Bool) (kind h w : List ℕ) → (bytes_eq kind (codes "8") && (is_side_in_digits h && is_side_in_digits w)) ≡ t
+    → 8 ≤ length kind + length h + length w
     → size_key (kind ∷ h ∷ w ∷ []) ≡ None
 three_fields true kind h w e long =
     let parts = and_parts (bytes_eq kind (codes "8")) (is_side_in_digits h && is_side_in_digits w) e in
@@ -137,7 +141,8 @@ long_fields : (fields : List (List ℕ)) → 10 ≤ length (join_with_byte 0x3B 
 long_fields [] l = refl
 long_fields (kind ∷ []) l = refl
 long_fields (kind ∷ h ∷ []) l = refl
-long_fields (kind ∷ h ∷ w ∷ []) l = three_fields (bytes_eq kind (codes "8") && (is_side_in_digits h && is_side_in_digits w)) kind h w refl (omega (arith, joined_three kind h w, l))
+long_fields (kind ∷ h ∷ w ∷ []) l = three_fields (bytes_eq kind (codes "8") && (is_side_in_digits h && is_side_in_digits w)) kind h w refl
+    (omega (arith, joined_three kind h w, l))
 long_fields (kind ∷ h ∷ w ∷ x ∷ fields) l = refl
 
 long_size : (between : List ℕ) → 10 ≤ length between → size_key (slice_split (λ b. nat_eq b 0x3B) between) ≡ None

@@ -4,7 +4,8 @@ use Rattle.std.specs.Prelude.{codes, Option}
 use Rattle.std.specs.Str.{chars}
 use Rattle.bx_keys.specs.Keys.{decoded, key_fed, rest_fed}
 use Rattle.bx_keys.specs.declared.key.Key.{Key}
-use Rattle.bx_keys.specs.declared.key.Key.TheVariants.{Insert, Erase, Delete, Up, Down, Right, Left, RowHome, RowEnd, PageUp, PageDown, Quit, Undo, Redo, Direction, Size}
+use Rattle.bx_keys.specs.declared.key.Key.TheVariants.{Insert, Erase, Delete, Up, Down, Right, Left, RowHome, RowEnd, PageUp, PageDown, Quit, Undo, Redo}
+use Rattle.bx_keys.specs.declared.key.Key.TheVariants.{Direction, Size}
 
 abbrev keys : List ℕ → List Key
 keys bs = (decoded bs).keys
@@ -52,7 +53,8 @@ pub quits : keys (0x78 ∷ 0x11 ∷ codes "\u{1b}[8;2;30t" ++ 0x11 ∷ []) ≡ I
 quits = refl
 
 -- a control character within a sequence drops it and is read afresh; so does a byte that begins a character
-pub dropped : decoded (0x1B ∷ 0x5B ∷ 0x33 ∷ 0x0A ∷ 0x1B ∷ 0x4F ∷ 0xD7 ∷ 0x90 ∷ 0xFF ∷ 0x1B ∷ []) ≡ record { keys = Insert 0x0A ∷ Insert 0x5D0 ∷ []; rest = 0x1B ∷ [] }
+pub dropped : decoded (0x1B ∷ 0x5B ∷ 0x33 ∷ 0x0A ∷ 0x1B ∷ 0x4F ∷ 0xD7 ∷ 0x90 ∷ 0xFF ∷ 0x1B ∷ [])
+    ≡ record { keys = Insert 0x0A ∷ Insert 0x5D0 ∷ []; rest = 0x1B ∷ [] }
 unfolding chars
 dropped = refl
 

@@ -8,7 +8,8 @@ use Rattle.bx_keys.specs.Waiting.{fate}
 
 -- ---- as many bytes of a range as stand there
 
-pub past_by : (t : Bool) (low high b : ℕ) (bs : List ℕ) → is_within low high b ≡ t → past low high (b ∷ bs) ≡ [] → (is_within low high b ≡ true) × (past low high bs ≡ [])
+pub past_by : (t : Bool) (low high b : ℕ) (bs : List ℕ) → is_within low high b ≡ t → past low high (b ∷ bs) ≡ []
+    → (is_within low high b ≡ true) × (past low high bs ≡ [])
 past_by true low high b bs e h = (e, rw e at h)
 past_by false low high b bs e h = absurd (let g : b ∷ bs ≡ [] = rw e at h in cc g)
 
@@ -49,7 +50,8 @@ shift_more (x ∷ bs) b l e h =
 pub after_escape : (x : ℕ) (bs : List ℕ) → (x ≡ 0x5B → ⊥) → (x ≡ 0x4F → ⊥) → fate (0x1B ∷ x ∷ bs) ≡ Waits → (0x20 ≤ x) × (x ≤ 0x2F)
 after_escape x bs not_csi not_ss3 h = grind (arith, nat_tests)
 
-pub long_more : (sequence : List ℕ) (b : ℕ) → 1 ≤ length sequence → (get_or sequence 0 0 ≡ 0x5B → ⊥) → (get_or sequence 0 0 ≡ 0x4F → ⊥) → fate (0x1B ∷ sequence) ≡ Waits
+pub long_more : (sequence : List ℕ) (b : ℕ) → 1 ≤ length sequence → (get_or sequence 0 0 ≡ 0x5B → ⊥) → (get_or sequence 0 0 ≡ 0x4F → ⊥)
+    → fate (0x1B ∷ sequence) ≡ Waits
     → fate (0x1B ∷ (sequence ++ b ∷ [])) ≡ fate (0x1B ∷ 0x20 ∷ b ∷ [])
 long_more [] b l n o h = absurd (omega arith)
 long_more (x ∷ bs) b l n o h =

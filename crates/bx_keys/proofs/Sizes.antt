@@ -1,5 +1,6 @@
 -- The size that a control sequence tells, by its first semicolons.
-use Rattle.std.proofs.Common.{◌≡◌, ℕ, ◌+◌, ◌<◌, ◌≤◌, ◌⊎◌, inl, inr, Bool, true, false, ◌&&◌, cond, nat_eq, nat_lt, List, [], ◌∷◌, length, take, drop, get_or, Option, Some, None, refl, ap, sym, ◌∙◌, arith}
+use Rattle.std.proofs.Common.{◌≡◌, ℕ, ◌+◌, ◌<◌, ◌≤◌, ◌⊎◌, inl, inr, Bool, true, false, ◌&&◌, cond, nat_eq, nat_lt, List, [], ◌∷◌, length, take, drop, get_or}
+use Rattle.std.proofs.Common.{Option, Some, None, refl, ap, sym, ◌∙◌, arith}
 use Rattle.std.specs.Prelude.{codes}
 use Rattle.std.specs.List.{slice_split, onto_first, position, position_or_len, before_first, after_first}
 use Rattle.std.specs.Char.{is_ascii_digit}
@@ -19,7 +20,8 @@ semicolon b = nat_eq b 0x3B
 
 -- ---- bytes without a semicolon, and with one
 
-one_field_with : (x : ℕ) (t : Bool) (xs : List ℕ) → slice_split semicolon xs ≡ xs ∷ [] → cond t ([] ∷ slice_split semicolon xs) (onto_first x (slice_split semicolon xs)) ≡ cond t ([] ∷ xs ∷ []) ((x ∷ xs) ∷ [])
+one_field_with : (x : ℕ) (t : Bool) (xs : List ℕ) → slice_split semicolon xs ≡ xs ∷ []
+    → cond t ([] ∷ slice_split semicolon xs) (onto_first x (slice_split semicolon xs)) ≡ cond t ([] ∷ xs ∷ []) ((x ∷ xs) ∷ [])
 one_field_with x true xs e = ap (λ fields. [] ∷ fields) e
 one_field_with x false xs e = ap (onto_first x) e
 
@@ -31,14 +33,33 @@ pub record HasMore (xs : List ℕ) : Type 0 where
   pub fields : slice_split semicolon xs ≡ first ∷ next ∷ others
   pub no_digits : all_ascii_digits xs ≡ false
 
-begins_more : (x : ℕ) (xs : List ℕ) (t : Bool) → semicolon x ≡ t → (slice_split semicolon xs ≡ xs ∷ []) ⊎ HasMore xs → (slice_split semicolon (x ∷ xs) ≡ (x ∷ xs) ∷ []) ⊎ HasMore (x ∷ xs)
+begins_more : (x : ℕ) (xs : List ℕ) (t : Bool) → semicolon x ≡ t → (slice_split semicolon xs ≡ xs ∷ []) ⊎ HasMore xs
+    → (slice_split semicolon (x ∷ xs) ≡ (x ∷ xs) ∷ []) ⊎ HasMore (x ∷ xs)
 begins_more x xs true e (inl one) =
-    inr (record { first = []; next = xs; others = []; fields = rw (e, one) refl; no_digits = and_left (is_ascii_digit x) (all_ascii_digits xs) (grind (arith, nat_tests)) })
+    inr (record {
+      first = [];
+      next = xs;
+      others = [];
+      fields = rw (e, one) refl;
+      no_digits = and_left (is_ascii_digit x) (all_ascii_digits xs) (grind (arith, nat_tests));
+    })
 begins_more x xs true e (inr more) =
-    inr (record { first = []; next = more.first; others = more.next ∷ more.others; fields = rw (e, more.fields) refl; no_digits = and_right (is_ascii_digit x) (all_ascii_digits xs) more.no_digits })
+    inr (record {
+      first = [];
+      next = more.first;
+      others = more.next ∷ more.others;
+      fields = rw (e, more.fields) refl;
+      no_digits = and_right (is_ascii_digit x) (all_ascii_digits xs) more.no_digits;
+    })
 begins_more x xs false e (inl one) = inl (rw (e, one) refl)
 begins_more x xs false e (inr more) =
-    inr (record { first = x ∷ more.first; next = more.next; others = more.others; fields = rw (e, more.fields) refl; no_digits = and_right (is_ascii_digit x) (all_ascii_digits xs) more.no_digits })
+    inr (record {
+      first = x ∷ more.first;
+      next = more.next;
+      others = more.others;
+      fields = rw (e, more.fields) refl;
+      no_digits = and_right (is_ascii_digit x) (all_ascii_digits xs) more.no_digits;
+    })
 
 one_or_more : (xs : List ℕ) → (slice_split semicolon xs ≡ xs ∷ []) ⊎ HasMore xs
 one_or_more [] = inl refl
@@ -66,7 +87,8 @@ found : (t : Bool) (n i : ℕ) → cond t (Some n) None ≡ Some i → (t ≡ tr
 found true n i h = (refl, cc h)
 found false n i h = absurd (cc h)
 
-pub size_by_sides : (sides : List ℕ) (i : ℕ) → position semicolon sides ≡ Some i → size_key (codes "8" ∷ slice_split semicolon sides) ≡ sized (take i sides) (drop (i + 1) sides)
+pub size_by_sides : (sides : List ℕ) (i : ℕ) → position semicolon sides ≡ Some i
+    → size_key (codes "8" ∷ slice_split semicolon sides) ≡ sized (take i sides) (drop (i + 1) sides)
 size_by_sides sides i h =
     let at = found (nat_lt (position_or_len semicolon sides) (length sides)) (position_or_len semicolon sides) i h in
     let within : position_or_len semicolon sides < length sides = ltb-true (position_or_len semicolon sides) (length sides) at.0 in

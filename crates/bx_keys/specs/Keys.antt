@@ -1,13 +1,15 @@
 -- The key of each item, and the keys of input.
 use Rattle.bx_terms.specs.Sizes.{is_side}
-use Rattle.std.specs.Prelude.{ℕ, zero, suc, ◌-◌, ◌≤◌, max, Bool, ◌&&◌, nat_le, ◌==◌, List, [], ◌∷◌, ◌++◌, length, slice_index, take, drop, Option, Some, None, find, option_map, option_to_list, codes, if◌then◌else◌}
+use Rattle.std.specs.Prelude.{ℕ, zero, suc, ◌-◌, ◌≤◌, max, Bool, ◌&&◌, nat_le, ◌==◌, List, [], ◌∷◌, ◌++◌, length, slice_index, take, drop, Option, Some, None}
+use Rattle.std.specs.Prelude.{find, option_map, option_to_list, codes, if◌then◌else◌}
 use Rattle.std.specs.List.{slice_split}
 use Rattle.std.specs.Str.{chars, bytes_eq, all_ascii_digits}
 use Rattle.std.specs.Str.Parse.{digits_value}
 use Rattle.bx_bytes.specs.Utf8.{is_ascii_printable}
 use Rattle.bx_keys.specs.Items.{is_item, begins_item}
 use Rattle.bx_keys.specs.declared.key.Key.{Key}
-use Rattle.bx_keys.specs.declared.key.Key.TheVariants.{Insert, Erase, Delete, Back, Forward, Up, Down, Right, Left, RowHome, RowEnd, PageUp, PageDown, Save, Quit, Undo, Redo, Repaint, Direction, Size}
+use Rattle.bx_keys.specs.declared.key.Key.TheVariants.{Insert, Erase, Delete, Back, Forward, Up, Down, Right, Left, RowHome, RowEnd, PageUp, PageDown, Save}
+use Rattle.bx_keys.specs.declared.key.Key.TheVariants.{Quit, Undo, Redo, Repaint, Direction, Size}
 
 -- ---- the key of an item
 

@@ -1,5 +1,6 @@
 -- What an index answers, told by the lengths of the paragraphs.
-use Rattle.std.proofs.Common.{◌≡◌, ◌<◌, ◌≤◌, ◌+◌, ◌∙◌, ℕ, zero, suc, true, false, cond, nat_le, List, [], ◌∷◌, ◌++◌, length, take, get_or, slice_get, count_by, Option, Some, None, refl, ap, sym, arith, length-append}
+use Rattle.std.proofs.Common.{◌≡◌, ◌<◌, ◌≤◌, ◌+◌, ◌∙◌, ℕ, zero, suc, true, false, cond, nat_le, List, [], ◌∷◌, ◌++◌, length, take, get_or, slice_get, count_by}
+use Rattle.std.proofs.Common.{Option, Some, None, refl, ap, sym, arith, length-append}
 use Rattle.std.proofs.lemmas.Bool.Decides.{nat_tests}
 use Rattle.std.proofs.lemmas.List.{get_or_append_left, take-append-le}
 use Rattle.std.proofs.lemmas.List.Sums.{sum_by-cons}
@@ -30,14 +31,16 @@ module _ (offset : ℕ) where
       let more : begun (at + bytes_of p) ps ≡ 0 = none_begun (at + bytes_of p) ps (omega arith) in
       begun_cons at p ps ∙ ap (λ b. cond b 1 0 + begun (at + bytes_of p) ps) e ∙ omega (arith, more)
 
-  next_past : (at n : ℕ) (p : Lengths) (ps : List Lengths) → offset < at + total (take (suc n + 1) (p ∷ ps)) → offset < at + bytes_of p + total (take (n + 1) ps)
+  next_past : (at n : ℕ) (p : Lengths) (ps : List Lengths) → offset < at + total (take (suc n + 1) (p ∷ ps))
+      → offset < at + bytes_of p + total (take (n + 1) ps)
   next_past at n p ps h =
       let same : suc n + 1 ≡ suc (n + 1) = omega arith in
       let sum : total (take (suc n + 1) (p ∷ ps)) ≡ bytes_of p + total (take (n + 1) ps) = ap (λ k. total (take k (p ∷ ps))) same in
       omega (arith, h, sum)
 
   -- the paragraphs before number n end at the offset or before it, and where there is one of that number it ends past it
-  begun_at : (at n : ℕ) (ps : List Lengths) (u : Lengths) → n ≤ length ps → at + total (take n ps) ≤ offset → (n < length ps → offset < at + total (take (n + 1) ps)) → begun at (ps ++ u ∷ []) ≡ n + 1
+  begun_at : (at n : ℕ) (ps : List Lengths) (u : Lengths) → n ≤ length ps → at + total (take n ps) ≤ offset
+      → (n < length ps → offset < at + total (take (n + 1) ps)) → begun at (ps ++ u ∷ []) ≡ n + 1
   begun_at at zero [] u h b e = begun_first at u [] (omega arith)
   begun_at at (suc n) [] u h b e = absurd (omega arith)
   begun_at at zero (p ∷ ps) u h b e =
@@ -46,10 +49,12 @@ module _ (offset : ℕ) where
       begun_first at p (ps ++ u ∷ []) (omega arith) ∙ omega (arith, none)
   begun_at at (suc n) (p ∷ ps) u h b e =
       let more : begun (at + bytes_of p) (ps ++ u ∷ []) ≡ n + 1 =
-      begun_at (at + bytes_of p) n ps u (omega arith) (omega arith) (λ l. let past : offset < at + total (take (suc n + 1) (p ∷ ps)) = e (omega arith) in next_past at n p ps past) in
+      begun_at (at + bytes_of p) n ps u (omega arith) (omega arith)
+      (λ l. let past : offset < at + total (take (suc n + 1) (p ∷ ps)) = e (omega arith) in next_past at n p ps past) in
       begun_first at p (ps ++ u ∷ []) (omega arith) ∙ omega (arith, more)
 
-past_of : (ps : List Lengths) (offset : ℕ) (p : Position) (e : Option ℕ) → p.end ≡ e → IsPosition ps offset p → p.number < length ps → offset < total (take (p.number + 1) ps)
+past_of : (ps : List Lengths) (offset : ℕ) (p : Position) (e : Option ℕ) → p.end ≡ e → IsPosition ps offset p → p.number < length ps
+    → offset < total (take (p.number + 1) ps)
 past_of ps offset p (Some e) k h l = let t = has_end ps offset p e h k in omega (arith, t.end, t.past)
 past_of ps offset p None k h l = absurd (omega (arith, no_end ps offset p h k))
 
@@ -61,7 +66,8 @@ position_is ps u offset p h =
 
 -- ---- one paragraph
 
-pub span_at : (at n : ℕ) (ps : List Lengths) (d : Lengths) → n < length ps → slice_get (spans_from at ps) n ≡ Some (at + total (take n ps), at + total (take n ps) + (get_or ps n d).body)
+pub span_at : (at n : ℕ) (ps : List Lengths) (d : Lengths) → n < length ps
+    → slice_get (spans_from at ps) n ≡ Some (at + total (take n ps), at + total (take n ps) + (get_or ps n d).body)
 span_at at n [] d h = absurd (omega arith)
 span_at at zero (p ∷ ps) d h = let same : at ≡ at + 0 = omega arith in ap (λ s. Some (s, s + p.body)) same
 span_at at (suc n) (p ∷ ps) d h =
@@ -69,19 +75,23 @@ span_at at (suc n) (p ∷ ps) d h =
     span_at (at + bytes_of p) n ps d (omega arith) ∙ ap (λ s. Some (s, s + (get_or ps n d).body)) same
 
 -- one that ends, and the last
-pub span_of : (ps : List Lengths) (u p : Lengths) (n start : ℕ) → n < length ps → start ≡ total (take n ps) → p ≡ get_or ps n p → slice_get (spans (ps ++ u ∷ [])) n ≡ Some (start, start + p.body)
+pub span_of : (ps : List Lengths) (u p : Lengths) (n start : ℕ) → n < length ps → start ≡ total (take n ps) → p ≡ get_or ps n p
+    → slice_get (spans (ps ++ u ∷ [])) n ≡ Some (start, start + p.body)
 span_of ps u p n start h e k =
     let front : total (take n (ps ++ u ∷ [])) ≡ start = ap total (take-append-le n ps (u ∷ []) (omega arith)) ∙ sym e in
     let here : get_or (ps ++ u ∷ []) n p ≡ p = get_or_append_left ps (u ∷ []) p n h ∙ sym k in
     let same : 0 + total (take n (ps ++ u ∷ [])) ≡ start = omega (arith, front) in
-    span_at 0 n (ps ++ u ∷ []) p (omega (arith, length-append ps (u ∷ []))) ∙ ap (λ s. Some (s, s + (get_or (ps ++ u ∷ []) n p).body)) same ∙ ap (λ (q : Lengths). Some (start, start + q.body)) here
+    span_at 0 n (ps ++ u ∷ []) p (omega (arith, length-append ps (u ∷ []))) ∙ ap (λ s. Some (s, s + (get_or (ps ++ u ∷ []) n p).body)) same
+    ∙ ap (λ (q : Lengths). Some (start, start + q.body)) here
 
-pub span_of_last : (ps : List Lengths) (u : Lengths) (n start : ℕ) → n ≡ length ps → start ≡ total ps → slice_get (spans (ps ++ u ∷ [])) n ≡ Some (start, start + u.body)
+pub span_of_last : (ps : List Lengths) (u : Lengths) (n start : ℕ) → n ≡ length ps → start ≡ total ps
+    → slice_get (spans (ps ++ u ∷ [])) n ≡ Some (start, start + u.body)
 span_of_last ps u n start e s =
     let front : total (take n (ps ++ u ∷ [])) ≡ start = ap (λ k. total (take k (ps ++ u ∷ []))) e ∙ ap total (take-append_seam ps (u ∷ [])) ∙ sym s in
     let here : get_or (ps ++ u ∷ []) n u ≡ u = ap (λ k. get_or (ps ++ u ∷ []) k u) e ∙ get_or-append_seam ps u [] u in
     let same : 0 + total (take n (ps ++ u ∷ [])) ≡ start = omega (arith, front) in
-    span_at 0 n (ps ++ u ∷ []) u (omega (arith, e, length-append ps (u ∷ []))) ∙ ap (λ k. Some (k, k + (get_or (ps ++ u ∷ []) n u).body)) same ∙ ap (λ (q : Lengths). Some (start, start + q.body)) here
+    span_at 0 n (ps ++ u ∷ []) u (omega (arith, e, length-append ps (u ∷ []))) ∙ ap (λ k. Some (k, k + (get_or (ps ++ u ∷ []) n u).body)) same
+    ∙ ap (λ (q : Lengths). Some (start, start + q.body)) here
 
 separator_at : (ps : List Lengths) (n : ℕ) (d : Lengths) → n < length ps → slice_get (separators ps) n ≡ Some (get_or ps n d).separator
 separator_at [] n d h = absurd (omega arith)

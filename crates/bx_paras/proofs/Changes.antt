@@ -1,8 +1,10 @@
 -- What a change of a text does to its paragraphs.
-use Rattle.std.proofs.Common.{◌≡◌, ◌≤◌, ◌+◌, ◌-◌, ◌∙◌, ℕ, true, List, [], ◌∷◌, ◌++◌, length, take, drop, chars, encode_utf8_all, IsUtf8, IsCharBoundary, refl, ap, sym, subst, arith, length-append}
+use Rattle.std.proofs.Common.{◌≡◌, ◌≤◌, ◌+◌, ◌-◌, ◌∙◌, ℕ, true, List, [], ◌∷◌, ◌++◌, length, take, drop, chars, encode_utf8_all, IsUtf8, IsCharBoundary, refl}
+use Rattle.std.proofs.Common.{ap, sym, subst, arith, length-append}
 use Rattle.std.proofs.lemmas.Bool.Decides.{nat_tests}
 use Rattle.std.proofs.lemmas.List.{take-append-drop, length-drop, length-take-le, drop-drop}
-use Rattle.std.proofs.lemmas.Str.{chars-append, chars-encodes, encodes-chars, encodes-append, scalars-chars, IsUtf8-take, IsUtf8-between, IsCharBoundary-at_seam}
+use Rattle.std.proofs.lemmas.Str.{chars-append, chars-encodes, encodes-chars, encodes-append, scalars-chars, IsUtf8-take, IsUtf8-between}
+use Rattle.std.proofs.lemmas.Str.{IsCharBoundary-at_seam}
 use Rattle.std.proofs.Math.Seq.{drop-append_seam}
 use lib.Utf8.{scalars}
 use Rattle.bx_text.specs.declared.change.Change.{Change}
@@ -55,7 +57,8 @@ three : (text : List ℕ) (i j : ℕ) → IsUtf8 text → IsCharBoundary text i 
     → chars text ≡ chars (take i text) ++ (chars (take j (drop i text)) ++ chars (drop (i + j) text))
 three text i j utf8 b e =
     let first : text ≡ take i text ++ drop i text = sym (take-append-drop i text) in
-    let second : drop i text ≡ take j (drop i text) ++ drop (i + j) text = sym (take-append-drop j (drop i text)) ∙ ap (λ r. take j (drop i text) ++ r) (drop-drop j i text) in
+    let second : drop i text ≡ take j (drop i text) ++ drop (i + j) text = sym (take-append-drop j (drop i text))
+    ∙ ap (λ r. take j (drop i text) ++ r) (drop-drop j i text) in
     ap chars first ∙ chars-append (take i text) (drop i text) (IsUtf8-take text i utf8 b)
     ∙ ap (λ r. chars (take i text) ++ r) (ap chars second ∙ chars-append (take j (drop i text)) (drop (i + j) text) (between text i j utf8 b e))
 
@@ -68,7 +71,8 @@ middle_len text i j utf8 b e =
     spelt (take j (drop i text)) (between text i j utf8 b e) ∙ length-take-le j (drop i text) (omega (arith, length-drop i text))
 
 pub around : (old : List ℕ) (c : Change) (new : List ℕ) → IsUtf8 old → IsUtf8 new → Leads old c new
-    → AreAround old c new (chars (take c.start old)) (chars (take c.removed (drop c.start old))) (chars (take c.added (drop c.start new))) (chars (drop (c.start + c.removed) old))
+    → AreAround old c new (chars (take c.start old)) (chars (take c.removed (drop c.start old))) (chars (take c.added (drop c.start new)))
+    (chars (drop (c.start + c.removed) old))
 around old c new utf8 utf8' h =
     let b = h.came.start_bounds in
     record {

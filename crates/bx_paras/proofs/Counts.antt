@@ -34,8 +34,10 @@ cut_grown : (w : ℕ) (ls ended : List Lengths) (last : ℕ) → ls ≡ ended ++
 cut_grown w ls [] last e h = record { ended = []; last = w + last; is = ap (grown w) e; are_ended = tt }
 cut_grown w ls (l ∷ ended) last e h = record { ended = record l { body = w + l.body } ∷ ended; last = last; is = ap (grown w) e; are_ended = h }
 
-cut_joined : (w : ℕ) (ls ended : List Lengths) (l : Lengths) (last : ℕ) → ls ≡ l ∷ (ended ++ unended last ∷ []) → 0 < l.separator → AreEnded ended → IsCut (joined w ls)
-cut_joined w ls ended l last e s h = record { ended = record l { separator = w + l.separator } ∷ ended; last = last; is = ap (joined w) e; are_ended = (omega arith, h) }
+cut_joined : (w : ℕ) (ls ended : List Lengths) (l : Lengths) (last : ℕ) → ls ≡ l ∷ (ended ++ unended last ∷ []) → 0 < l.separator → AreEnded ended
+    → IsCut (joined w ls)
+cut_joined w ls ended l last e s h =
+    record { ended = record l { separator = w + l.separator } ∷ ended; last = last; is = ap (joined w) e; are_ended = (omega arith, h) }
 
 module _ (class : ℕ → Class) where
   -- how many paragraphs there are
@@ -63,7 +65,8 @@ module _ (class : ℕ → Class) where
       absurd (omega (arith, width_is_some d))
   cut_pair c d cs (l ∷ ls) r e p f a = subst IsCut (sym (lens_paired class c (d ∷ cs) e p)) (cut_joined (width 13) (lens class (d ∷ cs)) ls l r f a.0 a.1)
 
-  cut_at : (c : ℕ) (cs : List ℕ) (ended paired : Bool) → ends class c ≡ ended → is_paired class c cs ≡ paired → IsCut (lens class cs) → IsCut (lens class (c ∷ cs))
+  cut_at : (c : ℕ) (cs : List ℕ) (ended paired : Bool) → ends class c ≡ ended → is_paired class c cs ≡ paired → IsCut (lens class cs)
+      → IsCut (lens class (c ∷ cs))
   cut_at c cs false paired e p h = subst IsCut (sym (lens_plain class c cs e)) (cut_grown (width c) (lens class cs) h.ended h.last h.is h.are_ended)
   cut_at c cs true false e p h = record {
     ended = record { body = 0; separator = width c } ∷ h.ended;
@@ -91,11 +94,14 @@ module _ (class : ℕ → Class) where
   pub count_is_some : (cs : List ℕ) → 0 < count cs
   count_is_some cs = let h = cut_of cs in omega (arith, ap length h.is, length-append h.ended (unended h.last ∷ []))
 
-  total_at : (c : ℕ) (cs : List ℕ) (ended paired : Bool) → ends class c ≡ ended → is_paired class c cs ≡ paired → total (lens class cs) ≡ widths cs → total (lens class (c ∷ cs)) ≡ widths (c ∷ cs)
-  total_at c cs false paired e p h = ap total (lens_plain class c cs e) ∙ total_grown (width c) (lens class cs) (count_is_some cs) ∙ ap (λ n. width c + n) h ∙ sym (widths_more c cs)
+  total_at : (c : ℕ) (cs : List ℕ) (ended paired : Bool) → ends class c ≡ ended → is_paired class c cs ≡ paired → total (lens class cs) ≡ widths cs
+      → total (lens class (c ∷ cs)) ≡ widths (c ∷ cs)
+  total_at c cs false paired e p h = ap total (lens_plain class c cs e) ∙ total_grown (width c) (lens class cs) (count_is_some cs) ∙ ap (λ n. width c + n) h
+      ∙ sym (widths_more c cs)
   total_at c cs true true e p h =
       let cr : c ≡ 13 = grind (arith, nat_tests) in
-      ap total (lens_paired class c cs e p) ∙ total_joined (width 13) (lens class cs) (count_is_some cs) ∙ ap (λ n. width n + total (lens class cs)) (sym cr) ∙ ap (λ n. width c + n) h ∙ sym (widths_more c cs)
+      ap total (lens_paired class c cs e p) ∙ total_joined (width 13) (lens class cs) (count_is_some cs) ∙ ap (λ n. width n + total (lens class cs)) (sym cr)
+      ∙ ap (λ n. width c + n) h ∙ sym (widths_more c cs)
   total_at c cs true false e p h = omega (arith, ap total (lens_ended class c cs e p), h, widths_more c cs)
 
   pub total_lens : (cs : List ℕ) → total (lens class cs) ≡ widths cs
@@ -148,11 +154,22 @@ module _ (class : ℕ → Class) where
     together : count (cs ++ ds) + 1 ≤ count cs + count ds
 
   seam_at : (c : ℕ) (ds : List ℕ) (ended paired : Bool) → ends class c ≡ ended → is_paired class c ds ≡ paired → AreCounted (c ∷ []) ds
-  seam_at c ds false paired e p = record { front = omega (arith, count_plain c [] e, count_plain c ds e, count_is_some ds); together = omega (arith, count_plain c [] e, count_plain c ds e) }
-  seam_at c ds true true e p = record { front = omega (arith, count_alone c e, count_paired c ds e p, pair_is_two c ds p); together = omega (arith, count_alone c e, count_paired c ds e p) }
-  seam_at c ds true false e p = record { front = omega (arith, count_alone c e, count_ended c ds e p, count_is_some ds); together = omega (arith, count_alone c e, count_ended c ds e p) }
+  seam_at c ds false paired e p =
+      record {
+        front = omega (arith, count_plain c [] e, count_plain c ds e, count_is_some ds);
+        together = omega (arith, count_plain c [] e, count_plain c ds e);
+      }
+  seam_at c ds true true e p = record {
+    front = omega (arith, count_alone c e, count_paired c ds e p, pair_is_two c ds p);
+    together = omega (arith, count_alone c e, count_paired c ds e p);
+  }
+  seam_at c ds true false e p = record {
+    front = omega (arith, count_alone c e, count_ended c ds e p, count_is_some ds);
+    together = omega (arith, count_alone c e, count_ended c ds e p);
+  }
 
-  counted_at : (c d : ℕ) (cs ds : List ℕ) (ended paired : Bool) → ends class c ≡ ended → is_paired class c (d ∷ cs) ≡ paired → AreCounted (d ∷ cs) ds → AreCounted (c ∷ d ∷ cs) ds
+  counted_at : (c d : ℕ) (cs ds : List ℕ) (ended paired : Bool) → ends class c ≡ ended → is_paired class c (d ∷ cs) ≡ paired → AreCounted (d ∷ cs) ds
+      → AreCounted (c ∷ d ∷ cs) ds
   counted_at c d cs ds false paired e p h = record {
     front = omega (arith, count_plain c (d ∷ cs) e, count_plain c (d ∷ cs ++ ds) e, h.front);
     together = omega (arith, count_plain c (d ∷ cs) e, count_plain c (d ∷ cs ++ ds) e, h.together);

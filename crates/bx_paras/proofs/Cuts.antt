@@ -1,5 +1,6 @@
 -- The lengths of paragraphs, told character by character, and where they part.
-use Rattle.std.proofs.Common.{◌≡◌, ◌<◌, ◌+◌, ◌∙◌, ◌⊎◌, inl, inr, ℕ, Bool, true, false, not, ◌&&◌, ◌==◌, List, [], ◌∷◌, ◌++◌, map, length, encode_utf8, encode_utf8_all, refl, ap, sym, arith, length-append, append-nil}
+use Rattle.std.proofs.Common.{◌≡◌, ◌<◌, ◌+◌, ◌∙◌, ◌⊎◌, inl, inr, ℕ, Bool, true, false, not, ◌&&◌, ◌==◌, List, [], ◌∷◌, ◌++◌, map, length, encode_utf8}
+use Rattle.std.proofs.Common.{encode_utf8_all, refl, ap, sym, arith, length-append, append-nil}
 use Rattle.std.proofs.lemmas.Bool.Decides.{nat_tests}
 use Rattle.std.proofs.lemmas.Str.{length-encode, len_utf8_bounds, encodes-append}
 use Rattle.bx_ucd.specs.declared.class.Class.{Class}
@@ -125,7 +126,8 @@ module _ (class : ℕ → Class) where
     parts = rw (e, p) refl;
   }
 
-  at_pair : (c d : ℕ) (cs : List ℕ) → ends c ≡ true → is_paired c (d ∷ cs) ≡ true → IsFirst (c ∷ d ∷ cs) (record { body = 0; separator = width 13 + width d }) (c ∷ d ∷ []) cs
+  at_pair : (c d : ℕ) (cs : List ℕ) → ends c ≡ true → is_paired c (d ∷ cs) ≡ true
+      → IsFirst (c ∷ d ∷ cs) (record { body = 0; separator = width 13 + width d }) (c ∷ d ∷ []) cs
   at_pair c d cs e p =
       let cr : c ≡ 13 = grind (arith, nat_tests) in
       let lf : d ≡ 10 = grind (arith, nat_tests) in

@@ -1,5 +1,6 @@
 -- What an edit of some characters does to their paragraphs.
-use Rattle.std.proofs.Common.{◌≡◌, ◌<◌, ◌≤◌, ◌+◌, ◌-◌, ◌∙◌, ◌⊎◌, inl, inr, ℕ, Bool, true, false, nat_le, ◌==◌, List, [], ◌∷◌, ◌++◌, length, refl, ap, sym, subst, arith, append_assoc}
+use Rattle.std.proofs.Common.{◌≡◌, ◌<◌, ◌≤◌, ◌+◌, ◌-◌, ◌∙◌, ◌⊎◌, inl, inr, ℕ, Bool, true, false, nat_le, ◌==◌, List, [], ◌∷◌, ◌++◌, length, refl, ap, sym}
+use Rattle.std.proofs.Common.{subst, arith, append_assoc}
 use Rattle.std.proofs.lemmas.Bool.Decides.{nat_tests}
 use Rattle.std.proofs.lemmas.List.{append_cancel_right}
 use Rattle.bx_ucd.specs.declared.class.Class.{Class}
@@ -113,7 +114,8 @@ module _ (class : ℕ → Class) where
   ends_last [] y g s some p = let none : widths [] ≡ 0 = refl in absurd (omega arith)
   ends_last (c ∷ t) y g s some p = parts_append class g c t y ∙ sym (parts_append class s c t y) ∙ p
 
-  back_in : (b d v k : List ℕ) (l m : Lengths) (back : List Lengths) → b ++ d ≡ v ++ k → widths v ≤ widths b → widths b < widths v + bytes_of l → lens class k ≡ l ∷ m ∷ back
+  back_in : (b d v k : List ℕ) (l m : Lengths) (back : List Lengths) → b ++ d ≡ v ++ k → widths v ≤ widths b → widths b < widths v + bytes_of l
+      → lens class k ≡ l ∷ m ∷ back
       → (lens class k ≡ unended (widths k) ∷ []) ⊎ ((f : Lengths) × (w : List ℕ) × (z : List ℕ) × IsFirst class k f w z)
       → Back d ((widths v + bytes_of l) - widths b) (m ∷ back)
   back_in b d v k l m back e begun holds f (inl one) = absurd (omega (arith, ap length (sym f ∙ one)))

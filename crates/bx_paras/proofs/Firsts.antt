@@ -1,5 +1,6 @@
 -- The paragraph that begins at an offset, found piece by piece.
-use Rattle.std.proofs.Common.{◌≡◌, ◌<◌, ◌≤◌, ◌+◌, ◌∙◌, ◌==◌, ◌&&◌, ℕ, Bool, true, false, List, [], ◌∷◌, ◌++◌, length, take, drop, chars, IsUtf8, IsCharBoundary, refl, ap, sym, subst, arith, append_assoc, if◌then◌else◌}
+use Rattle.std.proofs.Common.{◌≡◌, ◌<◌, ◌≤◌, ◌+◌, ◌∙◌, ◌==◌, ◌&&◌, ℕ, Bool, true, false, List, [], ◌∷◌, ◌++◌, length, take, drop, chars, IsUtf8, IsCharBoundary}
+use Rattle.std.proofs.Common.{refl, ap, sym, subst, arith, append_assoc, if◌then◌else◌}
 use Rattle.std.proofs.lemmas.Bool.Decides.{nat_tests}
 use Rattle.std.proofs.lemmas.List.{take-append-drop, drop-drop, drop_all}
 use Rattle.std.proofs.lemmas.Str.{chars-append, chars-nil, length-encode, len_utf8_ascii, IsUtf8-take}
@@ -10,7 +11,8 @@ use Rattle.bx_paras.specs.Ended.{first, further}
 use Rattle.bx_paras.specs.Scan.{HasNone, IsAt}
 use Rattle.bx_paras.proofs.Changes.{cut_at, front_len, between, spelt}
 use Rattle.bx_paras.proofs.Counts.{paired_ends, count_is_some}
-use Rattle.bx_paras.proofs.Cuts.{width, widths, widths_more, widths_append, one_width, grown, joined, lens, ends, is_paired, lens_plain, lens_paired, lens_ended}
+use Rattle.bx_paras.proofs.Cuts.{width, widths, widths_more, widths_append, one_width, grown, joined, lens, ends, is_paired, lens_plain, lens_paired}
+use Rattle.bx_paras.proofs.Cuts.{lens_ended}
 
 further_none : (p : Lengths) → p ≡ further 0 p
 further_none p = let same : p.body ≡ 0 + p.body = omega arith in ap (λ n. record { body = n; separator = p.separator }) same
@@ -40,20 +42,23 @@ module _ (class : ℕ → Class) where
       ∙ further_more (width c) (widths cs) (widths (c ∷ cs)) (first (lens class ds)) (sym (widths_more c cs))
 
   -- a separator in front of others
-  first_pair : (c d : ℕ) (cs : List ℕ) → ends class c ≡ true → is_paired class c (d ∷ cs) ≡ true → first (lens class (c ∷ d ∷ cs)) ≡ record { body = 0; separator = 2 }
+  first_pair : (c d : ℕ) (cs : List ℕ) → ends class c ≡ true → is_paired class c (d ∷ cs) ≡ true
+      → first (lens class (c ∷ d ∷ cs)) ≡ record { body = 0; separator = 2 }
   first_pair c d cs e p =
       let lf : d ≡ 10 = grind (arith, nat_tests) in
       let two : width 13 + width d ≡ 2 = omega (arith, one_byte 13 (omega arith), one_byte d (omega arith)) in
       ap first (lens_paired class c (d ∷ cs) e p ∙ ap (joined (width 13)) (paired_ends class c d cs p)) ∙ ap (λ n. record { body = 0; separator = n }) two
 
-  first_at : (c : ℕ) (cs : List ℕ) (paired : Bool) → ends class c ≡ true → is_paired class c cs ≡ paired → first (lens class (c ∷ cs)) ≡ record { body = 0; separator = if paired then 2 else width c }
+  first_at : (c : ℕ) (cs : List ℕ) (paired : Bool) → ends class c ≡ true → is_paired class c cs ≡ paired
+      → first (lens class (c ∷ cs)) ≡ record { body = 0; separator = if paired then 2 else width c }
   first_at c cs false e p = ap first (lens_ended class c cs e p)
   first_at c [] true e p = absurd (grind (arith, nat_tests))
   first_at c (d ∷ cs) true e p = first_pair c d cs e p
 
   -- ---- in a text
 
-  module _ (text s : List ℕ) (at : ℕ) (utf8 : IsUtf8 text) (bounds : IsCharBoundary text at) (e : take (length s) (drop at text) ≡ s) (next : IsCharBoundary text (at + length s)) where
+  module _ (text s : List ℕ) (at : ℕ) (utf8 : IsUtf8 text) (bounds : IsCharBoundary text at) (e : take (length s) (drop at text) ≡ s)
+      (next : IsCharBoundary text (at + length s)) where
     -- the characters behind the piece
     abbrev behind : List ℕ
     behind = chars (drop (at + length s) text)
@@ -63,7 +68,8 @@ module _ (class : ℕ → Class) where
 
     here : chars (drop at text) ≡ chars s ++ behind
     here =
-        let parted : drop at text ≡ s ++ drop (at + length s) text = sym (take-append-drop (length s) (drop at text)) ∙ ap (λ f. f ++ drop (length s) (drop at text)) e ∙ ap (λ r. s ++ r) (drop-drop (length s) at text) in
+        let parted : drop at text ≡ s ++ drop (at + length s) text = sym (take-append-drop (length s) (drop at text))
+        ∙ ap (λ f. f ++ drop (length s) (drop at text)) e ∙ ap (λ r. s ++ r) (drop-drop (length s) at text) in
         ap chars parted ∙ chars-append s (drop (at + length s) text) piece_utf8
 
     whole : chars text ≡ chars (take at text) ++ chars (drop at text)
@@ -79,7 +85,8 @@ module _ (class : ℕ → Class) where
     pub record IsFound (before c : ℕ) : Type 0 where
       pub ends_between : IsCharBoundary text (at + before + width c)
       pub inside : at + before + width c ≤ length text
-      pub is : first (lengths class (drop at text)) ≡ record { body = before; separator = if (c == 13) && begins_with_lf class (chars (drop (at + before + width c) text)) then 2 else width c }
+      pub is : first (lengths class (drop at text))
+          ≡ record { body = before; separator = if (c == 13) && begins_with_lf class (chars (drop (at + before + width c) text)) then 2 else width c }
 
     pub found_in_piece : (before c : ℕ) → IsAt class (chars s) before c → IsFound before c
     found_in_piece before c f =
@@ -90,7 +97,14 @@ module _ (class : ℕ → Class) where
         whole ∙ ap (λ cs. chars (take at text) ++ cs) (split ∙ sym (append_assoc f.front (c ∷ []) more))
         ∙ sym (append_assoc (chars (take at text)) (f.front ++ c ∷ []) more) in
         let len : widths x ≡ at + before + width c =
-        omega (arith, widths_append (chars (take at text)) (f.front ++ c ∷ []), widths_append f.front (c ∷ []), one_width c, front_len text at utf8 bounds, f.bytes) in
+        omega (
+          arith,
+          widths_append (chars (take at text)) (f.front ++ c ∷ []),
+          widths_append f.front (c ∷ []),
+          one_width c,
+          front_len text at utf8 bounds,
+          f.bytes,
+        ) in
         let k = cut_at text x more (at + before + width c) utf8 cut len in
         record {
           ends_between = k.bounds;

@@ -1,7 +1,9 @@
 -- Paragraphs in blocks, cut between the blocks.
-use Rattle.std.proofs.Common.{◌≡◌, ◌<◌, ◌≤◌, ◌+◌, ◌-◌, ◌∙◌, ℕ, List, [], ◌∷◌, ◌++◌, length, take, drop, get_or, Some, Bool, true, false, nat_lt, refl, ap, sym, subst, arith, length-append, append_assoc, append-nil}
+use Rattle.std.proofs.Common.{◌≡◌, ◌<◌, ◌≤◌, ◌+◌, ◌-◌, ◌∙◌, ℕ, List, [], ◌∷◌, ◌++◌, length, take, drop, get_or, Some, Bool, true, false, nat_lt, refl, ap, sym}
+use Rattle.std.proofs.Common.{subst, arith, length-append, append_assoc, append-nil}
 use Rattle.std.proofs.lemmas.Bool.Decides.{nat_tests}
-use Rattle.std.proofs.lemmas.List.{take-append-drop, take_more, drop_more, take-take, take-append-le, drop-append-le, get_or_append_left, get_or-append-add, get_or_default}
+use Rattle.std.proofs.lemmas.List.{take-append-drop, take_more, drop_more, take-take, take-append-le, drop-append-le, get_or_append_left, get_or-append-add}
+use Rattle.std.proofs.lemmas.List.{get_or_default}
 use Rattle.bx_paras.specs.declared.lengths.Lengths.{Lengths}
 use Rattle.bx_paras.specs.Positions.{total}
 use Rattle.std.proofs.Math.Seq.{take-append-add, drop-append-add, take-append_seam, drop-append_seam}
@@ -23,10 +25,12 @@ flat_cut n bs = ap flat (sym (take-append-drop n bs)) ∙ flat_append (take n bs
 pub flat_more : (bs : List (List Lengths)) (n : ℕ) (d : List Lengths) → n < length bs → flat (take (n + 1) bs) ≡ flat (take n bs) ++ get_or bs n d
 flat_more bs n d h = ap flat (take_more bs n d h) ∙ flat_append (take n bs) (get_or bs n d ∷ []) ∙ ap (λ ls. flat (take n bs) ++ ls) (flat_one (get_or bs n d))
 
-pub total_flat_more : (bs : List (List Lengths)) (n : ℕ) (d : List Lengths) → n < length bs → total (flat (take (n + 1) bs)) ≡ total (flat (take n bs)) + total (get_or bs n d)
+pub total_flat_more : (bs : List (List Lengths)) (n : ℕ) (d : List Lengths) → n < length bs
+    → total (flat (take (n + 1) bs)) ≡ total (flat (take n bs)) + total (get_or bs n d)
 total_flat_more bs n d h = ap total (flat_more bs n d h) ∙ total_append (flat (take n bs)) (get_or bs n d)
 
-pub length_flat_more : (bs : List (List Lengths)) (n : ℕ) (d : List Lengths) → n < length bs → length (flat (take (n + 1) bs)) ≡ length (flat (take n bs)) + length (get_or bs n d)
+pub length_flat_more : (bs : List (List Lengths)) (n : ℕ) (d : List Lengths) → n < length bs
+    → length (flat (take (n + 1) bs)) ≡ length (flat (take n bs)) + length (get_or bs n d)
 length_flat_more bs n d h = ap length (flat_more bs n d h) ∙ length-append (flat (take n bs)) (get_or bs n d)
 
 pub total_flat_front : (n : ℕ) (bs : List (List Lengths)) → total (flat (take n bs)) ≤ total (flat bs)
@@ -43,10 +47,12 @@ ordered_at bs k n true e h = grind (arith, nat_tests)
 ordered_at bs k n false e h = let le : n ≤ k = grind (arith, nat_tests) in absurd (omega (arith, h, length_flat_front_of bs n k le))
 
 pub whole_front : (bs : List (List Lengths)) (n m : ℕ) → m ≡ length (flat (take n bs)) → take m (flat bs) ≡ flat (take n bs)
-whole_front bs n m e = ap (take m) (flat_cut n bs) ∙ ap (λ k. take k (flat (take n bs) ++ flat (drop n bs))) e ∙ take-append_seam (flat (take n bs)) (flat (drop n bs))
+whole_front bs n m e = ap (take m) (flat_cut n bs) ∙ ap (λ k. take k (flat (take n bs) ++ flat (drop n bs))) e
+    ∙ take-append_seam (flat (take n bs)) (flat (drop n bs))
 
 pub whole_back : (bs : List (List Lengths)) (n m : ℕ) → m ≡ length (flat (take n bs)) → drop m (flat bs) ≡ flat (drop n bs)
-whole_back bs n m e = ap (drop m) (flat_cut n bs) ∙ ap (λ k. drop k (flat (take n bs) ++ flat (drop n bs))) e ∙ drop-append_seam (flat (take n bs)) (flat (drop n bs))
+whole_back bs n m e = ap (drop m) (flat_cut n bs) ∙ ap (λ k. drop k (flat (take n bs) ++ flat (drop n bs))) e
+    ∙ drop-append_seam (flat (take n bs)) (flat (drop n bs))
 
 -- of two cuts between blocks the one with more paragraphs in front is behind
 pub ordered : (bs : List (List Lengths)) (k n : ℕ) → length (flat (take k bs)) < length (flat (take n bs)) → k < n
@@ -65,7 +71,8 @@ module _ (bs : List (List Lengths)) (i : ℕ) (b : List Lengths) (h : i < length
   behind = ap flat (drop_more bs i b h) ∙ ap (λ c. c ++ flat (drop (i + 1) bs)) (sym e)
 
   pub length_around : length (flat bs) ≡ length (flat (take i bs)) + (length b + length (flat (drop (i + 1) bs)))
-  length_around = ap length around ∙ length-append (flat (take i bs)) (b ++ flat (drop (i + 1) bs)) ∙ ap (λ m. length (flat (take i bs)) + m) (length-append b (flat (drop (i + 1) bs)))
+  length_around = ap length around ∙ length-append (flat (take i bs)) (b ++ flat (drop (i + 1) bs))
+      ∙ ap (λ m. length (flat (take i bs)) + m) (length-append b (flat (drop (i + 1) bs)))
 
   -- the paragraphs in front of one in a block, and those from it on
   pub front_in_block : (k : ℕ) → k ≤ length b → take (length (flat (take i bs)) + k) (flat bs) ≡ flat (take i bs) ++ take k b
@@ -93,7 +100,11 @@ module _ (bs : List (List Lengths)) (i : ℕ) (b : List Lengths) (h : i < length
         number = omega (arith, en, length_around);
         start = omega (arith, es, eb, total_in_block within (omega arith), ap (λ m. total (take m (flat bs))) there);
         begun = omega (arith);
-        ended = (omega (arith, en, length_around), omega (arith, es, ep, total_in_block (within + 1) (omega arith), ap (λ m. total (take m (flat bs))) next), omega arith);
+        ended = (
+          omega (arith, en, length_around),
+          omega (arith, es, ep, total_in_block (within + 1) (omega arith), ap (λ m. total (take m (flat bs))) next),
+          omega arith,
+        );
       }
 
   -- a paragraph of the block
@@ -112,7 +123,8 @@ module _ (bs : List (List Lengths)) (i : ℕ) (b : List Lengths) (h : i < length
       let inside : left < length b = omega (arith, ap length block) in
       let sum : start + t ≡ total (take n (flat bs)) =
       omega (arith, es, et, ap (λ ks. total (take left ks)) block, total_in_block left (omega arith), ap (λ m. total (take m (flat bs))) en) in
-      let found : get_or ls left d ≡ get_or (flat bs) n (get_or ls left d) = ap (λ ks. get_or ks left d) block ∙ get_at n left d (get_or ls left d) en inside in (
+      let found : get_or ls left d ≡ get_or (flat bs) n (get_or ls left d) = ap (λ ks. get_or ks left d) block
+      ∙ get_at n left d (get_or ls left d) en inside in (
         omega (arith, en, length_around, ap (λ es. length (flat es)) same),
         sum ∙ ap (λ es. total (take n (flat es))) same,
         found ∙ ap (λ es. get_or (flat es) n (get_or ls left d)) same,

@@ -1,5 +1,7 @@
 -- An index that follows a change: what it takes out, and what it puts in.
-use Rattle.std.proofs.Common.{◌≡◌, ◌<◌, ◌≤◌, ◌+◌, ◌-◌, ◌∙◌, ◌⊎◌, inl, inr, ℕ, Bool, true, false, nat_le, List, [], ◌∷◌, ◌++◌, length, take, drop, get_or, Option, Some, None, IfSome, ◌*◌, MatchOption, IsUtf8, IsCharBoundary, min, refl, ap, sym, subst, arith, length-append, append_assoc, append-nil}
+use Rattle.std.proofs.Common.{◌≡◌, ◌<◌, ◌≤◌, ◌+◌, ◌-◌, ◌∙◌, ◌⊎◌, inl, inr, ℕ, Bool, true, false, nat_le, List, [], ◌∷◌, ◌++◌, length, take, drop, get_or}
+use Rattle.std.proofs.Common.{Option, Some, None, IfSome, ◌*◌, MatchOption, IsUtf8, IsCharBoundary, min, refl, ap, sym, subst, arith, length-append}
+use Rattle.std.proofs.Common.{append_assoc, append-nil}
 use Rattle.std.proofs.lemmas.Bool.Decides.{nat_tests}
 use Rattle.std.proofs.lemmas.List.{take-append-drop, take-take, drop_more, take_all, drop_all}
 use Rattle.bx_ucd.specs.declared.class.Class.{Class}
@@ -29,11 +31,14 @@ pub record HasEnd (ps : List Lengths) (offset : ℕ) (p : Position) (e : ℕ) : 
 
 pub has_end : (ps : List Lengths) (offset : ℕ) (p : Position) (e : ℕ) → IsPosition ps offset p → p.end ≡ Some e → HasEnd ps offset p e
 has_end ps offset p e h k =
-    let both : (p.number < length ps) × (e ≡ total (take (p.number + 1) ps)) × (offset < e) = subst (λ o. MatchOption o (p.number ≡ length ps) (λ n. (p.number < length ps) × (n ≡ total (take (p.number + 1) ps)) × (offset < n))) k h.ended in
+    let both : (p.number < length ps) × (e ≡ total (take (p.number + 1) ps))
+    × (offset < e) = subst (λ o. MatchOption o (p.number ≡ length ps) (λ n. (p.number < length ps) × (n ≡ total (take (p.number + 1) ps)) × (offset < n))) k
+    h.ended in
     record { inside = both.0; end = both.1; past = both.2 }
 
 pub no_end : (ps : List Lengths) (offset : ℕ) (p : Position) → IsPosition ps offset p → p.end ≡ None → p.number ≡ length ps
-no_end ps offset p h k = subst (λ o. MatchOption o (p.number ≡ length ps) (λ n. (p.number < length ps) × (n ≡ total (take (p.number + 1) ps)) × (offset < n))) k h.ended
+no_end ps offset p h k = subst (λ o. MatchOption o (p.number ≡ length ps) (λ n. (p.number < length ps) × (n ≡ total (take (p.number + 1) ps)) × (offset < n))) k
+    h.ended
 
 -- a list parted at one of its paragraphs
 parted_at : (ps : List Lengths) (u d : Lengths) (n : ℕ) → n < length ps → ps ++ u ∷ [] ≡ take n ps ++ get_or ps n d ∷ (drop (n + 1) ps ++ u ∷ [])
@@ -96,7 +101,8 @@ module _ {class : ℕ → Class} {old : List ℕ} {c : Change} {new : List ℕ} 
   pub few_added : added_separators ≤ c.added
   few_added = few_separators class old c new touched.old_utf8 touched.new_utf8 touched.leads
 
-  ordered_at : {end : ℕ} → HasEnd ps (c.start + c.removed) last end → (less : Bool) → nat_le first.number (last.number + 1) ≡ less → first.number ≤ last.number + 1
+  ordered_at : {end : ℕ} → HasEnd ps (c.start + c.removed) last end → (less : Bool) → nat_le first.number (last.number + 1) ≡ less
+      → first.number ≤ last.number + 1
   ordered_at t true e = grind (arith, nat_tests)
   ordered_at t false e =
       let behind : last.number + 1 ≤ first.number = grind (arith, nat_tests) in
@@ -104,10 +110,14 @@ module _ {class : ℕ → Class} {old : List ℕ} {c : Change} {new : List ℕ} 
       omega (arith, total_front (last.number + 1) (take first.number ps), ap total (take-take (last.number + 1) first.number ps behind)) in
       absurd (omega (arith, few, starts, t.end, t.past))
 
-  inside_of : (q : Lengths) (n : ℕ) (ds : List Lengths) → lengths class old ≡ take n ps ++ q ∷ (ds ++ u ∷ []) → total (take n ps) ≤ c.start + c.removed → c.start + c.removed < total (take n ps) + bytes_of q
-      → IsRewritten class new (take first.number ps) (((total (take n ps) + bytes_of q) - (c.start + c.removed)) + (c.start + c.added)) added_separators (ds ++ u ∷ [])
-  inside_of q n [] e f g = change_inside class old c new touched.old_utf8 touched.new_utf8 touched.leads (take first.number ps) before.here before.behind (sym touched.were ∙ before.whole) starts holds (take n ps) q u [] e f g
-  inside_of q n (d ∷ ds) e f g = change_inside class old c new touched.old_utf8 touched.new_utf8 touched.leads (take first.number ps) before.here before.behind (sym touched.were ∙ before.whole) starts holds (take n ps) q d (ds ++ u ∷ []) e f g
+  inside_of : (q : Lengths) (n : ℕ) (ds : List Lengths) → lengths class old ≡ take n ps ++ q ∷ (ds ++ u ∷ []) → total (take n ps) ≤ c.start + c.removed
+      → c.start + c.removed < total (take n ps) + bytes_of q
+      → IsRewritten class new (take first.number ps) (((total (take n ps) + bytes_of q) - (c.start + c.removed)) + (c.start + c.added)) added_separators
+      (ds ++ u ∷ [])
+  inside_of q n [] e f g = change_inside class old c new touched.old_utf8 touched.new_utf8 touched.leads (take first.number ps) before.here before.behind
+      (sym touched.were ∙ before.whole) starts holds (take n ps) q u [] e f g
+  inside_of q n (d ∷ ds) e f g = change_inside class old c new touched.old_utf8 touched.new_utf8 touched.leads (take first.number ps) before.here before.behind
+      (sym touched.were ∙ before.whole) starts holds (take n ps) q d (ds ++ u ∷ []) e f g
 
   -- where a paragraph ends behind the change
   pub follow_inside : (end : ℕ) → last.end ≡ Some end
@@ -116,9 +126,11 @@ module _ {class : ℕ → Class} {old : List ℕ} {c : Change} {new : List ℕ} 
       let h = touched.last_is in
       let t = has_end ps (c.start + c.removed) last end h k in
       let sum : end ≡ total (take last.number ps) + bytes_of (get_or ps last.number u) = t.end ∙ total_more ps last.number u t.inside in
-      let stop : ((total (take last.number ps) + bytes_of (get_or ps last.number u)) - (c.start + c.removed)) + (c.start + c.added) ≡ (end - c.removed) + c.added = omega (arith, sum, t.past) in
+      let stop : ((total (take last.number ps) + bytes_of (get_or ps last.number u)) - (c.start + c.removed)) + (c.start + c.added)
+      ≡ (end - c.removed) + c.added = omega (arith, sum, t.past) in
       subst (λ s. IsRewritten class new (take first.number ps) s added_separators (drop (last.number + 1) ps ++ u ∷ [])) stop
-      (inside_of (get_or ps last.number u) last.number (drop (last.number + 1) ps) (sym touched.were ∙ parted_at ps u u last.number t.inside) (omega (arith, h.start, h.begun)) (omega (arith, t.past, sum)))
+      (inside_of (get_or ps last.number u) last.number (drop (last.number + 1) ps) (sym touched.were ∙ parted_at ps u u last.number t.inside)
+      (omega (arith, h.start, h.begun)) (omega (arith, t.past, sum)))
 
   -- where the change reaches into the last paragraph
   pub follow_at_end : last.end ≡ None → (r : ℕ) × IsRewritten class new (take first.number ps) (length new) added_separators (unended r ∷ [])
@@ -126,16 +138,19 @@ module _ {class : ℕ → Class} {old : List ℕ} {c : Change} {new : List ℕ} 
       let h = touched.last_is in
       let n : last.number ≡ length ps = no_end ps (c.start + c.removed) last h k in
       let all : take last.number ps ≡ ps = take_all last.number ps (omega (arith, n)) in
-      change_at_end class old c new touched.old_utf8 touched.new_utf8 touched.leads (take first.number ps) before.here before.behind (sym touched.were ∙ before.whole) starts holds ps u (sym touched.were) (omega (arith, h.start, h.begun, ap total all))
+      change_at_end class old c new touched.old_utf8 touched.new_utf8 touched.leads (take first.number ps) before.here before.behind
+      (sym touched.were ∙ before.whole) starts holds ps u (sym touched.were) (omega (arith, h.start, h.begun, ap total all))
 
   -- the first paragraph of the change is not behind its last
   pub in_order : (end : ℕ) → last.end ≡ Some end → first.number ≤ last.number + 1
   in_order end k = ordered_at (has_end ps (c.start + c.removed) last end touched.last_is k) (nat_le first.number (last.number + 1)) refl
 
   -- the new text's bytes, told by what is kept and found
-  pub bytes_of_found : (stop : ℕ) (back : List Lengths) (w : List Lengths) → lengths class new ≡ take first.number ps ++ (w ++ back) → length new ≡ total (take first.number ps) + (total w + total back)
+  pub bytes_of_found : (stop : ℕ) (back : List Lengths) (w : List Lengths) → lengths class new ≡ take first.number ps ++ (w ++ back)
+      → length new ≡ total (take first.number ps) + (total w + total back)
   bytes_of_found stop back w e =
-      sym (total_lengths class new touched.new_utf8) ∙ ap total e ∙ total_append (take first.number ps) (w ++ back) ∙ ap (λ n. total (take first.number ps) + n) (total_append w back)
+      sym (total_lengths class new touched.new_utf8) ∙ ap total e ∙ total_append (take first.number ps) (w ++ back)
+      ∙ ap (λ n. total (take first.number ps) + n) (total_append w back)
 
   pub count_of_old : length ps ≤ length old
   count_of_old = omega (arith, ap length touched.were, length-append ps (u ∷ []), few_lengths class old touched.old_utf8)
@@ -155,7 +170,8 @@ module _ {class : ℕ → Class} {old : List ℕ} {c : Change} {new : List ℕ} 
   followed : (stop : ℕ) (back : List Lengths) → IsRewritten class new (take first.number ps) stop added_separators back → IsFollowed stop back
   followed stop back r =
       let e : total (take first.number ps) ≡ first.start = sym touched.first_is.start in
-      let kept : lengths class new ≡ take first.number ps ++ (found stop ++ back) = subst (λ n. lengths class new ≡ take first.number ps ++ (ended_within (stop - n) (lengths class (drop n new)) ++ back)) e r.kept in
+      let kept : lengths class new ≡ take first.number ps ++ (found stop ++ back) =
+      subst (λ n. lengths class new ≡ take first.number ps ++ (ended_within (stop - n) (lengths class (drop n new)) ++ back)) e r.kept in
       record {
         bounds = subst (IsCharBoundary new) e r.bounds;
         kept = kept;
@@ -172,17 +188,20 @@ module _ {class : ℕ → Class} {old : List ℕ} {c : Change} {new : List ℕ} 
       (r, followed stop (unended r ∷ []) (subst (λ n. IsRewritten class new (take first.number ps) n added_separators (unended r ∷ [])) (sym e) w))
 
   -- the paragraphs in blocks, with the last, are those of the new text
-  pub closed_inside : (stop to : ℕ) (fs : List Lengths) → IsFollowed stop (drop to ps ++ u ∷ []) → fs ≡ take first.number ps ++ (found stop ++ drop to ps) → fs ++ u ∷ [] ≡ lengths class new
+  pub closed_inside : (stop to : ℕ) (fs : List Lengths) → IsFollowed stop (drop to ps ++ u ∷ []) → fs ≡ take first.number ps ++ (found stop ++ drop to ps)
+      → fs ++ u ∷ [] ≡ lengths class new
   closed_inside stop to fs f e =
       ap (λ ls. ls ++ u ∷ []) e ∙ append_assoc (take first.number ps) (found stop ++ drop to ps) (u ∷ [])
       ∙ ap (λ ls. take first.number ps ++ ls) (append_assoc (found stop) (drop to ps) (u ∷ [])) ∙ sym f.kept
 
-  pub closed_at_end : (stop to r v : ℕ) (fs : List Lengths) → to ≡ length ps → v ≡ r → IsFollowed stop (unended r ∷ []) → fs ≡ take first.number ps ++ (found stop ++ drop to ps)
+  pub closed_at_end : (stop to r v : ℕ) (fs : List Lengths) → to ≡ length ps → v ≡ r → IsFollowed stop (unended r ∷ [])
+      → fs ≡ take first.number ps ++ (found stop ++ drop to ps)
       → fs ++ unended v ∷ [] ≡ lengths class new
   closed_at_end stop to r v fs n same f e =
       let none : drop to ps ≡ [] = drop_all to ps (omega (arith, n)) in
       ap (λ k. fs ++ unended k ∷ []) same
-      ∙ ap (λ ls. ls ++ unended r ∷ []) (e ∙ ap (λ ls. take first.number ps ++ (found stop ++ ls)) none ∙ ap (λ ls. take first.number ps ++ ls) (append-nil (found stop)))
+      ∙ ap (λ ls. ls ++ unended r ∷ []) (e ∙ ap (λ ls. take first.number ps ++ (found stop ++ ls)) none
+      ∙ ap (λ ls. take first.number ps ++ ls) (append-nil (found stop)))
       ∙ append_assoc (take first.number ps) (found stop) (unended r ∷ []) ∙ sym f.kept
 
   -- the old text is within the bounds of the index
@@ -197,7 +216,8 @@ module _ {class : ℕ → Class} {old : List ℕ} {c : Change} {new : List ℕ} 
   few_in fs v e = omega (arith, ap length e, length-append fs (v ∷ []), few_lengths class new touched.new_utf8)
 
 -- the room that was made covers what was added
-pub has_spares : (room : Option ℕ) (spares separators : ℕ) → IfSome room (HasSpares spares) → HasRoomFor room separators → separators ≤ largest_text → separators + 258 ≤ 128 * spares
+pub has_spares : (room : Option ℕ) (spares separators : ℕ) → IfSome room (HasSpares spares) → HasRoomFor room separators → separators ≤ largest_text
+    → separators + 258 ≤ 128 * spares
 has_spares None spares separators h k few = absurd k
 has_spares (Some room) spares separators h k few = let enough : min room largest_text + 258 ≤ 128 * spares = h in omega (arith, k)
 

@@ -1,5 +1,6 @@
 -- The paragraphs of a text after a change: those in front of it stay, some are found anew, and those behind it stay.
-use Rattle.std.proofs.Common.{◌≡◌, ◌<◌, ◌≤◌, ◌+◌, ◌-◌, ◌∙◌, ℕ, true, List, [], ◌∷◌, ◌++◌, length, take, drop, chars, IsUtf8, IsCharBoundary, ap, sym, subst, arith, length-append, append_assoc, append-nil}
+use Rattle.std.proofs.Common.{◌≡◌, ◌<◌, ◌≤◌, ◌+◌, ◌-◌, ◌∙◌, ℕ, true, List, [], ◌∷◌, ◌++◌, length, take, drop, chars, IsUtf8, IsCharBoundary, ap, sym, subst}
+use Rattle.std.proofs.Common.{arith, length-append, append_assoc, append-nil}
 use Rattle.std.proofs.lemmas.Str.{length-le-encodes}
 use Rattle.bx_ucd.specs.declared.class.Class.{Class}
 use Rattle.bx_text.specs.declared.change.Change.{Change}
@@ -66,7 +67,8 @@ module _ (class : ℕ → Class) where
   found_last h n d separators few counted one =
       let r : List ℕ = h ++ (n ++ d) in
       let c = cut_of class r in
-      let sum : total c.ended + total (unended c.last ∷ []) ≡ widths r = sym (total_append c.ended (unended c.last ∷ [])) ∙ ap total (sym c.is) ∙ total_lens class r in
+      let sum : total c.ended + total (unended c.last ∷ []) ≡ widths r = sym (total_append c.ended (unended c.last ∷ [])) ∙ ap total (sym c.is)
+      ∙ total_lens class r in
       let len : total c.ended + c.last ≡ widths r = omega (arith, sum) in
       let number : count class r ≡ length c.ended + 1 = ap length c.is ∙ length-append c.ended (unended c.last ∷ []) in
       let whole : count class r ≡ count class ((h ++ n) ++ d) = ap (count class) (sym (append_assoc h n d)) in (
@@ -84,7 +86,8 @@ module _ (class : ℕ → Class) where
       → lens class (x ++ r) ≡ front ++ lens class r → IsFound r (stop - total front) separators back → IsRewritten class new front stop separators back
   rewritten new x r front stop separators back utf8 e w kept f =
       let c = cut_at new x r (total front) utf8 e w in
-      let again : ended_within (stop - total front) (lengths class (drop (total front) new)) ≡ f.ends = ap (λ cs. ended_within (stop - total front) (lens class cs)) c.rest ∙ f.are_found in
+      let again : ended_within (stop - total front) (lengths class (drop (total front) new)) ≡ f.ends =
+      ap (λ cs. ended_within (stop - total front) (lens class cs)) c.rest ∙ f.are_found in
       record {
         bounds = c.bounds;
         kept = ap (lens class) e ∙ kept ∙ ap (λ ls. front ++ ls) (f.then_back ∙ ap (λ ls. ls ++ back) (sym again));
@@ -118,7 +121,8 @@ module _ (class : ℕ → Class) where
     parted = around old c new utf8 utf8' h
 
     in_front : Front class a front
-    in_front = front_of class a (o ++ d) front l behind (ap (lens class) (sym parted.old_chars) ∙ first) (omega (arith, parted.before)) (omega (arith, parted.before))
+    in_front = front_of class a (o ++ d) front l behind (ap (lens class) (sym parted.old_chars) ∙ first) (omega (arith, parted.before))
+        (omega (arith, parted.before))
 
     -- the new characters behind those of the front
     abbrev found : List ℕ
@@ -146,7 +150,8 @@ module _ (class : ℕ → Class) where
     change_inside upto q m back e f g =
         let past : ℕ = (total upto + bytes_of q) - widths (a ++ o) in
         let b : Back class d past (m ∷ back) = back_of class (a ++ o) d upto q m back (replaced ∙ e) (omega (arith, to_rest)) (omega (arith, to_rest)) in
-        let len : widths in_front.h + (c.added + past) ≡ (((total upto + bytes_of q) - (c.start + c.removed)) + (c.start + c.added)) - total front = omega (arith, to_rest, to_change) in
+        let len : widths in_front.h + (c.added + past) ≡ (((total upto + bytes_of q) - (c.start + c.removed)) + (c.start + c.added)) - total front =
+        omega (arith, to_rest, to_change) in
         rewritten new in_front.x found front _ separators (m ∷ back) utf8' whole in_front.bytes kept
         (found_before in_front.h n d past _ c.added separators (m ∷ back) in_front.few counted parted.come len b)
 

@@ -42,7 +42,8 @@ empty_text_is_one_paragraph : spans (lengths class []) ≡ (0, 0) ∷ []
 unfolding chars encode_utf8
 empty_text_is_one_paragraph = refl
 
-separator_of_three_bytes : paragraphs class (97 ∷ 0xE2 ∷ 0x80 ∷ 0xA9 ∷ []) ≡ record { body = 97 ∷ []; separator = 0xE2 ∷ 0x80 ∷ 0xA9 ∷ [] } ∷ record { body = []; separator = [] } ∷ []
+separator_of_three_bytes : paragraphs class (97 ∷ 0xE2 ∷ 0x80 ∷ 0xA9 ∷ [])
+    ≡ record { body = 97 ∷ []; separator = 0xE2 ∷ 0x80 ∷ 0xA9 ∷ [] } ∷ record { body = []; separator = [] } ∷ []
 unfolding chars encode_utf8
 separator_of_three_bytes = refl
 

@@ -1,5 +1,6 @@
 -- The scan for the end of a paragraph.
-use Rattle.std.proofs.Common.{◌≡◌, ◌<◌, ◌≤◌, ◌+◌, ◌∙◌, ◌==◌, ◌&&◌, ℕ, Bool, true, false, List, [], ◌∷◌, ◌++◌, length, get_or, take, drop, chars, encode_utf8, encode_utf8_all, IsUtf8, IsCharBoundary, refl, ap, sym, subst, arith}
+use Rattle.std.proofs.Common.{◌≡◌, ◌<◌, ◌≤◌, ◌+◌, ◌∙◌, ◌==◌, ◌&&◌, ℕ, Bool, true, false, List, [], ◌∷◌, ◌++◌, length, get_or, take, drop, chars, encode_utf8}
+use Rattle.std.proofs.Common.{encode_utf8_all, IsUtf8, IsCharBoundary, refl, ap, sym, subst, arith}
 use Rattle.std.proofs.lemmas.Bool.Decides.{nat_tests}
 use Rattle.std.proofs.lemmas.Str.{chars-nil, encodes-chars, byte_from_char, char_from_byte, IsUtf8-drop}
 use Rattle.std.proofs.lemmas.List.{take_more, drop_more, take-append-drop, length-take, get_or-take, drop_all}
@@ -32,17 +33,24 @@ module _ (class : ℕ → Class) where
     separates = sym f;
   }
 
-  pub none_more : (cs : List ℕ) (n c : ℕ) → (n < length cs) × (c ≡ get_or cs n c) → HasNone class (take n cs) → false ≡ is_separator (class c) → HasNone class (take (n + 1) cs)
+  pub none_more : (cs : List ℕ) (n c : ℕ) → (n < length cs) × (c ≡ get_or cs n c) → HasNone class (take n cs) → false ≡ is_separator (class c)
+      → HasNone class (take (n + 1) cs)
   none_more cs n c h none f = subst (HasNone class) (sym (seen_more cs n c h)) (none_append (take n cs) (c ∷ []) none (sym f, tt))
 
 -- the first characters of a text have no more bytes than it
 pub widths_in : (text : List ℕ) (n : ℕ) → IsUtf8 text → widths (take n (chars text)) ≤ length text
-widths_in text n utf8 = omega (arith, ap length (encodes-chars text utf8), ap widths (take-append-drop n (chars text)), widths_append (take n (chars text)) (drop n (chars text)))
+widths_in text n utf8 = omega (
+  arith,
+  ap length (encodes-chars text utf8),
+  ap widths (take-append-drop n (chars text)),
+  widths_append (take n (chars text)) (drop n (chars text)),
+)
 
 -- ---- LF behind CR
 
 module _ (class : ℕ → Class) where
-  lf_at : (b c : ℕ) (cs : List ℕ) (is_lf : Bool) → (c == 10) ≡ is_lf → (b == 10) ≡ is_lf → begins_with_lf class (c ∷ cs) ≡ ((b == 10) && is_separator (class 10))
+  lf_at : (b c : ℕ) (cs : List ℕ) (is_lf : Bool) → (c == 10) ≡ is_lf → (b == 10) ≡ is_lf
+      → begins_with_lf class (c ∷ cs) ≡ ((b == 10) && is_separator (class 10))
   lf_at b c cs true e f = let lf : c ≡ 10 = grind (arith, nat_tests) in rw (e, f) (ap (λ d. is_separator (class d)) lf)
   lf_at b c cs false e f = rw (e, f) refl
 

@@ -1,11 +1,13 @@
 -- Characters cut at the ends of paragraphs, and put together there.
-use Rattle.std.proofs.Common.{◌≡◌, ◌+◌, ◌∙◌, ◌⊎◌, inl, inr, ℕ, Bool, true, false, List, [], ◌∷◌, ◌++◌, length, refl, ap, sym, arith, length-append, append_assoc, append-nil}
+use Rattle.std.proofs.Common.{◌≡◌, ◌+◌, ◌∙◌, ◌⊎◌, inl, inr, ℕ, Bool, true, false, List, [], ◌∷◌, ◌++◌, length, refl, ap, sym, arith, length-append}
+use Rattle.std.proofs.Common.{append_assoc, append-nil}
 use Rattle.std.proofs.lemmas.Bool.Decides.{nat_tests}
 use Rattle.std.proofs.lemmas.List.{append_cancel_right}
 use Rattle.bx_ucd.specs.declared.class.Class.{Class}
 use Rattle.bx_paras.specs.declared.lengths.Lengths.{Lengths}
 use Rattle.bx_paras.specs.Positions.{bytes_of, total}
-use Rattle.bx_paras.proofs.Cuts.{width, widths, widths_append, unended, grown, joined, lens, ends, is_paired, lens_plain, lens_paired, lens_ended, parts, parts_append, IsFirst, beginning}
+use Rattle.bx_paras.proofs.Cuts.{width, widths, widths_append, unended, grown, joined, lens, ends, is_paired, lens_plain, lens_paired, lens_ended, parts}
+use Rattle.bx_paras.proofs.Cuts.{parts_append, IsFirst, beginning}
 
 -- all but the last
 abbrev pub before_last : List Lengths → List Lengths
@@ -92,7 +94,8 @@ module _ (class : ℕ → Class) where
   joins c (d ∷ w) z p = joins_at c d w z (ends class c) (is_paired class c (d ∷ w)) refl refl (joins d w z p)
 
   -- the paragraphs on both sides of a seam
-  joined_at : (w z : List ℕ) (first : Lengths) (others : List Lengths) → lens class w ≡ first ∷ (others ++ unended 0 ∷ []) → before_last (lens class w) ≡ first ∷ others
+  joined_at : (w z : List ℕ) (first : Lengths) (others : List Lengths) → lens class w ≡ first ∷ (others ++ unended 0 ∷ [])
+      → before_last (lens class w) ≡ first ∷ others
   joined_at w z first others e = ap before_last e ∙ before_last_append (first ∷ others) (unended 0)
 
   pub lens_append : (w z : List ℕ) → parts class w z ≡ true → lens class (w ++ z) ≡ before_last (lens class w) ++ lens class z
@@ -108,7 +111,8 @@ module _ (class : ℕ → Class) where
       j.alone ∙ ap (λ ls. ls ++ unended 0 ∷ []) (sym (joined_at (c ∷ w) z j.first j.others j.alone))
 
   -- before a seam stand exactly the paragraphs that end there
-  pub front_of_seam : (cs x m : List ℕ) (front back : List Lengths) → lens class cs ≡ front ++ back → IsSeam cs x m front back → before_last (lens class x) ≡ front
+  pub front_of_seam : (cs x m : List ℕ) (front back : List Lengths) → lens class cs ≡ front ++ back → IsSeam cs x m front back
+      → before_last (lens class x) ≡ front
   front_of_seam cs x m front back e s =
       append_cancel_right (before_last (lens class x)) front back
       (ap (λ ls. before_last (lens class x) ++ ls) (sym s.rest) ∙ sym (lens_append x m s.parts) ∙ ap (lens class) (sym s.whole) ∙ e)

@@ -1,5 +1,6 @@
 -- The paragraphs of blocks that are cut, lengthened and joined.
-use Rattle.std.proofs.Common.{◌≡◌, ◌<◌, ◌≤◌, ◌+◌, ◌-◌, ◌∙◌, ◌==◌, ◌⊎◌, inl, inr, ℕ, Bool, true, false, List, [], ◌∷◌, ◌++◌, length, take, drop, get_or, insert, refl, ap, sym, subst, arith, length-append, append_assoc, append-nil, if◌then◌else◌}
+use Rattle.std.proofs.Common.{◌≡◌, ◌<◌, ◌≤◌, ◌+◌, ◌-◌, ◌∙◌, ◌==◌, ◌⊎◌, inl, inr, ℕ, Bool, true, false, List, [], ◌∷◌, ◌++◌, length, take, drop, get_or, insert}
+use Rattle.std.proofs.Common.{refl, ap, sym, subst, arith, length-append, append_assoc, append-nil, if◌then◌else◌}
 use Rattle.std.proofs.lemmas.Bool.Decides.{nat_tests}
 use Rattle.std.proofs.lemmas.List.{take-append-drop, take-append-le, take-take, drop_at, length-take-le, length-take, length-drop, get_or_default}
 use Rattle.std.proofs.Math.Seq.{take-append_seam, get_or-append_seam}
@@ -7,7 +8,8 @@ use Rattle.bx_paras.specs.declared.lengths.Lengths.{Lengths}
 use Rattle.bx_paras.specs.Positions.{bytes_of, total}
 use Rattle.bx_paras.specs.Flat.{flat, free_before}
 use Rattle.bx_paras.proofs.Totals.{total_append, total_push, total_cut, total_front}
-use Rattle.bx_paras.proofs.Flats.{flat_append, flat_one, flat_cut, flat_more, total_flat_more, total_flat_front, length_flat_front, length_flat_front_of, whole_back, ordered, front_in_block, back_in_block}
+use Rattle.bx_paras.proofs.Flats.{flat_append, flat_one, flat_cut, flat_more, total_flat_more, total_flat_front, length_flat_front, length_flat_front_of}
+use Rattle.bx_paras.proofs.Flats.{whole_back, ordered, front_in_block, back_in_block}
 
 -- lists cut behind one element
 take_behind : (bs ds : List (List Lengths)) (b : List Lengths) (n : ℕ) → length bs ≡ n → take (n + 1) (bs ++ b ∷ ds) ≡ bs ++ b ∷ []
@@ -45,16 +47,19 @@ module _ (bs : List (List Lengths)) (i : ℕ) (h : i < length bs) where
 
   pub cut_flat : (w : ℕ) → flat (cut_blocks w) ≡ flat bs
   cut_flat w =
-      flat_cut (i + 1) (cut_blocks w) ∙ ap (λ ls. ls ++ flat (drop (i + 1) (cut_blocks w))) (cut_front w) ∙ ap (λ ls. (flat (take i bs) ++ take w (get_or bs i [])) ++ ls) (cut_back w)
+      flat_cut (i + 1) (cut_blocks w) ∙ ap (λ ls. ls ++ flat (drop (i + 1) (cut_blocks w))) (cut_front w)
+      ∙ ap (λ ls. (flat (take i bs) ++ take w (get_or bs i [])) ++ ls) (cut_back w)
       ∙ append_assoc (flat (take i bs)) (take w (get_or bs i [])) (drop w (get_or bs i []) ++ flat (drop (i + 1) bs))
-      ∙ ap (λ ls. flat (take i bs) ++ ls) (sym (append_assoc (take w (get_or bs i [])) (drop w (get_or bs i [])) (flat (drop (i + 1) bs))) ∙ ap (λ ls. ls ++ flat (drop (i + 1) bs)) (take-append-drop w (get_or bs i [])))
+      ∙ ap (λ ls. flat (take i bs) ++ ls) (sym (append_assoc (take w (get_or bs i [])) (drop w (get_or bs i [])) (flat (drop (i + 1) bs)))
+      ∙ ap (λ ls. ls ++ flat (drop (i + 1) bs)) (take-append-drop w (get_or bs i [])))
       ∙ sym (append_assoc (flat (take i bs)) (get_or bs i []) (flat (drop (i + 1) bs)))
       ∙ ap (λ ls. ls ++ flat (drop (i + 1) bs)) (sym one_block) ∙ sym (flat_cut (i + 1) bs)
 
   -- the blocks that stand in front of the cut stay
   pub cut_before : (w k : ℕ) → w < length (get_or bs i []) → length (flat (take k bs)) ≤ length (flat (take i bs)) + w → k ≤ i
   cut_before w k l f =
-      let less : length (flat (take k bs)) < length (flat (take (i + 1) bs)) = omega (arith, ap length one_block, length-append (flat (take i bs)) (get_or bs i [])) in
+      let less : length (flat (take k bs)) < length (flat (take (i + 1) bs)) =
+      omega (arith, ap length one_block, length-append (flat (take i bs)) (get_or bs i [])) in
       let behind : k < i + 1 = ordered bs k (i + 1) less in
       omega arith
 
@@ -103,7 +108,8 @@ length_among front back p = omega (arith, length-append (front ++ p ∷ []) back
 
 -- ---- two blocks joined
 
-pub join_flat : (bs : List (List Lengths)) (i : ℕ) → i + 1 < length bs → flat (take i bs ++ (get_or bs i [] ++ get_or bs (i + 1) []) ∷ drop (i + 2) bs) ≡ flat bs
+pub join_flat : (bs : List (List Lengths)) (i : ℕ) → i + 1 < length bs
+    → flat (take i bs ++ (get_or bs i [] ++ get_or bs (i + 1) []) ∷ drop (i + 2) bs) ≡ flat bs
 join_flat bs i h =
     let next : i + 1 + 1 ≡ i + 2 = omega arith in
     let whole : flat bs ≡ flat (take (i + 2) bs) ++ flat (drop (i + 2) bs) = flat_cut (i + 2) bs in
@@ -140,7 +146,8 @@ cut_within bs i w number h l e =
           (cut_stays bs i h w k le, omega (arith, length-append (take i bs) (take w b ∷ drop w b ∷ drop (i + 1) bs), front_len bs i h));
     }
 
-pub cut_is : (ds bs new : List (List Lengths)) (i w number : ℕ) → ds ≡ bs → new ≡ take i ds ++ take w (get_or ds i []) ∷ drop w (get_or ds i []) ∷ drop (i + 1) ds
+pub cut_is : (ds bs new : List (List Lengths)) (i w number : ℕ) → ds ≡ bs
+    → new ≡ take i ds ++ take w (get_or ds i []) ∷ drop w (get_or ds i []) ∷ drop (i + 1) ds
     → number ≡ length (flat (take i bs)) + w → (w ≡ 0) ⊎ ((i < length bs) × (w < length (get_or bs i []))) → 0 < w → IsCutBefore bs new (i + 1) number
 cut_is ds bs new i w number same e n within some =
     let inside : (i < length bs) × (w < length (get_or bs i [])) = in_block w within some in
@@ -155,9 +162,11 @@ pub record IsPushed (bs ds : List (List Lengths)) (at behind : ℕ) (p : Lengths
   pub bytes : total (flat ds) ≡ total (flat bs) + bytes_of p
   pub count : length (flat ds) ≡ length (flat bs) + 1
 
-pub pushed_from : (bs ds : List (List Lengths)) (at behind : ℕ) (p : Lengths) → flat (take behind ds) ≡ flat (take at bs) ++ p ∷ [] → flat (drop behind ds) ≡ flat (drop at bs) → IsPushed bs ds at behind p
+pub pushed_from : (bs ds : List (List Lengths)) (at behind : ℕ) (p : Lengths) → flat (take behind ds) ≡ flat (take at bs) ++ p ∷ []
+    → flat (drop behind ds) ≡ flat (drop at bs) → IsPushed bs ds at behind p
 pushed_from bs ds at behind p f b =
-    let new : flat ds ≡ (flat (take at bs) ++ p ∷ []) ++ flat (drop at bs) = flat_cut behind ds ∙ ap (λ ls. ls ++ flat (drop behind ds)) f ∙ ap (λ ls. (flat (take at bs) ++ p ∷ []) ++ ls) b in
+    let new : flat ds ≡ (flat (take at bs) ++ p ∷ []) ++ flat (drop at bs) = flat_cut behind ds ∙ ap (λ ls. ls ++ flat (drop behind ds)) f
+    ∙ ap (λ ls. (flat (take at bs) ++ p ∷ []) ++ ls) b in
     let old : flat bs ≡ flat (take at bs) ++ flat (drop at bs) = flat_cut at bs in
     record {
       front = f;
@@ -167,13 +176,15 @@ pushed_from bs ds at behind p f b =
     }
 
 -- into the block in front of the position
-pub pushed_in_block : (ds bs new : List (List Lengths)) (i at : ℕ) (p : Lengths) → ds ≡ bs → new ≡ take i ds ++ (get_or ds i [] ++ p ∷ []) ∷ drop (i + 1) ds → i < length bs → i + 1 ≡ at → IsPushed bs new at at p
+pub pushed_in_block : (ds bs new : List (List Lengths)) (i at : ℕ) (p : Lengths) → ds ≡ bs → new ≡ take i ds ++ (get_or ds i [] ++ p ∷ []) ∷ drop (i + 1) ds
+    → i < length bs → i + 1 ≡ at → IsPushed bs new at at p
 pushed_in_block ds bs new i at p same e h n =
     subst (λ cs. IsPushed bs cs at at p) (sym (e ∙ ap (λ cs. take i cs ++ (get_or cs i [] ++ p ∷ []) ∷ drop (i + 1) cs) same))
     (subst (λ k. IsPushed bs (take i bs ++ (get_or bs i [] ++ p ∷ []) ∷ drop (i + 1) bs) k k p) n
     (pushed_from bs _ (i + 1) (i + 1) p (pushed_front bs i h p) (ap flat (pushed_back bs i h p))))
 
-pub free_in_block : (bs ds : List (List Lengths)) (i at : ℕ) (p : Lengths) → ds ≡ take i bs ++ (get_or bs i [] ++ p ∷ []) ∷ drop (i + 1) bs → i < length bs → i + 1 ≡ at → length (get_or bs i []) < 128 → free_before ds at + 1 ≡ free_before bs at
+pub free_in_block : (bs ds : List (List Lengths)) (i at : ℕ) (p : Lengths) → ds ≡ take i bs ++ (get_or bs i [] ++ p ∷ []) ∷ drop (i + 1) bs → i < length bs
+    → i + 1 ≡ at → length (get_or bs i []) < 128 → free_before ds at + 1 ≡ free_before bs at
 free_in_block bs ds i at p e h n room =
     let some : (at == 0) ≡ false = grind (arith, nat_tests) in
     let back : at - 1 ≡ i = omega arith in
@@ -182,12 +193,14 @@ free_in_block bs ds i at p e h n room =
     rw some (omega (arith, ap length last, ap length old, length-append (get_or bs i []) (p ∷ [])))
 
 -- into a block of its own
-pub pushed_alone : (ds bs new : List (List Lengths)) (at : ℕ) (p : Lengths) → ds ≡ bs → new ≡ take at ds ++ (p ∷ []) ∷ drop at ds → at ≤ length bs → IsPushed bs new at (at + 1) p
+pub pushed_alone : (ds bs new : List (List Lengths)) (at : ℕ) (p : Lengths) → ds ≡ bs → new ≡ take at ds ++ (p ∷ []) ∷ drop at ds → at ≤ length bs
+    → IsPushed bs new at (at + 1) p
 pushed_alone ds bs new at p same e h =
     subst (λ cs. IsPushed bs cs at (at + 1) p) (sym (e ∙ ap (λ cs. take at cs ++ (p ∷ []) ∷ drop at cs) same))
     (pushed_from bs _ at (at + 1) p (put_front bs at h p) (ap flat (put_back bs at h p)))
 
-pub free_alone : (bs ds : List (List Lengths)) (at : ℕ) (p : Lengths) → ds ≡ take at bs ++ (p ∷ []) ∷ drop at bs → at ≤ length bs → free_before ds (at + 1) ≡ 127
+pub free_alone : (bs ds : List (List Lengths)) (at : ℕ) (p : Lengths) → ds ≡ take at bs ++ (p ∷ []) ∷ drop at bs → at ≤ length bs
+    → free_before ds (at + 1) ≡ 127
 free_alone bs ds at p e h =
     let some : (at + 1 == 0) ≡ false = grind (arith, nat_tests) in
     let back : at + 1 - 1 ≡ at = omega arith in
@@ -202,7 +215,8 @@ pub free_none : (bs : List (List Lengths)) (at : ℕ) → (0 < at → 128 ≤ le
 free_none bs at h = free_none_at bs at (at == 0) refl h
 
 -- what an insertion that succeeds puts in
-pub alone_in : (ok : Bool) (new ds : List (List Lengths)) (at : ℕ) (b e : List Lengths) (p : Lengths) → new ≡ (if ok then insert ds at b else ds) → ok ≡ true → b ≡ e ++ p ∷ [] → e ≡ []
+pub alone_in : (ok : Bool) (new ds : List (List Lengths)) (at : ℕ) (b e : List Lengths) (p : Lengths) → new ≡ (if ok then insert ds at b else ds) → ok ≡ true
+    → b ≡ e ++ p ∷ [] → e ≡ []
     → new ≡ take at ds ++ (p ∷ []) ∷ drop at ds
 alone_in ok new ds at b e p made yes' pushed empty =
     made ∙ ap (λ t. if t then insert ds at b else ds) yes' ∙ ap (λ c. take at ds ++ c ∷ drop at ds) (pushed ∙ ap (λ ls. ls ++ p ∷ []) empty)
@@ -226,21 +240,39 @@ taken bs ds from to e l h =
     record {
       back = ap (λ cs. flat (drop from cs)) e ∙ ap flat (drop_at (take from bs) (drop to bs) from long);
       front = ap (take from) e ∙ ap (λ k. take k (take from bs ++ drop to bs)) (sym long) ∙ take-append_seam (take from bs) (drop to bs);
-      bytes = omega (arith, ap total new, total_append (flat (take from bs)) (flat (drop to bs)), ap total whole, total_append (flat (take to bs)) (flat (drop to bs)), total_flat_front from (take to bs), ap (λ cs. total (flat cs)) fronts);
-      count = omega (arith, ap length new, length-append (flat (take from bs)) (flat (drop to bs)), ap length whole, length-append (flat (take to bs)) (flat (drop to bs)), length_flat_front from (take to bs), ap (λ cs. length (flat cs)) fronts);
+      bytes = omega (
+        arith,
+        ap total new,
+        total_append (flat (take from bs)) (flat (drop to bs)),
+        ap total whole,
+        total_append (flat (take to bs)) (flat (drop to bs)),
+        total_flat_front from (take to bs),
+        ap (λ cs. total (flat cs)) fronts,
+      );
+      count = omega (
+        arith,
+        ap length new,
+        length-append (flat (take from bs)) (flat (drop to bs)),
+        ap length whole,
+        length-append (flat (take to bs)) (flat (drop to bs)),
+        length_flat_front from (take to bs),
+        ap (λ cs. length (flat cs)) fronts,
+      );
       position = omega (arith, ap length e, length-append (take from bs) (drop to bs), long);
       fewer = omega (arith, ap length e, length-append (take from bs) (drop to bs), long, length-drop to bs);
     }
 
 -- two cuts of which the second is not behind the first have nothing between them
-pub nothing_between : (bs ds : List (List Lengths)) (first last from to : ℕ) → length (flat (take first bs)) ≡ from → take first ds ≡ take first bs → length (flat (take last ds)) ≡ to
+pub nothing_between : (bs ds : List (List Lengths)) (first last from to : ℕ) → length (flat (take first bs)) ≡ from → take first ds ≡ take first bs
+    → length (flat (take last ds)) ≡ to
     → last ≤ first → from ≤ to → flat ds ≡ flat bs → flat (drop first ds) ≡ drop to (flat bs)
 nothing_between bs ds first last from to a same b l le whole =
     let few : length (flat (take last ds)) ≤ length (flat (take first ds)) = length_flat_front_of ds last first l in
     let here : to ≡ length (flat (take first ds)) = omega (arith, ap (λ cs. length (flat cs)) same) in
     sym (whole_back ds first to here) ∙ ap (drop to) whole
 
-pub joined_is : (bs ds : List (List Lengths)) (i : ℕ) → ds ≡ take i bs ++ (get_or bs i [] ++ get_or bs (i + 1) []) ∷ drop (i + 2) bs → i + 1 < length bs → flat ds ≡ flat bs
+pub joined_is : (bs ds : List (List Lengths)) (i : ℕ) → ds ≡ take i bs ++ (get_or bs i [] ++ get_or bs (i + 1) []) ∷ drop (i + 2) bs → i + 1 < length bs
+    → flat ds ≡ flat bs
 joined_is bs ds i e h = ap flat e ∙ join_flat bs i h
 
 -- two blocks have no more bytes than all
@@ -249,24 +281,48 @@ two_blocks bs i h =
     omega (arith, total_flat_more bs i [] (omega arith), total_flat_more bs (i + 1) [] h, total_flat_front (i + 1 + 1) bs)
 
 -- a paragraph put in behind all
-pub pushed_behind : (bs ds : List (List Lengths)) (at behind : ℕ) (p : Lengths) → flat (take behind ds) ≡ flat (take at bs) ++ p ∷ [] → flat (drop behind ds) ≡ flat (drop at bs) → flat (drop at bs) ≡ [] → flat ds ≡ flat bs ++ p ∷ []
+pub pushed_behind : (bs ds : List (List Lengths)) (at behind : ℕ) (p : Lengths) → flat (take behind ds) ≡ flat (take at bs) ++ p ∷ []
+    → flat (drop behind ds) ≡ flat (drop at bs) → flat (drop at bs) ≡ [] → flat ds ≡ flat bs ++ p ∷ []
 pushed_behind bs ds at behind p f b none =
     let old : flat bs ≡ flat (take at bs) = flat_cut at bs ∙ ap (λ ls. flat (take at bs) ++ ls) none ∙ append-nil (flat (take at bs)) in
-    flat_cut behind ds ∙ ap (λ ls. ls ++ flat (drop behind ds)) f ∙ ap (λ ls. (flat (take at bs) ++ p ∷ []) ++ ls) (b ∙ none) ∙ append-nil (flat (take at bs) ++ p ∷ []) ∙ ap (λ ls. ls ++ p ∷ []) (sym old)
+    flat_cut behind ds ∙ ap (λ ls. ls ++ flat (drop behind ds)) f ∙ ap (λ ls. (flat (take at bs) ++ p ∷ []) ++ ls) (b ∙ none)
+    ∙ append-nil (flat (take at bs) ++ p ∷ []) ∙ ap (λ ls. ls ++ p ∷ []) (sym old)
 
 -- ---- paragraphs taken out and put in
 
 outside_by : (ps : List Lengths) (from to : ℕ) → from ≤ to → take from (take to ps) ≡ take from ps
 outside_by ps from to l = take-take from to ps l
 
-pub total_outside : (bs : List (List Lengths)) (ps : List Lengths) (at from to : ℕ) → flat (take at bs) ≡ take from ps → flat (drop at bs) ≡ drop to ps → from ≤ to → total (flat bs) ≤ total ps
+pub total_outside : (bs : List (List Lengths)) (ps : List Lengths) (at from to : ℕ) → flat (take at bs) ≡ take from ps → flat (drop at bs) ≡ drop to ps
+    → from ≤ to → total (flat bs) ≤ total ps
 total_outside bs ps at from to f b l =
-    omega (arith, ap total (flat_cut at bs), total_append (flat (take at bs)) (flat (drop at bs)), ap total f, ap total b, total_cut to ps, total_front from (take to ps), ap total (outside_by ps from to l))
+    omega (
+      arith,
+      ap total (flat_cut at bs),
+      total_append (flat (take at bs)) (flat (drop at bs)),
+      ap total f,
+      ap total b,
+      total_cut to ps,
+      total_front from (take to ps),
+      ap total (outside_by ps from to l),
+    )
 
-pub length_outside : (bs : List (List Lengths)) (ps : List Lengths) (at from to : ℕ) → flat (take at bs) ≡ take from ps → flat (drop at bs) ≡ drop to ps → from ≤ to → length (flat bs) ≤ length ps
+pub length_outside : (bs : List (List Lengths)) (ps : List Lengths) (at from to : ℕ) → flat (take at bs) ≡ take from ps → flat (drop at bs) ≡ drop to ps
+    → from ≤ to → length (flat bs) ≤ length ps
 length_outside bs ps at from to f b l =
-    omega (arith, ap length (flat_cut at bs), length-append (flat (take at bs)) (flat (drop at bs)), ap length f, ap length b, ap length (take-append-drop to ps), length-append (take to ps) (drop to ps), length-take from (take to ps), ap length (outside_by ps from to l))
+    omega (
+      arith,
+      ap length (flat_cut at bs),
+      length-append (flat (take at bs)) (flat (drop at bs)),
+      ap length f,
+      ap length b,
+      ap length (take-append-drop to ps),
+      length-append (take to ps) (drop to ps),
+      length-take from (take to ps),
+      ap length (outside_by ps from to l),
+    )
 
-pub put_between : (bs : List (List Lengths)) (at : ℕ) (taken front w left back : List Lengths) → flat (take at bs) ≡ taken ++ w → taken ≡ front → flat (drop at bs) ≡ left → left ≡ back → flat bs ≡ front ++ (w ++ back)
+pub put_between : (bs : List (List Lengths)) (at : ℕ) (taken front w left back : List Lengths) → flat (take at bs) ≡ taken ++ w → taken ≡ front
+    → flat (drop at bs) ≡ left → left ≡ back → flat bs ≡ front ++ (w ++ back)
 put_between bs at taken front w left back f t b l =
     flat_cut at bs ∙ ap (λ ls. ls ++ flat (drop at bs)) (f ∙ ap (λ ls. ls ++ w) t) ∙ ap (λ ls. (front ++ w) ++ ls) (b ∙ l) ∙ append_assoc front w back

@@ -1,5 +1,6 @@
 -- The paragraphs of a text one after another.
-use Rattle.std.proofs.Common.{◌≡◌, ◌<◌, ◌≤◌, ◌+◌, ◌-◌, ◌∙◌, ◌==◌, ◌⊎◌, inl, inr, ℕ, true, false, nat_le, List, [], ◌∷◌, ◌++◌, length, take, drop, chars, IsUtf8, IsCharBoundary, refl, ap, sym, subst, arith, append_assoc, append-nil}
+use Rattle.std.proofs.Common.{◌≡◌, ◌<◌, ◌≤◌, ◌+◌, ◌-◌, ◌∙◌, ◌==◌, ◌⊎◌, inl, inr, ℕ, true, false, nat_le, List, [], ◌∷◌, ◌++◌, length, take, drop, chars, IsUtf8}
+use Rattle.std.proofs.Common.{IsCharBoundary, refl, ap, sym, subst, arith, append_assoc, append-nil}
 use Rattle.std.proofs.lemmas.Bool.Decides.{nat_tests}
 use Rattle.std.proofs.lemmas.List.{take-append-drop, drop_all}
 use Rattle.std.proofs.lemmas.Str.{chars-append, chars-nil, length-le-encodes, IsUtf8-take}
@@ -28,7 +29,8 @@ module _ (class : ℕ → Class) where
 
   module _ (text : List ℕ) (at : ℕ) (utf8 : IsUtf8 text) (bounds : IsCharBoundary text at) where
     turn_at : (p : Lengths) → p ≡ first (lengths class (drop at text)) → 0 < p.separator
-        → (lens class (chars (drop at text)) ≡ unended (widths (chars (drop at text))) ∷ []) ⊎ ((l : Lengths) × (w : List ℕ) × (z : List ℕ) × IsFirst class (chars (drop at text)) l w z)
+        → (lens class (chars (drop at text)) ≡ unended (widths (chars (drop at text))) ∷ [])
+        ⊎ ((l : Lengths) × (w : List ℕ) × (z : List ℕ) × IsFirst class (chars (drop at text)) l w z)
         → IsTurn text at p
     turn_at p e some (inl one) = let none : p.separator ≡ 0 = ap (λ (l : Lengths). l.separator) (e ∙ ap first one) in absurd (omega arith)
     turn_at p e some (inr (l, w, z, h)) =
@@ -37,7 +39,8 @@ module _ (class : ℕ → Class) where
         let whole : chars text ≡ x ++ z =
         ap chars (sym (take-append-drop at text)) ∙ chars-append (take at text) (drop at text) (IsUtf8-take text at utf8 bounds)
         ∙ ap (λ cs. chars (take at text) ++ cs) h.whole ∙ sym (append_assoc (chars (take at text)) w z) in
-        let len : widths x ≡ at + bytes_of p = omega (arith, widths_append (chars (take at text)) w, front_len text at utf8 bounds, h.bytes, ap bytes_of same) in
+        let len : widths x ≡ at + bytes_of p =
+        omega (arith, widths_append (chars (take at text)) w, front_len text at utf8 bounds, h.bytes, ap bytes_of same) in
         let cut = cut_at text x z (at + bytes_of p) utf8 whole len in
         record {
           more = h.first ∙ ap (λ q. q ∷ lens class z) (sym same) ∙ ap (λ cs. p ∷ lens class cs) (sym cut.rest);
@@ -61,10 +64,12 @@ module _ (class : ℕ → Class) where
         }
 
     last_at : (p : Lengths) → p ≡ first (lengths class (drop at text)) → p.separator ≡ 0
-        → (lens class (chars (drop at text)) ≡ unended (widths (chars (drop at text))) ∷ []) ⊎ ((l : Lengths) × (w : List ℕ) × (z : List ℕ) × IsFirst class (chars (drop at text)) l w z)
+        → (lens class (chars (drop at text)) ≡ unended (widths (chars (drop at text))) ∷ [])
+        ⊎ ((l : Lengths) × (w : List ℕ) × (z : List ℕ) × IsFirst class (chars (drop at text)) l w z)
         → lengths class (drop at text) ≡ unended p.body ∷ []
     last_at p e none (inl one) = one ∙ ap (λ n. unended n ∷ []) (sym (ap (λ (l : Lengths). l.body) (e ∙ ap first one)))
-    last_at p e none (inr (l, w, z, h)) = let some : p.separator ≡ l.separator = ap (λ (k : Lengths). k.separator) (e ∙ ap first h.first) in absurd (omega (arith, h.ended))
+    last_at p e none (inr (l, w, z, h)) = let some : p.separator ≡ l.separator =
+        ap (λ (k : Lengths). k.separator) (e ∙ ap first h.first) in absurd (omega (arith, h.ended))
 
     pub last : (p : Lengths) → p ≡ first (lengths class (drop at text)) → p.separator ≡ 0 → lengths class (drop at text) ≡ unended p.body ∷ []
     last p e none = last_at p e none (beginning class (chars (drop at text)))
@@ -82,7 +87,8 @@ module _ (class : ℕ → Class) where
     pub within_last : (p : Lengths) (k : ℕ) → p ≡ first (lengths class (drop at text)) → p.separator ≡ 0 → ended_within k (lengths class (drop at text)) ≡ []
     within_last p k e none = ap (ended_within k) (last p e none)
 
-    pub within_long : (p : Lengths) (k : ℕ) → p ≡ first (lengths class (drop at text)) → 0 < p.separator → k < bytes_of p → ended_within k (lengths class (drop at text)) ≡ []
+    pub within_long : (p : Lengths) (k : ℕ) → p ≡ first (lengths class (drop at text)) → 0 < p.separator → k < bytes_of p
+        → ended_within k (lengths class (drop at text)) ≡ []
     within_long p k e some long =
         let t = turn p e some in
         let a : (p.separator == 0) ≡ false = grind (arith, nat_tests) in
@@ -98,7 +104,8 @@ module _ (class : ℕ → Class) where
     step p stop r e some n fits =
         let k : stop - at - bytes_of p ≡ stop - (at + r) = omega (arith, n) in
         record {
-          left = within_more p (stop - at) e some (omega (arith, n)) ∙ ap (λ m. p ∷ ended_within m (lengths class (drop (at + bytes_of p) text))) k ∙ ap (λ m. p ∷ ended_within (stop - (at + r)) (lengths class (drop (at + m) text))) (sym n);
+          left = within_more p (stop - at) e some (omega (arith, n)) ∙ ap (λ m. p ∷ ended_within m (lengths class (drop (at + bytes_of p) text))) k
+              ∙ ap (λ m. p ∷ ended_within (stop - (at + r)) (lengths class (drop (at + m) text))) (sym n);
           ends_between = subst (λ m. IsCharBoundary text (at + m)) (sym n) (turn p e some).ends_between;
         }
 
@@ -108,7 +115,8 @@ module _ (class : ℕ → Class) where
 
   -- none is left where the offset is reached
   pub none_left : (text : List ℕ) (at stop : ℕ) → stop ≤ at → ended_within (stop - at) (lengths class (drop at text)) ≡ []
-  none_left text at stop h = let none : stop - at ≡ 0 = omega arith in ap (λ k. ended_within k (lengths class (drop at text))) none ∙ ended_in_none (lengths class (drop at text))
+  none_left text at stop h = let none : stop - at ≡ 0 = omega arith in ap (λ k. ended_within k (lengths class (drop at text))) none
+      ∙ ended_in_none (lengths class (drop at text))
 
 -- what is put in and what is left are together all
 pub still_all : (f g w left all : List Lengths) (p : Lengths) → g ≡ f ++ p ∷ [] → w ≡ p ∷ left → f ++ w ≡ all → g ++ left ≡ all

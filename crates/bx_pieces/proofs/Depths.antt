@@ -1,5 +1,6 @@
 -- How deep a balanced tree can be.
-use Rattle.std.proofs.Common.{◌≡◌, ℕ, ◌+◌, ◌/◌, ◌^◌, ◌<◌, ◌≤◌, max, zero, suc, Bool, true, false, nat_le, refl, Option, List, ◌∷◌, ◌++◌, length, length-append, arith}
+use Rattle.std.proofs.Common.{◌≡◌, ℕ, ◌+◌, ◌/◌, ◌^◌, ◌<◌, ◌≤◌, max, zero, suc, Bool, true, false, nat_le, refl, Option, List, ◌∷◌, ◌++◌, length, length-append}
+use Rattle.std.proofs.Common.{arith}
 use Rattle.std.proofs.Math.Pow.{pow_mono}
 use Rattle.std.proofs.lemmas.Grind.{pow_more}
 use Rattle.std.proofs.lemmas.Bool.Decides.{nat_tests}
@@ -37,8 +38,10 @@ shallow_fork l r xs p ys b some left right =
     }
 
 -- a piece and the side behind it that have more bytes, and as many pieces as deep
-pub balanced_longer : (left : Option (Box Shape Global)) (p q : Piece) (old new : Option (Box Shape Global)) (len by height : ℕ) → IsBalanced left p old len height
-    → depth_of new ≡ depth_of old → p.len ≤ q.len → q.len + total (sequence new) ≡ p.len + total (sequence old) + by → length (sequence new) ≡ length (sequence old)
+pub balanced_longer : (left : Option (Box Shape Global)) (p q : Piece) (old new : Option (Box Shape Global)) (len by height : ℕ)
+    → IsBalanced left p old len height
+    → depth_of new ≡ depth_of old → p.len ≤ q.len → q.len + total (sequence new) ≡ p.len + total (sequence old) + by
+    → length (sequence new) ≡ length (sequence old)
     → IsBalanced left q new (len + by) height
 balanced_longer left p q old new len by height h deep more bytes count =
     let counted_old : length (sequence left ++ p ∷ sequence old) ≡ length (sequence left) + (length (sequence old) + 1) =

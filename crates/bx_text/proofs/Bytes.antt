@@ -1,5 +1,6 @@
 -- The bytes of pieces that are cut and put together.
-use Rattle.std.proofs.Common.{◌≡◌, ℕ, ◌+◌, ◌-◌, ◌<◌, ◌≤◌, ◌^◌, Bool, true, false, nat_le, ◌==◌, List, [], ◌∷◌, ◌++◌, length, take, drop, zero, suc, refl, ap, sym, subst, ◌∙◌, append_assoc, length-append, arith}
+use Rattle.std.proofs.Common.{◌≡◌, ℕ, ◌+◌, ◌-◌, ◌<◌, ◌≤◌, ◌^◌, Bool, true, false, nat_le, ◌==◌, List, [], ◌∷◌, ◌++◌, length, take, drop, zero, suc, refl, ap}
+use Rattle.std.proofs.Common.{sym, subst, ◌∙◌, append_assoc, length-append, arith}
 use Rattle.std.proofs.lemmas.Bool.Decides.{nat_tests}
 use Rattle.std.proofs.lemmas.List.{append-nil, length-take-le, length-drop, take-take, drop-drop, drop-take, take-append-le, drop-append-le}
 use Rattle.std.proofs.Math.Seq.{take-append-add, drop-append-add}
@@ -55,7 +56,8 @@ short_buffer : (b : Buffers) (which : Buffer) → length b.opened < 2 ^ 64 → l
 short_buffer b Opened o a = o
 short_buffer b Added o a = a
 
-in_memory : (b : Buffers) (p : Piece) → length b.opened < 2 ^ 64 → length b.added < 2 ^ 64 → p.start + p.len ≤ length (buffer_bytes b p.buffer) → p.start + p.len < 2 ^ 64
+in_memory : (b : Buffers) (p : Piece) → length b.opened < 2 ^ 64 → length b.added < 2 ^ 64 → p.start + p.len ≤ length (buffer_bytes b p.buffer)
+    → p.start + p.len < 2 ^ 64
 in_memory b p o a h = omega (arith, short_buffer b p.buffer o a)
 
 pub IsAddressable-placed : (b : Buffers) (ps : List Piece) → length b.opened < 2 ^ 64 → length b.added < 2 ^ 64 → ArePlaced b ps → IsAddressable ps
@@ -70,7 +72,8 @@ length-bytes_of b (p ∷ ps) h = omega (arith, length-append (piece_bytes b p) (
 
 pub bytes_of-append : (b : Buffers) (ps qs : List Piece) → bytes_of b (ps ++ qs) ≡ bytes_of b ps ++ bytes_of b qs
 bytes_of-append b [] qs = refl
-bytes_of-append b (p ∷ ps) qs = ap (λ xs. piece_bytes b p ++ xs) (bytes_of-append b ps qs) ∙ sym (append_assoc (piece_bytes b p) (bytes_of b ps) (bytes_of b qs))
+bytes_of-append b (p ∷ ps) qs = ap (λ xs. piece_bytes b p ++ xs) (bytes_of-append b ps qs)
+    ∙ sym (append_assoc (piece_bytes b p) (bytes_of b ps) (bytes_of b qs))
 
 pub ArePlaced-append : (b : Buffers) (ps qs : List Piece) → ArePlaced b ps → ArePlaced b qs → ArePlaced b (ps ++ qs)
 ArePlaced-append b [] qs h k = k
@@ -91,7 +94,8 @@ front_bytes_at : (b : Buffers) (fits none : Bool) (x : Piece) (xs : List Piece) 
     → IsPlaced b x → bytes_of b (front xs (k - x.len)) ≡ take (k - x.len) (bytes_of b xs)
     → bytes_of b (front (x ∷ xs) k) ≡ take k (bytes_of b (x ∷ xs))
 front_bytes_at b true none x xs k e f placed more =
-    rw e (ap (λ ys. piece_bytes b x ++ ys) more ∙ sym (take_past (piece_bytes b x) (bytes_of b xs) x.len k (length-piece_bytes b x placed) (grind (arith, nat_tests))))
+    rw e (ap (λ ys. piece_bytes b x ++ ys) more
+    ∙ sym (take_past (piece_bytes b x) (bytes_of b xs) x.len k (length-piece_bytes b x placed) (grind (arith, nat_tests))))
 front_bytes_at b false true x xs k e f placed more = let z : k ≡ 0 = grind (arith, nat_tests) in rw (e, f) (rw z refl)
 front_bytes_at b false false x xs k e f placed more =
     let short : k ≤ x.len = grind (arith, nat_tests) in
@@ -126,7 +130,8 @@ IsUtf8-bytes_of b [] h = IsUtf8-nil
 IsUtf8-bytes_of b (p ∷ ps) h = IsUtf8-append (piece_bytes b p) (bytes_of b ps) h.0.utf8 (IsUtf8-bytes_of b ps h.1)
 
 -- a piece cut between two characters
-first_placed : (b : Buffers) (x : Piece) (xs : List Piece) (k : ℕ) → IsPlaced b x → k ≤ x.len → IsCharBoundary (bytes_of b (x ∷ xs)) k → IsPlaced b (first_of x k)
+first_placed : (b : Buffers) (x : Piece) (xs : List Piece) (k : ℕ) → IsPlaced b x → k ≤ x.len → IsCharBoundary (bytes_of b (x ∷ xs)) k
+    → IsPlaced b (first_of x k)
 first_placed b x xs k h short c =
     let at : IsCharBoundary (piece_bytes b x) k = IsCharBoundary-left (piece_bytes b x) (bytes_of b xs) k (omega (arith, length-piece_bytes b x h)) c in
     record { inside = omega (arith, h.inside); utf8 = subst IsUtf8 (sym (first_bytes b x k short)) (IsUtf8-take (piece_bytes b x) k h.utf8 at) }
@@ -137,11 +142,13 @@ rest_placed b x xs k h short c =
     record { inside = omega (arith, h.inside); utf8 = subst IsUtf8 (sym (rest_bytes b x k short)) (IsUtf8-drop (piece_bytes b x) k h.utf8 at) }
 
 -- a place past the first piece
-further_bounds : (b : Buffers) (x : Piece) (xs : List Piece) (k : ℕ) → IsPlaced b x → x.len ≤ k → IsCharBoundary (bytes_of b (x ∷ xs)) k → IsCharBoundary (bytes_of b xs) (k - x.len)
+further_bounds : (b : Buffers) (x : Piece) (xs : List Piece) (k : ℕ) → IsPlaced b x → x.len ≤ k → IsCharBoundary (bytes_of b (x ∷ xs)) k
+    → IsCharBoundary (bytes_of b xs) (k - x.len)
 further_bounds b x xs k h past c = IsCharBoundary-right (piece_bytes b x) (bytes_of b xs) x.len k (length-piece_bytes b x h) past c
 
 front_placed_at : (b : Buffers) (fits none : Bool) (x : Piece) (xs : List Piece) (k : ℕ) → nat_le x.len k ≡ fits → (k == 0) ≡ none
-    → ArePlaced b (x ∷ xs) → IsCharBoundary (bytes_of b (x ∷ xs)) k → (IsCharBoundary (bytes_of b xs) (k - x.len) → ArePlaced b (front xs (k - x.len))) → ArePlaced b (front (x ∷ xs) k)
+    → ArePlaced b (x ∷ xs) → IsCharBoundary (bytes_of b (x ∷ xs)) k → (IsCharBoundary (bytes_of b xs) (k - x.len) → ArePlaced b (front xs (k - x.len)))
+    → ArePlaced b (front (x ∷ xs) k)
 front_placed_at b true none x xs k e f h c more = rw e (h.0, more (further_bounds b x xs k h.0 (grind (arith, nat_tests)) c))
 front_placed_at b false true x xs k e f h c more = rw (e, f) tt
 front_placed_at b false false x xs k e f h c more = rw (e, f) (first_placed b x xs k h.0 (grind (arith, nat_tests)) c, tt)
@@ -151,7 +158,8 @@ ArePlaced-front b [] k h c = h
 ArePlaced-front b (x ∷ xs) k h c = front_placed_at b (nat_le x.len k) (k == 0) x xs k refl refl h c (ArePlaced-front b xs (k - x.len) h.1)
 
 back_placed_at : (b : Buffers) (fits none : Bool) (x : Piece) (xs : List Piece) (k : ℕ) → nat_le x.len k ≡ fits → (k == 0) ≡ none
-    → ArePlaced b (x ∷ xs) → IsCharBoundary (bytes_of b (x ∷ xs)) k → (IsCharBoundary (bytes_of b xs) (k - x.len) → ArePlaced b (back xs (k - x.len))) → ArePlaced b (back (x ∷ xs) k)
+    → ArePlaced b (x ∷ xs) → IsCharBoundary (bytes_of b (x ∷ xs)) k → (IsCharBoundary (bytes_of b xs) (k - x.len) → ArePlaced b (back xs (k - x.len)))
+    → ArePlaced b (back (x ∷ xs) k)
 back_placed_at b true none x xs k e f h c more = rw e (more (further_bounds b x xs k h.0 (grind (arith, nat_tests)) c))
 back_placed_at b false true x xs k e f h c more = rw (e, f) h
 back_placed_at b false false x xs k e f h c more = rw (e, f) (rest_placed b x xs k h.0 (grind (arith, nat_tests)) c, h.1)

@@ -23,9 +23,11 @@ pub IsUtf8-inside : (text : List ℕ) (start len : ℕ) → IsUtf8 text → IsRa
 IsUtf8-inside text start len utf8 r =
     IsUtf8-take (drop start text) len (IsUtf8-drop text start utf8 r.start_bounds) (IsCharBoundary-drop text start len r.stop_bounds)
 
-pub IsUtf8-spliced : (text new : List ℕ) (start len : ℕ) → IsUtf8 text → IsUtf8 new → IsRange text start (start + len) → IsUtf8 (spliced text start (start + len) new)
+pub IsUtf8-spliced : (text new : List ℕ) (start len : ℕ) → IsUtf8 text → IsUtf8 new → IsRange text start (start + len)
+    → IsUtf8 (spliced text start (start + len) new)
 IsUtf8-spliced text new start len utf8 more r =
-    IsUtf8-append (take start text ++ new) (drop (start + len) text) (IsUtf8-append (take start text) new (IsUtf8-take text start utf8 r.start_bounds) more) (IsUtf8-drop text (start + len) utf8 r.stop_bounds)
+    IsUtf8-append (take start text ++ new) (drop (start + len) text) (IsUtf8-append (take start text) new (IsUtf8-take text start utf8 r.start_bounds) more)
+    (IsUtf8-drop text (start + len) utf8 r.stop_bounds)
 
 -- what was put in stands between two places
 pub IsRange-spliced : (text new : List ℕ) (start len : ℕ) → IsUtf8 text → IsUtf8 new → IsRange text start (start + len)
@@ -36,7 +38,8 @@ IsRange-spliced text new start len utf8 more r =
     let t : List ℕ = spliced text start (start + len) new in
     record {
       start_bounds = subst (IsCharBoundary t) before
-          (IsCharBoundary-at_seam t (take start text) (new ++ drop (start + len) text) (append_assoc (take start text) new (drop (start + len) text)) (IsUtf8-append new (drop (start + len) text) more rest));
+          (IsCharBoundary-at_seam t (take start text) (new ++ drop (start + len) text) (append_assoc (take start text) new (drop (start + len) text))
+          (IsUtf8-append new (drop (start + len) text) more rest));
       stop_bounds = subst (IsCharBoundary t) (length-append (take start text) new ∙ ap (λ n. n + length new) before)
           (IsCharBoundary-at_seam t (take start text ++ new) (drop (start + len) text) refl rest);
       in_order = omega arith;

@@ -1,5 +1,6 @@
 -- The piece that holds an offset, and the text from there on.
-use Rattle.std.proofs.Common.{◌≡◌, ℕ, ◌+◌, ◌-◌, ◌<◌, ◌≤◌, Bool, true, false, nat_le, List, [], ◌∷◌, length, take, drop, get_or, Some, None, refl, ap, sym, subst, ◌∙◌, length-append, arith}
+use Rattle.std.proofs.Common.{◌≡◌, ℕ, ◌+◌, ◌-◌, ◌<◌, ◌≤◌, Bool, true, false, nat_le, List, [], ◌∷◌, length, take, drop, get_or, Some, None, refl, ap, sym}
+use Rattle.std.proofs.Common.{subst, ◌∙◌, length-append, arith}
 use Rattle.std.proofs.lemmas.Bool.Decides.{nat_tests}
 use Rattle.std.proofs.lemmas.List.{get_or_append_left, get_or-append_right, get_or-take, get_or-drop, length-take, length-drop, take_at, drop-append-le}
 use Rattle.std.proofs.lemmas.Str.{IsUtf8-append, IsUtf8-take, IsUtf8-drop, IsCharBoundary-start, IsCharBoundary-from_take, IsCharBoundary-from_rest}
@@ -90,16 +91,19 @@ module _ (b : Buffers) (ps : List Piece) (k : ℕ) (p : Piece) (j : ℕ) (h : Ho
       let start : IsCharBoundary text p.start =
       (omega (arith, h.placed.inside), λ inside high. omega (arith, same, first.1, length-piece_bytes b p h.placed, h.before_end)) in
       IsCharBoundary-from_take text (p.start + p.len) utf8 h.placed.inside
-      (subst IsUtf8 (sym (take-add p.start p.len text)) (IsUtf8-append (take p.start text) (piece_bytes b p) (IsUtf8-take text p.start utf8 start) h.placed.utf8))
+      (subst IsUtf8 (sym (take-add p.start p.len text))
+      (IsUtf8-append (take p.start text) (piece_bytes b p) (IsUtf8-take text p.start utf8 start) h.placed.utf8))
 
 -- what a text goes on with, up to a place between two characters
 pub rest_bounds : (text : List ℕ) (k : ℕ) (rest : List ℕ) → IsUtf8 text → IsCharBoundary text k → IsUtf8 rest → take (length rest) (drop k text) ≡ rest
     → IsCharBoundary text (k + length rest)
 rest_bounds text k rest utf8 c rest_utf8 e =
     IsCharBoundary-from_rest text k (length rest) c.0
-    (IsCharBoundary-from_take (drop k text) (length rest) (IsUtf8-drop text k utf8 c) (omega (arith, ap length e, length-take (length rest) (drop k text))) (subst IsUtf8 (sym e) rest_utf8))
+    (IsCharBoundary-from_take (drop k text) (length rest) (IsUtf8-drop text k utf8 c) (omega (arith, ap length e, length-take (length rest) (drop k text)))
+    (subst IsUtf8 (sym e) rest_utf8))
 
-pub is_rest : (b : Buffers) (ps : List Piece) (k : ℕ) (p : Piece) (j : ℕ) (rest : List ℕ) → Holds b ps k p j → ArePlaced b ps → IsCharBoundary (bytes_of b ps) k → IsUtf8 rest
+pub is_rest : (b : Buffers) (ps : List Piece) (k : ℕ) (p : Piece) (j : ℕ) (rest : List ℕ) → Holds b ps k p j → ArePlaced b ps → IsCharBoundary (bytes_of b ps) k
+    → IsUtf8 rest
     → rest ≡ piece_bytes b (rest_of p j) → length rest ≡ p.len - j → IsRest (bytes_of b ps) k rest
 is_rest b ps k p j rest h placed c utf8 e count =
     let bytes : take (length rest) (drop k (bytes_of b ps)) ≡ rest = rw count (h.bytes ∙ sym e) in

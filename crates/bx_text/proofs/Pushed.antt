@@ -1,5 +1,6 @@
 -- The bytes of pieces with one piece more, which may make the last one longer.
-use Rattle.std.proofs.Common.{◌≡◌, ℕ, ◌+◌, Bool, true, false, ◌&&◌, ◌==◌, List, [], ◌∷◌, ◌++◌, length, take, drop, Option, Some, None, refl, ap, sym, subst, ◌∙◌, append_assoc, length-append, arith}
+use Rattle.std.proofs.Common.{◌≡◌, ℕ, ◌+◌, Bool, true, false, ◌&&◌, ◌==◌, List, [], ◌∷◌, ◌++◌, length, take, drop, Option, Some, None, refl, ap, sym, subst}
+use Rattle.std.proofs.Common.{◌∙◌, append_assoc, length-append, arith}
 use Rattle.std.proofs.lemmas.Bool.Decides.{nat_tests}
 use Rattle.std.proofs.lemmas.List.{append-nil, drop-drop, drop_at, take_all}
 use Rattle.std.proofs.lemmas.Str.{IsUtf8-append}
@@ -44,7 +45,8 @@ joined_bytes b p q e =
     let h = goes_on_parts p q e in
     let text : List ℕ = buffer_bytes b p.buffer in
     take-add p.len q.len (drop p.start text)
-    ∙ ap (λ xs. take p.len (drop p.start text) ++ take q.len xs) (drop-drop p.len p.start text ∙ ap (λ n. drop n text) h.start ∙ ap (λ x. drop q.start (buffer_bytes b x)) h.buffer)
+    ∙ ap (λ xs. take p.len (drop p.start text) ++ take q.len xs)
+    (drop-drop p.len p.start text ∙ ap (λ n. drop n text) h.start ∙ ap (λ x. drop q.start (buffer_bytes b x)) h.buffer)
 
 joined_placed : (b : Buffers) (p q : Piece) → goes_on p q ≡ true → IsPlaced b p → IsPlaced b q → IsPlaced b (joined p q)
 joined_placed b p q e hp hq =
@@ -56,7 +58,8 @@ joined_placed b p q e hp hq =
 
 -- ---- the last piece made longer
 
-bytes_of-longer : (b : Buffers) (ps : List Piece) (p q : Piece) → last_of ps ≡ Some p → goes_on p q ≡ true → bytes_of b (longer ps q.len) ≡ bytes_of b ps ++ piece_bytes b q
+bytes_of-longer : (b : Buffers) (ps : List Piece) (p q : Piece) → last_of ps ≡ Some p → goes_on p q ≡ true
+    → bytes_of b (longer ps q.len) ≡ bytes_of b ps ++ piece_bytes b q
 bytes_of-longer b [] p q h e = absurd (cc)
 bytes_of-longer b (x ∷ []) p q h e =
     let same : p ≡ x = cc in
@@ -65,7 +68,8 @@ bytes_of-longer b (x ∷ []) p q h e =
 bytes_of-longer b (x ∷ y ∷ ys) p q h e =
     ap (λ xs. piece_bytes b x ++ xs) (bytes_of-longer b (y ∷ ys) p q h e) ∙ sym (append_assoc (piece_bytes b x) (bytes_of b (y ∷ ys)) (piece_bytes b q))
 
-longer_placed : (b : Buffers) (ps : List Piece) (p q : Piece) → last_of ps ≡ Some p → goes_on p q ≡ true → ArePlaced b ps → IsPlaced b q → ArePlaced b (longer ps q.len)
+longer_placed : (b : Buffers) (ps : List Piece) (p q : Piece) → last_of ps ≡ Some p → goes_on p q ≡ true → ArePlaced b ps → IsPlaced b q
+    → ArePlaced b (longer ps q.len)
 longer_placed b [] p q h e hs hq = tt
 longer_placed b (x ∷ []) p q h e hs hq =
     let same : p ≡ x = cc in
@@ -84,7 +88,8 @@ behind b ps q = record {
   placed = λ hs hq. ArePlaced-append b ps (q ∷ []) hs (hq, tt);
 }
 
-is_pushed_at : (joins : Bool) (b : Buffers) (p : Piece) (ps : List Piece) (q : Piece) → goes_on p q ≡ joins → last_of ps ≡ Some p → IsPushed b ps q (pushed_after (Some p) ps q)
+is_pushed_at : (joins : Bool) (b : Buffers) (p : Piece) (ps : List Piece) (q : Piece) → goes_on p q ≡ joins → last_of ps ≡ Some p
+    → IsPushed b ps q (pushed_after (Some p) ps q)
 is_pushed_at true b p ps q e h = rw e (record { bytes = bytes_of-longer b ps p q h e; placed = longer_placed b ps p q h e })
 is_pushed_at false b p ps q e h = rw e (behind b ps q)
 

@@ -11,7 +11,8 @@ use Rattle.bx_text.proofs.Characters.{IsRange-spliced}
 use Rattle.bx_text.proofs.Bytes.{length-bytes_of, IsUtf8-bytes_of}
 use Rattle.bx_text.proofs.Versions.{swapped_bytes, swapped_placed, old_bytes, old_placed, length-spliced, spliced_back, spliced_leads}
 
-module _ (b : Buffers) (ps : List Piece) (s : Step) (placed : ArePlaced b ps) (range : IsRange (bytes_of b ps) s.start (s.start + s.len)) (span_placed : ArePlaced b s.span) where
+module _ (b : Buffers) (ps : List Piece) (s : Step) (placed : ArePlaced b ps) (range : IsRange (bytes_of b ps) s.start (s.start + s.len))
+    (span_placed : ArePlaced b s.span) where
   pub turned_bytes : bytes_of b (turned_pieces ps s) ≡ swapped b (bytes_of b ps) s
   turned_bytes = swapped_bytes b ps s.span s.start s.len placed range.start_bounds
 
@@ -28,7 +29,8 @@ module _ (b : Buffers) (ps : List Piece) (s : Step) (placed : ArePlaced b ps) (r
   turned_back =
       ap (λ (t : List ℕ). spliced t s.start (s.start + total s.span) (bytes_of b (front (back ps s.start) s.len))) turned_bytes
       ∙ ap (spliced (swapped b (bytes_of b ps) s) s.start (s.start + total s.span)) (old_bytes b ps s.start s.len placed range)
-      ∙ ap (λ n. spliced (swapped b (bytes_of b ps) s) s.start (s.start + n) (take s.len (drop s.start (bytes_of b ps)))) (sym (length-bytes_of b s.span span_placed))
+      ∙ ap (λ n. spliced (swapped b (bytes_of b ps) s) s.start (s.start + n) (take s.len (drop s.start (bytes_of b ps))))
+      (sym (length-bytes_of b s.span span_placed))
       ∙ spliced_back (bytes_of b ps) (bytes_of b s.span) s.start s.len range.stop_bounds.0
 
   pub turned_steps : (steps others : List Step) → length (bytes_of b ps) ≤ largest_text → AreSteps b (bytes_of b ps) others
@@ -94,7 +96,12 @@ span_short b ps items rest s placed short steps e =
     let h : AreSteps b (bytes_of b ps) (s ∷ reverse rest) = subst (AreSteps b (bytes_of b ps)) (reverse_last rest items s e) steps in
     let range : IsRange (bytes_of b ps) s.start (s.start + s.len) = h.0 in
     let after : length (swapped b (bytes_of b ps) s) ≤ largest_text = h.2 in
-    omega (arith, length-spliced (bytes_of b ps) (bytes_of b s.span) s.start s.len range.stop_bounds.0, length-bytes_of b s.span h.1, length-bytes_of b ps placed)
+    omega (
+      arith,
+      length-spliced (bytes_of b ps) (bytes_of b s.span) s.start s.len range.stop_bounds.0,
+      length-bytes_of b s.span h.1,
+      length-bytes_of b ps placed,
+    )
 
 pub record IsTurned (b : Buffers) (P : List Piece) (from to : List Step) : Type 0 where
   pub placed : ArePlaced b P
@@ -102,7 +109,8 @@ pub record IsTurned (b : Buffers) (P : List Piece) (from to : List Step) : Type 
   pub from_steps : AreSteps b (bytes_of b P) (reverse from)
   pub to_steps : AreSteps b (bytes_of b P) (reverse to)
 
-pub turned_sound : (b : Buffers) (ps : List Piece) (from to : List Step) (P : List Piece) (from' to' : List Step) → ArePlaced b ps → length (bytes_of b ps) ≤ largest_text
+pub turned_sound : (b : Buffers) (ps : List Piece) (from to : List Step) (P : List Piece) (from' to' : List Step) → ArePlaced b ps
+    → length (bytes_of b ps) ≤ largest_text
     → AreSteps b (bytes_of b ps) (reverse from) → AreSteps b (bytes_of b ps) (reverse to) → Turns ps from to P from' to' → IsTurned b P from' to'
 turned_sound b ps from to P from' to' placed short from_steps to_steps t =
     let s = t.0 in
@@ -146,7 +154,8 @@ step_leads b ps s place placed range span_placed =
 
 pub undone_leads : (b : Buffers) (ps : List Piece) (from to : List Step) (future : List Edit) (P : List Piece) (from' to' : List Step) → ArePlaced b ps
     → AreSteps b (bytes_of b ps) (reverse from) → Turns ps from to P from' to'
-    → IfSome (next_undo (record { text = bytes_of b ps; past = past_of b (bytes_of b ps) (reverse from); future = future })) (λ c. Leads (bytes_of b ps) c (bytes_of b P))
+    → IfSome (next_undo (record { text = bytes_of b ps; past = past_of b (bytes_of b ps) (reverse from); future = future }))
+    (λ c. Leads (bytes_of b ps) c (bytes_of b P))
 undone_leads b ps from to future P from' to' placed from_steps t =
     let s = t.0 in
     let next = reverse_last from' from s t.1 in
@@ -155,7 +164,8 @@ undone_leads b ps from to future P from' to' placed from_steps t =
 
 pub redone_leads : (b : Buffers) (ps : List Piece) (from to : List Step) (past : List Edit) (P : List Piece) (from' to' : List Step) → ArePlaced b ps
     → AreSteps b (bytes_of b ps) (reverse from) → Turns ps from to P from' to'
-    → IfSome (next_redo (record { text = bytes_of b ps; past = past; future = future_of b (bytes_of b ps) (reverse from) })) (λ c. Leads (bytes_of b ps) c (bytes_of b P))
+    → IfSome (next_redo (record { text = bytes_of b ps; past = past; future = future_of b (bytes_of b ps) (reverse from) }))
+    (λ c. Leads (bytes_of b ps) c (bytes_of b P))
 redone_leads b ps from to past P from' to' placed from_steps t =
     let s = t.0 in
     let next = reverse_last from' from s t.1 in

@@ -16,7 +16,8 @@ use Rattle.bx_text.proofs.Bytes.{bytes_of-append, bytes_of-front, bytes_of-back,
 -- ---- a swap
 
 -- the end of what gives way, from its start on
-back_bounds : (b : Buffers) (ps : List Piece) (start len : ℕ) → ArePlaced b ps → IsRange (bytes_of b ps) start (start + len) → IsCharBoundary (bytes_of b (back ps start)) len
+back_bounds : (b : Buffers) (ps : List Piece) (start len : ℕ) → ArePlaced b ps → IsRange (bytes_of b ps) start (start + len)
+    → IsCharBoundary (bytes_of b (back ps start)) len
 back_bounds b ps start len h r =
     subst (λ xs. IsCharBoundary xs len) (sym (bytes_of-back b ps start h)) (IsCharBoundary-drop (bytes_of b ps) start len r.stop_bounds)
 
@@ -26,7 +27,8 @@ pub last_bytes : (b : Buffers) (ps : List Piece) (start len : ℕ) → ArePlaced
 last_bytes b ps start len h c =
     bytes_of-back b (back ps start) len (ArePlaced-back b ps start h c) ∙ ap (drop len) (bytes_of-back b ps start h) ∙ drop-drop len start (bytes_of b ps)
 
-pub last_placed : (b : Buffers) (ps : List Piece) (start len : ℕ) → ArePlaced b ps → IsRange (bytes_of b ps) start (start + len) → ArePlaced b (back (back ps start) len)
+pub last_placed : (b : Buffers) (ps : List Piece) (start len : ℕ) → ArePlaced b ps → IsRange (bytes_of b ps) start (start + len)
+    → ArePlaced b (back (back ps start) len)
 last_placed b ps start len h r = ArePlaced-back b (back ps start) len (ArePlaced-back b ps start h r.start_bounds) (back_bounds b ps start len h r)
 
 pub swapped_bytes : (b : Buffers) (ps span : List Piece) (start len : ℕ) → ArePlaced b ps → IsCharBoundary (bytes_of b ps) start
@@ -49,7 +51,8 @@ pub old_bytes : (b : Buffers) (ps : List Piece) (start len : ℕ) → ArePlaced 
     → bytes_of b (front (back ps start) len) ≡ take len (drop start (bytes_of b ps))
 old_bytes b ps start len h r = bytes_of-front b (back ps start) len (ArePlaced-back b ps start h r.start_bounds) ∙ ap (take len) (bytes_of-back b ps start h)
 
-pub old_placed : (b : Buffers) (ps : List Piece) (start len : ℕ) → ArePlaced b ps → IsRange (bytes_of b ps) start (start + len) → ArePlaced b (front (back ps start) len)
+pub old_placed : (b : Buffers) (ps : List Piece) (start len : ℕ) → ArePlaced b ps → IsRange (bytes_of b ps) start (start + len)
+    → ArePlaced b (front (back ps start) len)
 old_placed b ps start len h r = ArePlaced-front b (back ps start) len (ArePlaced-back b ps start h r.start_bounds) (back_bounds b ps start len h r)
 
 -- ---- and back
@@ -68,11 +71,13 @@ length-spliced text new start len h =
 -- what stands before and after what was put in
 pub spliced_before : (text new : List ℕ) (start stop : ℕ) → start ≤ length text → take start (spliced text start stop new) ≡ take start text
 spliced_before text new start stop h =
-    ap (take start) (append_assoc (take start text) new (drop stop text)) ∙ take_at (take start text) (new ++ drop stop text) start (length-take-le start text h)
+    ap (take start) (append_assoc (take start text) new (drop stop text))
+    ∙ take_at (take start text) (new ++ drop stop text) start (length-take-le start text h)
 
 pub spliced_after : (text new : List ℕ) (start stop : ℕ) → start ≤ length text → drop (start + length new) (spliced text start stop new) ≡ drop stop text
 spliced_after text new start stop h =
-    drop_at (take start text ++ new) (drop stop text) (start + length new) (length-append (take start text) new ∙ ap (λ n. n + length new) (length-take-le start text h))
+    drop_at (take start text ++ new) (drop stop text) (start + length new)
+    (length-append (take start text) new ∙ ap (λ n. n + length new) (length-take-le start text h))
 
 pub spliced_back : (text new : List ℕ) (start len : ℕ) → start + len ≤ length text
     → spliced (spliced text start (start + len) new) start (start + length new) (take len (drop start text)) ≡ text
@@ -124,7 +129,8 @@ ArePlaced-grown b more (p ∷ ps) h = (IsPlaced-grown b more p h.0, ArePlaced-gr
 pub bytes_of-grown : (b : Buffers) (more : List ℕ) (ps : List Piece) → ArePlaced b ps → bytes_of (grown b more) ps ≡ bytes_of b ps
 bytes_of-grown b more [] h = refl
 bytes_of-grown b more (p ∷ ps) h =
-    ap (λ xs. xs ++ bytes_of (grown b more) ps) (stretch_grown b more p.buffer p.start p.len h.0.inside) ∙ ap (λ xs. piece_bytes b p ++ xs) (bytes_of-grown b more ps h.1)
+    ap (λ xs. xs ++ bytes_of (grown b more) ps) (stretch_grown b more p.buffer p.start p.len h.0.inside)
+    ∙ ap (λ xs. piece_bytes b p ++ xs) (bytes_of-grown b more ps h.1)
 
 swapped-grown : (b : Buffers) (more text : List ℕ) (s : Step) → ArePlaced b s.span → swapped (grown b more) text s ≡ swapped b text s
 swapped-grown b more text s h = ap (spliced text s.start (s.start + s.len)) (bytes_of-grown b more s.span h)
@@ -132,7 +138,14 @@ swapped-grown b more text s h = ap (spliced text s.start (s.start + s.len)) (byt
 pub past_of-grown : (b : Buffers) (more text : List ℕ) (ss : List Step) → AreSteps b text ss → past_of (grown b more) text ss ≡ past_of b text ss
 past_of-grown b more text [] h = refl
 past_of-grown b more text (s ∷ ss) h =
-    rw (swapped-grown b more text s h.1) (ap (λ (es : List Edit). record { before = record { text = swapped b text s; place = s.before }; after = record { text = text; place = s.after }; start = s.start; removed = total s.span; added = s.len } ∷ es) (past_of-grown b more (swapped b text s) ss h.3))
+    rw (swapped-grown b more text s h.1)
+    (ap (λ (es : List Edit). record {
+      before = record { text = swapped b text s; place = s.before };
+      after = record { text = text; place = s.after };
+      start = s.start;
+      removed = total s.span;
+      added = s.len;
+    } ∷ es) (past_of-grown b more (swapped b text s) ss h.3))
 
 pub AreSteps-grown : (b : Buffers) (more text : List ℕ) (ss : List Step) → AreSteps b text ss → AreSteps (grown b more) text ss
 AreSteps-grown b more text [] h = h

@@ -1,5 +1,6 @@
 -- No line of the class file speaks of a code past 10FFFF.
-use Rattle.std.proofs.Common.{◌≡◌, ◌<◌, ◌≤◌, ℕ, Bool, true, false, List, [], ◌∷◌, Option, Some, None, Result, Ok, Err, refl, sym, ap, ◌∙◌, map, length, arith, leb}
+use Rattle.std.proofs.Common.{◌≡◌, ◌<◌, ◌≤◌, ℕ, Bool, true, false, List, [], ◌∷◌, Option, Some, None, Result, Ok, Err, refl, sym, ap, ◌∙◌, map, length, arith}
+use Rattle.std.proofs.Common.{leb}
 use Rattle.std.specs.Prelude.{◌&&◌, ◌==◌, nat_le, if◌then◌else◌, IfSome, IfOk, filter_map, option_map, option_and_then, unwrap_or}
 use Rattle.std.specs.List.{cons_option, list_all, slice_split}
 use Rattle.std.specs.Char.{is_digit}
@@ -32,11 +33,13 @@ SaysBounded (Default r) = IsBounded r
 
 -- ---- what is read is bounded
 
-ok_then : {A B : Type 0} (Q : A → Type 0) (P : B → Type 0) (r : Result A Cause) (next : A → Result B Cause) → IfOk r Q → ((a : A) → Q a → IfOk (next a) P) → IfOk (and_then r next) P
+ok_then : {A B : Type 0} (Q : A → Type 0) (P : B → Type 0) (r : Result A Cause) (next : A → Result B Cause) → IfOk r Q → ((a : A) → Q a → IfOk (next a) P)
+    → IfOk (and_then r next) P
 ok_then Q P (Ok a) next first each = each a first
 ok_then Q P (Err cause) next first each = tt
 
-code_if : (long digits last : Bool) (value : ℕ) → last ≡ nat_le value 0x10FFFF → IfOk (let r : Result ℕ Cause = if long && (digits && last) then Ok value else Err BadCode in r) (λ code. code ≤ 0x10FFFF)
+code_if : (long digits last : Bool) (value : ℕ) → last ≡ nat_le value 0x10FFFF
+    → IfOk (let r : Result ℕ Cause = if long && (digits && last) then Ok value else Err BadCode in r) (λ code. code ≤ 0x10FFFF)
 code_if false digits last value is = tt
 code_if true false last value is = tt
 code_if true true false value is = tt
@@ -44,9 +47,11 @@ code_if true true true value is = leb-true value 0x10FFFF (sym is)
 
 code_bounded : (field : List ℕ) → IfOk (code_of field) (λ code. code ≤ 0x10FFFF)
 code_bounded field =
-    code_if (nat_le 4 (length field) && nat_le (length field) 6) (list_all (λ b. is_digit b 16) field) (nat_le (digits_value 16 field) 0x10FFFF) (digits_value 16 field) refl
+    code_if (nat_le 4 (length field) && nat_le (length field) 6) (list_all (λ b. is_digit b 16) field) (nat_le (digits_value 16 field) 0x10FFFF)
+    (digits_value 16 field) refl
 
-between_bounded : (low high : ℕ) (down : Bool) → high ≤ 0x10FFFF → IfOk (let r : Result Range Cause = if down then Err BadRange else Ok (record { low = low; high = high }) in r) (λ range. range.high ≤ 0x10FFFF)
+between_bounded : (low high : ℕ) (down : Bool) → high ≤ 0x10FFFF
+    → IfOk (let r : Result Range Cause = if down then Err BadRange else Ok (record { low = low; high = high }) in r) (λ range. range.high ≤ 0x10FFFF)
 between_bounded low high true bounded = tt
 between_bounded low high false bounded = bounded
 
@@ -57,13 +62,15 @@ range_bounded (low ∷ [] ∷ []) = tt
 range_bounded (low ∷ (b ∷ gap) ∷ rest) = tt
 range_bounded (low ∷ [] ∷ high ∷ []) =
     ok_then (λ l. l ≤ 0x10FFFF) (λ range. range.high ≤ 0x10FFFF) (code_of low) _ (code_bounded low)
-    (λ l low_bounded. ok_then (λ h. h ≤ 0x10FFFF) (λ range. range.high ≤ 0x10FFFF) (code_of high) _ (code_bounded high) (λ h bounded. between_bounded l h _ bounded))
+    (λ l low_bounded. ok_then (λ h. h ≤ 0x10FFFF) (λ range. range.high ≤ 0x10FFFF) (code_of high) _ (code_bounded high)
+    (λ h bounded. between_bounded l h _ bounded))
 range_bounded (low ∷ [] ∷ high ∷ more ∷ rest) = tt
 
 range_of_bounded : (field : List ℕ) → IfOk (range_of field) (λ range. range.high ≤ 0x10FFFF)
 range_of_bounded field = range_bounded (slice_split (λ b. b == 0x2E) field)
 
-named_bounded : (range : Range) (class : Result Class Cause) → range.high ≤ 0x10FFFF → IfOk (let r : Result ClassRange Cause = and_then class (λ c. Ok (record { range = range; class = c })) in r) IsBounded
+named_bounded : (range : Range) (class : Result Class Cause) → range.high ≤ 0x10FFFF
+    → IfOk (let r : Result ClassRange Cause = and_then class (λ c. Ok (record { range = range; class = c })) in r) IsBounded
 named_bounded range (Ok c) bounded = bounded
 named_bounded range (Err cause) bounded = tt
 
@@ -76,7 +83,8 @@ class_range_bounded (range ∷ name ∷ third ∷ rest) = tt
 
 -- ---- what a line says is bounded
 
-given_some : (r : Result ClassRange Cause) → IfOk r IsBounded → IfSome (entry (and_then (and_then r (λ range. Ok (Given range))) (λ e. Ok (Some e)))) SaysBounded
+given_some : (r : Result ClassRange Cause) → IfOk r IsBounded
+    → IfSome (entry (and_then (and_then r (λ range. Ok (Given range))) (λ e. Ok (Some e)))) SaysBounded
 given_some (Ok range) bounded = bounded
 given_some (Err cause) bounded = tt
 
@@ -91,7 +99,9 @@ default_after (Some text) = default_some (class_range (fields text)) (class_rang
 line_bounded : (line : List ℕ) → IfSome (entry (class_line line)) SaysBounded
 line_bounded line = go (list_all is_blank (before_comment line))
   where
-    go : (blank : Bool) → IfSome (entry (let r : Line ClassEntry = if blank then Ok (default_of line) else and_then (given_of (fields (before_comment line))) (λ e. Ok (Some e)) in r)) SaysBounded
+    go : (blank : Bool) → IfSome (entry
+        (let r : Line ClassEntry = if blank then Ok (default_of line) else and_then (given_of (fields (before_comment line))) (λ e. Ok (Some e)) in r))
+        SaysBounded
     go true = default_after (missing line)
     go false = given_some (class_range (fields (before_comment line))) (class_range_bounded (fields (before_comment line)))
 
@@ -104,19 +114,22 @@ and_false false c is = refl
 not_covered : (r : ClassRange) (code : ℕ) → IsBounded r → 0x10FFFF < code → covers r.range code ≡ false
 not_covered r code bounded past = and_false (leb r.range.low code) (leb code r.range.high) (lt-leb code r.range.high (omega arith))
 
-found_none : (o : Option ClassRange) (rs : List ClassRange) (code : ℕ) → IfSome o IsBounded → 0x10FFFF < code → find_last (λ r. covers r.range code) rs ≡ None → find_last (λ r. covers r.range code) (cons_option o rs) ≡ None
+found_none : (o : Option ClassRange) (rs : List ClassRange) (code : ℕ) → IfSome o IsBounded → 0x10FFFF < code → find_last (λ r. covers r.range code) rs ≡ None
+    → find_last (λ r. covers r.range code) (cons_option o rs) ≡ None
 found_none None rs code bounded past none = none
 found_none (Some r) rs code bounded past none =
     find_last-cons (λ r. covers r.range code) r rs
     ∙ ap (λ o. option_or o (if covers r.range code then Some r else None)) none
     ∙ ap (λ b. if b then Some r else None) (not_covered r code bounded past)
 
-found_none_said : (kind : ClassEntry → Option ClassRange) → ((e : ClassEntry) → SaysBounded e → IfSome (kind e) IsBounded) → (o : Option ClassEntry) (es : List ClassEntry) (code : ℕ) → IfSome o SaysBounded → 0x10FFFF < code
+found_none_said : (kind : ClassEntry → Option ClassRange) → ((e : ClassEntry) → SaysBounded e → IfSome (kind e) IsBounded)
+    → (o : Option ClassEntry) (es : List ClassEntry) (code : ℕ) → IfSome o SaysBounded → 0x10FFFF < code
     → find_last (λ r. covers r.range code) (filter_map kind es) ≡ None → find_last (λ r. covers r.range code) (filter_map kind (cons_option o es)) ≡ None
 found_none_said kind bounds None es code bounded past none = none
 found_none_said kind bounds (Some e) es code bounded past none = found_none (kind e) (filter_map kind es) code (bounds e bounded) past none
 
-none_found : (kind : ClassEntry → Option ClassRange) → ((e : ClassEntry) → SaysBounded e → IfSome (kind e) IsBounded) → (ls : List (List ℕ)) (code : ℕ) → 0x10FFFF < code
+none_found : (kind : ClassEntry → Option ClassRange) → ((e : ClassEntry) → SaysBounded e → IfSome (kind e) IsBounded) → (ls : List (List ℕ)) (code : ℕ)
+    → 0x10FFFF < code
     → find_last (λ r. covers r.range code) (filter_map kind (filter_map entry (map class_line ls))) ≡ None
 none_found kind bounds [] code past = refl
 none_found kind bounds (l ∷ ls) code past =
@@ -133,5 +146,6 @@ default_bounds (Default r) bounded = bounded
 -- a code past the last is of class L
 pub class_past_last : (bytes : List ℕ) (code : ℕ) → 0x10FFFF < code → class_in_file bytes code ≡ L
 class_past_last bytes code past =
-    ap (λ o. unwrap_or (option_or (option_map (λ r. r.class) o) (class_by_ranges (filter_map default (filter_map entry (map class_line (lines bytes)))) code)) L) (none_found given given_bounds (lines bytes) code past)
+    ap (λ o. unwrap_or (option_or (option_map (λ r. r.class) o) (class_by_ranges (filter_map default (filter_map entry (map class_line (lines bytes)))) code))
+    L) (none_found given given_bounds (lines bytes) code past)
     ∙ ap (λ o. unwrap_or (option_map (λ r. r.class) o) L) (none_found default default_bounds (lines bytes) code past)

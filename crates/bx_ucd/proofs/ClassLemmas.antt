@@ -5,15 +5,19 @@ use Rattle.bx_ucd.specs.declared.class.Class.{Class}
 use Rattle.bx_ucd.specs.declared.blocks.Block.{Block}
 
 -- a block whose classes are each code's own has the class that is written
-pub class_in_written : (block : Block) (i : ℕ) (class : Class) → block.whole ≡ None → i < length block.each → class_in (record block { each = set block.each i class }) i ≡ class
+pub class_in_written : (block : Block) (i : ℕ) (class : Class) → block.whole ≡ None → i < length block.each
+    → class_in (record block { each = set block.each i class }) i ≡ class
 class_in_written block i class own lt = rw (own, get_or-set_same) refl
 
 -- and what it had at the other places
-pub class_in_kept : (block : Block) (i k : ℕ) (class : Class) → block.whole ≡ None → k ≢ i → class_in (record block { each = set block.each i class }) k ≡ class_in block k
+pub class_in_kept : (block : Block) (i k : ℕ) (class : Class) → block.whole ≡ None → k ≢ i
+    → class_in (record block { each = set block.each i class }) k ≡ class_in block k
 class_in_kept block i k class own ne = rw (own, get_or-set_other) refl
 
 -- one more place has the class
-pub class_in_more : (block : Block) (low i : ℕ) (class : Class) → block.whole ≡ None → i < length block.each → ((k : ℕ) → low ≤ k → k < i → class_in block k ≡ class) → (k : ℕ) → low ≤ k → k < i + 1 → class_in (record block { each = set block.each i class }) k ≡ class
+pub class_in_more : (block : Block) (low i : ℕ) (class : Class) → block.whole ≡ None → i < length block.each
+    → ((k : ℕ) → low ≤ k → k < i → class_in block k ≡ class) → (k : ℕ) → low ≤ k → k < i + 1
+    → class_in (record block { each = set block.each i class }) k ≡ class
 class_in_more block low i class own within before k ge lt =
     below_more (λ k. low ≤ k → class_in (record block { each = set block.each i class }) k ≡ class) i
     (λ k lt ge. class_in_kept block i k class own (omega arith) ∙ before k ge lt)

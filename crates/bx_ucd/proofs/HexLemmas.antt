@@ -24,12 +24,14 @@ pub values_more : (value digit i : ℕ) → value < values i → digit < 16 → 
 values_more value digit i small one = rw add-one (omega arith)
 
 -- one more digit is tested
-pub tested_more : (ds : List ℕ) (i c digit : ℕ) → i < length ds → c ≡ get_or ds i 0 → digit_value c < 16 → list_all (λ b. is_digit b 16) (drop i ds) ≡ list_all (λ b. is_digit b 16) (drop (i + 1) ds)
+pub tested_more : (ds : List ℕ) (i c digit : ℕ) → i < length ds → c ≡ get_or ds i 0 → digit_value c < 16
+    → list_all (λ b. is_digit b 16) (drop i ds) ≡ list_all (λ b. is_digit b 16) (drop (i + 1) ds)
 tested_more ds i c digit lt at small =
     let e : is_digit (get_or ds i 0) 16 ≡ true = lt-ltb _ _ (rw (← at) small) in
     at_drop_more (λ xs. list_all (λ b. is_digit b 16) xs) ds i 0 lt ∙ rw e refl
 
 -- one more digit is counted
-pub value_more : (ds : List ℕ) (i c value digit : ℕ) → i < length ds → c ≡ get_or ds i 0 → digit ≡ digit_value c → digits_value_after 16 value (drop i ds) ≡ digits_value_after 16 (value * 16 + digit) (drop (i + 1) ds)
+pub value_more : (ds : List ℕ) (i c value digit : ℕ) → i < length ds → c ≡ get_or ds i 0 → digit ≡ digit_value c
+    → digits_value_after 16 value (drop i ds) ≡ digits_value_after 16 (value * 16 + digit) (drop (i + 1) ds)
 value_more ds i c value digit lt at is =
     at_drop_more (λ xs. digits_value_after 16 value xs) ds i 0 lt ∙ rw (is, at) refl

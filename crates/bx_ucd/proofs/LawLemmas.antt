@@ -17,7 +17,8 @@ use Rattle.bx_ucd.proofs.AnswerLemmas.{find_last-cons}
 abbrev HasNoControl : MirrorEntry → Type 0
 HasNoControl e = is_control e.mirror ≡ false
 
-between : (first second : Bool) (e : MirrorEntry) → is_control e.mirror ≡ second → IfOk (let r : Result MirrorEntry Cause = if first || second then Err ControlInMirror else Ok e in r) HasNoControl
+between : (first second : Bool) (e : MirrorEntry) → is_control e.mirror ≡ second
+    → IfOk (let r : Result MirrorEntry Cause = if first || second then Err ControlInMirror else Ok e in r) HasNoControl
 between true second e is = tt
 between false true e is = tt
 between false false e is = is
@@ -30,7 +31,8 @@ entry_no_control : (fs : List (List ℕ)) → IfOk (mirror_entry fs) HasNoContro
 entry_no_control [] = tt
 entry_no_control (a ∷ []) = tt
 entry_no_control (a ∷ b ∷ []) =
-    ok_after HasNoControl (character_of a) _ (λ c. ok_after HasNoControl (character_of b) _ (λ m. between (is_control c) (is_control m) (record { character = c; mirror = m }) refl))
+    ok_after HasNoControl (character_of a) _
+    (λ c. ok_after HasNoControl (character_of b) _ (λ m. between (is_control c) (is_control m) (record { character = c; mirror = m }) refl))
 entry_no_control (a ∷ b ∷ c ∷ fs) = tt
 
 some_of : (r : Result MirrorEntry Cause) → IfOk r HasNoControl → IfSome (entry (and_then r (λ e. Ok (Some e)))) HasNoControl
@@ -40,16 +42,19 @@ some_of (Err cause) h = tt
 line_no_control : (line : List ℕ) → IfSome (entry (mirror_line line)) HasNoControl
 line_no_control line = go (list_all is_blank (before_comment line))
   where
-    go : (b : Bool) → IfSome (entry (let r : Line MirrorEntry = if b then Ok (plain line) else and_then (mirror_entry (fields (before_comment line))) (λ e. Ok (Some e)) in r)) HasNoControl
+    go : (b : Bool) → IfSome (entry
+        (let r : Line MirrorEntry = if b then Ok (plain line) else and_then (mirror_entry (fields (before_comment line))) (λ e. Ok (Some e)) in r)) HasNoControl
     go true = tt
     go false = some_of (mirror_entry (fields (before_comment line))) (entry_no_control (fields (before_comment line)))
 
-either : (later : Option MirrorEntry) (b : Bool) (e : MirrorEntry) → IfSome later HasNoControl → HasNoControl e → IfSome (option_or later (if b then Some e else None)) HasNoControl
+either : (later : Option MirrorEntry) (b : Bool) (e : MirrorEntry) → IfSome later HasNoControl → HasNoControl e
+    → IfSome (option_or later (if b then Some e else None)) HasNoControl
 either (Some l) b e first second = first
 either None true e first second = second
 either None false e first second = tt
 
-one_more : (test : MirrorEntry → Bool) (o : Option MirrorEntry) (es : List MirrorEntry) → IfSome o HasNoControl → IfSome (find_last test es) HasNoControl → IfSome (find_last test (cons_option o es)) HasNoControl
+one_more : (test : MirrorEntry → Bool) (o : Option MirrorEntry) (es : List MirrorEntry) → IfSome o HasNoControl → IfSome (find_last test es) HasNoControl
+    → IfSome (find_last test (cons_option o es)) HasNoControl
 one_more test None es first later = later
 one_more test (Some e) es first later =
     subst (λ o. IfSome o HasNoControl) (sym (find_last-cons test e es)) (either (find_last test es) (test e) e later first)

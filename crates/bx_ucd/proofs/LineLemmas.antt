@@ -19,12 +19,14 @@ lines_last (b ∷ bs) some none =
     ap lines_of_parts (slice_split_whole (λ b. b == 10) (b ∷ bs) none) ∙ rw e refl
 
 -- a part that others follow is a line, less its carriage return
-lines_of_parts-cons : (part : List ℕ) (parts : List (List ℕ)) → 0 < length parts → lines_of_parts (part ∷ parts) ≡ strip_carriage_return part ∷ lines_of_parts parts
+lines_of_parts-cons : (part : List ℕ) (parts : List (List ℕ)) → 0 < length parts
+    → lines_of_parts (part ∷ parts) ≡ strip_carriage_return part ∷ lines_of_parts parts
 lines_of_parts-cons part [] some = absurd (omega arith)
 lines_of_parts-cons part (next ∷ more) some = refl
 
 -- what stands before the first line feed is the first line, less its carriage return
-pub lines_first : (bs : List ℕ) → position_or_len (λ b. b == 10) bs < length bs → lines bs ≡ strip_carriage_return (before_first (λ b. b == 10) bs) ∷ lines (after_first (λ b. b == 10) bs)
+pub lines_first : (bs : List ℕ) → position_or_len (λ b. b == 10) bs < length bs
+    → lines bs ≡ strip_carriage_return (before_first (λ b. b == 10) bs) ∷ lines (after_first (λ b. b == 10) bs)
 lines_first bs lt =
     let first = slice_split_first (λ b. b == 10) bs 0 lt in
     let parts = slice_split (λ b. b == 10) (after_first (λ b. b == 10) bs) in
@@ -32,18 +34,22 @@ lines_first bs lt =
     ap lines_of_parts first ∙ lines_of_parts-cons (before_first (λ b. b == 10) bs) parts some
 
 -- the same, in the words of the code
-pub lines_at : (bs line : List ℕ) (n : ℕ) → n ≡ position_or_len (λ b. b == 10) bs → (n ≡ length bs → ⊥) → line ≡ strip_carriage_return (take n bs) → lines bs ≡ line ∷ lines (take (length bs - (n + 1)) (drop (n + 1) bs))
+pub lines_at : (bs line : List ℕ) (n : ℕ) → n ≡ position_or_len (λ b. b == 10) bs → (n ≡ length bs → ⊥) → line ≡ strip_carriage_return (take n bs)
+    → lines bs ≡ line ∷ lines (take (length bs - (n + 1)) (drop (n + 1) bs))
 lines_at bs line n at more stripped =
     let within : position_or_len (λ b. b == 10) bs ≤ length bs = prefix_len-le-length _ bs in
-    let first : lines bs ≡ strip_carriage_return (take (position_or_len (λ b. b == 10) bs) bs) ∷ lines (drop (position_or_len (λ b. b == 10) bs + 1) bs) = lines_first bs (omega arith) in
+    let first : lines bs ≡ strip_carriage_return (take (position_or_len (λ b. b == 10) bs) bs) ∷ lines (drop (position_or_len (λ b. b == 10) bs + 1) bs) =
+    lines_first bs (omega arith) in
     let rest : take (length bs - (n + 1)) (drop (n + 1) bs) ≡ drop (n + 1) bs = take_rest bs (n + 1) in
     rw (rest, stripped, at) first
 
 -- what stands before the first that passes is the first part
-pub slice_split_at_first : (p : ℕ → Bool) (bs : List ℕ) (n : ℕ) → n ≡ position_or_len p bs → (n ≡ length bs → ⊥) → slice_split p bs ≡ take n bs ∷ slice_split p (take (length bs - (n + 1)) (drop (n + 1) bs))
+pub slice_split_at_first : (p : ℕ → Bool) (bs : List ℕ) (n : ℕ) → n ≡ position_or_len p bs → (n ≡ length bs → ⊥)
+    → slice_split p bs ≡ take n bs ∷ slice_split p (take (length bs - (n + 1)) (drop (n + 1) bs))
 slice_split_at_first p bs n at more =
     let within : position_or_len p bs ≤ length bs = prefix_len-le-length _ bs in
-    let first : slice_split p bs ≡ take (position_or_len p bs) bs ∷ slice_split p (drop (position_or_len p bs + 1) bs) = slice_split_first p bs 0 (omega arith) in
+    let first : slice_split p bs ≡ take (position_or_len p bs) bs ∷ slice_split p (drop (position_or_len p bs + 1) bs) =
+    slice_split_first p bs 0 (omega arith) in
     let rest : take (length bs - (n + 1)) (drop (n + 1) bs) ≡ drop (n + 1) bs = take_rest bs (n + 1) in
     rw (rest, at) first
 

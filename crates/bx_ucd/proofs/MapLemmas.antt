@@ -1,5 +1,6 @@
 -- Lemmas on maps in which a later entry takes the place of an earlier one.
-use Rattle.std.proofs.Common.{◌≡◌, ◌<◌, ◌+◌, ℕ, Bool, true, false, cond, List, length, get_or, drop, Option, Some, None, refl, ap, ◌∙◌, sym, suc, ltb, arith, Less, Equal, Greater}
+use Rattle.std.proofs.Common.{◌≡◌, ◌<◌, ◌+◌, ℕ, Bool, true, false, cond, List, length, get_or, drop, Option, Some, None, refl, ap, ◌∙◌, sym, suc, ltb, arith}
+use Rattle.std.proofs.Common.{Less, Equal, Greater}
 use Rattle.std.specs.Prelude.{option_map, if◌then◌else◌, ◌==◌}
 use Rattle.std.specs.Option.{option_or}
 use Rattle.std.specs.Ordering.{nat_cmp, is_eq}
@@ -19,17 +20,21 @@ is_eq-nat_cmp : (a b : ℕ) → is_eq (nat_cmp a b) ≡ (a == b)
 is_eq-nat_cmp a b = tie_is (ltb a b) (a == b) (λ same. let e : a ≡ b = eqb-true a b same in lt-leb (suc a) b (omega arith))
 
 -- what is put in for a key takes the place of what was there
-put_over : {E V : Type 0} (value : E → V) (later : Option E) (same : Bool) (e : E) (old : Option V) → option_or (option_map value (option_or later (if same then Some e else None))) old ≡ option_or (option_map value later) (cond same (Some (value e)) old)
+put_over : {E V : Type 0} (value : E → V) (later : Option E) (same : Bool) (e : E) (old : Option V)
+    → option_or (option_map value (option_or later (if same then Some e else None))) old ≡ option_or (option_map value later) (cond same (Some (value e)) old)
 put_over value (Some l) same e old = refl
 put_over value None true e old = refl
 put_over value None false e old = refl
 
 -- one more entry is put in
-pub put_more : {E V : Type 0} (key : E → ℕ) (value : E → V) (es : List E) (i : ℕ) (d : E) (code : ℕ) (old new : Option V) → i < length es → new ≡ cond (is_eq (nat_cmp (key (get_or es i d)) code)) (Some (value (get_or es i d))) old
-    → option_or (option_map value (find_last (λ e. key e == code) (drop i es))) old ≡ option_or (option_map value (find_last (λ e. key e == code) (drop (i + 1) es))) new
+pub put_more : {E V : Type 0} (key : E → ℕ) (value : E → V) (es : List E) (i : ℕ) (d : E) (code : ℕ) (old new : Option V) → i < length es
+    → new ≡ cond (is_eq (nat_cmp (key (get_or es i d)) code)) (Some (value (get_or es i d))) old
+    → option_or (option_map value (find_last (λ e. key e == code) (drop i es))) old
+    ≡ option_or (option_map value (find_last (λ e. key e == code) (drop (i + 1) es))) new
 put_more key value es i d code old new lt put =
     at_drop_more (λ xs. option_or (option_map value (find_last (λ e. key e == code) xs)) old) es i d lt
     ∙ ap (λ o. option_or (option_map value o) old) (find_last-cons (λ e. key e == code) (get_or es i d) (drop (i + 1) es))
     ∙ put_over value (find_last (λ e. key e == code) (drop (i + 1) es)) (key (get_or es i d) == code) (get_or es i d) old
-    ∙ ap (λ b. option_or (option_map value (find_last (λ e. key e == code) (drop (i + 1) es))) (cond b (Some (value (get_or es i d))) old)) (sym (is_eq-nat_cmp (key (get_or es i d)) code))
+    ∙ ap (λ b. option_or (option_map value (find_last (λ e. key e == code) (drop (i + 1) es))) (cond b (Some (value (get_or es i d))) old))
+    (sym (is_eq-nat_cmp (key (get_or es i d)) code))
     ∙ ap (option_or (option_map value (find_last (λ e. key e == code) (drop (i + 1) es)))) (sym put)

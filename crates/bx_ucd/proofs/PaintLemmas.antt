@@ -6,7 +6,8 @@ use Rattle.bx_ucd.specs.declared.class.Class.{Class}
 use Rattle.bx_ucd.specs.declared.blocks.Block.{Block}
 
 -- a code of the block that is written
-pub class_at_written : (blocks : List Block) (b : ℕ) (new : Block) (code : ℕ) → b < length blocks → code / 256 ≡ b → class_at (set blocks b new) code ≡ class_in new (code % 256)
+pub class_at_written : (blocks : List Block) (b : ℕ) (new : Block) (code : ℕ) → b < length blocks → code / 256 ≡ b
+    → class_at (set blocks b new) code ≡ class_in new (code % 256)
 class_at_written blocks b new code within here = rw (here, get_or-set_same) refl
 
 -- a code of another block
@@ -14,7 +15,8 @@ pub class_at_kept : (blocks : List Block) (b : ℕ) (new : Block) (code : ℕ) �
 class_at_kept blocks b new code elsewhere = rw get_or-set_other refl
 
 -- blocks that are all the same
-pub class_at_same_blocks : (blocks : List Block) (n : ℕ) (block : Block) (class : Class) (code : ℕ) → blocks ≡ replicate n block → code < 256 * n → ((i : ℕ) → class_in block i ≡ class) → class_at blocks code ≡ class
+pub class_at_same_blocks : (blocks : List Block) (n : ℕ) (block : Block) (class : Class) (code : ℕ) → blocks ≡ replicate n block → code < 256 * n
+    → ((i : ℕ) → class_in block i ≡ class) → class_at blocks code ≡ class
 class_at_same_blocks blocks n block class code same inside all =
     let within : code / 256 < n = omega arith in
     rw (same, get_or-replicate n (code / 256) block _ within) (all (code % 256))

@@ -15,7 +15,8 @@ side_of name = if bytes_eq name (codes "o") then Ok Opener else if bytes_eq name
 -- three fields: two characters and a side
 abbrev pub bracket_entry : List (List ℕ) → Result BracketEntry Cause
 bracket_entry (bracket ∷ paired ∷ side ∷ []) =
-    and_then (character_of bracket) (λ b. and_then (character_of paired) (λ p. and_then (side_of side) (λ s. Ok (record { bracket = b; paired = p; side = s }))))
+    and_then (character_of bracket)
+    (λ b. and_then (character_of paired) (λ p. and_then (side_of side) (λ s. Ok (record { bracket = b; paired = p; side = s }))))
 bracket_entry _ = Err BadLine
 
 -- what a line says

@@ -1,5 +1,6 @@
 -- The file of classes.
-use Rattle.std.specs.Prelude.{ℕ, ◌||◌, List, [], ◌∷◌, length, drop, find, codes, bytes_eq, nat_eq, if◌then◌else◌, Option, Some, None, option_map, option_and_then, ok_or, Result, Ok, Err}
+use Rattle.std.specs.Prelude.{ℕ, ◌||◌, List, [], ◌∷◌, length, drop, find, codes, bytes_eq, nat_eq, if◌then◌else◌, Option, Some, None, option_map}
+use Rattle.std.specs.Prelude.{option_and_then, ok_or, Result, Ok, Err}
 use Rattle.std.specs.List.{starts_with}
 use Rattle.std.specs.Option.{option_or}
 use Rattle.std.specs.Result.{result_ok}
@@ -67,7 +68,8 @@ formatting_names =
 -- the class of a name
 abbrev pub class_named : List ℕ → Option Class
 class_named name =
-    option_or (option_or (option_or (class_among strong_names name) (class_among weak_names name)) (class_among neutral_names name)) (class_among formatting_names name)
+    option_or (option_or (option_or (class_among strong_names name) (class_among weak_names name)) (class_among neutral_names name))
+    (class_among formatting_names name)
 
 -- two fields: a range and a class
 abbrev pub class_range : List (List ℕ) → Result ClassRange Cause
@@ -80,7 +82,8 @@ after_prefix prefix bs = if starts_with nat_eq bs prefix then Some (drop (length
 
 -- what stands after the `#` of a comment and then `@missing:`, blanks before each, up to the line's end
 abbrev pub missing : List ℕ → Option (List ℕ)
-missing line = option_and_then (λ comment. after_prefix (codes "@missing:") (without_leading_blanks comment)) (after_prefix (codes "#") (without_leading_blanks line))
+missing line = option_and_then (λ comment. after_prefix (codes "@missing:") (without_leading_blanks comment))
+    (after_prefix (codes "#") (without_leading_blanks line))
 
 -- the default that a comment gives, if two fields follow that read well
 abbrev pub default_of : List ℕ → Option ClassEntry

@@ -1,5 +1,6 @@
 -- The lines of a data file, their fields, and what a line says.
-use Rattle.std.specs.Prelude.{◌≡◌, ◌⊎◌, ℕ, ◌+◌, ◌-◌, Bool, ◌||◌, ◌==◌, List, [], ◌∷◌, map, length, take, drop, filter_map, Option, Some, None, Result, Ok, Err, if◌then◌else◌}
+use Rattle.std.specs.Prelude.{◌≡◌, ◌⊎◌, ℕ, ◌+◌, ◌-◌, Bool, ◌||◌, ◌==◌, List, [], ◌∷◌, map, length, take, drop, filter_map, Option, Some, None, Result, Ok, Err}
+use Rattle.std.specs.Prelude.{if◌then◌else◌}
 use Rattle.std.specs.List.{slice_split, before_first, prefix_len, suffix_len, list_all}
 use Rattle.std.specs.Str.Lines.{lines}
 use Rattle.bx_ucd.specs.declared.error.Cause.{Cause}

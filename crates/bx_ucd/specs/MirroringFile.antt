@@ -9,7 +9,8 @@ use Rattle.bx_ucd.specs.declared.mirroring_file.MirrorEntry.{MirrorEntry}
 
 -- neither may be a control character
 abbrev pub mirror_between : ℕ → ℕ → Result MirrorEntry Cause
-mirror_between character mirror = if is_control character || is_control mirror then Err ControlInMirror else Ok (record { character = character; mirror = mirror })
+mirror_between character mirror = if is_control character || is_control mirror then Err ControlInMirror else Ok
+    (record { character = character; mirror = mirror })
 
 -- two fields: two characters
 abbrev pub mirror_entry : List (List ℕ) → Result MirrorEntry Cause

@@ -13,9 +13,11 @@ mod file;
 mod lines;
 mod mirroring_file;
 mod parts;
+pub mod sample;
 mod tables;
 
 pub use class::Class;
 pub use data::{BidiData, Side};
 pub use error::{Cause, UcdError, UcdFile};
+pub use sample::sample_tables;
 pub use tables::Tables;

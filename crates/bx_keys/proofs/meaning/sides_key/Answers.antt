@@ -24,7 +24,8 @@ pub returns-in_err-side-2-clause-value : goal.returns-in_err-side-2-clause-value
 returns-in_err-side-2-clause-value c =
     let h = take c.in_ok-rows.rows c.args.sides.now in
     let w = drop (c.in_ok-rows.rows + 1) c.args.sides.now in
-    let no : is_side_in_digits w ≡ false = side_refused (is_side_in_digits w) (digits_value 10 w) (rw (take_rest c.args.sides.now (c.in_ok-rows.rows + 1)) at c.in_err-side-2.ensures.value) in
+    let no : is_side_in_digits w ≡ false = side_refused (is_side_in_digits w) (digits_value 10 w)
+    (rw (take_rest c.args.sides.now (c.in_ok-rows.rows + 1)) at c.in_err-side-2.ensures.value) in
     let none : is_side_in_digits h && is_side_in_digits w ≡ false = and_right (is_side_in_digits h) (is_side_in_digits w) no in
     c.from_residual-in_err-side-2.ensures
     ∙ sym (size_by_sides c.args.sides.now c.in_ok-rows.rows (sym c.in_ok-rows.ensures)
@@ -35,5 +36,6 @@ returns-clause-value c =
     let h = take c.in_ok-rows.rows c.args.sides.now in
     let w = drop (c.in_ok-rows.rows + 1) c.args.sides.now in
     let rows = side_read (is_side_in_digits h) (digits_value 10 h) c.in_ok-side.field-0 c.in_ok-side.ensures.value in
-    let columns = side_read (is_side_in_digits w) (digits_value 10 w) c.in_ok-side-2.field-0 (rw (take_rest c.args.sides.now (c.in_ok-rows.rows + 1)) at c.in_ok-side-2.ensures.value) in
+    let columns = side_read (is_side_in_digits w) (digits_value 10 w) c.in_ok-side-2.field-0
+    (rw (take_rest c.args.sides.now (c.in_ok-rows.rows + 1)) at c.in_ok-side-2.ensures.value) in
     sym (size_by_sides c.args.sides.now c.in_ok-rows.rows (sym c.in_ok-rows.ensures) ∙ rw (rows.0, columns.0, rows.1, columns.1) refl)

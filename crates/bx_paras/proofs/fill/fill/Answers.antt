@@ -8,9 +8,12 @@ use Rattle.bx_paras.proofs.fill.fill.Goals as goal
 pub loop-at-preserved : goal.loop-at-preserved
 loop-at-preserved g c =
     let p : Lengths = c.paragraph_from-paragraph.result in
-    let s = step (g.D.BidiData.class_of c.args.source.now) c.args.text.now.edited.text c.loop-at.at c.paragraph_from-paragraph.ensures.utf8 c.loop-at.invariant.bounds p c.args.stop c.bytes-at.result
-    c.paragraph_from-paragraph.ensures.first (omega (arith, c.if-paragraph-eq0.false)) c.bytes-at.ensures (omega (arith, c.bytes-at.ensures, c.bytes.ensures, c.if-bytes-stop.false)) in
-    let k = pushed_from c.loop-at.blocks.blocks c.push-position.new.self.blocks c.loop-at.position c.push-position.result p c.push-position.ensures.front c.push-position.ensures.back in
+    let s = step (g.D.BidiData.class_of c.args.source.now) c.args.text.now.edited.text c.loop-at.at c.paragraph_from-paragraph.ensures.utf8
+    c.loop-at.invariant.bounds p c.args.stop c.bytes-at.result
+    c.paragraph_from-paragraph.ensures.first (omega (arith, c.if-paragraph-eq0.false)) c.bytes-at.ensures
+    (omega (arith, c.bytes-at.ensures, c.bytes.ensures, c.if-bytes-stop.false)) in
+    let k = pushed_from c.loop-at.blocks.blocks c.push-position.new.self.blocks c.loop-at.position c.push-position.result p c.push-position.ensures.front
+    c.push-position.ensures.back in
     record {
       bounds = s.ends_between;
       position = c.push-position.ensures.position;

@@ -5,14 +5,25 @@ use Rattle.bx_paras.proofs.fill.replace.Goals as goal
 
 pub fill-position-requires-clause-short : goal.fill-position-requires-clause-short
 fill-position-requires-clause-short g c =
-    omega (arith, c.requires.short, total_outside c.take_out-position.new.self.blocks (flat c.args.blocks.now.blocks) c.take_out-position.result c.args.from.number c.args.to c.take_out-position.ensures.front c.take_out-position.ensures.back c.requires.order)
+    omega (
+      arith,
+      c.requires.short,
+      total_outside c.take_out-position.new.self.blocks (flat c.args.blocks.now.blocks) c.take_out-position.result
+          c.args.from.number c.args.to c.take_out-position.ensures.front c.take_out-position.ensures.back c.requires.order,
+    )
 
 pub fill-position-requires-clause-few : goal.fill-position-requires-clause-few
 fill-position-requires-clause-few g c =
-    omega (arith, c.requires.few, length_outside c.take_out-position.new.self.blocks (flat c.args.blocks.now.blocks) c.take_out-position.result c.args.from.number c.args.to c.take_out-position.ensures.front c.take_out-position.ensures.back c.requires.order)
+    omega (
+      arith,
+      c.requires.few,
+      length_outside c.take_out-position.new.self.blocks (flat c.args.blocks.now.blocks) c.take_out-position.result
+          c.args.from.number c.args.to c.take_out-position.ensures.front c.take_out-position.ensures.back c.requires.order,
+    )
 
 pub returns-clause-paragraphs : goal.returns-clause-paragraphs
 returns-clause-paragraphs g c =
     ap flat c.release.ensures
     ∙ c.join.ensures.paragraphs
-    ∙ put_between c.fill-position.new.blocks.blocks c.fill-position.result.0 _ _ _ _ _ c.fill-position.ensures.front c.take_out-position.ensures.front c.fill-position.ensures.back c.take_out-position.ensures.back
+    ∙ put_between c.fill-position.new.blocks.blocks c.fill-position.result.0 _ _ _ _ _ c.fill-position.ensures.front c.take_out-position.ensures.front
+    c.fill-position.ensures.back c.take_out-position.ensures.back

@@ -10,10 +10,12 @@ returns-in-None g c =
 
 pub returns-then-as_bytes-eq10 : goal.returns-then-as_bytes-eq10
 returns-then-as_bytes-eq10 g c =
-    let e = lf_in_text (g.D.BidiData.class_of c.args.source.now) c.args.text.now.edited.text c.in-Some.piece.now c.args.at c.in-Some.ensures.utf8 c.requires c.in-Some.ensures.bytes c.in-Some.ensures.not_empty in
+    let e = lf_in_text (g.D.BidiData.class_of c.args.source.now) c.args.text.now.edited.text c.in-Some.piece.now c.args.at c.in-Some.ensures.utf8 c.requires
+    c.in-Some.ensures.bytes c.in-Some.ensures.not_empty in
     grind (arith, nat_tests)
 
 pub returns-else-as_bytes-eq10 : goal.returns-else-as_bytes-eq10
 returns-else-as_bytes-eq10 g c =
-    let e = lf_in_text (g.D.BidiData.class_of c.args.source.now) c.args.text.now.edited.text c.in-Some.piece.now c.args.at c.in-Some.ensures.utf8 c.requires c.in-Some.ensures.bytes c.in-Some.ensures.not_empty in
+    let e = lf_in_text (g.D.BidiData.class_of c.args.source.now) c.args.text.now.edited.text c.in-Some.piece.now c.args.at c.in-Some.ensures.utf8 c.requires
+    c.in-Some.ensures.bytes c.in-Some.ensures.not_empty in
     grind (arith, nat_tests)

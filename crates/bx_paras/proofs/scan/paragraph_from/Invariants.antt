@@ -8,7 +8,8 @@ abbrev pub invariant-loop-piece : goal.invariant-loop-piece
 invariant-loop-piece g l = record {
   bounds : IsCharBoundary l.text.edited.text l.at;
   begun : l.start ≤ l.at;
-  goes_on : first (lengths (g.D.BidiData.class_of l.source) (drop l.start l.text.edited.text)) ≡ further (l.at - l.start) (first (lengths (g.D.BidiData.class_of l.source) (drop l.at l.text.edited.text)));
+  goes_on : first (lengths (g.D.BidiData.class_of l.source) (drop l.start l.text.edited.text))
+      ≡ further (l.at - l.start) (first (lengths (g.D.BidiData.class_of l.source) (drop l.at l.text.edited.text)));
 }
 
 abbrev pub decreases-loop-piece : goal.decreases-loop-piece

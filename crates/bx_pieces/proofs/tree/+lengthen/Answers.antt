@@ -19,5 +19,12 @@ invariant_of-tree-in-Some t c =
     c.tree.inside.right (Some (with_value c.in-Some.right c.lengthen.new.tree)) c.tree.inside.len c.args.by c.tree.inside.height c.tree.invariant
     (c.lengthen.ensures.depth ∙ ap (λ (s : Shape). s.depth) old ∙ sym (ap depth_of c.in-Some.is))
     (omega arith)
-    (omega (arith, ap total c.lengthen.ensures.longer, total_longer c.deref_mut.result.now.pieces c.args.by c.lengthen.ensures.some, ap (λ (s : Shape). total s.pieces) old, ap (λ o. total (sequence o)) c.in-Some.is))
-    (ap length c.lengthen.ensures.longer ∙ length_longer c.deref_mut.result.now.pieces c.args.by ∙ ap (λ (s : Shape). length s.pieces) old ∙ sym (ap (λ o. length (sequence o)) c.in-Some.is))
+    (omega (
+      arith,
+      ap total c.lengthen.ensures.longer,
+      total_longer c.deref_mut.result.now.pieces c.args.by c.lengthen.ensures.some,
+      ap (λ (s : Shape). total s.pieces) old,
+      ap (λ o. total (sequence o)) c.in-Some.is,
+    ))
+    (ap length c.lengthen.ensures.longer ∙ length_longer c.deref_mut.result.now.pieces c.args.by ∙ ap (λ (s : Shape). length s.pieces) old
+    ∙ sym (ap (λ o. length (sequence o)) c.in-Some.is))

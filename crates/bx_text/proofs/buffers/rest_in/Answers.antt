@@ -54,7 +54,8 @@ returns-clause-there c =
     let h = holds b c.args.pieces.now c.args.at c.in_ok-piece.piece c.in_ok-piece.before c.requires (sym c.holding.ensures ∙ c.in_ok-piece.was) in
     let at : IsCharBoundary (bytes_of b c.args.pieces.now) c.args.at =
     bounds_text b c.args.pieces.now c.args.at c.in_ok-piece.piece c.in_ok-piece.before h
-    (subst (λ (t : List ℕ). IsCharBoundary t (c.in_ok-piece.piece.start + c.in_ok-piece.before)) c.buffer_of-text.ensures (c.if-not-is_char_boundary.ensures.test.0 refl)) in
+    (subst (λ (t : List ℕ). IsCharBoundary t (c.in_ok-piece.piece.start + c.in_ok-piece.before)) c.buffer_of-text.ensures
+    (c.if-not-is_char_boundary.ensures.test.0 refl)) in
     (λ e. (at, h.inside), λ e. refl)
 
 pub returns-clause-rest : goal.returns-clause-rest

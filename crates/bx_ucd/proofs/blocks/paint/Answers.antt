@@ -20,7 +20,8 @@ loop-b-preserved c =
     let after_end : (code : ℕ) → code / 256 ≡ c.loop-b.b → c.args.painted.range.high < code → c.if-b-last.end ≤ code % 256 =
     λ code here gt. elim c.if-b-last.branch [ then-b-last w ↦ omega arith | else-b-last w ↦ absurd (omega arith) ] in
     let blocks = c.loop-b.blocks in
-    let same : (code : ℕ) → code / 256 ≡ c.loop-b.b → class_in (get_or blocks c.loop-b.b (record { whole = None; each = [] })) (code % 256) ≡ class_at blocks code =
+    let same : (code : ℕ) → code / 256 ≡ c.loop-b.b → class_in (get_or blocks c.loop-b.b (record { whole = None; each = [] })) (code % 256)
+    ≡ class_at blocks code =
     λ code here. rw here refl in
     let written : (code : ℕ) → code / 256 ≡ c.loop-b.b → class_at (set blocks c.loop-b.b c.paint.new.self) code ≡ class_in c.paint.new.self (code % 256) =
     λ code here. class_at_written blocks c.loop-b.b c.paint.new.self code within here in
@@ -33,11 +34,13 @@ loop-b-preserved c =
         | inr elsewhere ↦ kept code elsewhere ∙ c.loop-b.invariant.painted code ge le inside (omega arith)
       ];
       below = λ code lt inside. elim (cases_eq (code / 256) c.loop-b.b) [
-        | inl here ↦ written code here ∙ c.paint.ensures.below (code % 256) (before_from code here lt) (omega arith) ∙ same code here ∙ c.loop-b.invariant.below code lt inside
+        | inl here ↦ written code here ∙ c.paint.ensures.below (code % 256) (before_from code here lt) (omega arith) ∙ same code here
+            ∙ c.loop-b.invariant.below code lt inside
         | inr elsewhere ↦ kept code elsewhere ∙ c.loop-b.invariant.below code lt inside
       ];
       above = λ code gt inside. elim (cases_eq (code / 256) c.loop-b.b) [
-        | inl here ↦ written code here ∙ c.paint.ensures.above (code % 256) (after_end code here gt) (omega arith) ∙ same code here ∙ c.loop-b.invariant.above code gt inside
+        | inl here ↦ written code here ∙ c.paint.ensures.above (code % 256) (after_end code here gt) (omega arith) ∙ same code here
+            ∙ c.loop-b.invariant.above code gt inside
         | inr elsewhere ↦ kept code elsewhere ∙ c.loop-b.invariant.above code gt inside
       ];
       later = λ code ge inside. kept code (omega arith) ∙ c.loop-b.invariant.later code (omega arith) inside;

@@ -12,13 +12,15 @@ loop-entry-preserved c =
       | in-Default w ↦ record {
         len = ap length w.blocks-is ∙ w.paint.ensures.len ∙ c.loop-entry.invariant.len;
         painted = λ code inside. c.loop-entry.invariant.painted code inside
-            ∙ painted_taken default c.args.entries.now c.loop-entry.entry-index _ w.in-Default.range code (class_at c.loop-entry.blocks code) (class_at c.match-entry.blocks code) c.loop-entry-test.true (ap default w.in-Default.is)
+            ∙ painted_taken default c.args.entries.now c.loop-entry.entry-index _ w.in-Default.range code (class_at c.loop-entry.blocks code)
+            (class_at c.match-entry.blocks code) c.loop-entry-test.true (ap default w.in-Default.is)
             (ap (λ blocks. class_at blocks code) w.blocks-is ∙ w.paint.ensures.painted code (omega arith));
       }
       | in_default w ↦ record {
         len = ap length w.blocks-is ∙ c.loop-entry.invariant.len;
         painted = λ code inside. c.loop-entry.invariant.painted code inside
-            ∙ painted_skipped default c.args.entries.now c.loop-entry.entry-index _ code (class_at c.loop-entry.blocks code) (class_at c.match-entry.blocks code) c.loop-entry-test.true (ap default w.in_default.is)
+            ∙ painted_skipped default c.args.entries.now c.loop-entry.entry-index _ code (class_at c.loop-entry.blocks code)
+            (class_at c.match-entry.blocks code) c.loop-entry-test.true (ap default w.in_default.is)
             (ap (λ blocks. class_at blocks code) w.blocks-is);
       }
     ]

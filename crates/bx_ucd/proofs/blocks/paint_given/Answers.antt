@@ -12,13 +12,15 @@ loop-entry-preserved c =
       | in-Given w ↦ record {
         len = ap length w.blocks-is ∙ w.paint.ensures.len ∙ c.loop-entry.invariant.len;
         painted = λ code inside. c.loop-entry.invariant.painted code inside
-            ∙ painted_taken given c.args.entries.now c.loop-entry.entry-index _ w.in-Given.range code (class_at c.loop-entry.blocks code) (class_at c.match-entry.blocks code) c.loop-entry-test.true (ap given w.in-Given.is)
+            ∙ painted_taken given c.args.entries.now c.loop-entry.entry-index _ w.in-Given.range code (class_at c.loop-entry.blocks code)
+            (class_at c.match-entry.blocks code) c.loop-entry-test.true (ap given w.in-Given.is)
             (ap (λ blocks. class_at blocks code) w.blocks-is ∙ w.paint.ensures.painted code (omega arith));
       }
       | in_default w ↦ record {
         len = ap length w.blocks-is ∙ c.loop-entry.invariant.len;
         painted = λ code inside. c.loop-entry.invariant.painted code inside
-            ∙ painted_skipped given c.args.entries.now c.loop-entry.entry-index _ code (class_at c.loop-entry.blocks code) (class_at c.match-entry.blocks code) c.loop-entry-test.true (ap given w.in_default.is)
+            ∙ painted_skipped given c.args.entries.now c.loop-entry.entry-index _ code (class_at c.loop-entry.blocks code) (class_at c.match-entry.blocks code)
+            c.loop-entry-test.true (ap given w.in_default.is)
             (ap (λ blocks. class_at blocks code) w.blocks-is);
       }
     ]

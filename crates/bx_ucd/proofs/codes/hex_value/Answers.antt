@@ -13,7 +13,9 @@ loop-b-preserved c =
     let within = c.loop-b-test.true in
     let small : c.in_ok-digit.digit < 16 = omega (arith, c.in_ok-digit.ensures.value.0, c.in_ok-digit.ensures.value.1) in
     record {
-      tested = c.loop-b.invariant.tested ∙ tested_more c.args.digits.now c.loop-b.b-index c.from.result c.in_ok-digit.digit within c.from.ensures c.in_ok-digit.ensures.value.0;
-      value = c.loop-b.invariant.value ∙ value_more c.args.digits.now c.loop-b.b-index c.from.result c.loop-b.value c.in_ok-digit.digit within c.from.ensures c.in_ok-digit.ensures.value.1;
+      tested = c.loop-b.invariant.tested ∙ tested_more c.args.digits.now c.loop-b.b-index c.from.result c.in_ok-digit.digit within c.from.ensures
+          c.in_ok-digit.ensures.value.0;
+      value = c.loop-b.invariant.value ∙ value_more c.args.digits.now c.loop-b.b-index c.from.result c.loop-b.value c.in_ok-digit.digit within c.from.ensures
+          c.in_ok-digit.ensures.value.1;
       small = values_more c.loop-b.value c.in_ok-digit.digit c.loop-b.b-index c.loop-b.invariant.small small;
     }

@@ -11,4 +11,5 @@ returns-then-b-byte-clause-first c =
 pub returns-clause-first : goal.returns-clause-first
 returns-clause-first c =
     let e : c.loop-i.i ≡ length c.args.bytes.now = omega arith in
-    sym (position_or_len_is (λ b. b == c.args.byte) c.args.bytes.now (length c.args.bytes.now) 0 (omega arith) (λ k lt. c.loop-i.invariant k (omega arith)) (λ lt. absurd (omega arith)))
+    sym (position_or_len_is (λ b. b == c.args.byte) c.args.bytes.now (length c.args.bytes.now) 0 (omega arith) (λ k lt. c.loop-i.invariant k (omega arith))
+    (λ lt. absurd (omega arith)))

@@ -7,4 +7,5 @@ returns-then-end-bytes-clause-lines c = lines_last c.args.bytes.now c.requires (
 
 pub returns-else-end-bytes-clause-lines : goal.returns-else-end-bytes-clause-lines
 returns-else-end-bytes-clause-lines c =
-    lines_at c.args.bytes.now c.without_carriage_return.result.now c.position_or_len-end.result c.position_or_len-end.ensures.first c.if-end-bytes.false c.without_carriage_return.ensures
+    lines_at c.args.bytes.now c.without_carriage_return.result.now c.position_or_len-end.result c.position_or_len-end.ensures.first c.if-end-bytes.false
+    c.without_carriage_return.ensures

@@ -9,10 +9,13 @@ use Rattle.bx_ucd.proofs.lines.without_leading_blanks.Goals as goal
 pub returns-then-not-is_blank : goal.returns-then-not-is_blank
 returns-then-not-is_blank c =
     take_rest c.args.bytes.now c.loop-i.i
-    ∙ ap (λ n. drop n c.args.bytes.now) (sym (prefix_len_is is_blank c.args.bytes.now c.loop-i.i 0 (omega arith) c.loop-i.invariant (λ _. sym c.if-not-is_blank.ensures)))
+    ∙ ap (λ n. drop n c.args.bytes.now)
+    (sym (prefix_len_is is_blank c.args.bytes.now c.loop-i.i 0 (omega arith) c.loop-i.invariant (λ _. sym c.if-not-is_blank.ensures)))
 
 pub returns : goal.returns
 returns c =
     let e : c.loop-i.i ≡ length c.args.bytes.now = omega arith in
     sym (drop-length c.args.bytes.now)
-    ∙ ap (λ n. drop n c.args.bytes.now) (sym (prefix_len_is is_blank c.args.bytes.now (length c.args.bytes.now) 0 (omega arith) (λ k lt. c.loop-i.invariant k (omega arith)) (λ lt. absurd (omega arith))))
+    ∙ ap (λ n. drop n c.args.bytes.now)
+    (sym (prefix_len_is is_blank c.args.bytes.now (length c.args.bytes.now) 0 (omega arith) (λ k lt. c.loop-i.invariant k (omega arith))
+    (λ lt. absurd (omega arith))))

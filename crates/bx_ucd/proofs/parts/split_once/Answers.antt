@@ -8,4 +8,5 @@ pub returns-then-end-text : goal.returns-then-end-text
 returns-then-end-text c = slice_split_whole (λ b. b == c.args.separator) c.args.text.now (sym c.position_or_len-end.ensures.first ∙ c.if-end-text.true)
 
 pub returns-else-end-text : goal.returns-else-end-text
-returns-else-end-text c = slice_split_at_first (λ b. b == c.args.separator) c.args.text.now c.position_or_len-end.result c.position_or_len-end.ensures.first c.if-end-text.false
+returns-else-end-text c = slice_split_at_first (λ b. b == c.args.separator) c.args.text.now c.position_or_len-end.result c.position_or_len-end.ensures.first
+    c.if-end-text.false

@@ -6,4 +6,5 @@ use Rattle.bx_ucd.specs.Answers.{bracket_by_lines}
 use Rattle.bx_ucd.proofs.tables.bracket_map.Given as goal
 
 abbrev pub invariant-loop-entry : goal.invariant-loop-entry
-invariant-loop-entry l = (code : ℕ) → bracket_by_lines l.entries code ≡ option_or (bracket_by_lines (drop l.entry-index l.entries) code) (get nat_cmp l.brackets code)
+invariant-loop-entry l = (code : ℕ) → bracket_by_lines l.entries code
+    ≡ option_or (bracket_by_lines (drop l.entry-index l.entries) code) (get nat_cmp l.brackets code)

@@ -10,7 +10,18 @@ overflow_add-result-then-offset-end-2 c =
     let more = total_flat_more c.deref-block-items.result.now c.loop-block.block-index c.block-item.result c.loop-block-test.true in
     let whole = total_flat_front (c.loop-block.block-index + 1) c.deref-block-items.result.now in
     let in_block = total_front (c.position_within-within.result.0 + 1) c.lengths.result.now in
-    omega (arith, more, whole, in_block, ap total c.block-item.is, ap total c.lengths.ensures.paragraphs, c.position_within-within.ensures.end, c.self.invariant.short, ap (λ bs. total (flat bs)) c.deref-block-items.ensures.value, c.loop-block.invariant.start)
+    omega (
+      arith,
+      more,
+      whole,
+      in_block,
+      ap total c.block-item.is,
+      ap total c.lengths.ensures.paragraphs,
+      c.position_within-within.ensures.end,
+      c.self.invariant.short,
+      ap (λ bs. total (flat bs)) c.deref-block-items.ensures.value,
+      c.loop-block.invariant.start,
+    )
 
 pub returns-then-offset-end : goal.returns-then-offset-end
 returns-then-offset-end c =

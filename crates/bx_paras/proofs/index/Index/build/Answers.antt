@@ -21,13 +21,30 @@ loop-at-init g c = record {
 
 pub invariant_of-result : goal.invariant_of-result
 invariant_of-result g c =
-    let rest = last (g.D.BidiData.class_of c.args.source.now) c.args.text.now.edited.text c.loop-at.at c.len-len.ensures.utf8 c.loop-at.invariant.bounds c.paragraph_from-paragraph.result c.paragraph_from-paragraph.ensures.first (omega (arith, c.if-paragraph-eq0.true)) in
+    let rest = last (g.D.BidiData.class_of c.args.source.now) c.args.text.now.edited.text c.loop-at.at c.len-len.ensures.utf8 c.loop-at.invariant.bounds
+    c.paragraph_from-paragraph.result c.paragraph_from-paragraph.ensures.first (omega (arith, c.if-paragraph-eq0.true)) in
     let same = ap (λ ls. flat c.loop-at.ended.blocks ++ ls) (sym rest) ∙ c.loop-at.invariant.front in
-    record { short = omega (arith, ap total same, total_lengths (g.D.BidiData.class_of c.args.source.now) c.args.text.now.edited.text c.len-len.ensures.utf8, c.len-len.ensures.short); few = omega (arith, ap length same, length-append (flat c.loop-at.ended.blocks) (unended c.paragraph_from-paragraph.result.body ∷ []), few_lengths (g.D.BidiData.class_of c.args.source.now) c.args.text.now.edited.text c.len-len.ensures.utf8, c.len-len.ensures.short); has_room = tt }
+    record {
+      short = omega (
+        arith,
+        ap total same,
+        total_lengths (g.D.BidiData.class_of c.args.source.now) c.args.text.now.edited.text c.len-len.ensures.utf8,
+        c.len-len.ensures.short,
+      );
+      few = omega (
+        arith,
+        ap length same,
+        length-append (flat c.loop-at.ended.blocks) (unended c.paragraph_from-paragraph.result.body ∷ []),
+        few_lengths (g.D.BidiData.class_of c.args.source.now) c.args.text.now.edited.text c.len-len.ensures.utf8,
+        c.len-len.ensures.short,
+      );
+      has_room = tt;
+    }
 
 pub returns-then-paragraph-eq0 : goal.returns-then-paragraph-eq0
 returns-then-paragraph-eq0 g c =
-    let rest = last (g.D.BidiData.class_of c.args.source.now) c.args.text.now.edited.text c.loop-at.at c.len-len.ensures.utf8 c.loop-at.invariant.bounds c.paragraph_from-paragraph.result c.paragraph_from-paragraph.ensures.first (omega (arith, c.if-paragraph-eq0.true)) in
+    let rest = last (g.D.BidiData.class_of c.args.source.now) c.args.text.now.edited.text c.loop-at.at c.len-len.ensures.utf8 c.loop-at.invariant.bounds
+    c.paragraph_from-paragraph.result c.paragraph_from-paragraph.ensures.first (omega (arith, c.if-paragraph-eq0.true)) in
     ap (λ ps. record { paragraphs = ps; room = None }) (ap (λ ls. flat c.loop-at.ended.blocks ++ ls) (sym rest) ∙ c.loop-at.invariant.front)
 
 pub push-position-requires-clause-few : goal.push-position-requires-clause-few
@@ -44,9 +61,12 @@ push-position-requires-clause-few g c =
 pub loop-at-preserved : goal.loop-at-preserved
 loop-at-preserved g c =
     let p : Lengths = c.paragraph_from-paragraph.result in
-    let t = next (g.D.BidiData.class_of c.args.source.now) c.args.text.now.edited.text c.loop-at.at c.len-len.ensures.utf8 c.loop-at.invariant.bounds p c.bytes-at.result c.paragraph_from-paragraph.ensures.first (omega (arith, c.if-paragraph-eq0.false)) c.bytes-at.ensures in
-    let none : flat (drop c.loop-at.position c.ready.new.self.blocks) ≡ [] = ap (λ bs. flat (drop c.loop-at.position bs)) c.in_ok-ready.ensures.blocks ∙ c.loop-at.invariant.behind in
-    let more = pushed_behind c.ready.new.self.blocks c.push-position.new.self.blocks c.loop-at.position c.push-position.result p c.push-position.ensures.front c.push-position.ensures.back none
+    let t = next (g.D.BidiData.class_of c.args.source.now) c.args.text.now.edited.text c.loop-at.at c.len-len.ensures.utf8 c.loop-at.invariant.bounds p
+    c.bytes-at.result c.paragraph_from-paragraph.ensures.first (omega (arith, c.if-paragraph-eq0.false)) c.bytes-at.ensures in
+    let none : flat (drop c.loop-at.position c.ready.new.self.blocks) ≡ [] = ap (λ bs. flat (drop c.loop-at.position bs)) c.in_ok-ready.ensures.blocks
+    ∙ c.loop-at.invariant.behind in
+    let more = pushed_behind c.ready.new.self.blocks c.push-position.new.self.blocks c.loop-at.position c.push-position.result p c.push-position.ensures.front
+    c.push-position.ensures.back none
     ∙ ap (λ bs. flat bs ++ p ∷ []) c.in_ok-ready.ensures.blocks in
     record {
       bounds = t.ends_between;
@@ -58,11 +78,28 @@ loop-at-preserved g c =
 
 pub invariant_of-result-2 : goal.invariant_of-result-2
 invariant_of-result-2 g c =
-    let rest = end_lengths (g.D.BidiData.class_of c.args.source.now) c.args.text.now.edited.text c.loop-at.at (omega (arith, c.loop-at-test.false, c.len-len.ensures.len)) in
+    let rest = end_lengths (g.D.BidiData.class_of c.args.source.now) c.args.text.now.edited.text c.loop-at.at
+    (omega (arith, c.loop-at-test.false, c.len-len.ensures.len)) in
     let same = ap (λ ls. flat c.loop-at.ended.blocks ++ ls) (sym rest) ∙ c.loop-at.invariant.front in
-    record { short = omega (arith, ap total same, total_lengths (g.D.BidiData.class_of c.args.source.now) c.args.text.now.edited.text c.len-len.ensures.utf8, c.len-len.ensures.short); few = omega (arith, ap length same, length-append (flat c.loop-at.ended.blocks) (unended 0 ∷ []), few_lengths (g.D.BidiData.class_of c.args.source.now) c.args.text.now.edited.text c.len-len.ensures.utf8, c.len-len.ensures.short); has_room = tt }
+    record {
+      short = omega (
+        arith,
+        ap total same,
+        total_lengths (g.D.BidiData.class_of c.args.source.now) c.args.text.now.edited.text c.len-len.ensures.utf8,
+        c.len-len.ensures.short,
+      );
+      few = omega (
+        arith,
+        ap length same,
+        length-append (flat c.loop-at.ended.blocks) (unended 0 ∷ []),
+        few_lengths (g.D.BidiData.class_of c.args.source.now) c.args.text.now.edited.text c.len-len.ensures.utf8,
+        c.len-len.ensures.short,
+      );
+      has_room = tt;
+    }
 
 pub returns : goal.returns
 returns g c =
-    let rest = end_lengths (g.D.BidiData.class_of c.args.source.now) c.args.text.now.edited.text c.loop-at.at (omega (arith, c.loop-at-test.false, c.len-len.ensures.len)) in
+    let rest = end_lengths (g.D.BidiData.class_of c.args.source.now) c.args.text.now.edited.text c.loop-at.at
+    (omega (arith, c.loop-at-test.false, c.len-len.ensures.len)) in
     ap (λ ps. record { paragraphs = ps; room = None }) (ap (λ ls. flat c.loop-at.ended.blocks ++ ls) (sym rest) ∙ c.loop-at.invariant.front)

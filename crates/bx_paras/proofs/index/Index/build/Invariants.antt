@@ -9,7 +9,8 @@ abbrev pub invariant-loop-at : goal.invariant-loop-at
 invariant-loop-at g l = record {
   bounds : IsCharBoundary l.text.edited.text l.at;
   position : l.position ≤ length l.ended.blocks;
-  front : flat l.ended.blocks ++ lengths (g.D.BidiData.class_of l.source) (drop l.at l.text.edited.text) ≡ lengths (g.D.BidiData.class_of l.source) l.text.edited.text;
+  front : flat l.ended.blocks ++ lengths (g.D.BidiData.class_of l.source) (drop l.at l.text.edited.text)
+      ≡ lengths (g.D.BidiData.class_of l.source) l.text.edited.text;
   behind : flat (drop l.position l.ended.blocks) ≡ [];
   bytes : total (flat l.ended.blocks) ≡ l.at;
 }

@@ -7,7 +7,8 @@ use Rattle.bx_paras.specs.Index.{IndexState}
 use Rattle.bx_paras.proofs.Cuts.{unended}
 use Rattle.bx_paras.proofs.Totals.{total_append, total_front}
 use Rattle.bx_paras.proofs.Turns.{total_lengths}
-use Rattle.bx_paras.proofs.Followed.{inside, at_end, in_order, no_end, has_end, closed_inside, closed_at_end, few_in, added_separators, few_added, has_spares, added_in}
+use Rattle.bx_paras.proofs.Followed.{inside, at_end, in_order, no_end, has_end, closed_inside, closed_at_end, few_in, added_separators, few_added, has_spares}
+use Rattle.bx_paras.proofs.Followed.{added_in}
 use Rattle.bx_paras.proofs.index.Index.edited.Goals as goal
 
 pub touched-requires-clause-was : goal.touched-requires-clause-was
@@ -114,7 +115,8 @@ invariant_of-self-2 g c =
     let (r, f) = at_end touched c.len-len.result c.len-len.ensures.len c.in_default.is in
     let last = no_end (flat c.self.inside.ended.blocks) _ c.touched.result.1 touched.last_is c.in_default.is in
     let left : c.len-len.result - c.replace-at.result ≡ r = omega (arith, f.bytes, c.replace-at.ensures.stop, c.len-len.ensures.len) in
-    let same = closed_at_end touched c.len-len.result c.touched.result.1.number r (c.len-len.result - c.replace-at.result) _ last left f c.replace-at.ensures.paragraphs in
+    let same = closed_at_end touched c.len-len.result c.touched.result.1.number r (c.len-len.result - c.replace-at.result) _ last left f
+    c.replace-at.ensures.paragraphs in
     let bytes = total_lengths (g.D.BidiData.class_of c.args.source.now) c.args.text.now.edited.text c.len-len.ensures.utf8 in
     record {
       short = omega (arith, ap total same, bytes, c.len-len.ensures.short);

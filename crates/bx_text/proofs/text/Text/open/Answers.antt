@@ -30,7 +30,14 @@ invariant_of-result c =
     (whole_of b c.len-len.result (c.len-len.ensures ∙ c.args.text.bytes.ok.0) (IsUtf8-string_bytes c.args.text) (c.len-len.result == 0) refl) in
     record {
       placed = whole.placed;
-      short = omega (arith, whole.count, length-bytes_of b c.of-pieces.result whole.placed, c.if-len-gt-LARGEST_TEXT.false, c.len-len.ensures, c.args.text.bytes.ok.0);
+      short = omega (
+        arith,
+        whole.count,
+        length-bytes_of b c.of-pieces.result whole.placed,
+        c.if-len-gt-LARGEST_TEXT.false,
+        c.len-len.ensures,
+        c.args.text.bytes.ok.0,
+      );
       past_steps = rw c.new-2.ensures.items tt;
       future_steps = rw c.new-3.ensures.items tt;
       has_room = tt;

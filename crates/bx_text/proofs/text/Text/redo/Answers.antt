@@ -11,12 +11,14 @@ use Rattle.bx_text.proofs.text.Text.redo.Goals as goal
 pub turn-requires-clause-fits : goal.turn-requires-clause-fits
 turn-requires-clause-fits c =
     IsAddressable-placed (buffers_of c.self.inside) c.self.inside.pieces
-    (omega (arith, c.self.inside.opened.bytes.small, c.self.inside.opened.bytes.ok)) (omega (arith, c.self.inside.added.bytes.small, c.self.inside.added.bytes.ok))
+    (omega (arith, c.self.inside.opened.bytes.small, c.self.inside.opened.bytes.ok))
+    (omega (arith, c.self.inside.added.bytes.small, c.self.inside.added.bytes.ok))
     c.self.invariant.placed
 
 pub turn-requires-clause-small : goal.turn-requires-clause-small
 turn-requires-clause-small c s rest e =
-    span_short (buffers_of c.self.inside) c.self.inside.pieces c.self.inside.future.items rest s c.self.invariant.placed c.self.invariant.short c.self.invariant.future_steps e
+    span_short (buffers_of c.self.inside) c.self.inside.pieces c.self.inside.future.items rest s c.self.invariant.placed c.self.invariant.short
+    c.self.invariant.future_steps e
 
 pub invariant_of-self-2 : goal.invariant_of-self-2
 invariant_of-self-2 c =

@@ -15,7 +15,8 @@ use Rattle.bx_text.proofs.Replaced.{edited_after, sound_after, pieces_after, ste
 use Rattle.bx_text.proofs.text.Text.replace.Goals as goal
 
 -- the buffers, the pieces and the steps after the edit
-buffers_are : (opened added added' more : List ℕ) → added' ≡ added ++ more → record { opened = opened; added = added' } ≡ grown (record { opened = opened; added = added }) more
+buffers_are : (opened added added' more : List ℕ) → added' ≡ added ++ more
+    → record { opened = opened; added = added' } ≡ grown (record { opened = opened; added = added }) more
 buffers_are opened added added' more e = ap (λ (x : List ℕ). record { opened = opened; added = x }) e
 
 pieces_are : (b : Buffers) (ps P : List Piece) (more : List ℕ) (start len at : ℕ) → P ≡ with_added (front ps start) at (length more) ++ back (back ps start) len
@@ -32,7 +33,8 @@ steps_are ps span more past items start len before after e f =
 pub put-old-requires-clause-fits : goal.put-old-requires-clause-fits
 put-old-requires-clause-fits c =
     IsAddressable-placed (buffers_of c.self.inside) c.self.inside.pieces
-    (omega (arith, c.self.inside.opened.bytes.small, c.self.inside.opened.bytes.ok)) (omega (arith, c.self.inside.added.bytes.small, c.self.inside.added.bytes.ok))
+    (omega (arith, c.self.inside.opened.bytes.small, c.self.inside.opened.bytes.ok))
+    (omega (arith, c.self.inside.added.bytes.small, c.self.inside.added.bytes.ok))
     c.self.invariant.placed
 
 pub put-old-requires-clause-small : goal.put-old-requires-clause-small
@@ -60,7 +62,8 @@ invariant_of-self c =
     (buffers_are (string_bytes t.opened) (string_bytes t.added) (string_bytes c.put-old.new.added) more c.put-old.ensures.buffer)
     (pieces_are (buffers_of t) t.pieces c.put-old.new.pieces more c.args.start c.args.len (string_len t.added)
     c.put-old.ensures.pieces t.added.bytes.ok.0)
-    (steps_are t.pieces c.put-old.result more t.past.items c.push.new.self.items c.args.start c.args.len c.args.before c.args.after items c.put-old.ensures.span) in
+    (steps_are t.pieces c.put-old.result more t.past.items c.push.new.self.items c.args.start c.args.len c.args.before c.args.after items
+    c.put-old.ensures.span) in
     record {
       placed = sound.placed;
       short = sound.short;
@@ -82,15 +85,18 @@ returns-clause-text c =
     (buffers_are (string_bytes t.opened) (string_bytes t.added) (string_bytes c.put-old.new.added) more c.put-old.ensures.buffer)
     (pieces_are (buffers_of t) t.pieces c.put-old.new.pieces more c.args.start c.args.len (string_len t.added)
     c.put-old.ensures.pieces t.added.bytes.ok.0)
-    (steps_are t.pieces c.put-old.result more t.past.items c.push.new.self.items c.args.start c.args.len c.args.before c.args.after items c.put-old.ensures.span) in
+    (steps_are t.pieces c.put-old.result more t.past.items c.push.new.self.items c.args.start c.args.len c.args.before c.args.after items
+    c.put-old.ensures.span) in
     rw c.clear.ensures.items (ap (λ (e : Edited). record { edited = e; room = None }) same)
-    ∙ ap (λ (x : TextState). record { edited = replaced x.edited c.args.start (c.args.start + c.args.len) more c.args.before c.args.after; room = None }) c.self.view_is
+    ∙ ap (λ (x : TextState). record { edited = replaced x.edited c.args.start (c.args.start + c.args.len) more c.args.before c.args.after; room = None })
+    c.self.view_is
 
 pub returns-clause-leads : goal.returns-clause-leads
 returns-clause-leads c =
     let t = c.self.inside in
     let utf8 : IsUtf8 c.args.self.now.edited.text =
     subst (λ (x : TextState). IsUtf8 x.edited.text) c.self.view_is (IsUtf8-bytes_of (buffers_of t) t.pieces c.self.invariant.placed) in
-    subst (λ (x : List ℕ). Leads c.args.self.now.edited.text (record { start = c.args.start; removed = c.args.len; added = length c.args.text.now; place = c.args.after }) x)
+    subst (λ (x : List ℕ). Leads c.args.self.now.edited.text
+    (record { start = c.args.start; removed = c.args.len; added = length c.args.text.now; place = c.args.after }) x)
     (sym (ap (λ (x : TextState). x.edited.text) (returns-clause-text c)))
     (spliced_leads c.args.self.now.edited.text c.args.text.now c.args.start c.args.len c.args.after utf8 c.utf8.text c.requires.range)

@@ -22,7 +22,8 @@ loop-block-preserved c =
       in_range = below_more _ index
           (λ k lt. omega (arith, before k lt, known.in_range k lt, c.in_ok-number.ensures.grown))
           (omega (arith, last, c.in_ok-number.ensures.number));
-      same = λ k i lt within. below_more (λ k. slice_index_or (slice_index_or stored (slice_index_or numbers k 0) []) i L ≡ class_in (slice_index_or c.args.blocks.now k empty_block) i) index
+      same = λ k i lt within. below_more (λ k. slice_index_or (slice_index_or stored (slice_index_or numbers k 0) []) i L
+          ≡ class_in (slice_index_or c.args.blocks.now k empty_block) i) index
           (λ k lt. ap (λ n. slice_index_or (slice_index_or stored n []) i L) (before k lt)
           ∙ ap (λ block. slice_index_or block i L) (c.in_ok-number.ensures.kept (slice_index_or c.loop-block.numbers.items k 0) (known.in_range k lt))
           ∙ known.same k i lt within)
