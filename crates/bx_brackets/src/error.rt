@@ -3,9 +3,15 @@ use std::alloc::AllocError;
 use thiserror::Error;
 
 /// Why bracket pairs could not be found.
-#[derive(Debug, Drop, PartialEq, Eq, Error)]
+#[derive(Clone, Copy, PartialEq, Eq, Debug, Error)]
 pub enum BracketError {
     /// Memory ran out.
     #[error("out of memory")]
-    OutOfMemory(#[from(alloc)] AllocError),
+    OutOfMemory,
+}
+
+impl From<AllocError> for BracketError {
+    fn from(_error: AllocError) -> Self {
+        BracketError::OutOfMemory
+    }
 }

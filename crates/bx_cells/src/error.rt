@@ -3,9 +3,15 @@ use std::alloc::AllocError;
 use thiserror::Error;
 
 /// Why units could not be found.
-#[derive(Debug, Drop, Error)]
+#[derive(Clone, Copy, PartialEq, Eq, Debug, Error)]
 pub enum CellError {
     /// Memory ran out.
     #[error("out of memory")]
-    OutOfMemory(#[from(alloc)] AllocError),
+    OutOfMemory,
+}
+
+impl From<AllocError> for CellError {
+    fn from(_error: AllocError) -> Self {
+        CellError::OutOfMemory
+    }
 }

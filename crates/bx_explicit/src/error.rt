@@ -3,9 +3,15 @@ use std::alloc::AllocError;
 use thiserror::Error;
 
 /// Why explicit levels or sequences could not be found.
-#[derive(Debug, Drop, PartialEq, Eq, Error)]
+#[derive(Clone, Copy, PartialEq, Eq, Debug, Error)]
 pub enum ExplicitError {
     /// Memory ran out.
     #[error("out of memory")]
-    OutOfMemory(#[from(alloc)] AllocError),
+    OutOfMemory,
+}
+
+impl From<AllocError> for ExplicitError {
+    fn from(_error: AllocError) -> Self {
+        ExplicitError::OutOfMemory
+    }
 }

@@ -7,4 +7,3 @@ pub mod Flat
 pub mod Touched
 pub mod Blocks
 pub mod Index
-pub mod LineEnds

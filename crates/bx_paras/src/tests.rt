@@ -2,37 +2,37 @@
 
 ghost use Rattle.std.specs.Prelude.{◌≡◌, OnOk};
 ghost use Rattle.bx_paras.specs.Paragraphs.{lengths};
-ghost use Rattle.bx_paras.specs.LineEnds.{class};
 
 use crate::Index;
 use bx_text::{Text, TextError};
-use bx_ucd::{BidiData, Class, Side};
+use bx_ucd::{BidiData, Class, Side, Tables, UcdError, sample_tables};
 use std::alloc::Global;
 use std::cell::Cell;
 use std::process::Abort;
 use std::test::Fail;
 
-/// Line feed, carriage return and U+2029 separate paragraphs. It counts the questions for a class.
+/// The small tables without mirrors, with a count of the questions for a class.
 #[derive(Drop)]
-struct LineEnds {
+struct Counting {
+    tables: Tables,
     asked: Cell<u32>,
 }
 
-impl LineEnds {
-    fn new() -> LineEnds {
-        LineEnds {
+impl Counting {
+    fn new(alloc: Global) -> Result<Counting, UcdError> {
+        Ok(Counting {
+            tables: sample_tables(alloc)?,
             asked: Cell::new(0),
-        }
+        })
     }
 }
 
-impl BidiData for LineEnds {
+impl BidiData for Counting {
     ghost use Rattle.std.specs.Prelude.{None};
-    ghost use Rattle.bx_paras.specs.LineEnds.{class};
 
-    ghost class_of = { λ _ c. class c };
+    ghost class_of = { λ s c. ⟦<Tables as BidiData>⟧.class_of s.tables c };
 
-    ghost bracket_of = { λ _ _. None };
+    ghost bracket_of = { λ s c. ⟦<Tables as BidiData>⟧.bracket_of s.tables c };
 
     ghost mirror_of = { λ _ _. None };
 
@@ -40,15 +40,11 @@ impl BidiData for LineEnds {
 
     fn class(&self, c: char) -> Class {
         self.asked.set(self.asked.get().wrapping_add(1));
-        match c {
-            '\n' | '\r' | '\u{2029}' => Class::B,
-            _ => Class::L,
-        }
+        self.tables.class(c)
     }
 
     fn bracket(&self, c: char) -> Option<(Side, char)> {
-        let _ = c;
-        None
+        self.tables.bracket(c)
     }
 
     fn mirror(&self, c: char) -> Option<char> {
@@ -73,15 +69,15 @@ fn shows(rt: &impl Abort, index: &Index, paragraphs: &[(usize, usize, usize)]) {
 }
 
 /// Puts text in, and has the index follow.
-fn insert(
+fn insert<D: BidiData>(
     text: &mut Text,
     index: &mut Index,
-    source: &LineEnds,
+    source: &D,
     at: usize,
     added: &str,
 ) -> Result<(), Fail>
-    requires { index.old.paragraphs ≡ lengths class text.old.edited.text }
-    ensures { OnOk result (index.new.paragraphs ≡ lengths class text.new.edited.text) }
+    requires { index.old.paragraphs ≡ lengths (D.class_of source.now) text.old.edited.text }
+    ensures { OnOk result (index.new.paragraphs ≡ lengths (D.class_of source.now) text.new.edited.text) }
 {
     let _utf8 = text.len();
     index.ready(added.len())?;
@@ -92,15 +88,15 @@ fn insert(
 }
 
 /// Takes text out, and has the index follow.
-fn remove(
+fn remove<D: BidiData>(
     text: &mut Text,
     index: &mut Index,
-    source: &LineEnds,
+    source: &D,
     start: usize,
     stop: usize,
 ) -> Result<(), Fail>
-    requires { index.old.paragraphs ≡ lengths class text.old.edited.text }
-    ensures { OnOk result (index.new.paragraphs ≡ lengths class text.new.edited.text) }
+    requires { index.old.paragraphs ≡ lengths (D.class_of source.now) text.old.edited.text }
+    ensures { OnOk result (index.new.paragraphs ≡ lengths (D.class_of source.now) text.new.edited.text) }
 {
     let _utf8 = text.len();
     index.ready(0)?;
@@ -111,9 +107,9 @@ fn remove(
 }
 
 /// Takes the latest edit back, and has the index follow.
-fn undo(text: &mut Text, index: &mut Index, source: &LineEnds) -> Result<(), Fail>
-    requires { index.old.paragraphs ≡ lengths class text.old.edited.text }
-    ensures { OnOk result (index.new.paragraphs ≡ lengths class text.new.edited.text) }
+fn undo<D: BidiData>(text: &mut Text, index: &mut Index, source: &D) -> Result<(), Fail>
+    requires { index.old.paragraphs ≡ lengths (D.class_of source.now) text.old.edited.text }
+    ensures { OnOk result (index.new.paragraphs ≡ lengths (D.class_of source.now) text.new.edited.text) }
 {
     let _utf8 = text.len();
     let Some(next) = text.next_undo() else {
@@ -129,7 +125,7 @@ fn undo(text: &mut Text, index: &mut Index, source: &LineEnds) -> Result<(), Fai
 
 #[test]
 fn line_ends_separate_paragraphs(rt: HostRuntime) -> Result<(), Fail> {
-    let source = LineEnds::new();
+    let source = Counting::new(rt.alloc())?;
     let mut text = text_of(rt.alloc(), "1\n2\r\n3")?;
     let mut index = Index::build(rt.alloc(), &text, &source)?;
     shows(&rt, &index, &[(0, 1, 1), (2, 3, 2), (5, 6, 0)]);
@@ -143,7 +139,7 @@ fn line_ends_separate_paragraphs(rt: HostRuntime) -> Result<(), Fail> {
 
 #[test]
 fn lf_goes_with_a_lone_cr(rt: HostRuntime) -> Result<(), Fail> {
-    let source = LineEnds::new();
+    let source = Counting::new(rt.alloc())?;
     let mut text = text_of(rt.alloc(), "a\rb")?;
     let mut index = Index::build(rt.alloc(), &text, &source)?;
     shows(&rt, &index, &[(0, 1, 1), (2, 3, 0)]);
@@ -154,7 +150,7 @@ fn lf_goes_with_a_lone_cr(rt: HostRuntime) -> Result<(), Fail> {
 
 #[test]
 fn cr_and_lf_meet_where_what_stood_between_is_removed(rt: HostRuntime) -> Result<(), Fail> {
-    let source = LineEnds::new();
+    let source = Counting::new(rt.alloc())?;
     let mut text = text_of(rt.alloc(), "\rx\n")?;
     let mut index = Index::build(rt.alloc(), &text, &source)?;
     shows(&rt, &index, &[(0, 0, 1), (1, 2, 1), (3, 3, 0)]);
@@ -167,7 +163,7 @@ fn cr_and_lf_meet_where_what_stood_between_is_removed(rt: HostRuntime) -> Result
 
 #[test]
 fn a_separator_of_three_bytes(rt: HostRuntime) -> Result<(), Fail> {
-    let source = LineEnds::new();
+    let source = Counting::new(rt.alloc())?;
     let text = text_of(rt.alloc(), "a\u{2029}")?;
     let index = Index::build(rt.alloc(), &text, &source)?;
     shows(&rt, &index, &[(0, 1, 3), (4, 4, 0)]);
@@ -182,7 +178,7 @@ fn a_separator_of_three_bytes(rt: HostRuntime) -> Result<(), Fail> {
 
 #[test]
 fn an_edit_looks_at_its_paragraphs_alone(rt: HostRuntime) -> Result<(), Fail> {
-    let source = LineEnds::new();
+    let source = Counting::new(rt.alloc())?;
     let mut lines = String::new(rt.alloc());
     for _ in 0..1000 {
         lines.push_str("ab\n")?;

@@ -5,25 +5,27 @@ use std::alloc::AllocError;
 use thiserror::Error;
 
 /// Why levels could not be found.
-#[derive(Debug, Drop, PartialEq, Eq, Error)]
+#[derive(Clone, Copy, PartialEq, Eq, Debug, Error)]
 pub enum ResolveError {
     /// Memory ran out.
     #[error("out of memory")]
-    OutOfMemory(#[from(alloc)] AllocError),
+    OutOfMemory,
+}
+
+impl From<AllocError> for ResolveError {
+    fn from(_error: AllocError) -> Self {
+        ResolveError::OutOfMemory
+    }
 }
 
 impl From<ExplicitError> for ResolveError {
-    fn from(e: ExplicitError) -> ResolveError {
-        match e {
-            ExplicitError::OutOfMemory(e) => ResolveError::OutOfMemory(e),
-        }
+    fn from(_error: ExplicitError) -> Self {
+        ResolveError::OutOfMemory
     }
 }
 
 impl From<BracketError> for ResolveError {
-    fn from(e: BracketError) -> ResolveError {
-        match e {
-            BracketError::OutOfMemory(e) => ResolveError::OutOfMemory(e),
-        }
+    fn from(_error: BracketError) -> Self {
+        ResolveError::OutOfMemory
     }
 }

@@ -3,9 +3,15 @@ use std::alloc::AllocError;
 use thiserror::Error;
 
 /// Why rows could not be found or drawn.
-#[derive(Debug, Drop, Error)]
+#[derive(Clone, Copy, PartialEq, Eq, Debug, Error)]
 pub enum RowError {
     /// Memory ran out.
     #[error("out of memory")]
-    OutOfMemory(#[from(alloc)] AllocError),
+    OutOfMemory,
+}
+
+impl From<AllocError> for RowError {
+    fn from(_error: AllocError) -> Self {
+        RowError::OutOfMemory
+    }
 }

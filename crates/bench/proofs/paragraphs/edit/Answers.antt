@@ -1,10 +1,10 @@
 use Rattle.std.proofs.Common.{length, ap, arith}
 use Rattle.bx_text.specs.declared.change.Change.{Change}
 use Rattle.bx_paras.proofs.Followed.{room_for_bytes}
-use Rattle.bx_paras_bench.specs.Table.{class}
-use Rattle.bx_paras_bench.proofs.edit.Goals as goal
+use Rattle.bench.proofs.paragraphs.edit.Goals as goal
 
 pub edited-requires-clause-room : goal.edited-requires-clause-room
-edited-requires-clause-room c =
-    room_for_bytes class c.args.text.now.edited.text c.in_ok-put.put c.insert.new.self.edited.text c.len-len.ensures.utf8 c.len-still.ensures.utf8
+edited-requires-clause-room g c =
+    room_for_bytes (g.D.BidiData.class_of c.args.source.now) c.args.text.now.edited.text c.in_ok-put.put c.insert.new.self.edited.text c.len-len.ensures.utf8
+    c.len-still.ensures.utf8
     c.in_ok-put.ensures.leads c.ready.new.self.room 1 c.in_ok-ready.ensures.ok (omega (arith, ap (λ (x : Change). x.added) c.in_ok-put.ensures.change))

@@ -1,27 +1,16 @@
-//! Edits a text many times, and tells how long that took.
+//! Edits of a text: the time of the last thousand, of taking them back, of opening and of copying.
 //!
-//!     bx_text_bench [--time] open BYTES
-//!     bx_text_bench [--time] scattered|typing|backwards|turning|ranked BYTES EDITS
-//!     bx_text_bench [--time] undo|unturn|unrank|copy|forget BYTES EDITS
-//!
-//! The edits put in or take out one byte at scattered offsets, put in a letter behind the one before, or put
-//! one in before all. Those of `turning` put a letter in at the next multiple of the golden ratio, as a part of
-//! the way through the text; those of `ranked` at as many bytes from the front as there are smaller multiples
-//! before it. Such orders make a tree deep that is balanced by those multiples.
-//!
-//! It prints how many bytes and pieces the text has in the end. With --time it also prints the processor time
-//! of what is measured: opening the text, the last thousand edits, taking back the last thousand of them
-//! (`undo`, `unturn`, `unrank`), copying the whole text after scattered edits, or the first edit after all of
-//! the scattered ones were taken back (`forget`).
-#![tactic(auto)]
+//! The edits put in or take out one byte at scattered offsets, put in a letter behind the one before, or put one in before
+//! all. Those of `turning` put a letter in at the next multiple of the golden ratio, as a part of the way through the text;
+//! those of `ranked` at as many bytes from the front as there are smaller multiples before it. Such orders make a tree deep
+//! that is balanced by those multiples.
 
 ghost use Rattle.std.specs.Prelude.{◌≤◌};
 
+use crate::outcome::{Outcome, number};
 use anyhow::{Context, Result, bail};
 use bx_text::Text;
 use std::alloc::Global;
-use std::env;
-use std::rt::Env;
 use std::time::{CpuClock, Duration};
 
 /// How many of the edits are measured.
@@ -249,10 +238,6 @@ fn opened<R: CpuClock + AllocGlobal>(rt: &R, bytes: usize) -> Result<(Text, Dura
     Ok((text, end.saturating_sub(start)))
 }
 
-fn number(word: &String) -> Result<usize> {
-    word.as_str().parse::<usize>().context("a number is wanted")
-}
-
 /// What a task with so many edits takes.
 fn task<R: CpuClock + AllocGlobal>(
     rt: &R,
@@ -276,35 +261,22 @@ fn task<R: CpuClock + AllocGlobal>(
     }
 }
 
-/// What the words ask for.
+/// The text that the words ask for, and the time of what is measured: opening the text, the last thousand edits, taking back
+/// the last thousand of them (`undo`, `unturn`, `unrank`), copying the whole text after scattered edits, or the first edit
+/// after all of the scattered ones were taken back (`forget`).
 fn measured<R: CpuClock + AllocGlobal>(rt: &R, words: &[String]) -> Result<(Text, Duration)> {
     match words {
         [open, bytes] if open.as_str() == "open" => opened(rt, number(bytes)?),
         [name, bytes, turns] => task(rt, name.as_str(), number(bytes)?, number(turns)?),
-        _ => bail!("usage: bx_text_bench [--time] TASK BYTES [EDITS]"),
+        _ => bail!("usage: bench text TASK BYTES [EDITS]"),
     }
 }
 
-fn run<R: Print + Env + CpuClock + AllocGlobal>(rt: &R) -> Result<()> {
-    let mut words = Vec::new(rt.alloc());
-    for word in env::args(rt)?.skip(1) {
-        words.push(word)?;
-    }
-    let (is_timed, words) = match words.as_slice() {
-        [first, rest @ ..] if first.as_str() == "--time" => (true, rest),
-        all => (false, all),
-    };
+/// What the words ask for: how many bytes and pieces the text has in the end.
+pub(crate) fn run<R: CpuClock + AllocGlobal>(rt: &R, words: &[String]) -> Result<Outcome> {
     let (text, time) = measured(rt, words)?;
     let bytes = text.len();
     let pieces = text.pieces().count();
-    println!(rt; "{bytes} bytes in {pieces} pieces")?;
-    if is_timed {
-        let micros = time.as_micros();
-        println!(rt; "{micros} microseconds")?;
-    }
-    Ok(())
-}
-
-fn main(rt: HostRuntime) -> Result<()> {
-    run(&rt)
+    let line = format!(in rt.alloc(); "{bytes} bytes in {pieces} pieces")?;
+    Ok(Outcome { line, time })
 }

@@ -1,0 +1,7 @@
+-- The index is that of the text.
+use Rattle.std.proofs.Common.{◌≡◌}
+use Rattle.bx_paras.specs.Paragraphs.{lengths}
+use Rattle.bench.proofs.paragraphs.edit_often.Given as goal
+
+abbrev pub invariant-loop : goal.invariant-loop
+invariant-loop g l = l.index.paragraphs ≡ lengths (g.D.BidiData.class_of l.source) l.text.edited.text

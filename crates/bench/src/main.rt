@@ -1,0 +1,74 @@
+//! Measures a layer.
+//!
+//!     bench [--time] text TASK BYTES [EDITS]
+//!     bench [--time] paragraphs TASK BYTES LINE [EDITS]
+//!     bench each
+//!
+//! It prints a line that depends on all that was done, and with --time also the processor time of what is measured. `each`
+//! takes every layer once with small numbers. Where instructions are wanted, they are the difference of two runs under
+//! `valgrind --tool=callgrind` that differ in one number.
+#![tactic(auto)]
+
+mod edits;
+mod outcome;
+mod paragraphs;
+
+use anyhow::{Result, bail};
+use outcome::Outcome;
+use std::env;
+use std::rt::Env;
+use std::time::CpuClock;
+
+/// What the words ask for.
+fn measured<R: CpuClock + AllocGlobal>(rt: &R, words: &[String]) -> Result<Outcome> {
+    match words {
+        [layer, rest @ ..] if layer.as_str() == "text" => edits::run(rt, rest),
+        [layer, rest @ ..] if layer.as_str() == "paragraphs" => paragraphs::run(rt, rest),
+        _ => bail!("usage: bench [--time] text|paragraphs WORDS"),
+    }
+}
+
+/// One run of each layer.
+const EACH: [&str; 2] = ["text scattered 100000 2000", "paragraphs edit 10000 50 20"];
+
+/// Takes every layer once.
+fn each<R: Print + CpuClock + AllocGlobal>(rt: &R) -> Result<()> {
+    for line in EACH {
+        let mut words = Vec::new(rt.alloc());
+        for word in line.split(' ') {
+            words.push(String::from_str(rt.alloc(), word)?)?;
+        }
+        let outcome = measured(rt, &words)?;
+        let line = outcome.line.as_str();
+        println!(rt; "{line}")?;
+    }
+    Ok(())
+}
+
+/// Takes the layer that the words name.
+fn one<R: Print + CpuClock + AllocGlobal>(rt: &R, words: &[String], is_timed: bool) -> Result<()> {
+    let outcome = measured(rt, words)?;
+    let line = outcome.line.as_str();
+    println!(rt; "{line}")?;
+    if is_timed {
+        let micros = outcome.time.as_micros();
+        println!(rt; "{micros} microseconds")?;
+    }
+    Ok(())
+}
+
+fn run<R: Print + Env + CpuClock + AllocGlobal>(rt: &R) -> Result<()> {
+    let mut words = Vec::new(rt.alloc());
+    for word in env::args(rt)?.skip(1) {
+        words.push(word)?;
+    }
+    match words.as_slice() {
+        [first] if first.as_str() == "each" => each(rt),
+        [first, rest @ ..] if first.as_str() == "--time" => one(rt, rest, true),
+        all => one(rt, all, false),
+    }
+}
+
+fn main(rt: HostRuntime) -> Result<()> {
+    run(&rt)
+}

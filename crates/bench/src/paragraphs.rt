@@ -1,0 +1,153 @@
+//! The index of paragraphs: the time of its making, and of following edits.
+//!
+//! The text has so many bytes, in lines of LINE bytes. Each edit puts a line feed into the text's middle, or takes the whole
+//! text out and takes that back.
+
+ghost use Rattle.std.specs.Prelude.{◌≡◌, OnOk};
+ghost use Rattle.bx_paras.specs.Paragraphs.{lengths};
+
+use crate::outcome::{Outcome, number};
+use anyhow::{Result, bail};
+use bx_paras::Index;
+use bx_text::Text;
+use bx_ucd::{BidiData, sample_tables};
+use std::alloc::Global;
+use std::time::{CpuClock, Duration};
+
+/// A text of so many bytes, in lines of so many.
+fn lines(alloc: Global, bytes: usize, line: usize) -> Result<String> {
+    let mut text = String::with_capacity(alloc, bytes)?;
+    for at in 0..bytes {
+        if line > 0 && at % line == line - 1 {
+            text.push('\n')?;
+        } else {
+            text.push('x')?;
+        }
+    }
+    Ok(text)
+}
+
+/// Puts a line feed into the middle of a text, and has the index follow.
+fn edit<D: BidiData>(text: &mut Text, index: &mut Index, source: &D) -> Result<()>
+    requires { index.old.paragraphs ≡ lengths (D.class_of source.now) text.old.edited.text }
+    ensures { OnOk result (index.new.paragraphs ≡ lengths (D.class_of source.now) text.new.edited.text) }
+{
+    let len = text.len();
+    let at = len / 2;
+    index.ready(1)?;
+    let put = text.insert(at, "\n", at, at)?;
+    let _still = text.len();
+    index.edited(text, source, &put);
+    Ok(())
+}
+
+/// Makes so many edits.
+fn edit_often<D: BidiData>(
+    text: &mut Text,
+    index: &mut Index,
+    source: &D,
+    edits: usize,
+) -> Result<()>
+    requires { index.old.paragraphs ≡ lengths (D.class_of source.now) text.old.edited.text }
+    ensures { OnOk result (index.new.paragraphs ≡ lengths (D.class_of source.now) text.new.edited.text) }
+{
+    for _ in 0..edits {
+        edit(text, index, source)?;
+    }
+    Ok(())
+}
+
+/// Takes the whole text out, and has the index follow.
+fn clear<D: BidiData>(text: &mut Text, index: &mut Index, source: &D) -> Result<()>
+    requires { index.old.paragraphs ≡ lengths (D.class_of source.now) text.old.edited.text }
+    ensures { OnOk result (index.new.paragraphs ≡ lengths (D.class_of source.now) text.new.edited.text) }
+{
+    let len = text.len();
+    index.ready(0)?;
+    let change = text.remove(0, len, 0, 0)?;
+    let _still = text.len();
+    index.edited(text, source, &change);
+    Ok(())
+}
+
+/// Takes the latest edit back, and has the index follow.
+fn take_back<D: BidiData>(text: &mut Text, index: &mut Index, source: &D) -> Result<()>
+    requires { index.old.paragraphs ≡ lengths (D.class_of source.now) text.old.edited.text }
+    ensures { OnOk result (index.new.paragraphs ≡ lengths (D.class_of source.now) text.new.edited.text) }
+{
+    // before the index makes its room, so that what it gives back stands behind all else
+    text.ready(0)?;
+    let _utf8 = text.len();
+    let Some(next) = text.next_undo() else {
+        return Ok(());
+    };
+    index.ready(next.added)?;
+    if let Some(change) = text.undo()? {
+        let _still = text.len();
+        index.edited(text, source, &change);
+    }
+    Ok(())
+}
+
+/// Takes the whole text out and takes that back, so many times.
+fn restore_often<D: BidiData>(
+    text: &mut Text,
+    index: &mut Index,
+    source: &D,
+    edits: usize,
+) -> Result<()>
+    requires { index.old.paragraphs ≡ lengths (D.class_of source.now) text.old.edited.text }
+    ensures { OnOk result (index.new.paragraphs ≡ lengths (D.class_of source.now) text.new.edited.text) }
+{
+    for _ in 0..edits {
+        clear(text, index, source)?;
+        take_back(text, index, source)?;
+    }
+    Ok(())
+}
+
+/// What is measured, after the index was built.
+#[derive(Clone, Copy)]
+enum Task {
+    Build,
+    Edit(usize),
+    Restore(usize),
+}
+
+/// How many paragraphs there are in the end, and the time of the build or of the edits.
+fn measured<R: CpuClock + AllocGlobal>(
+    rt: &R,
+    bytes: usize,
+    line: usize,
+    task: Task,
+) -> Result<(usize, Duration)> {
+    let tables = sample_tables(rt.alloc())?;
+    let mut text = Text::open(rt.alloc(), lines(rt.alloc(), bytes, line)?)?;
+    let start = rt.thread_cpu_time()?;
+    let mut index = Index::build(rt.alloc(), &text, &tables)?;
+    let built = rt.thread_cpu_time()?;
+    match task {
+        Task::Build => return Ok((index.count(), built.saturating_sub(start))),
+        Task::Edit(edits) => edit_often(&mut text, &mut index, &tables, edits)?,
+        Task::Restore(edits) => restore_often(&mut text, &mut index, &tables, edits)?,
+    }
+    let end = rt.thread_cpu_time()?;
+    Ok((index.count(), end.saturating_sub(built)))
+}
+
+/// What the words ask for: how many paragraphs there are in the end, and the time of the build or of the edits.
+pub(crate) fn run<R: CpuClock + AllocGlobal>(rt: &R, words: &[String]) -> Result<Outcome> {
+    let (task, bytes, line) = match words {
+        [task, bytes, line] if task.as_str() == "build" => (Task::Build, bytes, line),
+        [task, bytes, line, edits] if task.as_str() == "edit" => {
+            (Task::Edit(number(edits)?), bytes, line)
+        }
+        [task, bytes, line, edits] if task.as_str() == "restore" => {
+            (Task::Restore(number(edits)?), bytes, line)
+        }
+        _ => bail!("usage: bench paragraphs build|edit|restore BYTES LINE [EDITS]"),
+    };
+    let (count, time) = measured(rt, number(bytes)?, number(line)?, task)?;
+    let line = format!(in rt.alloc(); "{count} paragraphs")?;
+    Ok(Outcome { line, time })
+}

@@ -1,7 +1,0 @@
--- The classes of a small table: line feed and carriage return separate paragraphs.
-use Rattle.std.specs.Prelude.{ℕ, ◌==◌, ◌||◌, if◌then◌else◌}
-use Rattle.bx_ucd.specs.declared.class.Class.{Class}
-use Rattle.bx_ucd.specs.declared.class.Class.TheVariants.{B, L}
-
-abbrev pub class : ℕ → Class
-class c = if c == 10 || c == 13 then B else L
