@@ -1,5 +1,7 @@
 mod Rows
 pub mod Run
+pub mod NoBrackets
+pub mod ReadOn
 pub mod Fused
 pub mod Written
 pub mod Apart
