@@ -10,5 +10,8 @@ pub mod PlainPairs
 pub mod PlainLengths
 pub mod PlainTypes
 pub mod RightTypes
+pub mod PairTypes
+pub mod RightMarks
+pub mod RightLevels
 pub mod PlainLevels
 pub mod TestRows

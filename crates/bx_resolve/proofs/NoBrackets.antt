@@ -1,10 +1,10 @@
 -- Where no type is ON there is no bracket.
-use Rattle.std.proofs.Common.{◌≡◌, ◌+◌, ℕ, List, [], ◌∷◌, refl, ap, Bool, true, false, Option, Some, None}
+use Rattle.std.proofs.Common.{◌≡◌, ◌+◌, ℕ, List, [], ◌∷◌, refl, ap, true, false, Option, None}
 use Rattle.std.specs.Prelude.{◌||◌}
 use Rattle.std.specs.List.{list_any}
 use Rattle.bx_ucd.specs.declared.class.Class.{Class}
 use Rattle.bx_ucd.specs.declared.data.Side.{Side}
-use Rattle.bx_brackets.specs.Pairs.{is_on, bracket_at, meet, Search, search_from, pairs}
+use Rattle.bx_brackets.specs.Pairs.{is_on, meet, Search, search_from, pairs}
 
 -- a search that has found nothing
 abbrev start : Search

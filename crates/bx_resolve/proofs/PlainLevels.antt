@@ -3,7 +3,7 @@ use Rattle.std.proofs.Common.{◌≡◌, ◌<◌, ◌+◌, ◌∙◌, ℕ, zero,
 use Rattle.std.proofs.lemmas.List.{at_drop_more, length-map}
 use Rattle.std.proofs.Math.Seq.{drop-length}
 use Rattle.bx_ucd.specs.declared.class.Class.{Class}
-use Rattle.bx_ucd.specs.declared.class.Class.TheVariants.{L, R, AL, EN, ES, ET, CS, NSM, B, S, WS, ON}
+use Rattle.bx_ucd.specs.declared.class.Class.TheVariants.{L, R, AL, EN, AN, ES, ET, CS, NSM, B, S, WS, ON}
 use Rattle.bx_ucd.specs.declared.data.Side.{Side}
 use Rattle.bx_explicit.specs.declared.entry.Kept.{Kept}
 use Rattle.bx_explicit.specs.Sequences.{sequences, direction}
@@ -12,11 +12,12 @@ use Rattle.bx_brackets.specs.Pairs.{pairs}
 use Rattle.bx_brackets.specs.Resolve.{resolve_pairs}
 use Rattle.bx_resolve.specs.Weak.{weak, is_nsm}
 use Rattle.bx_resolve.specs.Neutral.{n1, n2, implicit_at}
-use Rattle.bx_resolve.specs.Plain.{is_plain, is_plain_right, is_unformatted, all_pass}
+use Rattle.bx_resolve.specs.Plain.{is_plain, is_plain_right, is_from_right, is_unformatted, all_pass}
 use Rattle.bx_resolve.proofs.PlainRuns.{Each, kept_as, explicit_plain, sequences_plain, whole, places_from, chars_whole, types_whole}
 use Rattle.bx_resolve.proofs.PlainLengths.{levels_length}
 use Rattle.bx_resolve.proofs.PlainTypes.{plain_sequence}
 use Rattle.bx_resolve.proofs.RightTypes.{plain_right_sequence}
+use Rattle.bx_resolve.proofs.RightLevels.{right_sequence}
 
 -- a level that is found
 abbrev pub found : ℕ → Option ℕ
@@ -170,3 +171,33 @@ pub found_from : (class : ℕ → Class) (bracket : ℕ → Option (Side × ℕ)
     → side ≡ direction paragraph → ts ≡ sequence_types bracket paragraph side side chars cs → each ≡ map (λ t. Some (implicit_at paragraph t)) ts → each ≡ paragraph_levels class bracket paragraph chars
 found_from class bracket paragraph chars cs ts side each c e s t m =
     unformatted_from class bracket paragraph chars cs side (map (implicit_at paragraph) ts) each c e s (ap (map (implicit_at paragraph)) t) (m ∙ map_both (implicit_at paragraph) found ts)
+
+from_right_passes : (c : Class) → is_from_right c ≡ true → is_unformatted c ≡ true
+from_right_passes R e = refl
+from_right_passes AL e = refl
+from_right_passes EN e = refl
+from_right_passes ES e = refl
+from_right_passes ET e = refl
+from_right_passes AN e = refl
+from_right_passes CS e = refl
+from_right_passes NSM e = refl
+from_right_passes B e = refl
+from_right_passes S e = refl
+from_right_passes WS e = refl
+from_right_passes ON e = refl
+from_right_passes _ e = absurd (cc)
+
+from_right_unformatted : (cs : List Class) → Each is_from_right cs → all_pass is_unformatted cs ≡ true
+from_right_unformatted [] h = refl
+from_right_unformatted (c ∷ cs) h = pass_at is_unformatted c cs true (from_right_passes c h.0) ∙ from_right_unformatted cs h.1
+
+-- and without L: the types after W7 tell the levels
+pub from_right_levels : (class : ℕ → Class) (bracket : ℕ → Option (Side × ℕ)) (paragraph : ℕ) (chars : List ℕ) → paragraph ≡ 1 → all_pass is_from_right (map class chars) ≡ true
+    → paragraph_levels class bracket paragraph chars ≡ map (λ t. Some (implicit_at 1 t)) (weak R (map class chars))
+from_right_levels class bracket paragraph chars z e =
+    let cs : List Class = map class chars in
+    let h : Each is_from_right cs = each_pass is_from_right cs e in
+    ap (λ p. paragraph_levels class bracket p chars) z
+    ∙ unformatted_levels class bracket 1 chars (from_right_unformatted cs h)
+    ∙ ap (map found) (right_sequence bracket chars cs h)
+    ∙ sym (map_both (implicit_at 1) found (weak R cs))

@@ -6,11 +6,16 @@ use bx_ucd::{BidiData, Class};
 use std::alloc::{AllocError, Global};
 use std::marker::Model;
 
-/// How many characters a text has, as far as room for them goes: each begins with a byte that is no continuation.
+/// How many characters a text has, as far as room for them goes: each begins with a byte that is no continuation. Short
+/// pieces are counted in bytes, of which many are added at once.
 fn count_for_room(text: &str) -> usize {
     let mut count: usize = 0;
-    for byte in text.as_bytes() {
-        count = count.wrapping_add(usize::from(*byte & 0xc0 != 0x80));
+    for piece in text.as_bytes().chunks(128) {
+        let mut begins: u8 = 0;
+        for byte in piece {
+            begins = begins.wrapping_add(u8::from(*byte & 0xc0 != 0x80));
+        }
+        count = count.wrapping_add(usize::from(begins));
     }
     count
 }

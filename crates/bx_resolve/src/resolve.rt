@@ -4,6 +4,7 @@ ghost use Rattle.bx_ucd.specs.Class.{direction};
 ghost use Rattle.bx_brackets.specs.Pairs.{pairs};
 ghost use Rattle.bx_brackets.specs.Resolve.{resolve_pairs};
 ghost use Rattle.bx_explicit.specs.Stack.{max_depth};
+ghost use Rattle.bx_resolve.specs.Weak.{weak};
 ghost use Rattle.bx_resolve.specs.Neutral.{implicit_at};
 ghost use Rattle.bx_resolve.specs.Levels.{paragraph_levels, paragraph_level_under, levels_under};
 ghost use Rattle.bx_resolve.specs.Plain.{is_unformatted, all_pass};
@@ -13,8 +14,9 @@ use crate::error::ResolveError;
 use crate::formatted::formatted_levels;
 use crate::neutral::implicit_at;
 use crate::paragraph::Levels;
-use crate::plain::{are_plain, are_plain_right, are_unformatted};
+use crate::plain::{are_from_right, are_plain, are_plain_right, are_unformatted};
 use crate::scratch::{Ends, Scratch, may_have_brackets, resolve_neutral};
+use crate::weak::weak_in_one_pass;
 use bx_explicit::{Base, base_level};
 use bx_ucd::class::direction;
 use bx_ucd::{BidiData, Class};
@@ -29,6 +31,15 @@ fn found_levels(alloc: Global, types: &[Class], level: u8) -> Result<Vec<Option<
         .iter()
         .map(|t| Some(implicit_at(level, *t)))
         .collect(alloc)
+}
+
+/// The levels of a text from right to left without L: I2 asks for the types after W7 alone, since numbers count as R in N0
+/// and N1.
+fn levels_from_right(alloc: Global, classes: &mut [Class]) -> Result<Vec<Option<u8>>, AllocError>
+    ensures { IfOk result (λ v. v.items ≡ map (λ t. Some (implicit_at 1 t)) (weak Class.R classes.old)) }
+{
+    weak_in_one_pass(classes, Class::R);
+    found_levels(alloc, classes, 1)
 }
 
 /// Gives the bracket pairs of a text that is one sequence their types (N0), in place. Its characters are read again only
@@ -83,9 +94,9 @@ fn unformatted_levels<D: BidiData>(
 }
 
 /// The levels of a paragraph body under a base (UAX #9, 3.3). A text of one direction in which no class needs a rule pays
-/// for none, and one with no formatting characters pays for no explicit rule. It takes memory, and is refused only where
-/// there is none.
-#[tactic(auto, using(crate::proofs::PlainLevels::plain_levels, crate::proofs::PlainLevels::plain_right_levels))]
+/// for none, one from right to left without L for W1 to W7 alone, and one with no formatting characters for no explicit
+/// rule. It takes memory, and is refused only where there is none.
+#[tactic(auto, using(crate::proofs::PlainLevels::plain_levels, crate::proofs::PlainLevels::plain_right_levels, crate::proofs::PlainLevels::from_right_levels))]
 pub fn levels<D: BidiData>(
     alloc: Global,
     body: &str,
@@ -103,6 +114,10 @@ pub fn levels<D: BidiData>(
     }
     if paragraph == 1 && are_plain_right(&classes) {
         let each = vec![in alloc; Some(1); classes.len()]?;
+        return Ok(Levels { paragraph, each });
+    }
+    if paragraph == 1 && are_from_right(&classes) {
+        let each = levels_from_right(alloc, &mut classes)?;
         return Ok(Levels { paragraph, each });
     }
     if are_unformatted(&classes) {
