@@ -27,10 +27,10 @@ fn sum_of(each: &[Option<u8>]) -> u64 {
 }
 
 /// Finds the levels of a text some times.
-fn run(alloc: Global, chars: &[char], times: usize) -> Result<u64> {
+fn run(alloc: Global, body: &str, times: usize) -> Result<u64> {
     let mut sum: u64 = 0;
     for _ in 0..times {
-        let found = levels(alloc, chars, &Table, Base::Auto)?;
+        let found = levels(alloc, body, &Table, Base::Auto)?;
         sum = sum.wrapping_add(sum_of(&found.each));
     }
     Ok(sum)
@@ -50,8 +50,8 @@ fn main(rt: HostRuntime) -> Result<()> {
         .context("no number of times")?
         .as_str()
         .parse::<usize>()?;
-    let chars = text(rt.alloc(), pattern.as_str(), count)?;
-    let sum = run(rt.alloc(), &chars, times)?;
+    let body = text(rt.alloc(), pattern.as_str(), count)?;
+    let sum = run(rt.alloc(), body.as_str(), times)?;
     println!(rt; "{sum}")?;
     Ok(())
 }

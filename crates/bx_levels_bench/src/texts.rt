@@ -51,37 +51,37 @@ fn unit_of(pattern: &str) -> &'static [char] {
 }
 
 /// A text of terminators with a digit at its end, after a Hebrew letter.
-fn before_a_number(alloc: Global, count: usize) -> Result<Vec<char>, AllocError> {
-    let mut chars = Vec::new(alloc);
-    chars.push('\u{5d0}')?;
+fn before_a_number(alloc: Global, count: usize) -> Result<String, AllocError> {
+    let mut body = String::new(alloc);
+    body.push('\u{5d0}')?;
     for _ in 2..count {
-        chars.push('#')?;
+        body.push('#')?;
     }
-    chars.push('1')?;
-    Ok(chars)
+    body.push('1')?;
+    Ok(body)
 }
 
 /// Text in 60 brackets around it, again and again: a thousand blanks and a Hebrew letter.
-fn deep_brackets(alloc: Global, count: usize) -> Result<Vec<char>, AllocError> {
-    let mut chars = Vec::new(alloc);
+fn deep_brackets(alloc: Global, count: usize) -> Result<String, AllocError> {
+    let mut body = String::new(alloc);
     let mut k: usize = 0;
     for _ in 0..count {
         if k < 60 {
-            chars.push('(')?;
+            body.push('(')?;
         } else if k < 1060 {
-            chars.push(' ')?;
+            body.push(' ')?;
         } else if k == 1060 {
-            chars.push('\u{5d0}')?;
+            body.push('\u{5d0}')?;
         } else {
-            chars.push(')')?;
+            body.push(')')?;
         }
         k = if k >= 1120 { 0 } else { k.saturating_add(1) };
     }
-    Ok(chars)
+    Ok(body)
 }
 
 /// A text of a pattern.
-pub fn text(alloc: Global, pattern: &str, count: usize) -> Result<Vec<char>, AllocError> {
+pub fn text(alloc: Global, pattern: &str, count: usize) -> Result<String, AllocError> {
     if pattern == "deep" {
         return deep_brackets(alloc, count);
     }
@@ -89,17 +89,17 @@ pub fn text(alloc: Global, pattern: &str, count: usize) -> Result<Vec<char>, All
         return before_a_number(alloc, count);
     }
     let unit = unit_of(pattern);
-    let mut chars = Vec::new(alloc);
+    let mut body = String::new(alloc);
     let mut k = 0;
     for _ in 0..count {
         if k >= unit.len() {
             k = 0;
         }
         match unit.get(k) {
-            Some(c) => chars.push(*c)?,
+            Some(c) => body.push(*c)?,
             None => {}
         }
         k = k.saturating_add(1);
     }
-    Ok(chars)
+    Ok(body)
 }

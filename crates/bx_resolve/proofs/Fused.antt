@@ -92,7 +92,7 @@ after_w5_by p b t a true e =
 after_w5_by p b t a false e = refl
 
 -- W4 to W7: the type before, whether an EN stands before the run of ET, and the nearest L or R
-abbrev last_written : Class → Bool → Class → List Class → Class
+abbrev pub last_written : Class → Bool → Class → List Class → Class
 last_written b p t a = w6_at (after_w5 (after_w4 b t a) p (ahead (after_w4 b t a) a))
 
 abbrev pub next_last : Class × Bool × Class → Class → List Class → Class × Bool × Class

@@ -1,5 +1,7 @@
 mod Rows
 pub mod Run
+pub mod NoBrackets
+pub mod ReadOn
 pub mod Fused
 pub mod Written
 pub mod Apart
@@ -8,5 +10,8 @@ pub mod PlainPairs
 pub mod PlainLengths
 pub mod PlainTypes
 pub mod RightTypes
+pub mod PairTypes
+pub mod RightMarks
+pub mod RightLevels
 pub mod PlainLevels
 pub mod TestRows

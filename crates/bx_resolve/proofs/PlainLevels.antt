@@ -3,17 +3,21 @@ use Rattle.std.proofs.Common.{◌≡◌, ◌<◌, ◌+◌, ◌∙◌, ℕ, zero,
 use Rattle.std.proofs.lemmas.List.{at_drop_more, length-map}
 use Rattle.std.proofs.Math.Seq.{drop-length}
 use Rattle.bx_ucd.specs.declared.class.Class.{Class}
-use Rattle.bx_ucd.specs.declared.class.Class.TheVariants.{L, R, AL, EN, ES, ET, CS, NSM, B, S, WS, ON}
+use Rattle.bx_ucd.specs.declared.class.Class.TheVariants.{L, R, AL, EN, AN, ES, ET, CS, NSM, B, S, WS, ON}
 use Rattle.bx_ucd.specs.declared.data.Side.{Side}
 use Rattle.bx_explicit.specs.declared.entry.Kept.{Kept}
 use Rattle.bx_explicit.specs.Sequences.{sequences, direction}
 use Rattle.bx_resolve.specs.Levels.{with_levels, with_sequences, levels_in, sequence_types, sequence_levels, paragraph_levels, types_at}
-use Rattle.bx_resolve.specs.Neutral.{implicit_at}
-use Rattle.bx_resolve.specs.Plain.{is_plain, is_plain_right, is_unformatted, all_pass}
+use Rattle.bx_brackets.specs.Pairs.{pairs}
+use Rattle.bx_brackets.specs.Resolve.{resolve_pairs}
+use Rattle.bx_resolve.specs.Weak.{weak, is_nsm}
+use Rattle.bx_resolve.specs.Neutral.{n1, n2, implicit_at}
+use Rattle.bx_resolve.specs.Plain.{is_plain, is_plain_right, is_from_right, is_unformatted, all_pass}
 use Rattle.bx_resolve.proofs.PlainRuns.{Each, kept_as, explicit_plain, sequences_plain, whole, places_from, chars_whole, types_whole}
 use Rattle.bx_resolve.proofs.PlainLengths.{levels_length}
 use Rattle.bx_resolve.proofs.PlainTypes.{plain_sequence}
 use Rattle.bx_resolve.proofs.RightTypes.{plain_right_sequence}
+use Rattle.bx_resolve.proofs.RightLevels.{right_sequence}
 
 -- a level that is found
 abbrev pub found : ℕ → Option ℕ
@@ -103,12 +107,11 @@ map_zeros zero = refl
 map_zeros (suc n) = ap (λ ws. found 0 ∷ ws) (map_zeros n)
 
 -- the levels of a paragraph of level 0 whose classes are plain
-pub plain_levels : (class : ℕ → Class) (bracket : ℕ → Option (Side × ℕ)) (paragraph : ℕ) (chars : List ℕ) → paragraph ≡ 0 → all_pass is_plain (map class chars) ≡ true → paragraph_levels class bracket paragraph chars ≡ replicate (length chars) (Some 0)
+pub plain_levels : (class : ℕ → Class) (bracket : ℕ → Option (Side × ℕ)) (paragraph : ℕ) (chars : List ℕ) → paragraph ≡ 0 → all_pass is_plain (map class chars) ≡ true → paragraph_levels class bracket paragraph chars ≡ replicate (length (map class chars)) (Some 0)
 plain_levels class bracket paragraph chars z e =
     let cs : List Class = map class chars in
     let h : Each is_plain cs = each_pass is_plain cs e in
-    let l : length cs ≡ length chars = length-map chars class in
-    ap (λ p. paragraph_levels class bracket p chars) z ∙ unformatted_levels class bracket 0 chars (all_unformatted cs h) ∙ ap (map found) (plain_sequence bracket chars cs h) ∙ map_zeros (length cs) ∙ ap (λ n. replicate n (found 0)) l
+    ap (λ p. paragraph_levels class bracket p chars) z ∙ unformatted_levels class bracket 0 chars (all_unformatted cs h) ∙ ap (map found) (plain_sequence bracket chars cs h) ∙ map_zeros (length cs)
 
 right_passes : (c : Class) → is_plain_right c ≡ true → is_unformatted c ≡ true
 right_passes R e = refl
@@ -132,16 +135,14 @@ map_ones zero = refl
 map_ones (suc n) = ap (λ ws. found 1 ∷ ws) (map_ones n)
 
 -- the same of level 1
-pub plain_right_levels : (class : ℕ → Class) (bracket : ℕ → Option (Side × ℕ)) (paragraph : ℕ) (chars : List ℕ) → paragraph ≡ 1 → all_pass is_plain_right (map class chars) ≡ true → paragraph_levels class bracket paragraph chars ≡ replicate (length chars) (Some 1)
+pub plain_right_levels : (class : ℕ → Class) (bracket : ℕ → Option (Side × ℕ)) (paragraph : ℕ) (chars : List ℕ) → paragraph ≡ 1 → all_pass is_plain_right (map class chars) ≡ true → paragraph_levels class bracket paragraph chars ≡ replicate (length (map class chars)) (Some 1)
 plain_right_levels class bracket paragraph chars z e =
     let cs : List Class = map class chars in
     let h : Each is_plain_right cs = each_pass is_plain_right cs e in
-    let l : length cs ≡ length chars = length-map chars class in
     ap (λ p. paragraph_levels class bracket p chars) z
     ∙ unformatted_levels class bracket 1 chars (right_unformatted cs h)
     ∙ ap (map found) (plain_right_sequence bracket chars cs h)
     ∙ map_ones (length cs)
-    ∙ ap (λ n. replicate n (found 1)) l
 
 module _ (p : Class → Bool) where
   pub pass_more : (cs : List Class) (i : ℕ) → i < length cs → p (get_or cs i L) ≡ true → all_pass p (drop i cs) ≡ all_pass p (drop (i + 1) cs)
@@ -157,6 +158,46 @@ map_both : {A B C : Type 0} (f : A → B) (g : B → C) (xs : List A) → map (�
 map_both f g [] = refl
 map_both f g (x ∷ xs) = ap (λ ws. g (f x) ∷ ws) (map_both f g xs)
 
-pub found_from : (class : ℕ → Class) (bracket : ℕ → Option (Side × ℕ)) (paragraph : ℕ) (chars : List ℕ) (cs ts us : List Class) (side : Class) (each : List (Option ℕ)) → cs ≡ map class chars → all_pass is_unformatted cs ≡ true → side ≡ direction paragraph → ts ≡ sequence_types bracket paragraph side side chars cs → us ≡ ts → each ≡ map (λ t. Some (implicit_at paragraph t)) us → each ≡ paragraph_levels class bracket paragraph chars
-found_from class bracket paragraph chars cs ts us side each c e s t u m =
-    unformatted_from class bracket paragraph chars cs side (map (implicit_at paragraph) ts) each c e s (ap (map (implicit_at paragraph)) t) (m ∙ ap (map (λ t. Some (implicit_at paragraph t))) u ∙ map_both (implicit_at paragraph) found ts)
+-- the types that rule after rule gives
+pub types_from : (bracket : ℕ → Option (Side × ℕ)) (level : ℕ) (sos eos : Class) (chars : List ℕ) (ts ws ps us : List Class) (marks : List Bool) → ws ≡ weak sos ts → marks ≡ map is_nsm ts
+    → ps ≡ resolve_pairs (direction level) sos marks (pairs bracket chars ws) ws → us ≡ n2 (direction level) (n1 sos eos ps) → us ≡ sequence_types bracket level sos eos chars ts
+types_from bracket level sos eos chars ts ws ps us marks w m p u =
+    let d : Class = direction level in
+    let first : ps ≡ resolve_pairs d sos (map is_nsm ts) (pairs bracket chars ws) ws = p ∙ ap (λ x. resolve_pairs d sos x (pairs bracket chars ws) ws) m in
+    let second : ps ≡ resolve_pairs d sos (map is_nsm ts) (pairs bracket chars (weak sos ts)) (weak sos ts) = first ∙ ap (λ x. resolve_pairs d sos (map is_nsm ts) (pairs bracket chars x) x) w in
+    u ∙ ap (λ x. n2 d (n1 sos eos x)) second
+
+pub found_from : (class : ℕ → Class) (bracket : ℕ → Option (Side × ℕ)) (paragraph : ℕ) (chars : List ℕ) (cs ts : List Class) (side : Class) (each : List (Option ℕ)) → cs ≡ map class chars → all_pass is_unformatted cs ≡ true
+    → side ≡ direction paragraph → ts ≡ sequence_types bracket paragraph side side chars cs → each ≡ map (λ t. Some (implicit_at paragraph t)) ts → each ≡ paragraph_levels class bracket paragraph chars
+found_from class bracket paragraph chars cs ts side each c e s t m =
+    unformatted_from class bracket paragraph chars cs side (map (implicit_at paragraph) ts) each c e s (ap (map (implicit_at paragraph)) t) (m ∙ map_both (implicit_at paragraph) found ts)
+
+from_right_passes : (c : Class) → is_from_right c ≡ true → is_unformatted c ≡ true
+from_right_passes R e = refl
+from_right_passes AL e = refl
+from_right_passes EN e = refl
+from_right_passes ES e = refl
+from_right_passes ET e = refl
+from_right_passes AN e = refl
+from_right_passes CS e = refl
+from_right_passes NSM e = refl
+from_right_passes B e = refl
+from_right_passes S e = refl
+from_right_passes WS e = refl
+from_right_passes ON e = refl
+from_right_passes _ e = absurd (cc)
+
+from_right_unformatted : (cs : List Class) → Each is_from_right cs → all_pass is_unformatted cs ≡ true
+from_right_unformatted [] h = refl
+from_right_unformatted (c ∷ cs) h = pass_at is_unformatted c cs true (from_right_passes c h.0) ∙ from_right_unformatted cs h.1
+
+-- and without L: the types after W7 tell the levels
+pub from_right_levels : (class : ℕ → Class) (bracket : ℕ → Option (Side × ℕ)) (paragraph : ℕ) (chars : List ℕ) → paragraph ≡ 1 → all_pass is_from_right (map class chars) ≡ true
+    → paragraph_levels class bracket paragraph chars ≡ map (λ t. Some (implicit_at 1 t)) (weak R (map class chars))
+from_right_levels class bracket paragraph chars z e =
+    let cs : List Class = map class chars in
+    let h : Each is_from_right cs = each_pass is_from_right cs e in
+    ap (λ p. paragraph_levels class bracket p chars) z
+    ∙ unformatted_levels class bracket 1 chars (from_right_unformatted cs h)
+    ∙ ap (map found) (right_sequence bracket chars cs h)
+    ∙ sym (map_both (implicit_at 1) found (weak R cs))

@@ -1,4 +1,5 @@
 pub mod Places
+pub mod Body
 pub mod Weak
 pub mod Turns
 pub mod Neutral

@@ -48,6 +48,22 @@ is_plain_right WS = true
 is_plain_right ON = true
 is_plain_right _ = false
 
+-- and those of a text from right to left without L
+abbrev pub is_from_right : Class → Bool
+is_from_right R = true
+is_from_right AL = true
+is_from_right EN = true
+is_from_right ES = true
+is_from_right ET = true
+is_from_right AN = true
+is_from_right CS = true
+is_from_right NSM = true
+is_from_right B = true
+is_from_right S = true
+is_from_right WS = true
+is_from_right ON = true
+is_from_right _ = false
+
 -- each class passes a test
 abbrev pub all_pass : (Class → Bool) → List Class → Bool
 all_pass p [] = true

@@ -1,11 +1,12 @@
 //! The levels of a paragraph, by the rules one list after another.
-ghost use Rattle.std.specs.Prelude.{◌≡◌, ◌≤◌, ◌<◌, IfOk, All, None, length, map, replicate, slice_index_or};
+ghost use Rattle.std.specs.Prelude.{◌≡◌, ◌≤◌, ◌<◌, IfOk, All, None, chars, length, map, replicate, slice_index_or};
 ghost use Rattle.bx_explicit.specs.Stack.{max_depth};
 ghost use Rattle.bx_explicit.specs.Sequences.{sequences};
 ghost use Rattle.bx_resolve.specs.Weak.{is_nsm};
 ghost use Rattle.bx_resolve.specs.Neutral.{implicit};
 ghost use Rattle.bx_resolve.specs.Levels.{type_of, chars_at, types_at, levels_in, with_levels, with_sequences, paragraph_level_under, levels_under};
 
+use crate::body::{chars_of, classes_of};
 use crate::error::ResolveError;
 use crate::neutral::{implicit_at, n1, n2};
 use crate::paragraph::Levels;
@@ -15,17 +16,6 @@ use bx_explicit::{Base, Explicit, Kept, Sequence, base_level, explicit, sequence
 use bx_ucd::class::direction;
 use bx_ucd::{BidiData, Class};
 use std::alloc::{AllocError, Global};
-
-/// The classes of characters.
-pub fn classes_of<D: BidiData>(
-    alloc: Global,
-    chars: &[char],
-    source: &D,
-) -> Result<Vec<Class>, AllocError>
-    ensures { IfOk result (λ v. v.items ≡ map (D.class_of source.now) chars.now) }
-{
-    chars.iter().map(|c| source.class(*c)).collect(alloc)
-}
 
 /// The type of the character at a place, after overrides.
 pub fn type_at(kept: &[Option<Kept>], place: usize) -> Class
@@ -143,16 +133,17 @@ fn each_level<D: BidiData>(
 /// only where there is none.
 pub fn levels_by_rules<D: BidiData>(
     alloc: Global,
-    chars: &[char],
+    body: &str,
     source: &D,
     base: Base,
 ) -> Result<Levels, ResolveError>
-    ensures paragraph { IfOk result (λ v. v.paragraph ≡ paragraph_level_under (D.class_of source.now) base chars.now) }
-    ensures each { IfOk result (λ v. v.each.items ≡ levels_under (D.class_of source.now) (D.bracket_of source.now) base chars.now) }
+    ensures paragraph { IfOk result (λ v. v.paragraph ≡ paragraph_level_under (D.class_of source.now) base (chars body.now)) }
+    ensures each { IfOk result (λ v. v.each.items ≡ levels_under (D.class_of source.now) (D.bracket_of source.now) base (chars body.now)) }
 {
-    let classes = classes_of(alloc, chars, source)?;
+    let classes = classes_of(alloc, body, source)?;
+    let chars = chars_of(alloc, body)?;
     let paragraph = base_level(&classes, base);
     let explicit = explicit(alloc, &classes, paragraph)?;
-    let each = each_level(alloc, chars, source, &explicit)?;
+    let each = each_level(alloc, &chars, source, &explicit)?;
     Ok(Levels { paragraph, each })
 }

@@ -1,6 +1,7 @@
 //! The levels of the characters of a paragraph body (UAX #9, 3.3).
 #![tactic(auto)]
 
+mod body;
 mod by_rules;
 mod error;
 mod formatted;

@@ -1,6 +1,6 @@
 //! Texts in which some rules have nothing to do.
 ghost use Rattle.std.specs.Prelude.{◌≡◌};
-ghost use Rattle.bx_resolve.specs.Plain.{is_plain, is_plain_right, is_unformatted, all_pass};
+ghost use Rattle.bx_resolve.specs.Plain.{is_plain, is_plain_right, is_from_right, is_unformatted, all_pass};
 
 use bx_ucd::Class;
 
@@ -24,6 +24,13 @@ fn is_plain_right(class: Class) -> bool
         Class::NSM | Class::B | Class::S | Class::WS | Class::ON => true,
         _ => false,
     }
+}
+
+/// Whether a class stands in texts from right to left without L.
+fn is_from_right(class: Class) -> bool
+    ensures { result ≡ is_from_right class }
+{
+    is_plain_right(class) || matches!(class, Class::EN | Class::AN)
 }
 
 /// Whether the explicit rules have nothing to do with a class.
@@ -53,6 +60,19 @@ pub fn are_plain_right(classes: &[Class]) -> bool
 {
     for class in classes {
         if !is_plain_right(*class) {
+            return false;
+        }
+    }
+    true
+}
+
+/// Whether all classes are those of a text from right to left without L.
+#[tactic(auto, using(crate::proofs::PlainLevels::pass_more, crate::proofs::PlainLevels::pass_stop, crate::proofs::PlainLevels::pass_all))]
+pub fn are_from_right(classes: &[Class]) -> bool
+    ensures { result ≡ all_pass is_from_right classes.now }
+{
+    for class in classes {
+        if !is_from_right(*class) {
             return false;
         }
     }

@@ -1,17 +1,22 @@
 //! The levels of a paragraph.
-ghost use Rattle.std.specs.Prelude.{◌≡◌, ◌≤◌, IfOk, Some, map, true};
+ghost use Rattle.std.specs.Prelude.{◌≡◌, ◌≤◌, IfOk, OnOk, Some, chars, length, map, true};
+ghost use Rattle.bx_ucd.specs.Class.{direction};
+ghost use Rattle.bx_brackets.specs.Pairs.{pairs};
+ghost use Rattle.bx_brackets.specs.Resolve.{resolve_pairs};
 ghost use Rattle.bx_explicit.specs.Stack.{max_depth};
+ghost use Rattle.bx_resolve.specs.Weak.{weak};
 ghost use Rattle.bx_resolve.specs.Neutral.{implicit_at};
 ghost use Rattle.bx_resolve.specs.Levels.{paragraph_levels, paragraph_level_under, levels_under};
 ghost use Rattle.bx_resolve.specs.Plain.{is_unformatted, all_pass};
 
-use crate::by_rules::classes_of;
+use crate::body::{chars_of, classes_of};
 use crate::error::ResolveError;
 use crate::formatted::formatted_levels;
 use crate::neutral::implicit_at;
 use crate::paragraph::Levels;
-use crate::plain::{are_plain, are_plain_right, are_unformatted};
-use crate::scratch::{Ends, Scratch};
+use crate::plain::{are_from_right, are_plain, are_plain_right, are_unformatted};
+use crate::scratch::{Ends, Scratch, may_have_brackets, resolve_neutral};
+use crate::weak::weak_in_one_pass;
 use bx_explicit::{Base, base_level};
 use bx_ucd::class::direction;
 use bx_ucd::{BidiData, Class};
@@ -28,19 +33,51 @@ fn found_levels(alloc: Global, types: &[Class], level: u8) -> Result<Vec<Option<
         .collect(alloc)
 }
 
+/// The levels of a text from right to left without L: I2 asks for the types after W7 alone, since numbers count as R in N0
+/// and N1.
+fn levels_from_right(alloc: Global, classes: &mut [Class]) -> Result<Vec<Option<u8>>, AllocError>
+    ensures { IfOk result (λ v. v.items ≡ map (λ t. Some (implicit_at 1 t)) (weak Class.R classes.old)) }
+{
+    weak_in_one_pass(classes, Class::R);
+    found_levels(alloc, classes, 1)
+}
+
+/// Gives the bracket pairs of a text that is one sequence their types (N0), in place. Its characters are read again only
+/// where one may be a bracket.
+#[tactic(auto, using(crate::proofs::NoBrackets::no_pairs))]
+fn resolve_brackets_of<D: BidiData>(
+    alloc: Global,
+    scratch: &mut Scratch,
+    body: &str,
+    source: &D,
+    types: &mut [Class],
+    ends: Ends,
+) -> Result<(), ResolveError>
+    requires as_long { length (chars body.now) ≡ length types.old }
+    requires marks { length scratch.old.marks.items ≡ length types.old }
+    ensures { OnOk result (types.new ≡ resolve_pairs (direction ends.level) ends.sos scratch.old.marks.items (pairs (D.bracket_of source.now) (chars body.now) types.old) types.old) }
+{
+    if !may_have_brackets(types) {
+        return Ok(());
+    }
+    let chars = chars_of(alloc, body)?;
+    scratch.resolve_brackets(source, &chars, types, ends)
+}
+
 /// The levels of a paragraph body of a level that has no formatting characters, and so is one sequence.
+#[tactic(auto, using(crate::proofs::PlainLengths::weak_length))]
 fn unformatted_levels<D: BidiData>(
     alloc: Global,
-    chars: &[char],
+    body: &str,
     source: &D,
     classes: &mut [Class],
     paragraph: u8,
 ) -> Result<Levels, ResolveError>
-    requires classes { classes.old ≡ map (D.class_of source.now) chars.now }
+    requires classes { classes.old ≡ map (D.class_of source.now) (chars body.now) }
     requires low { paragraph ≤ 1 }
     requires unformatted { all_pass is_unformatted classes.old ≡ true }
     ensures paragraph { IfOk result (λ v. v.paragraph ≡ paragraph) }
-    ensures each { IfOk result (λ v. v.each.items ≡ paragraph_levels (D.class_of source.now) (D.bracket_of source.now) paragraph chars.now) }
+    ensures each { IfOk result (λ v. v.each.items ≡ paragraph_levels (D.class_of source.now) (D.bracket_of source.now) paragraph (chars body.now)) }
 {
     let side = direction(paragraph);
     let ends = Ends {
@@ -48,36 +85,43 @@ fn unformatted_levels<D: BidiData>(
         sos: side,
         eos: side,
     };
-    Scratch::new(alloc).resolve(source, chars, classes, ends)?;
+    let mut scratch = Scratch::new(alloc);
+    scratch.resolve_weak(classes, side)?;
+    resolve_brackets_of(alloc, &mut scratch, body, source, classes, ends)?;
+    resolve_neutral(classes, ends);
     let each = found_levels(alloc, classes, paragraph)?;
     Ok(Levels { paragraph, each })
 }
 
 /// The levels of a paragraph body under a base (UAX #9, 3.3). A text of one direction in which no class needs a rule pays
-/// for none, and one with no formatting characters pays for no explicit rule. It takes memory, and is refused only where
-/// there is none.
-#[tactic(auto, using(crate::proofs::PlainLevels::plain_levels, crate::proofs::PlainLevels::plain_right_levels))]
+/// for none, one from right to left without L for W1 to W7 alone, and one with no formatting characters for no explicit
+/// rule. It takes memory, and is refused only where there is none.
+#[tactic(auto, using(crate::proofs::PlainLevels::plain_levels, crate::proofs::PlainLevels::plain_right_levels, crate::proofs::PlainLevels::from_right_levels))]
 pub fn levels<D: BidiData>(
     alloc: Global,
-    chars: &[char],
+    body: &str,
     source: &D,
     base: Base,
 ) -> Result<Levels, ResolveError>
-    ensures paragraph { IfOk result (λ v. v.paragraph ≡ paragraph_level_under (D.class_of source.now) base chars.now) }
-    ensures each { IfOk result (λ v. v.each.items ≡ levels_under (D.class_of source.now) (D.bracket_of source.now) base chars.now) }
+    ensures paragraph { IfOk result (λ v. v.paragraph ≡ paragraph_level_under (D.class_of source.now) base (chars body.now)) }
+    ensures each { IfOk result (λ v. v.each.items ≡ levels_under (D.class_of source.now) (D.bracket_of source.now) base (chars body.now)) }
 {
-    let mut classes = classes_of(alloc, chars, source)?;
+    let mut classes = classes_of(alloc, body, source)?;
     let paragraph = base_level(&classes, base);
     if paragraph == 0 && are_plain(&classes) {
-        let each = vec![in alloc; Some(0); chars.len()]?;
+        let each = vec![in alloc; Some(0); classes.len()]?;
         return Ok(Levels { paragraph, each });
     }
     if paragraph == 1 && are_plain_right(&classes) {
-        let each = vec![in alloc; Some(1); chars.len()]?;
+        let each = vec![in alloc; Some(1); classes.len()]?;
+        return Ok(Levels { paragraph, each });
+    }
+    if paragraph == 1 && are_from_right(&classes) {
+        let each = levels_from_right(alloc, &mut classes)?;
         return Ok(Levels { paragraph, each });
     }
     if are_unformatted(&classes) {
-        return unformatted_levels(alloc, chars, source, &mut classes, paragraph);
+        return unformatted_levels(alloc, body, source, &mut classes, paragraph);
     }
-    formatted_levels(alloc, chars, source, classes, paragraph)
+    formatted_levels(alloc, body, source, classes, paragraph)
 }

@@ -1,7 +1,11 @@
 //! The rules W1 to N2 over one sequence after another, in lists that later sequences use again.
 ghost use Rattle.std.specs.Prelude.{◌≡◌, OnOk, length, map};
-ghost use Rattle.bx_resolve.specs.Weak.{is_nsm};
-ghost use Rattle.bx_resolve.specs.Levels.{sequence_types};
+ghost use Rattle.std.specs.List.{list_any};
+ghost use Rattle.bx_ucd.specs.Class.{direction};
+ghost use Rattle.bx_brackets.specs.Pairs.{is_on, pairs};
+ghost use Rattle.bx_brackets.specs.Resolve.{resolve_pairs};
+ghost use Rattle.bx_resolve.specs.Weak.{is_nsm, weak};
+ghost use Rattle.bx_resolve.specs.Neutral.{n1, n2};
 
 use crate::error::ResolveError;
 use crate::neutral::n1_n2;
@@ -50,19 +54,28 @@ impl Scratch {
         }
     }
 
-    /// Gives the types of a sequence those after N2, in place.
-    pub fn resolve<D: BidiData>(
+    /// Gives the types of a sequence those after W7, in place, and notes which were NSM.
+    pub fn resolve_weak(&mut self, types: &mut [Class], sos: Class) -> Result<(), AllocError>
+        ensures types { OnOk result (types.new ≡ weak sos types.old) }
+        ensures marks { OnOk result (self.new.marks.items ≡ map is_nsm types.old) }
+    {
+        note_marks(&mut self.marks, types)?;
+        weak_in_one_pass(types, sos);
+        Ok(())
+    }
+
+    /// Gives the bracket pairs of a sequence their types (N0), in place, where the marks are noted.
+    pub fn resolve_brackets<D: BidiData>(
         &mut self,
         source: &D,
         chars: &[char],
         types: &mut [Class],
         ends: Ends,
     ) -> Result<(), ResolveError>
-        requires { length chars.now ≡ length types.old }
-        ensures { OnOk result (types.new ≡ sequence_types (D.bracket_of source.now) ends.level ends.sos ends.eos chars.now types.old) }
+        requires as_long { length chars.now ≡ length types.old }
+        requires marks { length self.old.marks.items ≡ length types.old }
+        ensures { OnOk result (types.new ≡ resolve_pairs (direction ends.level) ends.sos self.old.marks.items (pairs (D.bracket_of source.now) chars.now types.old) types.old) }
     {
-        note_marks(&mut self.marks, types)?;
-        weak_in_one_pass(types, ends.sos);
         self.search.find(chars, types, source)?;
         resolve_pairs(
             types,
@@ -71,7 +84,20 @@ impl Scratch {
             ends.level,
             ends.sos,
         );
-        n1_n2(types, ends.sos, ends.eos, direction(ends.level));
         Ok(())
     }
+}
+
+/// Whether a type may be that of a bracket.
+pub fn may_have_brackets(types: &[Class]) -> bool
+    ensures { result ≡ list_any is_on types.now }
+{
+    types.iter().any(|t| *t == Class::ON)
+}
+
+/// Gives neutral types those after N2, in place.
+pub fn resolve_neutral(types: &mut [Class], ends: Ends)
+    ensures { types.new ≡ n2 (direction ends.level) (n1 ends.sos ends.eos types.old) }
+{
+    n1_n2(types, ends.sos, ends.eos, direction(ends.level));
 }

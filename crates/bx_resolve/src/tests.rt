@@ -12,16 +12,16 @@ use std::test::Fail;
 use tables::TestTables;
 use vectors::VECTORS;
 
-/// The characters of a field of hexadecimal codes.
-fn chars_of(alloc: Global, field: &str) -> Result<Vec<char>, Fail> {
-    let mut chars = Vec::new(alloc);
+/// The text of a field of hexadecimal codes.
+fn text_of(alloc: Global, field: &str) -> Result<String, Fail> {
+    let mut text = String::new(alloc);
     for code in field.split(' ') {
         if code != "-" {
             let code = u32::from_str_radix(code, 16)?;
-            chars.push(char::from_u32(code).ok_or("no character")?)?;
+            text.push(char::from_u32(code).ok_or("no character")?)?;
         }
     }
-    Ok(chars)
+    Ok(text)
 }
 
 /// The base that a field names.
@@ -54,19 +54,15 @@ fn shown(alloc: Global, each: &[Option<u8>]) -> Result<String, Fail> {
 }
 
 /// Both bodies give the same under each base.
-fn check_agreement(rt: &impl Abort, alloc: Global, chars: &[char]) -> Result<(), Fail> {
+fn check_agreement(rt: &impl Abort, alloc: Global, body: &str) -> Result<(), Fail> {
     for base in [Base::Auto, Base::Ltr, Base::Rtl] {
-        let by_rules = levels_by_rules(alloc, chars, &TestTables, base)?;
-        let found = levels(alloc, chars, &TestTables, base)?;
-        assert_eq!(rt;
-            found.paragraph,
-            by_rules.paragraph,
-            "in {chars:?} {base:?}"
-        );
+        let by_rules = levels_by_rules(alloc, body, &TestTables, base)?;
+        let found = levels(alloc, body, &TestTables, base)?;
+        assert_eq!(rt; found.paragraph, by_rules.paragraph, "in {body:?} {base:?}");
         assert_eq!(rt;
             found.each.as_slice(),
             by_rules.each.as_slice(),
-            "in {chars:?} {base:?}"
+            "in {body:?} {base:?}"
         );
     }
     Ok(())
@@ -75,18 +71,18 @@ fn check_agreement(rt: &impl Abort, alloc: Global, chars: &[char]) -> Result<(),
 /// One line of the outside values.
 fn check_line(rt: &impl Abort, alloc: Global, line: &str) -> Result<(), Fail> {
     let mut fields = line.split('\t');
-    let chars = chars_of(alloc, fields.next().ok_or("no characters")?)?;
+    let body = text_of(alloc, fields.next().ok_or("no characters")?)?;
     let base = base_of(fields.next().ok_or("no base")?);
     let paragraph = fields.next().ok_or("no paragraph level")?;
     let each = fields.next().ok_or("no levels")?;
-    let by_rules = levels_by_rules(alloc, &chars, &TestTables, base)?;
+    let by_rules = levels_by_rules(alloc, body.as_str(), &TestTables, base)?;
     assert_eq!(rt;
         format!(in alloc; "{}", by_rules.paragraph)?.as_str(),
         paragraph,
         "in {line}"
     );
     assert_eq!(rt; shown(alloc, &by_rules.each)?.as_str(), each, "in {line}");
-    check_agreement(rt, alloc, &chars)
+    check_agreement(rt, alloc, body.as_str())
 }
 
 /// A character of each class but B.
@@ -101,7 +97,11 @@ fn both_bodies_agree_on_three_characters(rt: HostRuntime) -> Result<(), Fail> {
     for a in SAMPLES {
         for b in SAMPLES {
             for c in SAMPLES {
-                check_agreement(&rt, rt.alloc(), &[a, b, c])?;
+                let mut body = String::new(rt.alloc());
+                body.push(a)?;
+                body.push(b)?;
+                body.push(c)?;
+                check_agreement(&rt, rt.alloc(), body.as_str())?;
             }
         }
     }
@@ -126,25 +126,25 @@ fn worked_rows(rt: HostRuntime) -> Result<(), Fail> {
 }
 
 /// Adds a character some times.
-fn add(chars: &mut Vec<char>, c: char, times: usize) -> Result<(), Fail> {
+fn add(body: &mut String, c: char, times: usize) -> Result<(), Fail> {
     for _ in 0..times {
-        chars.push(c)?;
+        body.push(c)?;
     }
     Ok(())
 }
 
 /// The levels by both bodies, which agree.
-fn levels_by_both(rt: &impl Abort, alloc: Global, chars: &[char]) -> Result<Levels, Fail> {
-    check_agreement(rt, alloc, chars)?;
-    Ok(levels(alloc, chars, &TestTables, Base::Auto)?)
+fn levels_by_both(rt: &impl Abort, alloc: Global, body: &str) -> Result<Levels, Fail> {
+    check_agreement(rt, alloc, body)?;
+    Ok(levels(alloc, body, &TestTables, Base::Auto)?)
 }
 
 #[test]
 fn isolates_never_closed(rt: HostRuntime) -> Result<(), Fail> {
-    let mut chars = Vec::new(rt.alloc());
-    add(&mut chars, '\u{2067}', 1000)?;
-    add(&mut chars, 'a', 1)?;
-    let levels = levels_by_both(&rt, rt.alloc(), &chars)?;
+    let mut body = String::new(rt.alloc());
+    add(&mut body, '\u{2067}', 1000)?;
+    add(&mut body, 'a', 1)?;
+    let levels = levels_by_both(&rt, rt.alloc(), body.as_str())?;
     assert_eq!(rt; levels.paragraph, 0);
     assert_eq!(rt; levels.each.last().copied(), Some(Some(126)));
     Ok(())
@@ -152,10 +152,10 @@ fn isolates_never_closed(rt: HostRuntime) -> Result<(), Fail> {
 
 #[test]
 fn pdis_that_close_nothing(rt: HostRuntime) -> Result<(), Fail> {
-    let mut chars = Vec::new(rt.alloc());
-    add(&mut chars, '\u{2069}', 1000)?;
-    add(&mut chars, 'a', 1)?;
-    let levels = levels_by_both(&rt, rt.alloc(), &chars)?;
+    let mut body = String::new(rt.alloc());
+    add(&mut body, '\u{2069}', 1000)?;
+    add(&mut body, 'a', 1)?;
+    let levels = levels_by_both(&rt, rt.alloc(), body.as_str())?;
     let zeros = vec![in rt.alloc(); Some(0); 1001]?;
     assert_eq!(rt; levels.each.as_slice(), zeros.as_slice());
     Ok(())
@@ -163,39 +163,39 @@ fn pdis_that_close_nothing(rt: HostRuntime) -> Result<(), Fail> {
 
 #[test]
 fn embeddings_at_the_limit(rt: HostRuntime) -> Result<(), Fail> {
-    let mut chars = Vec::new(rt.alloc());
-    add(&mut chars, '\u{202b}', 63)?;
-    add(&mut chars, 'a', 1)?;
-    let levels = levels_by_both(&rt, rt.alloc(), &chars)?;
+    let mut body = String::new(rt.alloc());
+    add(&mut body, '\u{202b}', 63)?;
+    add(&mut body, 'a', 1)?;
+    let levels = levels_by_both(&rt, rt.alloc(), body.as_str())?;
     assert_eq!(rt; levels.each.last().copied(), Some(Some(126)));
-    let mut chars = Vec::new(rt.alloc());
-    add(&mut chars, '\u{202b}', 64)?;
-    add(&mut chars, '\u{202c}', 1)?;
-    add(&mut chars, 'a', 1)?;
-    let levels = levels_by_both(&rt, rt.alloc(), &chars)?;
+    let mut body = String::new(rt.alloc());
+    add(&mut body, '\u{202b}', 64)?;
+    add(&mut body, '\u{202c}', 1)?;
+    add(&mut body, 'a', 1)?;
+    let levels = levels_by_both(&rt, rt.alloc(), body.as_str())?;
     assert_eq!(rt; levels.each.last().copied(), Some(Some(126)));
     Ok(())
 }
 
 /// `a`, some openers, a Hebrew letter, as many closers, and another.
-fn nested_brackets(alloc: Global, depth: usize) -> Result<Vec<char>, Fail> {
-    let mut chars = Vec::new(alloc);
-    add(&mut chars, 'a', 1)?;
-    add(&mut chars, '(', depth)?;
-    add(&mut chars, '\u{5d0}', 1)?;
-    add(&mut chars, ')', depth)?;
-    add(&mut chars, '\u{5d0}', 1)?;
-    Ok(chars)
+fn nested_brackets(alloc: Global, depth: usize) -> Result<String, Fail> {
+    let mut body = String::new(alloc);
+    add(&mut body, 'a', 1)?;
+    add(&mut body, '(', depth)?;
+    add(&mut body, '\u{5d0}', 1)?;
+    add(&mut body, ')', depth)?;
+    add(&mut body, '\u{5d0}', 1)?;
+    Ok(body)
 }
 
 #[test]
 fn brackets_at_the_limit(rt: HostRuntime) -> Result<(), Fail> {
-    let chars = nested_brackets(rt.alloc(), 63)?;
-    let levels = levels_by_both(&rt, rt.alloc(), &chars)?;
+    let body = nested_brackets(rt.alloc(), 63)?;
+    let levels = levels_by_both(&rt, rt.alloc(), body.as_str())?;
     assert_eq!(rt; levels.each.get(63).copied(), Some(Some(0)));
     assert_eq!(rt; levels.each.get(65).copied(), Some(Some(0)));
-    let chars = nested_brackets(rt.alloc(), 64)?;
-    let levels = levels_by_both(&rt, rt.alloc(), &chars)?;
+    let body = nested_brackets(rt.alloc(), 64)?;
+    let levels = levels_by_both(&rt, rt.alloc(), body.as_str())?;
     assert_eq!(rt; levels.each.get(64).copied(), Some(Some(0)));
     assert_eq!(rt; levels.each.get(66).copied(), Some(Some(1)));
     Ok(())

@@ -49,11 +49,7 @@ fn base_of(field: &str) -> Base {
 
 /// The levels of a body's characters.
 fn levels_of(alloc: Global, body: &str, tables: &Tables, base: Base) -> Result<Levels, Fail> {
-    let mut chars = Vec::new(alloc);
-    for c in body.chars() {
-        chars.push(c)?;
-    }
-    Ok(levels(alloc, &chars, tables, base)?)
+    Ok(levels(alloc, body, tables, base)?)
 }
 
 /// Adds a number, after a blank where one stands before it in its row.

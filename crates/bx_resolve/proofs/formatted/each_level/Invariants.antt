@@ -1,5 +1,5 @@
 -- What is written, and what the sequences that are left write over it.
-use Rattle.std.proofs.Common.{◌≡◌, length, replicate, None}
+use Rattle.std.proofs.Common.{◌≡◌, chars, length, replicate, None}
 use Rattle.bx_explicit.specs.Sequences.{sequences}
 use Rattle.bx_resolve.specs.Levels.{with_sequences}
 use Rattle.bx_resolve.proofs.formatted.each_level.Given as goal
@@ -7,8 +7,9 @@ use Rattle.bx_resolve.proofs.formatted.each_level.Given as goal
 abbrev pub invariant-loop-walk : goal.invariant-loop-walk
 invariant-loop-walk g l = record {
   own : l.walk.explicit ≡ l.explicit;
-  all : length l.each.items ≡ length l.chars;
-  written : with_sequences (g.D.BidiData.bracket_of l.source) l.chars l.explicit.kept.items (sequences l.explicit.level l.explicit.classes.items l.explicit.kept.items) (replicate (length l.chars) None) ≡ with_sequences (g.D.BidiData.bracket_of l.source) l.chars l.explicit.kept.items l.walk.left l.each.items;
+  text : l.room.letters.text.chars ≡ chars l.body;
+  all : length l.each.items ≡ length (chars l.body);
+  written : with_sequences (g.D.BidiData.bracket_of l.source) (chars l.body) l.explicit.kept.items (sequences l.explicit.level l.explicit.classes.items l.explicit.kept.items) (replicate (length (chars l.body)) None) ≡ with_sequences (g.D.BidiData.bracket_of l.source) (chars l.body) l.explicit.kept.items l.walk.left l.each.items;
 }
 
 abbrev pub decreases-loop-walk : goal.decreases-loop-walk
