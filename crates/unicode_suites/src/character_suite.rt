@@ -1,0 +1,49 @@
+//! BidiCharacterTest.txt: characters, a direction, and the paragraph level, the levels and the order that are wanted.
+use crate::fields::{is_case, levels, order, text_of};
+use crate::layout::{Layout, find_layout};
+use crate::score::Score;
+use anyhow::{Context, Result, bail};
+use bx_explicit::Base;
+use bx_ucd::Tables;
+use std::alloc::Global;
+
+/// The base of a paragraph direction's field.
+fn base_of(field: &str) -> Result<Base> {
+    match field {
+        "0" => Ok(Base::Ltr),
+        "1" => Ok(Base::Rtl),
+        "2" => Ok(Base::Auto),
+        _ => bail!("no paragraph direction"),
+    }
+}
+
+/// One case.
+fn check(alloc: Global, line: &str, tables: &Tables, score: &mut Score) -> Result<()> {
+    let mut fields = line.split(';');
+    let text = text_of(alloc, fields.next().context("characters")?)?;
+    let base = base_of(fields.next().context("a direction")?)?;
+    let paragraph = fields.next().context("a level")?.parse::<u8>()?;
+    let wanted = Layout {
+        levels: levels(alloc, fields.next().context("levels")?)?,
+        order: order(alloc, fields.next().context("an order")?)?,
+    };
+    let (level, found) = find_layout(alloc, text.as_str(), tables, base)?;
+    if level == paragraph && found.is(&wanted) {
+        score.agree();
+    } else {
+        score.differ(format!(in alloc; "{line}\n  found paragraph {level}, {found}")?)?;
+    }
+    Ok(())
+}
+
+/// The score of the suite.
+pub fn score(alloc: Global, text: &str, tables: &Tables) -> Result<Score> {
+    let mut score = Score::new(alloc);
+    for (number, line) in text.lines().enumerate() {
+        if is_case(line) {
+            let number = number.saturating_add(1);
+            check(alloc, line, tables, &mut score).context(format_args!("line {number}"))?;
+        }
+    }
+    Ok(score)
+}

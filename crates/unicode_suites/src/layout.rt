@@ -1,0 +1,130 @@
+//! What the code finds of a paragraph of one row.
+ghost use Rattle.std.specs.Prelude.{All, IfOk};
+ghost use Rattle.bx_cells.specs.Units.{StandsIn};
+
+use anyhow::{Result, bail};
+use bx_cells::{Face, Unit};
+use bx_explicit::Base;
+use bx_resolve::{Levels, levels};
+use bx_rows::{Row, row_levels, visual};
+use bx_ucd::{BidiData, Class, Tables};
+use std::alloc::Global;
+use std::fmt;
+
+/// The level of each character, `None` for one that X9 removes, and the numbers of the others from left to right.
+#[derive(Drop)]
+pub struct Layout {
+    pub levels: Vec<Option<u8>>,
+    pub order: Vec<usize>,
+}
+
+impl Layout {
+    /// Whether both are the same.
+    pub fn is(&self, other: &Layout) -> bool {
+        self.levels.as_slice() == other.levels.as_slice()
+            && self.order.as_slice() == other.order.as_slice()
+    }
+}
+
+impl fmt::Display for Layout {
+    fn fmt<W: fmt::Write>(&self, f: &mut fmt::Formatter<W>) -> fmt::Result {
+        write!(f, "levels")?;
+        for level in &self.levels {
+            match level {
+                Some(level) => write!(f, " {level}")?,
+                None => write!(f, " x")?,
+            }
+        }
+        write!(f, ", order")?;
+        for number in &self.order {
+            write!(f, " {number}")?;
+        }
+        Ok(())
+    }
+}
+
+/// A paragraph's body: its text without a separator at the end.
+fn body_of<'a>(text: &'a str, tables: &Tables) -> &'a str {
+    match text.chars().next_back() {
+        Some(last) => {
+            if tables.class(last) == Class::B {
+                text.strip_suffix(last).unwrap_or(text)
+            } else {
+                text
+            }
+        }
+        None => text,
+    }
+}
+
+/// The levels of a body's characters before L1.
+fn levels_of(alloc: Global, body: &str, tables: &Tables, base: Base) -> Result<Levels> {
+    let chars: Vec<char> = body.chars().collect(alloc)?;
+    Ok(levels(alloc, &chars, tables, base)?)
+}
+
+/// The unit of a character of a body that stands at this offset.
+fn character_unit(body: &str, start: usize, c: char) -> Result<Unit>
+    ensures { IfOk result (λ unit. StandsIn body.now unit) }
+{
+    let stop = start.saturating_add(c.len_utf8());
+    if start > stop || !body.is_char_boundary(start) || !body.is_char_boundary(stop) {
+        bail!("no character from {start} to {stop}");
+    }
+    Ok(Unit {
+        start,
+        stop,
+        face: Face::Own(1),
+    })
+}
+
+/// A unit for each character: the suites speak of characters, also of those that stand in one cluster.
+fn character_units(alloc: Global, body: &str) -> Result<Vec<Unit>>
+    ensures { IfOk result (λ units. All (StandsIn body.now) units.items) }
+{
+    let mut units = Vec::new(alloc);
+    for (start, c) in body.char_indices() {
+        let unit = character_unit(body, start, c)?;
+        units.push(unit)?;
+    }
+    Ok(units)
+}
+
+/// The level of each character after L1, in one row: the levels of units of one character. One that X9 removes has the
+/// level of the one before it there, as the second list has it.
+fn levels_in_row(
+    alloc: Global,
+    text: &str,
+    tables: &Tables,
+    base: Base,
+) -> Result<(Levels, Vec<u8>)> {
+    let body = body_of(text, tables);
+    let found = levels_of(alloc, body, tables, base)?;
+    let units = character_units(alloc, body)?;
+    let row = Row {
+        start: 0,
+        stop: units.len(),
+    };
+    let mut each = row_levels(alloc, body, &units, row, &found, tables)?;
+    if body.len() < text.len() {
+        each.push(found.paragraph)?;
+    }
+    Ok((found, each))
+}
+
+/// The paragraph level of a text and its layout in one row. A separator at its end has the paragraph level (L1).
+pub fn find_layout(alloc: Global, text: &str, tables: &Tables, base: Base) -> Result<(u8, Layout)> {
+    let (found, each) = levels_in_row(alloc, text, tables, base)?;
+    let mut levels = Vec::new(alloc);
+    for (i, level) in each.iter().enumerate() {
+        let is_removed = found.each.get(i) == Some(&None);
+        levels.push(if is_removed { None } else { Some(*level) })?;
+    }
+    let mut order = Vec::new(alloc);
+    for number in &visual(alloc, &each)? {
+        if levels.get(*number) != Some(&None) {
+            order.push(*number)?;
+        }
+    }
+    Ok((found.paragraph, Layout { levels, order }))
+}

@@ -1,0 +1,62 @@
+//! How many cases of a suite agree.
+use std::alloc::{AllocError, Global};
+use std::{fmt, io};
+
+/// How many differing cases are kept.
+const KEPT: usize = 5;
+
+/// How many cases of a suite there are, how many agree, and what the first differing ones are.
+#[derive(Drop)]
+pub struct Score {
+    cases: u64,
+    agreeing: u64,
+    differing: Vec<String>,
+}
+
+impl Score {
+    /// No case yet.
+    pub fn new(alloc: Global) -> Score {
+        Score {
+            cases: 0,
+            agreeing: 0,
+            differing: Vec::new(alloc),
+        }
+    }
+
+    /// Counts a case that agrees.
+    pub fn agree(&mut self) {
+        self.cases = self.cases.saturating_add(1);
+        self.agreeing = self.agreeing.saturating_add(1);
+    }
+
+    /// Counts a case that differs.
+    pub fn differ(&mut self, case: String) -> Result<(), AllocError> {
+        self.cases = self.cases.saturating_add(1);
+        if self.differing.len() < KEPT {
+            self.differing.push(case)?;
+        }
+        Ok(())
+    }
+
+    /// Whether there are cases and all of them agree.
+    pub fn is_whole(&self) -> bool {
+        self.cases > 0 && self.agreeing == self.cases
+    }
+
+    /// Prints the score of the suite of this name, and the first cases that differ.
+    pub fn print<R: Print>(&self, rt: &R, name: &str) -> io::Result<()> {
+        println!(rt; "{name}: {self}")?;
+        for case in &self.differing {
+            println!(rt; "{case}")?;
+        }
+        Ok(())
+    }
+}
+
+impl fmt::Display for Score {
+    fn fmt<W: fmt::Write>(&self, f: &mut fmt::Formatter<W>) -> fmt::Result {
+        let agreeing = self.agreeing;
+        let cases = self.cases;
+        write!(f, "{agreeing} of {cases} agree")
+    }
+}
