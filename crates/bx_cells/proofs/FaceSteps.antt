@@ -9,19 +9,19 @@ use Rattle.bx_cells.specs.declared.unit.Face.{Face}
 use Rattle.bx_cells.specs.declared.unit.Face.TheVariants.{Tab, Mark}
 use Rattle.bx_cells.specs.Faces.{face, face_of, only_char, is_tab, format_letter, sized_face, columns_of}
 
-abbrev by_letter : Face → Option ℕ → Face
+abbrev pub by_letter : Face → Option ℕ → Face
 by_letter other (Some letter) = Mark letter
 by_letter other None = other
 
-abbrev by_control : Face → Bool → Face
+abbrev pub by_control : Face → Bool → Face
 by_control other true = Mark 63
 by_control other false = other
 
-abbrev by_tab : Face → Bool → Face
+abbrev pub by_tab : Face → Bool → Face
 by_tab other true = Tab
 by_tab other false = other
 
-steps : (class : ℕ → Class) (w : ℕ) (cs : List ℕ) (t k : Bool) (l : Option ℕ) → is_tab (only_char cs) ≡ t → list_any is_control cs ≡ k → format_letter class (only_char cs) ≡ l → face_of class w cs ≡ by_tab (by_control (by_letter (sized_face w (columns_of cs)) l) k) t
+pub steps : (class : ℕ → Class) (w : ℕ) (cs : List ℕ) (t k : Bool) (l : Option ℕ) → is_tab (only_char cs) ≡ t → list_any is_control cs ≡ k → format_letter class (only_char cs) ≡ l → face_of class w cs ≡ by_tab (by_control (by_letter (sized_face w (columns_of cs)) l) k) t
 steps class w cs t k l d e f =
     ap (λ x. by_tab (by_control (by_letter (sized_face w (columns_of cs)) (format_letter class (only_char cs))) (list_any is_control cs)) x) d
     ∙ ap (λ x. by_tab (by_control (by_letter (sized_face w (columns_of cs)) (format_letter class (only_char cs))) x) t) e

@@ -6,4 +6,8 @@ pub mod SimplePush
 pub mod RangeFacts
 pub mod Printable
 pub mod Standing
+pub mod BreakTables
+pub mod Locality
+pub mod Rest
+pub mod OpenCluster
 mod Rows

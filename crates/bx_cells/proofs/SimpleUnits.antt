@@ -51,7 +51,7 @@ most-size n false false one = omega arith
 no_tab : (c : ℕ) → is_shown c ≡ true → (c == 9) ≡ false
 no_tab c h = grind (arith, nat_tests)
 
-unit_is_no_tab : (c : ℕ) (ms : List ℕ) → is_shown c ≡ true → is_tab (only_char (c ∷ ms)) ≡ false
+pub unit_is_no_tab : (c : ℕ) (ms : List ℕ) → is_shown c ≡ true → is_tab (only_char (c ∷ ms)) ≡ false
 unit_is_no_tab c [] h = no_tab c h
 unit_is_no_tab c (m ∷ ms) h = refl
 

@@ -2,14 +2,14 @@
 ghost use Rattle.std.specs.Prelude.{◌≡◌, IfOk, All};
 ghost use Rattle.bx_cells.specs.Units.{units, HasFace, StandsIn};
 
+use crate::by_character::push_simple;
+use crate::by_rules::push_by_rules;
 use crate::error::CellError;
-use crate::faces::face;
 use crate::unit::Unit;
 use bx_ucd::BidiData;
 use std::alloc::Global;
-use unicode_segmentation::UnicodeSegmentation;
 
-/// The units of a body, by the kit's clusters.
+/// The units of a body: by its characters where these tell them, else by the rules on breaks.
 fn listed<D: BidiData>(
     alloc: Global,
     body: &str,
@@ -19,13 +19,10 @@ fn listed<D: BidiData>(
     ensures { IfOk result (λ v. v.items ≡ units (D.class_of source.now) w body.now) }
 {
     let mut units = Vec::new(alloc);
-    for (start, cluster) in body.grapheme_indices(true) {
-        let stop = start + cluster.len();
-        units.push(Unit {
-            start,
-            stop,
-            face: face(cluster, source, w),
-        })?;
+    let mut at = 0;
+    while at < body.len() {
+        let next = push_simple(&mut units, body, at, source, w)?;
+        at = push_by_rules(&mut units, body, next, source, w)?;
     }
     Ok(units)
 }

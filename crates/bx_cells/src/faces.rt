@@ -10,6 +10,7 @@ use bx_ucd::{BidiData, Class};
 use unicode_width::UnicodeWidthStr;
 
 /// The letter of an explicit formatting character.
+#[inline]
 pub(crate) fn letter_of(class: Class) -> Option<u8>
     ensures { result ≡ letter_of class }
 {
@@ -28,7 +29,8 @@ pub(crate) fn letter_of(class: Class) -> Option<u8>
 }
 
 /// The face of a text of these columns that is neither a tab nor a control nor a formatting character.
-fn sized_face(w: u16, columns: usize) -> Face
+#[inline]
+pub(crate) fn sized_face(w: u16, columns: usize) -> Face
     ensures { result ≡ sized_face w columns }
 {
     if columns == 0 {

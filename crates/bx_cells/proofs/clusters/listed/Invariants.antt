@@ -1,14 +1,14 @@
--- The units of the clusters read so far, and those still to come, are the body's.
-use Rattle.std.proofs.Common.{◌≡◌, ◌++◌, map, All}
-use Rattle.unicode_segmentation.specs.Iter.{grapheme_indices_left}
-use Rattle.unicode_segmentation.proofs.SegmentsLemmas.{IsPieceOf}
-use Rattle.bx_cells.specs.Units.{units, unit_at}
+-- The units so far, and those of what is left, are the body's.
+use Rattle.std.proofs.Common.{◌≡◌, ◌++◌, ◌-◌, length}
+use Rattle.std.specs.Str.{IsCharBoundary}
+use Rattle.bx_cells.specs.Units.{units, units_from}
 use Rattle.bx_cells.proofs.clusters.listed.Given as goal
 
-abbrev pub invariant-loop-start : goal.invariant-loop-start
-invariant-loop-start g l = record {
-  can : (goal.iterator-loop-start g).can_next l.start-iterator;
-  finite : (goal.iterator-loop-start g).is_finite l.start-iterator;
-  all : l.units.items ++ map (unit_at (g.D.BidiData.class_of l.source) l.w) (grapheme_indices_left l.start-iterator) ≡ units (g.D.BidiData.class_of l.source) l.w l.body;
-  pieces : All (IsPieceOf l.body) (grapheme_indices_left l.start-iterator);
+abbrev pub invariant-loop-at : goal.invariant-loop-at
+invariant-loop-at g l = record {
+  boundary : IsCharBoundary l.body l.at;
+  all : l.units.items ++ units_from (g.D.BidiData.class_of l.source) l.w l.body l.at ≡ units (g.D.BidiData.class_of l.source) l.w l.body;
 }
+
+abbrev pub decreases-loop-at : goal.decreases-loop-at
+decreases-loop-at g l = length l.body - l.at

@@ -1,0 +1,124 @@
+-- A body's clusters one after another: the first of what is left, and the units of what is left behind it.
+use Rattle.std.proofs.Common.{◌≡◌, ℕ, ◌+◌, ◌≤◌, true, List, [], ◌∷◌, ◌++◌, map, length, drop, refl, sym, ap, ap₂, subst, ◌∙◌, arith, append_assoc, append-nil, length-append, encode_utf8, encode_utf8_all}
+use Rattle.std.specs.List.{concat}
+use Rattle.std.specs.Str.{chars, IsUtf8, IsCharBoundary, all_scalars}
+use lib.Utf8.{scalar}
+use Rattle.std.proofs.lemmas.Bool.{and_parts, and_from}
+use Rattle.std.proofs.lemmas.List.{drop-drop, drop_at, drop_all, length-drop}
+use Rattle.std.proofs.lemmas.Str.{chars-nil, chars_past_char, encodes-append, encodes-chars, IsUtf8-past_char, IsUtf8-drop, IsCharBoundary-from_drop}
+use Rattle.unicode_segmentation.specs.Grapheme.{graphemes, is_grapheme_break}
+use Rattle.unicode_segmentation.specs.Segments.{cut, segments, with_offsets}
+use Rattle.bx_ucd.specs.declared.class.Class.{Class}
+use Rattle.bx_cells.specs.declared.unit.Unit.{Unit}
+use Rattle.bx_cells.specs.declared.unit.Face.{Face}
+use Rattle.bx_cells.specs.Faces.{face}
+use Rattle.bx_cells.specs.Units.{unit_at, units_from}
+use Rattle.bx_cells.proofs.Locality.{concat-own, TailsOwn, tails-own}
+
+-- ---- characters in front of a text
+
+pub IsUtf8-past_all : (cs rest bs : List ℕ) → IsUtf8 bs → bs ≡ encode_utf8_all cs ++ rest → IsUtf8 rest
+IsUtf8-past_all [] rest bs u e = subst IsUtf8 e u
+IsUtf8-past_all (c ∷ cs) rest bs u e =
+    let first : bs ≡ encode_utf8 c ++ (encode_utf8_all cs ++ rest) = e ∙ append_assoc (encode_utf8 c) (encode_utf8_all cs) rest in
+    IsUtf8-past_all cs rest (encode_utf8_all cs ++ rest) (IsUtf8-past_char bs (encode_utf8_all cs ++ rest) c u first) refl
+
+pub chars_past_all : (cs rest bs : List ℕ) → IsUtf8 bs → bs ≡ encode_utf8_all cs ++ rest → chars bs ≡ cs ++ chars rest
+chars_past_all [] rest bs u e = ap chars e
+chars_past_all (c ∷ cs) rest bs u e =
+    let first : bs ≡ encode_utf8 c ++ (encode_utf8_all cs ++ rest) = e ∙ append_assoc (encode_utf8 c) (encode_utf8_all cs) rest in
+    chars_past_char bs (encode_utf8_all cs ++ rest) c u first
+    ∙ ap (λ xs. c ∷ xs) (chars_past_all cs rest (encode_utf8_all cs ++ rest) (IsUtf8-past_char bs (encode_utf8_all cs ++ rest) c u first) refl)
+
+pub chars_encoded : (cs : List ℕ) → IsUtf8 (encode_utf8_all cs) → chars (encode_utf8_all cs) ≡ cs
+chars_encoded cs u =
+    chars_past_all cs [] (encode_utf8_all cs) u (sym (append-nil (encode_utf8_all cs))) ∙ ap (λ xs. cs ++ xs) chars-nil ∙ append-nil cs
+
+pub scalars_front : (cs ds : List ℕ) → all_scalars (cs ++ ds) ≡ true → all_scalars cs ≡ true
+scalars_front [] ds h = refl
+scalars_front (c ∷ cs) ds h =
+    let p = and_parts (scalar c) (all_scalars (cs ++ ds)) h in and_from (scalar c) (all_scalars cs) p.0 (scalars_front cs ds p.1)
+
+-- ---- the first cluster of a text
+
+pub record IsFirst (bs p : List ℕ) (ps : List (List ℕ)) : Type 0 where
+  pub bytes : bs ≡ p ++ drop (length p) bs
+  pub utf8 : IsUtf8 (drop (length p) bs)
+  pub own : ps ≡ graphemes true (drop (length p) bs)
+
+first_of : (gs : List (List ℕ)) (bs p : List ℕ) (ps : List (List ℕ)) → IsUtf8 bs → encode_utf8_all (concat gs) ≡ bs → TailsOwn gs → map encode_utf8_all gs ≡ p ∷ ps → IsFirst bs p ps
+unfolding segments
+first_of [] bs p ps u e t h = cc
+first_of (g ∷ gs) bs p ps u e t h =
+    let head : encode_utf8_all g ≡ p = cc in
+    let tail : map encode_utf8_all gs ≡ ps = cc in
+    let rest = encode_utf8_all (concat gs) in
+    let parts : bs ≡ encode_utf8_all g ++ rest = sym e ∙ encodes-append g (concat gs) in
+    let left : drop (length p) bs ≡ rest = ap (drop (length p)) parts ∙ drop_at (encode_utf8_all g) rest (length p) (ap length head) in
+    let valid : IsUtf8 rest = IsUtf8-past_all g rest bs u parts in
+    record {
+      bytes = parts ∙ ap₂ (λ x y. x ++ y) head (sym left);
+      utf8 = subst IsUtf8 (sym left) valid;
+      own = sym tail ∙ ap (map encode_utf8_all) (t ∙ ap (λ x. cut (is_grapheme_break true) [] x []) (sym (chars_encoded (concat gs) valid)))
+          ∙ ap (λ x. map encode_utf8_all (cut (is_grapheme_break true) [] (chars x) [])) (sym left);
+    }
+
+pub first-cluster : (bs p : List ℕ) (ps : List (List ℕ)) → IsUtf8 bs → graphemes true bs ≡ p ∷ ps → IsFirst bs p ps
+unfolding segments
+first-cluster bs p ps u h =
+    first_of (cut (is_grapheme_break true) [] (chars bs) []) bs p ps u
+    (ap encode_utf8_all (concat-own [] (chars bs)) ∙ encodes-chars bs u) (tails-own [] (chars bs)) h
+
+none_of : (gs : List (List ℕ)) → map encode_utf8_all gs ≡ [] → encode_utf8_all (concat gs) ≡ []
+none_of [] h = refl
+none_of (g ∷ gs) h = cc
+
+-- a text of no clusters has no bytes
+pub no-cluster : (bs : List ℕ) → IsUtf8 bs → graphemes true bs ≡ [] → bs ≡ []
+unfolding segments
+no-cluster bs u h =
+    sym (ap encode_utf8_all (concat-own [] (chars bs)) ∙ encodes-chars bs u) ∙ none_of (cut (is_grapheme_break true) [] (chars bs) []) h
+
+-- ---- units
+
+-- the cluster at an offset of a body, and what is left behind it
+pub record IsNext (class : ℕ → Class) (w : ℕ) (body : List ℕ) (at : ℕ) (p : List ℕ) (ps : List (List ℕ)) : Type 0 where
+  pub units : units_from class w body at ≡ unit_at class w (at, p) ∷ units_from class w body (at + length p)
+  pub own : ps ≡ graphemes true (drop (at + length p) body)
+  pub boundary : IsCharBoundary body (at + length p)
+
+pub next-cluster : (class : ℕ → Class) (w : ℕ) (body : List ℕ) (at : ℕ) (p : List ℕ) (ps : List (List ℕ)) → IsUtf8 body → IsCharBoundary body at → graphemes true (drop at body) ≡ p ∷ ps → IsNext class w body at p ps
+unfolding with_offsets
+next-cluster class w body at p ps u b h =
+    let f = first-cluster (drop at body) p ps (IsUtf8-drop body at u b) h in
+    let left : drop (length p) (drop at body) ≡ drop (at + length p) body = drop-drop (length p) at body in
+    let own : ps ≡ graphemes true (drop (at + length p) body) = f.own ∙ ap (graphemes true) left in
+    let count = ap length f.bytes ∙ length-append p (drop (length p) (drop at body)) in
+    let within : at ≤ length body = b.0 in
+    record {
+      units = ap (λ x. map (unit_at class w) (with_offsets at x)) h
+          ∙ ap (λ x. unit_at class w (at, p) ∷ map (unit_at class w) (with_offsets (at + length p) x)) own;
+      own = own;
+      boundary = IsCharBoundary-from_drop body (at + length p) (omega (arith, count, within, length-drop at body)) (subst IsUtf8 left f.utf8);
+    }
+
+pub none-left : (class : ℕ → Class) (w : ℕ) (body : List ℕ) (at : ℕ) → graphemes true (drop at body) ≡ [] → units_from class w body at ≡ []
+unfolding with_offsets
+none-left class w body at h = ap (λ x. map (unit_at class w) (with_offsets at x)) h
+
+-- nothing is left at the end
+pub none-behind : (class : ℕ → Class) (w : ℕ) (body : List ℕ) (at : ℕ) → length body ≤ at → units_from class w body at ≡ []
+unfolding segments with_offsets cut
+none-behind class w body at h =
+    ap (λ x. map (unit_at class w) (with_offsets at (map encode_utf8_all (cut (is_grapheme_break true) [] (chars x) [])))) (drop_all at body h)
+    ∙ ap (λ x. map (unit_at class w) (with_offsets at (map encode_utf8_all (cut (is_grapheme_break true) [] x [])))) chars-nil
+
+pub past-all : (body : List ℕ) (at : ℕ) → IsUtf8 body → IsCharBoundary body at → graphemes true (drop at body) ≡ [] → length body ≤ at
+past-all body at u b h = omega (arith, ap length (no-cluster (drop at body) (IsUtf8-drop body at u b) h), length-drop at body)
+
+-- one more unit is added
+pub unit-added : (class : ℕ → Class) (w : ℕ) (body : List ℕ) (at : ℕ) (p : List ℕ) (ps : List (List ℕ)) (f : Face) (done new all : List Unit) → IsNext class w body at p ps → f ≡ face class w p → new ≡ done ++ record { start = at; stop = at + length p; face = f } ∷ [] → done ++ units_from class w body at ≡ all → new ++ units_from class w body (at + length p) ≡ all
+unit-added class w body at p ps f done new all n e pushed inv =
+    ap (λ x. x ++ units_from class w body (at + length p)) (pushed ∙ ap (λ x. done ++ record { start = at; stop = at + length p; face = x } ∷ []) e)
+    ∙ append_assoc done (unit_at class w (at, p) ∷ []) (units_from class w body (at + length p))
+    ∙ ap (λ x. done ++ x) (sym n.units) ∙ inv

@@ -1,0 +1,19 @@
+-- What a cluster of simple characters shows.
+use Rattle.std.specs.Prelude.{ℕ, Bool, true, false, cond, List, [], ◌∷◌, Some, None}
+use Rattle.bx_ucd.specs.declared.class.Class.{Class}
+use Rattle.bx_cells.specs.declared.unit.Face.{Face}
+use Rattle.bx_cells.specs.declared.unit.Face.TheVariants.{Mark}
+use Rattle.bx_cells.specs.Faces.{format_letter, sized_face}
+use Rattle.bx_cells.specs.Simple.{own_columns}
+
+-- there is a mark behind the first character
+abbrev pub is_some_mark : List ℕ → Bool
+is_some_mark [] = false
+is_some_mark (m ∷ ms) = true
+
+-- the face of a character that begins, with marks behind it or alone
+abbrev pub simple_face : (ℕ → Class) → ℕ → ℕ → Bool → Face
+simple_face class w c is_marked = elim (format_letter class (cond is_marked None (Some c))) [
+  | Some letter ↦ Mark letter
+  | None ↦ sized_face w (own_columns c)
+]

@@ -1,0 +1,88 @@
+//! Units from simple characters, each known by itself.
+ghost use Rattle.std.specs.Prelude.{◌≡◌, ◌≤◌, ◌<◌, ◌++◌, IfOk, MatchOption, encode_utf8, length};
+ghost use Rattle.std.specs.Str.{IsCharBoundary};
+ghost use Rattle.bx_cells.specs.Simple.{own_columns};
+ghost use Rattle.bx_cells.specs.SimpleFace.{simple_face};
+ghost use Rattle.bx_cells.specs.Units.{units_from};
+
+use crate::faces::{letter_of, sized_face};
+use crate::simple::{Simple, simple_kind};
+use crate::unit::{Face, Unit};
+use bx_ucd::BidiData;
+use std::alloc::AllocError;
+
+/// The first character of a text, and the text behind it.
+#[inline]
+fn first_char(text: &str) -> Option<(char, &str)>
+    ensures { MatchOption result (length text.now ≡ 0) (λ (c, rest). (text.now ≡ encode_utf8 c ++ rest.now) × (length rest.now < length text.now)) }
+{
+    let mut chars = text.chars();
+    match chars.next() {
+        Some(c) => Some((c, chars.as_str())),
+        None => None,
+    }
+}
+
+/// The face of a cluster that begins with a character of these columns, with marks behind it or alone.
+#[inline]
+fn simple_face<D: BidiData>(first: char, columns: u8, is_marked: bool, source: &D, w: u16) -> Face
+    requires { own_columns first ≡ columns }
+    ensures { result ≡ simple_face (D.class_of source.now) w first is_marked }
+{
+    if is_marked {
+        return sized_face(w, usize::from(columns));
+    }
+    match letter_of(source.class(first)) {
+        Some(letter) => Face::Mark(letter),
+        None => sized_face(w, usize::from(columns)),
+    }
+}
+
+/// Adds the units of the simple clusters that stand from an offset on, up to one whose end the characters do not tell by
+/// themselves; gives the offset of what is left.
+pub(crate) fn push_simple<D: BidiData>(
+    units: &mut Vec<Unit>,
+    body: &str,
+    at: usize,
+    source: &D,
+    w: u16,
+) -> Result<usize, AllocError>
+    requires { IsCharBoundary body.now at }
+    ensures within { IfOk result (λ next. (at ≤ next) × IsCharBoundary body.now next) }
+    ensures units { IfOk result (λ next. units.new.items ++ units_from (D.class_of source.now) w body.now next ≡ units.old.items ++ units_from (D.class_of source.now) w body.now at) }
+{
+    let Some((c, behind)) = first_char(&body[at..]) else {
+        return Ok(at);
+    };
+    let Simple::Begins(own) = simple_kind(c) else {
+        return Ok(at);
+    };
+    let mut start = at;
+    let mut first = c;
+    let mut columns = own;
+    let mut is_marked = false;
+    let mut rest = behind;
+    'chars: while let Some((c, behind)) = first_char(rest) {
+        match simple_kind(c) {
+            Simple::Begins(own) => {
+                let stop = body.len() - rest.len();
+                let face = simple_face(first, columns, is_marked, source, w);
+                units.push(Unit { start, stop, face })?;
+                start = stop;
+                first = c;
+                columns = own;
+                is_marked = false;
+            }
+            Simple::Mark => is_marked = true,
+            Simple::Other => return Ok(start),
+        }
+        rest = behind;
+    }
+    let face = simple_face(first, columns, is_marked, source, w);
+    units.push(Unit {
+        start,
+        stop: body.len(),
+        face,
+    })?;
+    Ok(body.len())
+}

@@ -1,0 +1,50 @@
+//! Units from the rules on breaks, by the kit's clusters.
+ghost use Rattle.std.specs.Prelude.{◌≡◌, ◌≤◌, ◌<◌, ◌++◌, IfOk, length};
+ghost use Rattle.std.specs.Str.{IsCharBoundary};
+ghost use Rattle.bx_cells.specs.Units.{units_from};
+
+use crate::faces::face;
+use crate::simple::{Simple, simple_kind};
+use crate::unit::Unit;
+use bx_ucd::BidiData;
+use std::alloc::AllocError;
+use unicode_segmentation::UnicodeSegmentation;
+
+/// Whether a cluster may be found by its characters alone.
+#[inline]
+fn may_be_simple(cluster: &str) -> bool {
+    match cluster.chars().next() {
+        Some(c) => matches!(simple_kind(c), Simple::Begins(_)),
+        None => false,
+    }
+}
+
+/// Adds the units of the clusters that stand from an offset on, one at least if any is left, up to one that may be simple;
+/// gives the offset of what is left.
+pub(crate) fn push_by_rules<D: BidiData>(
+    units: &mut Vec<Unit>,
+    body: &str,
+    at: usize,
+    source: &D,
+    w: u16,
+) -> Result<usize, AllocError>
+    requires { IsCharBoundary body.now at }
+    ensures within { IfOk result (λ next. (at ≤ next) × IsCharBoundary body.now next) }
+    ensures further { at < length body.now → IfOk result (λ next. at < next) }
+    ensures units { IfOk result (λ next. units.new.items ++ units_from (D.class_of source.now) w body.now next ≡ units.old.items ++ units_from (D.class_of source.now) w body.now at) }
+{
+    let mut start = at;
+    for cluster in body[at..].graphemes(true) {
+        if start > at && may_be_simple(cluster) {
+            return Ok(start);
+        }
+        let stop = start + cluster.len();
+        units.push(Unit {
+            start,
+            stop,
+            face: face(cluster, source, w),
+        })?;
+        start = stop;
+    }
+    Ok(start)
+}
