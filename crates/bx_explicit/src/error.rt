@@ -1,5 +1,5 @@
 //! The refusal of the calls that take memory.
-use std::alloc::AllocError;
+use std::alloc::{AllocError, AllocFailed};
 use thiserror::Error;
 
 /// Why explicit levels or sequences could not be found.
@@ -12,6 +12,12 @@ pub enum ExplicitError {
 
 impl From<AllocError> for ExplicitError {
     fn from(_error: AllocError) -> Self {
+        ExplicitError::OutOfMemory
+    }
+}
+
+impl<T: Drop> From<AllocFailed<T>> for ExplicitError {
+    fn from(_error: AllocFailed<T>) -> Self {
         ExplicitError::OutOfMemory
     }
 }

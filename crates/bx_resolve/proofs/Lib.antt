@@ -14,4 +14,3 @@ pub mod PairTypes
 pub mod RightMarks
 pub mod RightLevels
 pub mod PlainLevels
-pub mod TestRows

@@ -1,15 +1,14 @@
 //! The worked examples and outside values, each call with ample memory.
 mod rows;
-mod tables;
 mod vectors;
 
 use crate::{Levels, levels, levels_by_rules};
 use bx_explicit::Base;
+use bx_ucd::{Tables, sample_tables};
 use rows::ROWS;
 use std::alloc::Global;
 use std::process::Abort;
 use std::test::Fail;
-use tables::TestTables;
 use vectors::VECTORS;
 
 /// The text of a field of hexadecimal codes.
@@ -54,10 +53,15 @@ fn shown(alloc: Global, each: &[Option<u8>]) -> Result<String, Fail> {
 }
 
 /// Both bodies give the same under each base.
-fn check_agreement(rt: &impl Abort, alloc: Global, body: &str) -> Result<(), Fail> {
+fn check_agreement(
+    rt: &impl Abort,
+    alloc: Global,
+    tables: &Tables,
+    body: &str,
+) -> Result<(), Fail> {
     for base in [Base::Auto, Base::Ltr, Base::Rtl] {
-        let by_rules = levels_by_rules(alloc, body, &TestTables, base)?;
-        let found = levels(alloc, body, &TestTables, base)?;
+        let by_rules = levels_by_rules(alloc, body, tables, base)?;
+        let found = levels(alloc, body, tables, base)?;
         assert_eq!(rt; found.paragraph, by_rules.paragraph, "in {body:?} {base:?}");
         assert_eq!(rt;
             found.each.as_slice(),
@@ -69,20 +73,20 @@ fn check_agreement(rt: &impl Abort, alloc: Global, body: &str) -> Result<(), Fai
 }
 
 /// One line of the outside values.
-fn check_line(rt: &impl Abort, alloc: Global, line: &str) -> Result<(), Fail> {
+fn check_line(rt: &impl Abort, alloc: Global, tables: &Tables, line: &str) -> Result<(), Fail> {
     let mut fields = line.split('\t');
     let body = text_of(alloc, fields.next().ok_or("no characters")?)?;
     let base = base_of(fields.next().ok_or("no base")?);
     let paragraph = fields.next().ok_or("no paragraph level")?;
     let each = fields.next().ok_or("no levels")?;
-    let by_rules = levels_by_rules(alloc, body.as_str(), &TestTables, base)?;
+    let by_rules = levels_by_rules(alloc, body.as_str(), tables, base)?;
     assert_eq!(rt;
         format!(in alloc; "{}", by_rules.paragraph)?.as_str(),
         paragraph,
         "in {line}"
     );
     assert_eq!(rt; shown(alloc, &by_rules.each)?.as_str(), each, "in {line}");
-    check_agreement(rt, alloc, body.as_str())
+    check_agreement(rt, alloc, tables, body.as_str())
 }
 
 /// A character of each class but B.
@@ -94,6 +98,7 @@ const SAMPLES: [char; 22] = [
 
 #[test]
 fn both_bodies_agree_on_three_characters(rt: HostRuntime) -> Result<(), Fail> {
+    let tables = sample_tables(rt.alloc())?;
     for a in SAMPLES {
         for b in SAMPLES {
             for c in SAMPLES {
@@ -101,7 +106,7 @@ fn both_bodies_agree_on_three_characters(rt: HostRuntime) -> Result<(), Fail> {
                 body.push(a)?;
                 body.push(b)?;
                 body.push(c)?;
-                check_agreement(&rt, rt.alloc(), body.as_str())?;
+                check_agreement(&rt, rt.alloc(), &tables, body.as_str())?;
             }
         }
     }
@@ -110,17 +115,19 @@ fn both_bodies_agree_on_three_characters(rt: HostRuntime) -> Result<(), Fail> {
 
 #[test]
 fn levels_of_random_texts(rt: HostRuntime) -> Result<(), Fail> {
+    let tables = sample_tables(rt.alloc())?;
     for line in VECTORS.lines() {
-        check_line(&rt, rt.alloc(), line)?;
+        check_line(&rt, rt.alloc(), &tables, line)?;
     }
     Ok(())
 }
 
 #[test]
 fn worked_rows(rt: HostRuntime) -> Result<(), Fail> {
+    let tables = sample_tables(rt.alloc())?;
     for row in ROWS.lines() {
         let (_shows, line) = row.split_once('\t').ok_or("no row")?;
-        check_line(&rt, rt.alloc(), line)?;
+        check_line(&rt, rt.alloc(), &tables, line)?;
     }
     Ok(())
 }
@@ -134,17 +141,23 @@ fn add(body: &mut String, c: char, times: usize) -> Result<(), Fail> {
 }
 
 /// The levels by both bodies, which agree.
-fn levels_by_both(rt: &impl Abort, alloc: Global, body: &str) -> Result<Levels, Fail> {
-    check_agreement(rt, alloc, body)?;
-    Ok(levels(alloc, body, &TestTables, Base::Auto)?)
+fn levels_by_both(
+    rt: &impl Abort,
+    alloc: Global,
+    tables: &Tables,
+    body: &str,
+) -> Result<Levels, Fail> {
+    check_agreement(rt, alloc, tables, body)?;
+    Ok(levels(alloc, body, tables, Base::Auto)?)
 }
 
 #[test]
 fn isolates_never_closed(rt: HostRuntime) -> Result<(), Fail> {
+    let tables = sample_tables(rt.alloc())?;
     let mut body = String::new(rt.alloc());
     add(&mut body, '\u{2067}', 1000)?;
     add(&mut body, 'a', 1)?;
-    let levels = levels_by_both(&rt, rt.alloc(), body.as_str())?;
+    let levels = levels_by_both(&rt, rt.alloc(), &tables, body.as_str())?;
     assert_eq!(rt; levels.paragraph, 0);
     assert_eq!(rt; levels.each.last().copied(), Some(Some(126)));
     Ok(())
@@ -152,10 +165,11 @@ fn isolates_never_closed(rt: HostRuntime) -> Result<(), Fail> {
 
 #[test]
 fn pdis_that_close_nothing(rt: HostRuntime) -> Result<(), Fail> {
+    let tables = sample_tables(rt.alloc())?;
     let mut body = String::new(rt.alloc());
     add(&mut body, '\u{2069}', 1000)?;
     add(&mut body, 'a', 1)?;
-    let levels = levels_by_both(&rt, rt.alloc(), body.as_str())?;
+    let levels = levels_by_both(&rt, rt.alloc(), &tables, body.as_str())?;
     let zeros = vec![in rt.alloc(); Some(0); 1001]?;
     assert_eq!(rt; levels.each.as_slice(), zeros.as_slice());
     Ok(())
@@ -163,16 +177,17 @@ fn pdis_that_close_nothing(rt: HostRuntime) -> Result<(), Fail> {
 
 #[test]
 fn embeddings_at_the_limit(rt: HostRuntime) -> Result<(), Fail> {
+    let tables = sample_tables(rt.alloc())?;
     let mut body = String::new(rt.alloc());
     add(&mut body, '\u{202b}', 63)?;
     add(&mut body, 'a', 1)?;
-    let levels = levels_by_both(&rt, rt.alloc(), body.as_str())?;
+    let levels = levels_by_both(&rt, rt.alloc(), &tables, body.as_str())?;
     assert_eq!(rt; levels.each.last().copied(), Some(Some(126)));
     let mut body = String::new(rt.alloc());
     add(&mut body, '\u{202b}', 64)?;
     add(&mut body, '\u{202c}', 1)?;
     add(&mut body, 'a', 1)?;
-    let levels = levels_by_both(&rt, rt.alloc(), body.as_str())?;
+    let levels = levels_by_both(&rt, rt.alloc(), &tables, body.as_str())?;
     assert_eq!(rt; levels.each.last().copied(), Some(Some(126)));
     Ok(())
 }
@@ -190,12 +205,13 @@ fn nested_brackets(alloc: Global, depth: usize) -> Result<String, Fail> {
 
 #[test]
 fn brackets_at_the_limit(rt: HostRuntime) -> Result<(), Fail> {
+    let tables = sample_tables(rt.alloc())?;
     let body = nested_brackets(rt.alloc(), 63)?;
-    let levels = levels_by_both(&rt, rt.alloc(), body.as_str())?;
+    let levels = levels_by_both(&rt, rt.alloc(), &tables, body.as_str())?;
     assert_eq!(rt; levels.each.get(63).copied(), Some(Some(0)));
     assert_eq!(rt; levels.each.get(65).copied(), Some(Some(0)));
     let body = nested_brackets(rt.alloc(), 64)?;
-    let levels = levels_by_both(&rt, rt.alloc(), body.as_str())?;
+    let levels = levels_by_both(&rt, rt.alloc(), &tables, body.as_str())?;
     assert_eq!(rt; levels.each.get(64).copied(), Some(Some(0)));
     assert_eq!(rt; levels.each.get(66).copied(), Some(Some(1)));
     Ok(())

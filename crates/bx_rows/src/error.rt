@@ -1,5 +1,5 @@
 //! The refusal of the calls that take memory.
-use std::alloc::AllocError;
+use std::alloc::{AllocError, AllocFailed};
 use thiserror::Error;
 
 /// Why rows could not be found or drawn.
@@ -12,6 +12,12 @@ pub enum RowError {
 
 impl From<AllocError> for RowError {
     fn from(_error: AllocError) -> Self {
+        RowError::OutOfMemory
+    }
+}
+
+impl<T: Drop> From<AllocFailed<T>> for RowError {
+    fn from(_error: AllocFailed<T>) -> Self {
         RowError::OutOfMemory
     }
 }
