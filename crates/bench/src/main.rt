@@ -2,6 +2,7 @@
 //!
 //!     bench [--time] text TASK BYTES [EDITS]
 //!     bench [--time] paragraphs TASK BYTES LINE [EDITS]
+//!     bench [--time] levels PATTERN CHARACTERS TIMES
 //!     bench each
 //!
 //! It prints a line that depends on all that was done, and with --time also the processor time of what is measured. `each`
@@ -10,8 +11,10 @@
 #![tactic(auto)]
 
 mod edits;
+mod levels;
 mod outcome;
 mod paragraphs;
+mod texts;
 
 use anyhow::{Result, bail};
 use outcome::Outcome;
@@ -24,12 +27,17 @@ fn measured<R: CpuClock + AllocGlobal>(rt: &R, words: &[String]) -> Result<Outco
     match words {
         [layer, rest @ ..] if layer.as_str() == "text" => edits::run(rt, rest),
         [layer, rest @ ..] if layer.as_str() == "paragraphs" => paragraphs::run(rt, rest),
-        _ => bail!("usage: bench [--time] text|paragraphs WORDS"),
+        [layer, rest @ ..] if layer.as_str() == "levels" => levels::run(rt, rest),
+        _ => bail!("usage: bench [--time] text|paragraphs|levels WORDS"),
     }
 }
 
 /// One run of each layer.
-const EACH: [&str; 2] = ["text scattered 100000 2000", "paragraphs edit 10000 50 20"];
+const EACH: [&str; 3] = [
+    "text scattered 100000 2000",
+    "paragraphs edit 10000 50 20",
+    "levels mixed 80 1",
+];
 
 /// Takes every layer once.
 fn each<R: Print + CpuClock + AllocGlobal>(rt: &R) -> Result<()> {

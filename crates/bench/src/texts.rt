@@ -1,4 +1,4 @@
-//! The texts.
+//! The texts whose levels are found.
 use std::alloc::{AllocError, Global};
 
 /// The characters that a pattern repeats.

@@ -1,0 +1,61 @@
+//! Levels of a paragraph: PATTERN CHARACTERS TIMES. The cost of a character is the difference of two runs that differ in
+//! TIMES alone, by the difference in characters. Cost that does not depend on CHARACTERS is linear time.
+
+use crate::outcome::{Outcome, number};
+use crate::texts::text;
+use anyhow::{Result, bail};
+use bx_explicit::Base;
+use bx_resolve::levels;
+use bx_ucd::Tables;
+use bx_ucd::sample::{BRACKETS, CLASSES, MIRRORING};
+use std::alloc::Global;
+use std::time::CpuClock;
+
+/// The small tables, with a full stop and a slash as Unicode has them.
+fn tables(alloc: Global) -> Result<Tables> {
+    let mut classes = String::from_str(alloc, CLASSES)?;
+    classes.push_str("002E..002F ; CS\n")?;
+    Ok(Tables::read(
+        alloc,
+        classes.as_bytes(),
+        BRACKETS.as_bytes(),
+        MIRRORING.as_bytes(),
+    )?)
+}
+
+/// The sum of all levels, which depends on each of them.
+fn sum_of(each: &[Option<u8>]) -> u64 {
+    let mut sum: u64 = 0;
+    for level in each {
+        sum = sum.wrapping_add(u64::from(level.unwrap_or(0)));
+    }
+    sum
+}
+
+/// Finds the levels of a text some times.
+fn sum(alloc: Global, tables: &Tables, body: &str, times: usize) -> Result<u64> {
+    let mut sum: u64 = 0;
+    for _ in 0..times {
+        let found = levels(alloc, body, tables, Base::Auto)?;
+        sum = sum.wrapping_add(sum_of(&found.each));
+    }
+    Ok(sum)
+}
+
+/// What the words ask for: the sum of the levels, and the time of finding them.
+pub(crate) fn run<R: CpuClock + AllocGlobal>(rt: &R, words: &[String]) -> Result<Outcome> {
+    let [pattern, count, times] = words else {
+        bail!("usage: bench levels PATTERN CHARACTERS TIMES");
+    };
+    let tables = tables(rt.alloc())?;
+    let body = text(rt.alloc(), pattern.as_str(), number(count)?)?;
+    let times = number(times)?;
+    let start = rt.thread_cpu_time()?;
+    let sum = sum(rt.alloc(), &tables, body.as_str(), times)?;
+    let end = rt.thread_cpu_time()?;
+    let line = format!(in rt.alloc(); "{sum}")?;
+    Ok(Outcome {
+        line,
+        time: end.saturating_sub(start),
+    })
+}
