@@ -1,5 +1,5 @@
 -- The numbers that the visual order lists: each is below the count, and each unit is listed once.
-use Rattle.std.proofs.Common.{◌≡◌, ℕ, zero, suc, ◌+◌, ◌-◌, ◌<◌, ◌≤◌, nat_le, Bool, true, false, List, [], ◌∷◌, ◌++◌, length, map, sum_by, drop, get_or, Option, Some, None, All, refl, sym, subst, ap, ap₂, ◌∙◌, arith, drop-cons}
+use Rattle.std.proofs.Common.{◌≡◌, ℕ, zero, suc, ◌+◌, ◌-◌, ◌<◌, ◌≤◌, nat_le, Bool, true, false, List, [], ◌∷◌, ◌++◌, length, map, sum_by, drop, get_or, Option, Some, None, All, refl, sym, ap, ◌∙◌, arith, drop-cons}
 use Rattle.std.specs.Prelude.{flat_map}
 use Rattle.std.specs.List.{enumerate_from}
 use Rattle.std.proofs.lemmas.List.Elements.{All-append, All-cons, All-nil, All-rest, All-map, All-same}

@@ -1,23 +1,23 @@
 -- A row's picture: each of its glyphs is one glyph, and their columns are the window's.
-use Rattle.std.proofs.Common.{◌≡◌, ℕ, zero, suc, ◌+◌, ◌-◌, ◌*◌, ◌%◌, ◌<◌, ◌≤◌, List, [], ◌∷◌, ◌++◌, length, map, replicate, sum, sum_by, get_or, drop, Option, true, All, refl, sym, subst, ap, ◌∙◌, arith}
+use Rattle.std.proofs.Common.{◌≡◌, ℕ, zero, suc, ◌+◌, ◌-◌, ◌%◌, ◌≤◌, List, [], ◌∷◌, ◌++◌, length, map, replicate, sum_by, get_or, drop, Option, true, All, refl, sym, subst, ap, ◌∙◌, arith}
 use Rattle.std.specs.Prelude.{flat_map}
 use Rattle.std.specs.Cow.{cow_str_bytes}
 use Rattle.bx_terms.specs.Glyphs.{is_one_glyph}
 use Rattle.bx_rows.specs.declared.drawn.Drawn.{Drawn}
 use Rattle.bx_rows.specs.Shown.{shown}
 use Rattle.std.proofs.lemmas.List.Elements.{All-append, All-cons, All-nil, All-rest, All-replicate, All-take, All-drop}
-use Rattle.std.proofs.lemmas.List.Sums.{sum_by-append, sum_by-cons, sum-map}
+use Rattle.std.proofs.lemmas.List.Sums.{sum_by-append, sum_by-cons}
 use Rattle.std.proofs.lemmas.List.Folds.{sum_by-replicate}
 use Rattle.bx_ucd.specs.declared.class.Class.{Class}
 use Rattle.bx_cells.specs.declared.unit.Unit.{Unit}
 use Rattle.bx_cells.specs.Units.{unit_text, HasFace}
 use Rattle.bx_rows.specs.declared.row.Row.{Row}
 use Rattle.bx_rows.specs.Wrapping.{columns_at, row_units}
-use Rattle.bx_rows.specs.RowPicture.{Glyph, blank, face_glyphs, unit_columns, unit_glyphs, used, with_blanks, draw}
+use Rattle.bx_rows.specs.RowPicture.{Glyph, blank, face_glyphs, unit_columns, unit_glyphs, used, draw}
 use Rattle.bx_rows.specs.VisualOrder.{visual}
 use Rattle.bx_rows.proofs.FaceGlyphs.{IsOneGlyph, tells-face, face-one, face-sum}
 use Rattle.bx_rows.proofs.NumbersBelow.{sum-visual}
-use Rattle.bx_rows.proofs.PictureSums.{columns-length}
+use Rattle.bx_rows.proofs.PictureSums.{columns-length, sum_by-same}
 use Rattle.bx_rows.proofs.Pieces.{pieces-length}
 
 -- ---- each glyph is one
@@ -64,10 +64,6 @@ blanks-sum : (odd n : ℕ) (glyphs : List Glyph) → columns_of_glyphs (elim odd
 blanks-sum zero n glyphs = sum_by-append (λ g. g.columns) glyphs (replicate n blank) ∙ omega (arith, sum_by-replicate (λ g. g.columns) n blank)
 blanks-sum (suc k) n glyphs = sum_by-append (λ g. g.columns) (replicate n blank) glyphs ∙ omega (arith, sum_by-replicate (λ g. g.columns) n blank)
 
-map-same : (xs : List ℕ) → map (λ n. n) xs ≡ xs
-map-same [] = refl
-map-same (x ∷ xs) = ap (λ ys. x ∷ ys) (map-same xs)
-
 pub draw-sum : (class : ℕ → Class) (mirror : ℕ → Option ℕ) (w : ℕ) (body : List ℕ) (paragraph : ℕ) (us : List Unit) (levels : List ℕ) → All (HasFace class w body) us → length levels ≡ length us → used w us ≤ w → columns_of_glyphs (draw class mirror w body paragraph us levels) ≡ w
 draw-sum class mirror w body paragraph us levels a e fits =
     let columns = unit_columns w 0 us in
@@ -75,7 +71,7 @@ draw-sum class mirror w body paragraph us levels a e fits =
     let count : length pieces ≡ length levels =
     pieces-length class mirror w body us columns levels (columns-length w 0 us) e ∙ sym e in
     let chosen = sum-visual (λ g. g.columns) pieces levels count ∙ pieces-sum class mirror w 0 body us levels a e in
-    let total : sum_by (λ n. n) columns ≡ used w us = sym (sum-map (λ n. n) columns) ∙ ap sum (map-same columns) in
+    let total : sum_by (λ n. n) columns ≡ used w us = sum_by-same columns in
     let all = blanks-sum (paragraph % 2) (w - used w us) (flat_map (λ k. get_or pieces k []) (visual levels)) in
     omega (arith, all, chosen, total, fits)
 

@@ -1,5 +1,5 @@
 -- The glyphs of one unit of a row.
-use Rattle.std.proofs.Common.{◌≡◌, ℕ, zero, suc, ◌+◌, ◌-◌, ◌%◌, ◌<◌, ◌≤◌, ◌++◌, List, [], ◌∷◌, length, get_or, map, replicate, take, refl, sym, subst, ap, ◌∙◌, arith, append_assoc, append-nil, Option}
+use Rattle.std.proofs.Common.{◌≡◌, ℕ, zero, suc, ◌+◌, ◌-◌, ◌%◌, ◌<◌, ◌++◌, List, [], ◌∷◌, length, get_or, map, replicate, take, refl, sym, ap, ◌∙◌, arith, append_assoc, append-nil, Option}
 use Rattle.std.specs.Prelude.{flat_map}
 use Rattle.std.specs.List.{zip}
 use Rattle.std.proofs.lemmas.List.{get_or-map, take_more}

@@ -1,8 +1,8 @@
 -- The rows of units: each is a part of them that has no more columns than the window.
-use Rattle.std.proofs.Common.{◌≡◌, ℕ, zero, suc, ◌+◌, ◌-◌, ◌<◌, ◌≤◌, ◌==◌, nat_lt, nat_le, ◌&&◌, Bool, true, false, List, [], ◌∷◌, length, map, take, drop, sum, sum_by, refl, sym, subst, ap, ◌∙◌, arith, All, leb-true, length-drop}
+use Rattle.std.proofs.Common.{◌≡◌, ℕ, zero, suc, ◌+◌, ◌-◌, ◌≤◌, ◌==◌, nat_lt, nat_le, ◌&&◌, Bool, true, false, List, [], ◌∷◌, length, take, drop, sum_by, refl, sym, subst, ap, ◌∙◌, arith, All, leb-true, length-drop}
 use Rattle.std.proofs.lemmas.Bool.{and_parts}
 use Rattle.std.proofs.lemmas.List.{drop-drop}
-use Rattle.std.proofs.lemmas.List.Sums.{sum_by-cons, sum-map}
+use Rattle.std.proofs.lemmas.List.Sums.{sum_by-cons}
 use Rattle.std.proofs.lemmas.List.Elements.{All-cons, All-nil, All-same}
 use Rattle.bx_ucd.specs.declared.class.Class.{Class}
 use Rattle.bx_cells.specs.declared.unit.Unit.{Unit}
@@ -10,6 +10,7 @@ use Rattle.bx_rows.specs.declared.row.Row.{Row}
 use Rattle.bx_rows.specs.Wrapping.{columns_at, fitting_from, fitting, up_to_last, up_to_break, row_len, rows_from, rows_of, is_break, wrap, row_units}
 use Rattle.bx_rows.specs.RowPicture.{unit_columns, used}
 use Rattle.bx_rows.specs.Shown.{IsRowOf}
+use Rattle.bx_rows.proofs.PictureSums.{sum_by-same}
 
 -- ---- a prefix that fits
 
@@ -39,14 +40,10 @@ fits w c zero us h k = let none : total w c [] ≡ 0 = refl in omega (arith, h, 
 fits w c (suc n) [] h k = let none : total w c [] ≡ 0 = refl in omega (arith, h, none)
 fits w c (suc n) (u ∷ us) h k = fits-by w c n u us (nat_lt c w && nat_le (c + columns_at w c u.face) w) refl k (λ end rest. fits w (c + columns_at w c u.face) n us end rest)
 
-map-same : (xs : List ℕ) → map (λ n. n) xs ≡ xs
-map-same [] = refl
-map-same (x ∷ xs) = ap (λ ys. x ∷ ys) (map-same xs)
-
 fits-used : (w n : ℕ) (us : List Unit) → n ≤ fitting w us → used w (take n us) ≤ w
 fits-used w n us k =
     let columns = unit_columns w 0 (take n us) in
-    let same : total w 0 (take n us) ≡ used w (take n us) = sym (sum-map (λ m. m) columns) ∙ ap sum (map-same columns) in
+    let same : total w 0 (take n us) ≡ used w (take n us) = sum_by-same columns in
     omega (arith, fits w 0 n us (omega arith) k, same)
 
 -- ---- a row is such a prefix

@@ -1,5 +1,5 @@
 -- A row's glyphs as they are kept, and what the parts of a row must meet for it to be drawn.
-use Rattle.std.specs.Prelude.{◌≡◌, ◌≤◌, ℕ, true, ⊤, List, map, length}
+use Rattle.std.specs.Prelude.{◌≡◌, ◌≤◌, ℕ, true, ⊤, List, length}
 use Rattle.std.specs.Cow.{cow_str_bytes}
 use Rattle.bx_terms.specs.Characters.{is_ascii_printable}
 use Rattle.bx_cells.specs.declared.unit.Face.{Face}

@@ -1,9 +1,9 @@
 //! The glyphs of a unit.
-ghost use Rattle.std.specs.Prelude.{◌≡◌, ◌≤◌, ◌++◌, ◌∷◌, [], IfOk, OnOk, List, map, replicate, string_bytes, false, true};
+ghost use Rattle.std.specs.Prelude.{◌≡◌, ◌++◌, ◌∷◌, [], IfOk, OnOk, map, replicate, string_bytes, false, true};
 ghost use Rattle.std.specs.List.{range_with_len};
 ghost use Rattle.std.specs.Cow.{cow_str_bytes};
 ghost use Rattle.bx_terms.specs.Characters.{are_ascii_printable, is_ascii_printable};
-ghost use Rattle.bx_rows.specs.RowPicture.{Glyph, blank, face_glyphs, glyph, is_own, mirrored, mirrored_within, shown_text, text_glyphs};
+ghost use Rattle.bx_rows.specs.RowPicture.{blank, face_glyphs, glyph, is_own, mirrored, mirrored_within, shown_text, text_glyphs};
 ghost use Rattle.bx_rows.specs.Shown.{HasLetter, shown};
 
 use crate::drawn::Drawn;
@@ -23,8 +23,8 @@ fn letter_of<'a>(letters: &'a str, byte: u8) -> &'a str
     requires byte { is_ascii_printable byte ≡ true }
     ensures { result.now ≡ byte ∷ [] }
 {
-    let place = (byte - b' ') as usize;
-    &letters[place..place + 1]
+    let index = (byte - b' ') as usize;
+    &letters[index..index + 1]
 }
 
 /// A fixed text of one character from SPACE to TILDE.

@@ -3,7 +3,7 @@ ghost use Rattle.std.specs.Prelude.{◌≡◌, ◌≤◌, ◌<◌, ◌+◌, ◌+
 ghost use Rattle.std.specs.Cow.{cow_str_bytes};
 ghost use Rattle.bx_terms.specs.Glyphs.{is_one_glyph};
 ghost use Rattle.bx_cells.specs.Units.{HasFace, StandsIn};
-ghost use Rattle.bx_rows.specs.RowPicture.{draw, unit_columns, unit_glyphs, used, with_blanks};
+ghost use Rattle.bx_rows.specs.RowPicture.{draw, unit_columns, unit_glyphs, used};
 ghost use Rattle.bx_rows.specs.Shown.{IsRowOf, shown};
 ghost use Rattle.bx_rows.specs.VisualOrder.{visual};
 ghost use Rattle.bx_rows.specs.Wrapping.{row_units};

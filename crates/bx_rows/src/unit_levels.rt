@@ -1,8 +1,8 @@
 //! The levels of a row's units: L1, and a level for each unit.
-ghost use Rattle.std.specs.Prelude.{◌≡◌, ◌≤◌, ◌++◌, All, IfOk, OnOk, chars, drop, flat_map, length, map};
+ghost use Rattle.std.specs.Prelude.{◌≡◌, ◌≤◌, ◌++◌, All, IfOk, OnOk, chars, flat_map, length, map};
 ghost use Rattle.std.specs.List.{zip};
 ghost use Rattle.bx_cells.specs.Units.{StandsIn, unit_chars};
-ghost use Rattle.bx_rows.specs.RowLevels.{chars_before, filled, first_level, is_segment_separator, is_trailing, l1, level_at, row_chars, row_levels, trails, unit_levels};
+ghost use Rattle.bx_rows.specs.RowLevels.{chars_before, filled, first_level, is_segment_separator, is_trailing, l1, level_at, row_levels, trails, unit_levels};
 ghost use Rattle.bx_rows.specs.Wrapping.{row_units};
 
 use crate::error::RowError;
@@ -52,8 +52,8 @@ fn level_at(paragraph: u8, c: Leveled, trailing: bool) -> Option<u8>
     }
 }
 
-#[tactic(auto, using(crate::proofs::Resets::trails_before, crate::proofs::Resets::l1_before))]
 /// L1: the levels of a row's characters. It reads them once, from the right end.
+#[tactic(auto, using(crate::proofs::Resets::trails_before, crate::proofs::Resets::l1_before))]
 fn l1(alloc: Global, chars: &[Leveled], paragraph: u8) -> Result<Vec<Option<u8>>, AllocError>
     ensures { IfOk result (λ v. v.items ≡ l1 paragraph chars.now) }
 {
@@ -101,7 +101,7 @@ fn row_classes<D: BidiData>(
 }
 
 /// The classes of a row's characters, each with its level.
-fn leveled(
+fn with_levels(
     alloc: Global,
     classes: &[Class],
     each: &[Option<u8>],
@@ -142,8 +142,8 @@ fn chars_before(body: &str, units: &[Unit]) -> usize
     char_count(&body[..units[0].start])
 }
 
-#[tactic(auto, using(crate::proofs::Resets::first_here, crate::proofs::Resets::first_more))]
 /// The first level there is.
+#[tactic(auto, using(crate::proofs::Resets::first_here, crate::proofs::Resets::first_more))]
 fn first_level(levels: &[Option<u8>]) -> Option<u8>
     ensures { result ≡ first_level levels.now }
 {
@@ -197,7 +197,7 @@ fn each_level<D: BidiData>(
     let each = levels.each.as_slice();
     let first = chars_before(body, units).min(each.len());
     let classes = row_classes(alloc, body, units, source)?;
-    let chars = leveled(alloc, &classes, &each[first..])?;
+    let chars = with_levels(alloc, &classes, &each[first..])?;
     let reset = l1(alloc, &chars, levels.paragraph)?;
     filled(alloc, body, units, &reset, levels.paragraph)
 }

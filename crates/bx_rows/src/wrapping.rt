@@ -96,7 +96,7 @@ fn row_len<D: BidiData>(body: &str, units: &[Unit], source: &D, w: u16) -> usize
 }
 
 /// The rows of a body's units, one after another.
-fn listed<D: BidiData>(
+fn all_rows<D: BidiData>(
     alloc: Global,
     body: &str,
     units: &[Unit],
@@ -134,6 +134,6 @@ pub fn wrap<D: BidiData>(
     ensures rows { IfOk result (λ v. v.items ≡ wrap (D.class_of source.now) w body.now units.now) }
     ensures fit { IfOk result (λ v. All (IsRowOf w units.now) v.items) }
 {
-    let rows = listed(alloc, body, units, source, w)?;
+    let rows = all_rows(alloc, body, units, source, w)?;
     Ok(rows)
 }

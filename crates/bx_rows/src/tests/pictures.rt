@@ -5,7 +5,7 @@ use crate::{RowPicture, draw, row_levels, wrap};
 use bx_cells::units;
 use bx_explicit::Base;
 use bx_ucd::Tables;
-use std::alloc::Global;
+use std::alloc::{AllocError, Global};
 use std::process::Abort;
 use std::test::Fail;
 
@@ -145,6 +145,65 @@ fn pictures_under_a_base(rt: HostRuntime) -> Result<(), Fail> {
         8,
         "12_\u{5d1}\u{5d0}___",
     )?;
+    Ok(())
+}
+
+/// Adds a text some times.
+fn push_times(text: &mut String, part: &str, times: usize) -> Result<(), AllocError> {
+    for _ in 0..times {
+        text.push_str(part)?;
+    }
+    Ok(())
+}
+
+/// A letter, so many opening brackets, a right-to-left letter, as many of `closer`, and another right-to-left letter.
+fn in_brackets(alloc: Global, times: usize, closer: &str) -> Result<String, AllocError> {
+    let mut text = String::from_str(alloc, "a")?;
+    push_times(&mut text, "(", times)?;
+    text.push('\u{5d0}')?;
+    push_times(&mut text, closer, times)?;
+    text.push('\u{5d0}')?;
+    Ok(text)
+}
+
+/// Whether so many pairs of brackets within each other show this in 140 columns, with the letters and the blanks.
+fn brackets_show(alloc: Global, tables: &Tables, times: usize, closer: &str) -> Result<bool, Fail> {
+    let body = in_brackets(alloc, times, ")")?;
+    let shown = pictures(alloc, tables, body.as_str(), Base::Auto, 140)?;
+    let mut wanted = in_brackets(alloc, times, closer)?;
+    push_times(
+        &mut wanted,
+        "_",
+        137usize.saturating_sub(times.saturating_mul(2)),
+    )?;
+    Ok(shown.as_str() == wanted.as_str())
+}
+
+#[test]
+fn brackets_that_fill_their_stack(rt: HostRuntime) -> Result<(), Fail> {
+    let tables = test_tables(rt.alloc())?;
+    assert_eq!(rt; brackets_show(rt.alloc(), &tables, 63, ")")?, true);
+    assert_eq!(rt; brackets_show(rt.alloc(), &tables, 64, "(")?, true);
+    Ok(())
+}
+
+/// Whether so many embeddings before a letter are so many marks before it in 70 columns.
+fn embeddings_show(alloc: Global, tables: &Tables, times: usize) -> Result<bool, Fail> {
+    let mut body = String::new(alloc);
+    push_times(&mut body, "\u{202b}", times)?;
+    body.push('a')?;
+    let mut wanted = String::new(alloc);
+    push_times(&mut wanted, "E*", times)?;
+    wanted.push('a')?;
+    push_times(&mut wanted, "_", 69usize.saturating_sub(times))?;
+    let shown = pictures(alloc, tables, body.as_str(), Base::Auto, 70)?;
+    Ok(shown.as_str() == wanted.as_str())
+}
+
+#[test]
+fn embeddings_that_fill_their_stack(rt: HostRuntime) -> Result<(), Fail> {
+    let tables = test_tables(rt.alloc())?;
+    assert_eq!(rt; embeddings_show(rt.alloc(), &tables, 63)?, true);
     Ok(())
 }
 

@@ -1,4 +1,4 @@
-use Rattle.std.proofs.Common.{◌≡◌, ◌<◌, [], length, get_or, refl, sym, ◌∙◌, ap}
+use Rattle.std.proofs.Common.{◌<◌, [], length, get_or, refl, sym, ◌∙◌, ap}
 use Rattle.bx_cells.specs.Units.{unit_text}
 use Rattle.bx_rows.specs.RowPicture.{unit_glyphs, face_glyphs}
 use Rattle.bx_rows.proofs.FaceGlyphs.{letter-face}

@@ -1,4 +1,4 @@
-use Rattle.std.proofs.Common.{◌∙◌, ap, refl, arith}
+use Rattle.std.proofs.Common.{◌∙◌, ap, arith}
 use Rattle.bx_rows.specs.Shown.{shown}
 use Rattle.std.specs.Prelude.{map}
 use Rattle.bx_rows.proofs.Pieces.{drawn-even, drawn-odd}

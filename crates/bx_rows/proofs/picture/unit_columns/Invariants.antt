@@ -1,5 +1,5 @@
 -- The columns so far, and those of the units behind, are all.
-use Rattle.std.proofs.Common.{◌≡◌, ◌+◌, ◌≤◌, ◌++◌, length, drop, sum}
+use Rattle.std.proofs.Common.{◌≡◌, ◌+◌, ◌++◌, length, drop, sum}
 use Rattle.bx_rows.specs.RowPicture.{unit_columns, used}
 use Rattle.bx_rows.proofs.picture.unit_columns.Given as goal
 
