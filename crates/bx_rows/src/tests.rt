@@ -1,28 +1,16 @@
 //! Each call with ample memory: worked rows and outside values.
 mod pictures;
-mod tables;
 mod vectors;
 
 use crate::{Row, has_one_row, row_levels, visual, wrap};
 use bx_cells::{Unit, units};
 use bx_explicit::Base;
-use bx_resolve::{Levels, levels};
-use bx_ucd::Tables;
+use bx_resolve::levels;
+use bx_ucd::{Tables, sample_tables};
 use std::alloc::Global;
 use std::process::Abort;
 use std::test::Fail;
-use tables::{BRACKETS, CLASSES, MIRRORING};
 use vectors::VECTORS;
-
-/// The small tables.
-fn test_tables(alloc: Global) -> Result<Tables, Fail> {
-    Ok(Tables::read(
-        alloc,
-        CLASSES.as_bytes(),
-        BRACKETS.as_bytes(),
-        MIRRORING.as_bytes(),
-    )?)
-}
 
 /// The text of a field of hexadecimal codes.
 fn text_of(alloc: Global, field: &str) -> Result<String, Fail> {
@@ -47,11 +35,6 @@ fn base_of(field: &str) -> Base {
     }
 }
 
-/// The levels of a body's characters.
-fn levels_of(alloc: Global, body: &str, tables: &Tables, base: Base) -> Result<Levels, Fail> {
-    Ok(levels(alloc, body, tables, base)?)
-}
-
 /// Adds a number, after a blank where one stands before it in its row.
 fn add_number(text: &mut String, alloc: Global, number: usize, is_first: bool) -> Result<(), Fail> {
     if !is_first {
@@ -69,7 +52,7 @@ fn check_line(rt: &impl Abort, alloc: Global, tables: &Tables, line: &str) -> Re
     let w: u16 = fields.next().ok_or("no columns")?.parse()?;
     let found = units(alloc, body.as_str(), tables, w)?;
     let rows = wrap(alloc, body.as_str(), &found, tables, w)?;
-    let levels = levels_of(alloc, body.as_str(), tables, base)?;
+    let levels = levels(alloc, body.as_str(), tables, base)?;
     let mut all_levels = String::new(alloc);
     let mut all_orders = String::new(alloc);
     for row in &rows {
@@ -103,7 +86,7 @@ fn check_line(rt: &impl Abort, alloc: Global, tables: &Tables, line: &str) -> Re
 
 #[test]
 fn rows_of_random_texts(rt: HostRuntime) -> Result<(), Fail> {
-    let tables = test_tables(rt.alloc())?;
+    let tables = sample_tables(rt.alloc())?;
     for line in VECTORS.lines() {
         check_line(&rt, rt.alloc(), &tables, line)?;
     }
@@ -125,7 +108,7 @@ a text from right to left\t0061 0020 05D0 05D1 0020 0062\trtl\t6\t2 1 1 1 1 2\t5
 
 #[test]
 fn worked_rows(rt: HostRuntime) -> Result<(), Fail> {
-    let tables = test_tables(rt.alloc())?;
+    let tables = sample_tables(rt.alloc())?;
     for row in ROWS.lines() {
         let (_shows, line) = row.split_once('\t').ok_or("no row")?;
         check_line(&rt, rt.alloc(), &tables, line)?;
@@ -135,7 +118,7 @@ fn worked_rows(rt: HostRuntime) -> Result<(), Fail> {
 
 #[test]
 fn a_body_of_no_units(rt: HostRuntime) -> Result<(), Fail> {
-    let tables = test_tables(rt.alloc())?;
+    let tables = sample_tables(rt.alloc())?;
     let none: [Unit; 0] = [];
     let rows = wrap(rt.alloc(), "", &none, &tables, 4)?;
     assert_eq!(rt; rows.as_slice(), [Row { start: 0, stop: 0 }].as_slice());

@@ -1,10 +1,10 @@
 //! What rows show, on the call itself: `_` is a blank, `*` stands behind a mark in negative image, `|` between rows.
-use super::tables::{BRACKETS, CLASSES};
-use super::{levels_of, test_tables};
 use crate::{RowPicture, draw, row_levels, wrap};
 use bx_cells::units;
 use bx_explicit::Base;
-use bx_ucd::Tables;
+use bx_resolve::levels;
+use bx_ucd::sample::{BRACKETS, CLASSES};
+use bx_ucd::{Tables, sample_tables};
 use std::alloc::{AllocError, Global};
 use std::process::Abort;
 use std::test::Fail;
@@ -31,7 +31,7 @@ fn pictures(
 ) -> Result<String, Fail> {
     let found = units(alloc, body, tables, w)?;
     let rows = wrap(alloc, body, &found, tables, w)?;
-    let levels = levels_of(alloc, body, tables, base)?;
+    let levels = levels(alloc, body, tables, base)?;
     let mut text = String::new(alloc);
     for row in &rows {
         let each = row_levels(alloc, body, &found, *row, &levels, tables)?;
@@ -117,7 +117,7 @@ const PICTURES: [(&str, u16, &str); 23] = [
 
 #[test]
 fn pictures_of_worked_rows(rt: HostRuntime) -> Result<(), Fail> {
-    let tables = test_tables(rt.alloc())?;
+    let tables = sample_tables(rt.alloc())?;
     for (body, w, wanted) in &PICTURES {
         shows(&rt, rt.alloc(), &tables, body, Base::Auto, *w, wanted)?;
     }
@@ -126,7 +126,7 @@ fn pictures_of_worked_rows(rt: HostRuntime) -> Result<(), Fail> {
 
 #[test]
 fn pictures_under_a_base(rt: HostRuntime) -> Result<(), Fail> {
-    let tables = test_tables(rt.alloc())?;
+    let tables = sample_tables(rt.alloc())?;
     shows(
         &rt,
         rt.alloc(),
@@ -181,7 +181,7 @@ fn brackets_show(alloc: Global, tables: &Tables, times: usize, closer: &str) -> 
 
 #[test]
 fn brackets_that_fill_their_stack(rt: HostRuntime) -> Result<(), Fail> {
-    let tables = test_tables(rt.alloc())?;
+    let tables = sample_tables(rt.alloc())?;
     assert_eq!(rt; brackets_show(rt.alloc(), &tables, 63, ")")?, true);
     assert_eq!(rt; brackets_show(rt.alloc(), &tables, 64, "(")?, true);
     Ok(())
@@ -202,7 +202,7 @@ fn embeddings_show(alloc: Global, tables: &Tables, times: usize) -> Result<bool,
 
 #[test]
 fn embeddings_that_fill_their_stack(rt: HostRuntime) -> Result<(), Fail> {
-    let tables = test_tables(rt.alloc())?;
+    let tables = sample_tables(rt.alloc())?;
     assert_eq!(rt; embeddings_show(rt.alloc(), &tables, 63)?, true);
     Ok(())
 }
