@@ -90,8 +90,8 @@ fn character_units(alloc: Global, body: &str) -> Result<Vec<Unit>>
     Ok(units)
 }
 
-/// The level of each character after L1, in one row: the levels of units of one character. One that X9 removes has the
-/// level of the one before it there, as the second list has it.
+/// The levels of a text's body before L1, and the level of each character of the text after L1, in one row. In the second a
+/// character that X9 removes has the level of the one before it.
 fn levels_in_row(
     alloc: Global,
     text: &str,
@@ -106,13 +106,14 @@ fn levels_in_row(
         stop: units.len(),
     };
     let mut each = row_levels(alloc, body, &units, row, &found, tables)?;
+    // L1: a separator has the paragraph level.
     if body.len() < text.len() {
         each.push(found.paragraph)?;
     }
     Ok((found, each))
 }
 
-/// The paragraph level of a text and its layout in one row. A separator at its end has the paragraph level (L1).
+/// The paragraph level of a text and its layout in one row.
 pub fn find_layout(alloc: Global, text: &str, tables: &Tables, base: Base) -> Result<(u8, Layout)> {
     let (found, each) = levels_in_row(alloc, text, tables, base)?;
     let mut levels = Vec::new(alloc);

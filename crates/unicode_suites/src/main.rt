@@ -33,7 +33,7 @@ fn read_tables<R: Files + AllocGlobal>(rt: &R, paths: &[String]) -> Result<Table
     Ok(Tables::read(rt.alloc(), &classes, &brackets, &mirroring)?)
 }
 
-/// Runs a suite of levels and orders, and says whether all of it agrees.
+/// Prints the score of a suite of levels and orders, and says whether all of it agrees.
 fn run_levels<R: Print + AllocGlobal>(rt: &R, name: &str, score: Result<Score>) -> Result<bool> {
     let score = score.context(format_args!("{name}"))?;
     score.print(rt, name)?;
