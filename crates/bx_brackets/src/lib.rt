@@ -4,8 +4,6 @@
 mod error;
 mod pairs_of;
 mod resolve;
-#[cfg(test)]
-mod tests;
 
 pub use error::BracketError;
 pub use pairs_of::{PairSearch, pairs};

@@ -8,8 +8,6 @@ mod error;
 mod faces;
 mod fitting;
 pub mod simple;
-#[cfg(test)]
-mod tests;
 mod unit;
 
 pub use clusters::units;

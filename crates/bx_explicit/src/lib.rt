@@ -14,8 +14,6 @@ mod rules;
 mod runs;
 mod stack;
 mod state;
-#[cfg(test)]
-mod tests;
 mod walk;
 
 pub use base::Base;

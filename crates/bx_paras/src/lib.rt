@@ -14,5 +14,3 @@ mod splices;
 pub use error::ParasError;
 pub use index::Index;
 
-#[cfg(test)]
-mod tests;

@@ -12,5 +12,3 @@ pub use piece::{Buffer, Piece};
 pub use pieces::Pieces;
 pub use spares::Spares;
 
-#[cfg(test)]
-mod tests;

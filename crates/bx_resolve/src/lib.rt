@@ -10,8 +10,6 @@ mod paragraph;
 mod plain;
 mod resolve;
 mod scratch;
-#[cfg(test)]
-mod tests;
 mod weak;
 
 pub use by_rules::levels_by_rules;

@@ -8,8 +8,6 @@ mod one_row;
 mod order;
 mod picture;
 mod row;
-#[cfg(test)]
-mod tests;
 mod unit_levels;
 mod wrapping;
 

@@ -14,5 +14,3 @@ pub use error::TextError;
 pub use slices::Slices;
 pub use text::Text;
 
-#[cfg(test)]
-mod tests;

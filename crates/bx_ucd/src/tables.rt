@@ -151,6 +151,3 @@ impl BidiData for Tables {
         self.mirrors.get(&c).copied()
     }
 }
-
-#[cfg(test)]
-mod tests;

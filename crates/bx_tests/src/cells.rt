@@ -1,5 +1,5 @@
 //! Each call with ample memory, on small bodies.
-use crate::{Face, Unit, face, is_printable, is_simple_within, units};
+use bx_cells::{Face, Unit, face, is_printable, is_simple_within, units};
 use bx_ucd::Tables;
 use std::test::Fail;
 

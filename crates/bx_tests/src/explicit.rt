@@ -1,5 +1,5 @@
 //! The worked examples, and each call once with ample memory.
-use crate::{Base, Kept, SequenceWalk, base_level, explicit, paragraph_level, sequences};
+use bx_explicit::{Base, Kept, SequenceWalk, base_level, explicit, paragraph_level, sequences};
 use bx_ucd::Class;
 use std::test::Fail;
 

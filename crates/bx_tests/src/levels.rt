@@ -2,8 +2,8 @@
 mod rows;
 mod vectors;
 
-use crate::{Levels, levels, levels_by_rules};
 use bx_explicit::Base;
+use bx_resolve::{Levels, levels, levels_by_rules};
 use bx_ucd::{Tables, sample_tables};
 use rows::ROWS;
 use std::alloc::Global;

@@ -1,8 +1,8 @@
 //! What rows show, on the call itself: `_` is a blank, `*` stands behind a mark in negative image, `|` between rows.
-use crate::{RowPicture, draw, row_levels, wrap};
 use bx_cells::units;
 use bx_explicit::Base;
 use bx_resolve::levels;
+use bx_rows::{RowPicture, draw, row_levels, wrap};
 use bx_ucd::sample::{BRACKETS, CLASSES};
 use bx_ucd::{Tables, sample_tables};
 use std::alloc::{AllocError, Global};

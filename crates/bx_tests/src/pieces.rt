@@ -2,7 +2,7 @@
 
 ghost use Rattle.std.specs.Prelude.{◌≡◌};
 
-use crate::{Buffer, Piece, Pieces, Spares};
+use bx_pieces::{Buffer, Piece, Pieces, Spares};
 use std::test::Fail;
 
 fn piece(start: usize, len: usize) -> Piece

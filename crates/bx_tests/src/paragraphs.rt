@@ -3,7 +3,7 @@
 ghost use Rattle.std.specs.Prelude.{◌≡◌, OnOk};
 ghost use Rattle.bx_paras.specs.Paragraphs.{lengths};
 
-use crate::Index;
+use bx_paras::Index;
 use bx_text::{Text, TextError};
 use bx_ucd::{BidiData, Class, Side, Tables, UcdError, sample_tables};
 use std::alloc::Global;

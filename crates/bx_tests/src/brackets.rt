@@ -1,6 +1,6 @@
 //! Each call once with ample memory.
 
-use crate::{PairSearch, pairs, resolve_pairs};
+use bx_brackets::{PairSearch, pairs, resolve_pairs};
 use bx_ucd::{Class, sample_tables};
 use std::test::Fail;
 

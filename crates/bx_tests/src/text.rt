@@ -1,6 +1,6 @@
 //! Worked rows: edits, their undo, and refusals.
 
-use crate::{Change, Text, TextError};
+use bx_text::{Change, Text, TextError};
 use std::alloc::{AllocError, Global};
 use std::process::Abort;
 use std::test::Fail;

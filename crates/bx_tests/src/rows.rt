@@ -2,10 +2,10 @@
 mod pictures;
 mod vectors;
 
-use crate::{Row, has_one_row, row_levels, visual, wrap};
 use bx_cells::{Unit, units};
 use bx_explicit::Base;
 use bx_resolve::levels;
+use bx_rows::{Row, has_one_row, row_levels, visual, wrap};
 use bx_ucd::{Tables, sample_tables};
 use std::alloc::Global;
 use std::process::Abort;
