@@ -8,6 +8,8 @@ mod one_row;
 mod order;
 mod picture;
 mod row;
+mod row_scan;
+mod start_search;
 #[cfg(test)]
 mod tests;
 mod unit_levels;
@@ -19,5 +21,6 @@ pub use one_row::has_one_row;
 pub use order::visual;
 pub use picture::draw;
 pub use row::Row;
+pub use start_search::{RowStart, row_starts};
 pub use unit_levels::row_levels;
 pub use wrapping::wrap;
