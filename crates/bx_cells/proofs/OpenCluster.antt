@@ -1,10 +1,10 @@
 -- A cluster of simple characters that is read one by one: a character that begins, and marks.
-use Rattle.std.proofs.Common.{◌≡◌, ℕ, ◌+◌, ◌≤◌, Bool, true, false, ◌||◌, cond, List, [], ◌∷◌, ◌++◌, map, length, drop, Option, Some, None, refl, sym, ap, ap₂, subst, ◌∙◌, arith, append_assoc, append-nil, length-append, encode_utf8, encode_utf8_all}
+use Rattle.std.proofs.Common.{◌≡◌, ℕ, ◌+◌, ◌-◌, ◌<◌, ◌≤◌, Bool, true, false, ◌||◌, cond, List, [], ◌∷◌, ◌++◌, map, length, take, drop, slice_range, Option, Some, None, refl, sym, ap, ap₂, subst, ◌∙◌, arith, append_assoc, append-nil, length-append, encode_utf8, encode_utf8_all}
 use Rattle.std.specs.List.{list_all, list_any}
 use Rattle.std.specs.Str.{chars, IsUtf8, IsCharBoundary, all_scalars}
 use Rattle.std.proofs.lemmas.Bool.{and_parts, and_from, or_left, or_right}
 use Rattle.std.proofs.lemmas.Bool.Decides.{nat_tests}
-use Rattle.std.proofs.lemmas.List.{drop-drop, drop_at, length-drop}
+use Rattle.std.proofs.lemmas.List.{drop-drop, drop_at, take_at, length-drop}
 use Rattle.std.proofs.lemmas.Str.{chars-nil, chars-encodes, chars_past_char, scalars-chars, encodes-append, IsUtf8-drop, IsCharBoundary-from_drop}
 use Rattle.unicode_segmentation.specs.Grapheme.{graphemes, is_grapheme_break}
 use Rattle.unicode_segmentation.specs.Segments.{prepend, cut, segments, with_offsets}
@@ -15,12 +15,14 @@ use Rattle.bx_cells.specs.declared.unit.Face.TheVariants.{Mark}
 use Rattle.bx_cells.specs.declared.unit.Unit.{Unit}
 use Rattle.bx_cells.specs.Faces.{face, face_of, only_char, format_letter, sized_face}
 use Rattle.bx_cells.specs.Simple.{is_shown, own_columns, begins, is_mark, is_simple}
+use Rattle.bx_cells.specs.SimpleAt.{IsSimpleAt}
 use Rattle.bx_cells.specs.SimpleFace.{is_some_mark, simple_face}
 use Rattle.bx_cells.specs.Units.{unit_at, units_from}
 use Rattle.bx_cells.proofs.FaceSteps.{by_letter, steps}
 use Rattle.bx_cells.proofs.SimpleBreaks.{Begins-from_test, IsMark-from_test, mark_begins_none, breaks-simple}
 use Rattle.bx_cells.proofs.SimpleColumns.{width-unit}
 use Rattle.bx_cells.proofs.SimpleUnits.{unit_is_no_tab}
+use Rattle.unicode_segmentation.proofs.TextLemmas.{encode_utf8_nonempty}
 use Rattle.bx_cells.proofs.Locality.{cut-own}
 use Rattle.bx_cells.proofs.Rest.{IsUtf8-past_all, chars_past_all, scalars_front}
 
@@ -42,6 +44,10 @@ marks_no_control (m ∷ ms) h =
 only_of_marks : (class : ℕ → Class) (c : ℕ) (ms : List ℕ) → format_letter class (only_char (c ∷ ms)) ≡ format_letter class (cond (is_some_mark ms) None (Some c))
 only_of_marks class c [] = refl
 only_of_marks class c (m ∷ ms) = refl
+
+only_of_open : (c : ℕ) (ms : List ℕ) → only_char (c ∷ ms) ≡ cond (is_some_mark ms) None (Some c)
+only_of_open c [] = refl
+only_of_open c (m ∷ ms) = refl
 
 by_letter_is : (f : Face) (l : Option ℕ) → by_letter f l ≡ elim l [ Some letter ↦ Mark letter | None ↦ f ]
 by_letter_is f (Some letter) = refl
@@ -197,3 +203,39 @@ module _ (body : List ℕ) (start c : ℕ) (k : Bool) (rest : List ℕ) (u : IsU
       ap₂ (λ x y. x ++ y) (pushed ∙ ap (λ x. done ++ record { start = start; stop = stop; face = x } ∷ []) face) (open-none class w stop e z)
       ∙ append-nil (done ++ open_unit class w start stop c k ∷ [])
       ∙ ap (λ x. done ++ x) (sym (open-last class w stop e z)) ∙ inv
+
+  open-only : (stop : ℕ) → stop + length rest ≡ length body → only_char (chars (slice_range body start stop)) ≡ cond k None (Some c)
+  open-only stop e =
+      let first = encode_utf8_all (c ∷ o.marks) in
+      let valid = scalars_front (c ∷ o.marks) (chars rest) (ap all_scalars (sym open-chars) ∙ scalars-chars (drop start body) (IsUtf8-drop body start u b)) in
+      let width : length first ≡ stop - start = let same = open-width stop e in omega (arith, same) in
+      ap (λ x. only_char (chars (take (stop - start) x))) o.bytes
+      ∙ ap (λ x. only_char (chars x)) (take_at first rest (stop - start) width)
+      ∙ ap only_char (chars-encodes (c ∷ o.marks) valid) ∙ only_of_open c o.marks ∙ ap (λ x. cond x None (Some c)) (sym o.marked)
+
+  open-grows : (stop : ℕ) → stop + length rest ≡ length body → start < stop
+  open-grows stop e =
+      let width = open-width stop e in
+      let some = encode_utf8_nonempty c in
+      omega (arith, width, some, length-append (encode_utf8 c) (encode_utf8_all o.marks))
+
+  -- a cluster that is read to its end
+  pub at-next : (stop d n : ℕ) (more : List ℕ) → stop + length rest ≡ length body → rest ≡ encode_utf8 d ++ more → begins d ≡ true → own_columns c ≡ n → IsSimpleAt body start (record { first = c; columns = n; is_marked = k; stop = stop })
+  at-next stop d n more e f begin columns = record {
+    units = λ class w. open-next class w stop d more e f begin;
+    only = open-only stop e;
+    columns = columns;
+    grows = open-grows stop e;
+    boundary = open-boundary stop e;
+  }
+
+  pub at-last : (stop n : ℕ) → stop ≡ length body → length rest ≡ 0 → own_columns c ≡ n → IsSimpleAt body start (record { first = c; columns = n; is_marked = k; stop = stop })
+  at-last stop n e z columns =
+      let whole : stop + length rest ≡ length body = omega (arith, e, z) in
+      record {
+        units = λ class w. open-last class w stop e z ∙ ap (λ x. open_unit class w start stop c k ∷ x) (sym (open-none class w stop e z));
+        only = open-only stop whole;
+        columns = columns;
+        grows = open-grows stop whole;
+        boundary = open-boundary stop whole;
+      }

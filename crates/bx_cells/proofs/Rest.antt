@@ -1,5 +1,5 @@
 -- A body's clusters one after another: the first of what is left, and the units of what is left behind it.
-use Rattle.std.proofs.Common.{◌≡◌, ℕ, ◌+◌, ◌≤◌, true, List, [], ◌∷◌, ◌++◌, map, length, drop, refl, sym, ap, ap₂, subst, ◌∙◌, arith, append_assoc, append-nil, length-append, encode_utf8, encode_utf8_all}
+use Rattle.std.proofs.Common.{◌≡◌, ℕ, ◌+◌, ◌<◌, ◌≤◌, true, List, [], ◌∷◌, ◌++◌, map, length, drop, refl, sym, ap, ap₂, subst, ◌∙◌, arith, append_assoc, append-nil, length-append, encode_utf8, encode_utf8_all}
 use Rattle.std.specs.List.{concat}
 use Rattle.std.specs.Str.{chars, IsUtf8, IsCharBoundary, all_scalars}
 use lib.Utf8.{scalar}
@@ -8,6 +8,7 @@ use Rattle.std.proofs.lemmas.List.{drop-drop, drop_at, drop_all, length-drop}
 use Rattle.std.proofs.lemmas.Str.{chars-nil, chars_past_char, encodes-append, encodes-chars, IsUtf8-past_char, IsUtf8-drop, IsCharBoundary-from_drop}
 use Rattle.unicode_segmentation.specs.Grapheme.{graphemes, is_grapheme_break}
 use Rattle.unicode_segmentation.specs.Segments.{cut, segments, with_offsets}
+use Rattle.unicode_segmentation.proofs.SegmentsLemmas.{AllPieces, segments_nonempty}
 use Rattle.bx_ucd.specs.declared.class.Class.{Class}
 use Rattle.bx_cells.specs.declared.unit.Unit.{Unit}
 use Rattle.bx_cells.specs.declared.unit.Face.{Face}
@@ -122,3 +123,15 @@ unit-added class w body at p ps f done new all n e pushed inv =
     ap (λ x. x ++ units_from class w body (at + length p)) (pushed ∙ ap (λ x. done ++ record { start = at; stop = at + length p; face = x } ∷ []) e)
     ∙ append_assoc done (unit_at class w (at, p) ∷ []) (units_from class w body (at + length p))
     ∙ ap (λ x. done ++ x) (sym n.units) ∙ inv
+
+head_some : (ps : List (List ℕ)) (p : List ℕ) (rest : List (List ℕ)) → AllPieces (λ p. 0 < length p) ps → ps ≡ p ∷ rest → 0 < length p
+head_some [] p rest h e = cc
+head_some (q ∷ qs) p rest h e = let same : q ≡ p = cc in omega (arith, h.0, ap length same)
+
+-- no cluster is empty
+pub cluster-grows : (body : List ℕ) (at : ℕ) (p : List ℕ) (ps : List (List ℕ)) → graphemes true (drop at body) ≡ p ∷ ps → 0 < length p
+cluster-grows body at p ps e = head_some (graphemes true (drop at body)) p ps (segments_nonempty (is_grapheme_break true) (drop at body)) e
+
+-- the unit of the next cluster, with its face
+pub unit-next : (class : ℕ → Class) (w : ℕ) (body : List ℕ) (at : ℕ) (p : List ℕ) (ps : List (List ℕ)) (f : Face) → IsNext class w body at p ps → f ≡ face class w p → units_from class w body at ≡ record { start = at; stop = at + length p; face = f } ∷ units_from class w body (at + length p)
+unit-next class w body at p ps f n e = n.units ∙ ap (λ x. record { start = at; stop = at + length p; face = x } ∷ units_from class w body (at + length p)) (sym e)

@@ -13,7 +13,7 @@ use std::alloc::AllocError;
 
 /// The first character of a text, and the text behind it.
 #[inline]
-fn first_char(text: &str) -> Option<(char, &str)>
+pub(crate) fn first_char(text: &str) -> Option<(char, &str)>
     ensures { MatchOption result (length text.now ≡ 0) (λ (c, rest). (text.now ≡ encode_utf8 c ++ rest.now) × (length rest.now < length text.now)) }
 {
     let mut chars = text.chars();
@@ -25,7 +25,13 @@ fn first_char(text: &str) -> Option<(char, &str)>
 
 /// The face of a cluster that begins with a character of these columns, with marks behind it or alone.
 #[inline]
-fn simple_face<D: BidiData>(first: char, columns: u8, is_marked: bool, source: &D, w: u16) -> Face
+pub fn simple_face<D: BidiData>(
+    first: char,
+    columns: u8,
+    is_marked: bool,
+    source: &D,
+    w: u16,
+) -> Face
     requires { own_columns first ≡ columns }
     ensures { result ≡ simple_face (D.class_of source.now) w first is_marked }
 {

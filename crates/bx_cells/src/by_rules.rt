@@ -1,5 +1,5 @@
 //! Units from the rules on breaks, by the kit's clusters.
-ghost use Rattle.std.specs.Prelude.{◌≡◌, ◌≤◌, ◌<◌, ◌++◌, IfOk, length};
+ghost use Rattle.std.specs.Prelude.{◌≡◌, ◌≤◌, ◌<◌, ◌++◌, ◌∷◌, IfOk, length};
 ghost use Rattle.std.specs.Str.{IsCharBoundary};
 ghost use Rattle.bx_cells.specs.Units.{units_from};
 
@@ -47,4 +47,22 @@ pub(crate) fn push_by_rules<D: BidiData>(
         start = stop;
     }
     Ok(start)
+}
+
+/// The unit that begins at an offset of a body, by the rules on breaks.
+pub fn ruled_unit<D: BidiData>(body: &str, at: usize, source: &D, w: u16) -> Unit
+    requires start { IsCharBoundary body.now at }
+    requires some { at < length body.now }
+    ensures start { result.start ≡ at }
+    ensures units { units_from (D.class_of source.now) w body.now at ≡ result ∷ units_from (D.class_of source.now) w body.now result.stop }
+    ensures stop { (at < result.stop) × IsCharBoundary body.now result.stop }
+{
+    match body[at..].graphemes(true).next() {
+        Some(cluster) => Unit {
+            start: at,
+            stop: at + cluster.len(),
+            face: face(cluster, source, w),
+        },
+        None => unreachable!(),
+    }
 }

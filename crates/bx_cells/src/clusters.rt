@@ -9,6 +9,9 @@ use crate::unit::Unit;
 use bx_ucd::BidiData;
 use std::alloc::Global;
 
+/// How many units have room at once; a body of more bytes may take more room while it is read.
+const FIRST_ROOM: usize = 256;
+
 /// The units of a body: by its characters where these tell them, else by the rules on breaks.
 fn listed<D: BidiData>(
     alloc: Global,
@@ -18,7 +21,7 @@ fn listed<D: BidiData>(
 ) -> Result<Vec<Unit>, CellError>
     ensures { IfOk result (λ v. v.items ≡ units (D.class_of source.now) w body.now) }
 {
-    let mut units = Vec::new(alloc);
+    let mut units = Vec::with_capacity(alloc, body.len().min(FIRST_ROOM))?;
     let mut at = 0;
     while at < body.len() {
         let next = push_simple(&mut units, body, at, source, w)?;

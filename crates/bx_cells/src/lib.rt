@@ -8,10 +8,14 @@ mod error;
 mod faces;
 mod fitting;
 pub mod simple;
+mod simple_clusters;
 mod unit;
 
+pub use by_character::simple_face;
+pub use by_rules::ruled_unit;
 pub use clusters::units;
 pub use error::CellError;
 pub use faces::{face, only_char};
 pub use fitting::{is_printable, is_simple_within};
+pub use simple_clusters::{SimpleCluster, simple_cluster};
 pub use unit::{Face, Unit};

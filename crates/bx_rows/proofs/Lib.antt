@@ -15,4 +15,7 @@ pub mod FaceGlyphs
 pub mod NumbersBelow
 pub mod PictureLaws
 pub mod RowsFit
+pub mod Scans
+pub mod RowReads
+pub mod RowUnits
 mod Rows

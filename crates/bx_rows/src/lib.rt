@@ -8,6 +8,8 @@ mod one_row;
 mod order;
 mod picture;
 mod row;
+mod row_scan;
+mod start_search;
 mod unit_levels;
 mod wrapping;
 
@@ -17,5 +19,6 @@ pub use one_row::has_one_row;
 pub use order::visual;
 pub use picture::draw;
 pub use row::Row;
+pub use start_search::{RowStart, row_starts};
 pub use unit_levels::row_levels;
 pub use wrapping::wrap;

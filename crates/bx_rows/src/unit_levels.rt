@@ -116,7 +116,7 @@ fn with_levels(
 }
 
 /// How many characters a text has.
-fn char_count(text: &str) -> usize
+pub(crate) fn char_count(text: &str) -> usize
     ensures { result ≡ length (chars text.now) }
 {
     text.chars().count()

@@ -45,14 +45,14 @@ fn fitting(units: &[Unit], w: u16) -> usize
 }
 
 /// Whether a row may end after a character of a class.
-fn is_blank(class: Class) -> bool
+pub(crate) fn is_blank(class: Class) -> bool
     ensures { result ≡ is_blank class }
 {
     matches!(class, Class::WS | Class::S)
 }
 
 /// Whether a row may end after a unit.
-fn is_break<D: BidiData>(body: &str, unit: Unit, source: &D) -> bool
+pub(crate) fn is_break<D: BidiData>(body: &str, unit: Unit, source: &D) -> bool
     requires { StandsIn body.now unit }
     ensures { result ≡ is_break (D.class_of source.now) body.now unit }
 {

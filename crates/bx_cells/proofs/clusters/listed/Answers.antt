@@ -7,7 +7,7 @@ use Rattle.bx_cells.proofs.clusters.listed.Goals as goal
 pub loop-at-init : goal.loop-at-init
 loop-at-init g c = record {
   boundary = IsCharBoundary-start c.args.body.now c.utf8.body;
-  all = ap (λ xs. xs ++ units_from (g.D.BidiData.class_of c.args.source.now) c.args.w c.args.body.now 0) c.new-units.ensures.items;
+  all = ap (λ xs. xs ++ units_from (g.D.BidiData.class_of c.args.source.now) c.args.w c.args.body.now 0) c.in_ok-units.ensures.items;
 }
 
 pub returns : goal.returns

@@ -1,0 +1,16 @@
+-- A cluster is open.
+use Rattle.std.proofs.Common.{◌≤◌, length}
+use denote.Text.{Utf8}
+use denote.Shadow.{shadow}
+use Rattle.bx_cells.proofs.OpenCluster.{IsOpen}
+use Rattle.bx_cells.proofs.simple_clusters.simple_cluster.Given as goal
+
+abbrev pub invariant-chars : goal.invariant-chars
+invariant-chars l = record {
+  text : shadow (Utf8 l.rest);
+  cluster : IsOpen l.body l.at l.first l.is_marked l.rest;
+  within : length l.rest ≤ length l.body;
+}
+
+abbrev pub decreases-chars : goal.decreases-chars
+decreases-chars l = length l.rest

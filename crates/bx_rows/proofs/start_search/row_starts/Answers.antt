@@ -1,0 +1,76 @@
+use Rattle.std.proofs.Common.{◌≡◌, ℕ, zero, suc, ◌+◌, ◌<◌, ◌==◌, true, false, [], ◌∷◌, ◌++◌, length, refl, sym, ap, subst, ◌∙◌, arith}
+use Rattle.std.proofs.lemmas.Bool.Decides.{nat_tests}
+use Rattle.std.proofs.lemmas.Str.{IsCharBoundary-start}
+use Rattle.bx_cells.specs.Units.{units_from}
+use Rattle.bx_cells.proofs.Rest.{none-behind}
+use Rattle.bx_rows.specs.RowScan.{IsPlaced, IsRead, new_scan}
+use Rattle.bx_rows.proofs.RowReads.{placed-new, read-new, read-last, read-empty}
+use Rattle.bx_rows.proofs.RowUnits.{starts-of-some, starts-of-none}
+use Rattle.bx_rows.proofs.start_search.row_starts.Goals as goal
+
+is_none : (n : ℕ) → true ≡ (n == 0) → n ≡ 0
+is_none n h = grind (arith, nat_tests)
+
+is_some : (n : ℕ) → false ≡ (n == 0) → 0 < n
+is_some n h = grind (arith, nat_tests)
+
+some-if : (n : ℕ) → (n ≡ 0 → ⊥) → 0 < n
+some-if zero h = absurd (h refl)
+some-if (suc n) h = omega arith
+
+pub returns-then-is_empty : goal.returns-then-is_empty
+returns-then-is_empty g c =
+    c.in_ok-push.ensures.items
+    ∙ ap (λ xs. xs ++ record { offset = 0; units = 0; chars = 0 } ∷ []) c.new-starts.ensures.items
+    ∙ sym (starts-of-none (g.D.BidiData.class_of c.args.source.now) c.args.w c.args.body.now (is_none (length c.args.body.now) c.if-is_empty.ensures))
+
+pub loop-at-init : goal.loop-at-init
+loop-at-init g c =
+    let class = g.D.BidiData.class_of c.args.source.now in
+    let body = c.args.body.now in
+    let w = c.args.w in
+    record {
+      placed = subst (λ s. IsPlaced w body s 0) (sym c.new_scan-scan.ensures) (placed-new w body c.utf8.body);
+      boundary = IsCharBoundary-start body c.utf8.body;
+      read = subst (λ s. IsRead class w body c.new-starts.result.items s (units_from class w body 0)) (sym c.new_scan-scan.ensures)
+          (subst (λ xs. IsRead class w body xs (new_scan (record { offset = 0; units = 0; chars = 0 })) (units_from class w body 0)) (sym c.new-starts.ensures.items)
+          (read-new class w body));
+    }
+
+pub loop-at-preserved : goal.loop-at-preserved
+loop-at-preserved g c =
+    let class = g.D.BidiData.class_of c.args.source.now in
+    let body = c.args.body.now in
+    let w = c.args.w in
+    let i = c.loop-at.invariant in
+    let x = c.extent-unit.ensures.unit in
+    let here = ap (units_from class w body) (sym c.extent-unit.ensures.start) ∙ x.extent.here in
+    record {
+      placed = c.in_ok-scan.ensures.placed;
+      boundary = c.extent-unit.ensures.stop.1;
+      read = c.in_ok-scan.ensures.takes class x.unit (units_from class w body c.extent-unit.result.stop) x.extent
+          (subst (λ r. IsRead class w body c.loop-at.starts.items c.loop-at.scan r) here i.read);
+    }
+
+pub returns-then-scan-eq0 : goal.returns-then-scan-eq0
+returns-then-scan-eq0 g c =
+    let class = g.D.BidiData.class_of c.args.source.now in
+    let body = c.args.body.now in
+    let w = c.args.w in
+    let starts = c.loop-at.starts.items in
+    let i = c.loop-at.invariant in
+    let all = subst (λ r. IsRead class w body starts c.loop-at.scan r) (none-behind class w body c.loop-at.at c.loop-at-test.false) i.read in
+    let none = c.if-scan-eq0.true in
+    starts-of-some class w body starts c.utf8.body (is_some (length body) c.if-is_empty.ensures)
+    (read-empty class w body starts c.loop-at.scan all (omega (arith, none)) (omega (arith, none)))
+
+pub returns : goal.returns
+returns g c =
+    let class = g.D.BidiData.class_of c.args.source.now in
+    let body = c.args.body.now in
+    let w = c.args.w in
+    let starts = c.loop-at.starts.items in
+    let i = c.loop-at.invariant in
+    let all = subst (λ r. IsRead class w body starts c.loop-at.scan r) (none-behind class w body c.loop-at.at c.loop-at-test.false) i.read in
+    starts-of-some class w body c.push-2.new.self.items c.utf8.body (is_some (length body) c.if-is_empty.ensures)
+    (read-last class w body starts c.loop-at.scan c.push-2.new.self.items all (some-if (c.loop-at.scan.last + c.loop-at.scan.count) c.if-scan-eq0.false) c.in_ok-push-2.ensures.items)

@@ -1,0 +1,71 @@
+-- The row that is being read, unit by unit, and what is known of it.
+use Rattle.std.specs.Prelude.{◌≡◌, ℕ, ◌+◌, ◌<◌, ◌≤◌, Bool, List, ◌∷◌, ◌++◌, map, length, take, drop, chars}
+use Rattle.std.specs.Str.{IsCharBoundary}
+use Rattle.bx_ucd.specs.declared.class.Class.{Class}
+use Rattle.bx_cells.specs.declared.unit.Unit.{Unit}
+use Rattle.bx_cells.specs.Units.{units, units_from}
+use Rattle.bx_rows.specs.declared.row_scan.Extent.{Extent}
+use Rattle.bx_rows.specs.declared.row_scan.Scan.{Scan}
+use Rattle.bx_rows.specs.declared.start_search.RowStart.{RowStart}
+use Rattle.bx_rows.specs.RowStarts.{start_of}
+use Rattle.bx_rows.specs.Wrapping.{columns_at, fitting_from, is_break, rows_from, up_to_last}
+
+-- a unit begins in the window at a column, and ends in it
+abbrev pub Fits : ℕ → ℕ → Unit → Type 0
+Fits w c u = (c < w) × (c + columns_at w c u.face ≤ w)
+
+-- Of the row that begins with the units `here`, `last` units were read up to its last break and `count` behind it, where
+-- `behind` begins; `rest` is not read. It has these columns, and the units behind the break would have `since` in a row of
+-- their own.
+pub record IsScan (p : Unit → Bool) (w : ℕ) (here behind rest : List Unit) (columns last count since : ℕ) : Type 0 where
+  pub front : List Unit
+  pub back : List Unit
+  pub here_is : here ≡ front ++ (back ++ rest)
+  pub behind_is : behind ≡ back ++ rest
+  pub ends : up_to_last p front ≡ length front
+  pub none : up_to_last p back ≡ 0
+  pub last_is : last ≡ length front
+  pub count_is : count ≡ length back
+  pub fits : fitting_from w 0 here ≡ last + count + fitting_from w columns rest
+  pub fits_behind : fitting_from w 0 behind ≡ count + fitting_from w since rest
+  pub within : columns ≤ w
+  pub less : since ≤ columns
+
+-- the numbers of the row that is being read are in order, and its characters are counted
+pub record IsPlaced (w : ℕ) (body : List ℕ) (s : Scan) (at : ℕ) : Type 0 where
+  pub start : IsCharBoundary body s.start.offset
+  pub next : IsCharBoundary body s.next
+  pub order : s.start.offset ≤ s.next
+  pub behind : s.next ≤ at
+  pub bound : s.start.units + s.last + s.count ≤ at
+  pub within : s.columns ≤ w
+  pub less : s.since ≤ s.columns
+  pub chars : s.start.chars ≡ length (chars (take s.start.offset body))
+
+-- the starts of all rows are those so far and those of what the row that is being read begins
+pub record IsRead (class : ℕ → Class) (w : ℕ) (body : List ℕ) (starts : List RowStart) (s : Scan) (rest : List Unit) : Type 0 where
+  pub scan : IsScan (is_break class body) w (units_from class w body s.start.offset) (units_from class w body s.next) rest s.columns s.last s.count s.since
+  pub number : drop s.start.units (units class w body) ≡ units_from class w body s.start.offset
+  pub chars : s.start.chars ≡ length (chars (take s.start.offset body))
+  pub done : starts ++ map (start_of body (units class w body)) (rows_from (is_break class body) w s.start.units 0 (units_from class w body s.start.offset)) ≡ map (start_of body (units class w body)) (rows_from (is_break class body) w 0 0 (units class w body))
+
+-- a row of which nothing is read
+abbrev pub new_scan : RowStart → Scan
+new_scan start = record { start = start; next = start.offset; columns = 0; last = 0; count = 0; since = 0 }
+
+-- the unit has the extent, and is the first of those of a body from there on
+pub record HasExtent (class : ℕ → Class) (w : ℕ) (body : List ℕ) (e : Extent) (u : Unit) (rest : List Unit) : Type 0 where
+  pub columns : (c : ℕ) → columns_at w c u.face ≡ columns_at w c e.face
+  pub breaks : is_break class body u ≡ e.is_break
+  pub here : units_from class w body e.start ≡ u ∷ rest
+  pub behind : units_from class w body e.stop ≡ rest
+
+-- the starts and the row that is being read, before and behind a unit of this extent
+abbrev pub Takes : ℕ → List ℕ → Extent → List RowStart → Scan → List RowStart → Scan → Type 0
+Takes w body e starts s new t =
+    (class : ℕ → Class) (u : Unit) (rest : List Unit) → HasExtent class w body e u rest → IsRead class w body starts s (u ∷ rest) → IsRead class w body new t rest
+
+-- a unit of the extent stands in a body
+pub record HasUnit (class : ℕ → Class) (w : ℕ) (body : List ℕ) (e : Extent) : Type 0 where
+  pub unit : Unit
+  pub extent : HasExtent class w body e unit (units_from class w body e.stop)

@@ -1,0 +1,200 @@
+//! The row that is being read, unit by unit.
+ghost use Rattle.std.specs.Prelude.{◌≡◌, ◌≤◌, ◌<◌, ◌&&◌, ◌+◌, IfOk, List, chars, length, nat_le, nat_lt, false, take, true};
+ghost use Rattle.std.specs.Str.{IsCharBoundary};
+ghost use Rattle.bx_rows.specs.declared.start_search.RowStart.{RowStart};
+ghost use Rattle.bx_rows.specs.RowScan.{IsPlaced, Takes, new_scan};
+ghost use Rattle.bx_rows.specs.Wrapping.{columns_at};
+
+use crate::start_search::RowStart;
+use crate::unit_levels::char_count;
+use crate::wrapping::columns_at;
+use bx_cells::Face;
+use std::alloc::AllocError;
+
+/// A unit as far as rows ask for it: its offsets, a face of its columns, and whether a row may end after it.
+#[derive(Clone, Copy)]
+pub(crate) struct Extent {
+    pub(crate) start: usize,
+    pub(crate) stop: usize,
+    pub(crate) face: Face,
+    pub(crate) is_break: bool,
+}
+
+/// The row that is being read: where it begins, the offset behind its last break, its columns, how many units it has up to
+/// that break and behind it, and the columns of these in a row of their own.
+#[derive(Clone, Copy)]
+pub(crate) struct Scan {
+    pub(crate) start: RowStart,
+    pub(crate) next: usize,
+    pub(crate) columns: u16,
+    pub(crate) last: usize,
+    pub(crate) count: usize,
+    pub(crate) since: u16,
+}
+
+/// A row of which nothing is read.
+pub(crate) fn new_scan(start: RowStart) -> Scan
+    ensures { result ≡ new_scan start }
+{
+    Scan {
+        start,
+        next: start.offset,
+        columns: 0,
+        last: 0,
+        count: 0,
+        since: 0,
+    }
+}
+
+/// Whether a face fits at a column.
+#[inline]
+fn fits(columns: u16, face: Face, w: u16) -> bool
+    requires { columns ≤ w }
+    ensures { result ≡ (nat_lt columns w && nat_le (columns + columns_at w columns face) w) }
+{
+    columns < w && columns_at(w, columns, face) <= w - columns
+}
+
+/// Where the next row begins.
+fn start_behind(body: &str, before: RowStart, offset: usize, units: usize) -> RowStart
+    requires from { IsCharBoundary body.now before.offset }
+    requires to { IsCharBoundary body.now offset }
+    requires order { before.offset ≤ offset }
+    requires chars { before.chars ≡ length (chars (take before.offset body.now)) }
+    ensures { result ≡ record { offset = offset; units = units; chars = length (chars (take offset body.now)) } }
+{
+    RowStart {
+        offset,
+        units,
+        chars: before.chars + char_count(&body[before.offset..offset]),
+    }
+}
+
+/// The row with one more unit, which fits.
+#[inline]
+fn advance(scan: Scan, unit: Extent, body: &str, w: u16) -> Scan
+    requires placed { IsPlaced w body.now scan unit.start }
+    requires grows { unit.start < unit.stop }
+    requires stop { IsCharBoundary body.now unit.stop }
+    requires fits { (nat_lt scan.columns w && nat_le (scan.columns + columns_at w scan.columns unit.face) w) ≡ true }
+    ensures placed { IsPlaced w body.now result unit.stop }
+    ensures takes { (starts : List RowStart) → Takes w body.now unit starts scan starts result }
+{
+    let columns = scan.columns + columns_at(w, scan.columns, unit.face);
+    if unit.is_break {
+        return Scan {
+            start: scan.start,
+            next: unit.stop,
+            columns,
+            last: scan.last + scan.count + 1,
+            count: 0,
+            since: 0,
+        };
+    }
+    Scan {
+        start: scan.start,
+        next: scan.next,
+        columns,
+        last: scan.last,
+        count: scan.count + 1,
+        since: scan.since + columns_at(w, scan.since, unit.face),
+    }
+}
+
+/// Keeps the start of a row that has no unit, since the unit is wider than the window, and goes on behind that unit.
+fn pass(
+    starts: &mut Vec<RowStart>,
+    scan: Scan,
+    unit: Extent,
+    body: &str,
+    w: u16,
+) -> Result<Scan, AllocError>
+    requires placed { IsPlaced w body.now scan unit.start }
+    requires grows { unit.start < unit.stop }
+    requires stop { IsCharBoundary body.now unit.stop }
+    requires full { (nat_lt scan.columns w && nat_le (scan.columns + columns_at w scan.columns unit.face) w) ≡ false }
+    requires unbroken { scan.last ≡ 0 }
+    requires empty { scan.count ≡ 0 }
+    ensures placed { IfOk result (λ t. IsPlaced w body.now t unit.stop) }
+    ensures takes { IfOk result (λ t. Takes w body.now unit starts.old.items scan starts.new.items t) }
+{
+    starts.push(scan.start)?;
+    let start = start_behind(body, scan.start, unit.stop, scan.start.units + 1);
+    Ok(new_scan(start))
+}
+
+/// Reads a unit in a row that has no break yet: one that does not fit begins the next row.
+fn take_unbroken(
+    starts: &mut Vec<RowStart>,
+    scan: Scan,
+    unit: Extent,
+    body: &str,
+    w: u16,
+) -> Result<Scan, AllocError>
+    requires placed { IsPlaced w body.now scan unit.start }
+    requires grows { unit.start < unit.stop }
+    requires start { IsCharBoundary body.now unit.start }
+    requires stop { IsCharBoundary body.now unit.stop }
+    requires unbroken { scan.last ≡ 0 }
+    ensures placed { IfOk result (λ t. IsPlaced w body.now t unit.stop) }
+    ensures takes { IfOk result (λ t. Takes w body.now unit starts.old.items scan starts.new.items t) }
+{
+    if fits(scan.columns, unit.face, w) {
+        return Ok(advance(scan, unit, body, w));
+    }
+    if scan.count == 0 {
+        return pass(starts, scan, unit, body, w);
+    }
+    starts.push(scan.start)?;
+    let start = start_behind(body, scan.start, unit.start, scan.start.units + scan.count);
+    let scan = new_scan(start);
+    if fits(scan.columns, unit.face, w) {
+        return Ok(advance(scan, unit, body, w));
+    }
+    pass(starts, scan, unit, body, w)
+}
+
+/// The row that begins behind the last break.
+fn behind_break(scan: Scan, body: &str) -> Scan
+    requires start { IsCharBoundary body.now scan.start.offset }
+    requires next { IsCharBoundary body.now scan.next }
+    requires order { scan.start.offset ≤ scan.next }
+    requires chars { scan.start.chars ≡ length (chars (take scan.start.offset body.now)) }
+    requires bound { scan.start.units + scan.last ≤ length body.now }
+    ensures { result ≡ record { start = record { offset = scan.next; units = scan.start.units + scan.last; chars = length (chars (take scan.next body.now)) }; next = scan.next; columns = scan.since; last = 0; count = scan.count; since = scan.since } }
+{
+    Scan {
+        start: start_behind(body, scan.start, scan.next, scan.start.units + scan.last),
+        next: scan.next,
+        columns: scan.since,
+        last: 0,
+        count: scan.count,
+        since: scan.since,
+    }
+}
+
+/// Reads a unit: where it does not fit, the row ends at its last break, else before the unit.
+#[inline]
+pub(crate) fn take_unit(
+    starts: &mut Vec<RowStart>,
+    scan: Scan,
+    unit: Extent,
+    body: &str,
+    w: u16,
+) -> Result<Scan, AllocError>
+    requires placed { IsPlaced w body.now scan unit.start }
+    requires grows { unit.start < unit.stop }
+    requires start { IsCharBoundary body.now unit.start }
+    requires stop { IsCharBoundary body.now unit.stop }
+    ensures placed { IfOk result (λ t. IsPlaced w body.now t unit.stop) }
+    ensures takes { IfOk result (λ t. Takes w body.now unit starts.old.items scan starts.new.items t) }
+{
+    if fits(scan.columns, unit.face, w) {
+        return Ok(advance(scan, unit, body, w));
+    }
+    if scan.last == 0 {
+        return take_unbroken(starts, scan, unit, body, w);
+    }
+    starts.push(scan.start)?;
+    take_unbroken(starts, behind_break(scan, body), unit, body, w)
+}
