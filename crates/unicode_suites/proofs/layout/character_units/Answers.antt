@@ -8,4 +8,5 @@ use Rattle.unicode_suites.proofs.layout.character_units.Goals as goal
 pub loop-start-preserved : goal.loop-start-preserved
 loop-start-preserved c =
     let P : List Unit → Type 0 = λ xs. All (StandsIn c.args.body.now) xs in
-    subst P (sym c.in_ok-push.ensures.items) (All-push (StandsIn c.args.body.now) c.loop-start.units.items c.in_ok-unit.unit c.loop-start.invariant c.in_ok-unit.ensures)
+    subst P (sym c.in_ok-push.ensures.items)
+    (All-push (StandsIn c.args.body.now) c.loop-start.units.items c.in_ok-unit.unit c.loop-start.invariant c.in_ok-unit.ensures)
