@@ -7,10 +7,9 @@ use Rattle.std.proofs.Math.Nat.{mul-le-mul_right}
 use Rattle.bx_grid.specs.Columns.{Col, Glyph, blank, paste, run_columns, AreBlank, run_width}
 use Rattle.bx_grid.specs.Columns.{is_one_glyph}
 use Rattle.bx_grid.specs.Glyphs.{WholeGlyph, IsGlyph, columns_of}
-use Rattle.bx_grid.specs.Letters.{letter_of, letters_of}
+use Rattle.bx_grid.specs.Codes.{code_of, codes_of}
 use Rattle.bx_grid.specs.Seen.{seen, all_seen}
 use Rattle.bx_grid.specs.declared.column.Column.{Column}
-use Rattle.bx_grid.specs.declared.column.Column.TheVariants.{Ascii}
 use Rattle.bx_grid.specs.Columns.{is_ascii_printable}
 use Rattle.bx_grid.specs.Picture.{GridState, HasRoom, IsGrid, IsWithin}
 use Rattle.bx_grid.proofs.Laid.{plain_is_one}
@@ -66,17 +65,18 @@ pub record CanPut (g : GridState) (line column : ℕ) (text : List ℕ) : Type 0
 pub can_along : (g old : GridState) (line column : ℕ) (text : List ℕ) → g ≡ old → CanPut old line column text → CanPut g line column text
 can_along g old line column text e can = subst (λ (x : GridState). CanPut x line column text) (sym e) can
 
-pub plain_seen : (g : GridState) (items : List Column) (line column : ℕ) (text : List ℕ) (byte : ℕ) (negative : Bool) → g.columns ≡ all_seen items
-    → text ≡ byte ∷ [] → is_ascii_printable byte ≡ true → IsGrid g.height g.width g.columns → CanPut g line column text
-    → all_seen (set items ((line - 1) * g.width + (column - 1)) (Ascii byte negative)) ≡ paste g.columns ((line - 1) * g.width + (column - 1)) (run_columns negative text)
-plain_seen g items line column text byte negative seen_as e h is can =
+-- a character of one byte, put by its column
+pub plain_seen : (g : GridState) (items : List Column) (x : Column) (line column : ℕ) (text : List ℕ) (byte : ℕ) (negative : Bool) → g.columns ≡ all_seen items
+    → seen x ≡ Glyph (byte ∷ []) 1 0 negative → text ≡ byte ∷ [] → is_ascii_printable byte ≡ true → IsGrid g.height g.width g.columns → CanPut g line column text
+    → all_seen (set items ((line - 1) * g.width + (column - 1)) x) ≡ paste g.columns ((line - 1) * g.width + (column - 1)) (run_columns negative text)
+plain_seen g items x line column text byte negative seen_as one e h is can =
     let r = line - 1 in
     let k = column - 1 in
     let y : Col = Glyph (byte ∷ []) 1 0 negative in
     let below : r < g.height = omega (arith, can.inside) in
     let room : k + 1 ≤ g.width = omega (arith, can.inside) in
     let fits : r * g.width + k + 1 ≤ length g.columns = span_inside r k 1 g.height g.width (length g.columns) is.sized.each below room in
-    set_seen items (r * g.width + k) (Ascii byte negative) y refl (omega (arith, ap length seen_as))
+    set_seen items (r * g.width + k) x y one (omega (arith, ap length seen_as))
     ∙ ap (λ cs. paste cs (r * g.width + k) (y ∷ [])) (sym seen_as)
     ∙ ap (paste g.columns (r * g.width + k)) (sym (plain_is_one negative text byte e h))
 
@@ -98,37 +98,37 @@ put_kept g line column text negative is can =
       rows = rows_paste g.height g.width r k g.columns news is.sized.each below room (columns_some glyph one) blanks (whole_glyph glyph one) is.rows;
     }
 
--- ---- the letters of a grid, and a row of it
+-- ---- the codes of a grid, and a row of it
 
-letters_of_blanks : (n : ℕ) → letters_of (replicate n blank) ≡ replicate n 32
-letters_of_blanks zero = refl
-letters_of_blanks (suc n) = ap (λ ls. 32 ∷ ls) (letters_of_blanks n)
+codes_of_blanks : (n : ℕ) → codes_of (replicate n blank) ≡ replicate n 9224
+codes_of_blanks zero = refl
+codes_of_blanks (suc n) = ap (λ ls. 9224 ∷ ls) (codes_of_blanks n)
 
-pub blank_letters : (letters : List ℕ) (columns : List Col) (n : ℕ) → letters ≡ replicate n 32 → columns ≡ replicate n blank → letters ≡ letters_of columns
-blank_letters letters columns n e f = e ∙ sym (letters_of_blanks n) ∙ sym (ap letters_of f)
+pub blank_codes : (codes : List ℕ) (columns : List Col) (n : ℕ) → codes ≡ replicate n 9224 → columns ≡ replicate n blank → codes ≡ codes_of columns
+blank_codes codes columns n e f = e ∙ sym (codes_of_blanks n) ∙ sym (ap codes_of f)
 
 pub row_seen : (row width : ℕ) (columns : List Column) → all_seen (take (row * width + width - row * width) (drop (row * width) columns)) ≡ take width (drop (row * width) (all_seen columns))
 row_seen row width columns =
     let e : row * width + width - row * width ≡ width = omega arith in
     ap (λ n. all_seen (take n (drop (row * width) columns))) e ∙ sym (take-map seen width (drop (row * width) columns)) ∙ ap (take width) (sym (drop-map seen (row * width) columns))
 
-part_letters : (count from : ℕ) (columns : List Col) (letters : List ℕ) → letters ≡ letters_of columns → take count (drop from letters) ≡ letters_of (take count (drop from columns))
-part_letters count from columns letters e =
-    ap (λ ls. take count (drop from ls)) e ∙ ap (take count) (drop-map letter_of from columns) ∙ take-map letter_of count (drop from columns)
+part_codes : (count from : ℕ) (columns : List Col) (codes : List ℕ) → codes ≡ codes_of columns → take count (drop from codes) ≡ codes_of (take count (drop from columns))
+part_codes count from columns codes e =
+    ap (λ ls. take count (drop from ls)) e ∙ ap (take count) (drop-map code_of from columns) ∙ take-map code_of count (drop from columns)
 
-pub row_letters : (count from : ℕ) (columns : List Column) (letters : List ℕ) → letters ≡ letters_of (all_seen columns) → take count (drop from letters) ≡ letters_of (all_seen (take count (drop from columns)))
-row_letters count from columns letters e =
-    part_letters count from (all_seen columns) letters e
-    ∙ ap letters_of (ap (take count) (drop-map seen from columns) ∙ take-map seen count (drop from columns))
+pub row_codes : (count from : ℕ) (columns : List Column) (codes : List ℕ) → codes ≡ codes_of (all_seen columns) → take count (drop from codes) ≡ codes_of (all_seen (take count (drop from columns)))
+row_codes count from columns codes e =
+    part_codes count from (all_seen columns) codes e
+    ∙ ap codes_of (ap (take count) (drop-map seen from columns) ∙ take-map seen count (drop from columns))
 
 pub put_fits : (g : GridState) (line column : ℕ) (text : List ℕ) (n : ℕ) → IsGrid g.height g.width g.columns → CanPut g line column text → n ≡ run_width text
     → (line - 1) * g.width + (column - 1) + n ≤ length g.columns
 put_fits g line column text n is can e =
     span_inside (line - 1) (column - 1) n g.height g.width (length g.columns) is.sized.each (omega (arith, can.inside)) (omega (arith, can.room.fits, e))
 
-pub letter_set : (items : List Column) (letters : List ℕ) (k byte letter : ℕ) (negative : Bool) → letter ≡ letter_of (Glyph (byte ∷ []) 1 0 negative) → letters ≡ letters_of (all_seen items)
-    → set letters k letter ≡ letters_of (all_seen (set items k (Ascii byte negative)))
-letter_set items letters k byte letter negative e h =
-    ap (λ l. set letters k l) e ∙ ap (λ ls. set ls k (letter_of (Glyph (byte ∷ []) 1 0 negative))) h
-    ∙ sym (map-set letter_of (all_seen items) k (Glyph (byte ∷ []) 1 0 negative))
-    ∙ ap letters_of (sym (map-set seen items k (Ascii byte negative)))
+pub code_set : (items : List Column) (codes : List ℕ) (x : Column) (y : Col) (k code : ℕ) → code ≡ code_of y → seen x ≡ y → codes ≡ codes_of (all_seen items)
+    → set codes k code ≡ codes_of (all_seen (set items k x))
+code_set items codes x y k code e one h =
+    ap (λ l. set codes k l) (e ∙ ap code_of (sym one)) ∙ ap (λ ls. set ls k (code_of (seen x))) h
+    ∙ sym (map-set code_of (all_seen items) k (seen x))
+    ∙ ap codes_of (sym (map-set seen items k x))

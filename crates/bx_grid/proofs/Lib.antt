@@ -11,7 +11,7 @@ pub mod Equal
 pub mod Doing
 pub mod RunEnds
 pub mod Texts
-pub mod Lettered
+pub mod Coded
 pub mod Whole
 pub mod Pasted
 pub mod Laid

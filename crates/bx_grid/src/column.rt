@@ -1,50 +1,48 @@
-ghost use Rattle.std.specs.Prelude.{◌≡◌, ◌↔◌, ◌&&◌, ◌==◌, IsTrue, length, map};
-ghost use Rattle.bx_grid.specs.Tokens.{is_only};
-ghost use Rattle.bx_grid.specs.Columns.{is_blank, col_eq, are_equal};
+ghost use Rattle.std.specs.Prelude.{◌≡◌, ◌↔◌, ◌∷◌, [], IsTrue, length, map};
+ghost use Rattle.bx_grid.specs.Columns as spec;
+ghost use Rattle.bx_grid.specs.Columns.{is_blank, blank, col_eq, are_equal};
 ghost use Rattle.bx_grid.specs.Seen.{seen};
+
+use crate::glyph_text::GlyphText;
 
 /// What stands in one column of a grid.
 #[derive(Drop)]
 pub enum Column {
     Unknown,
-    /// A character from SPACE to TILDE, which takes one column.
-    Ascii {
-        byte: u8,
-        negative: bool,
-    },
     /// One column of a glyph: its text, how many columns it takes, and which of them this is, from 0.
     Glyph {
-        text: String,
+        text: GlyphText,
         columns: u16,
         offset: u16,
         negative: bool,
     },
 }
 
-/// Whether a glyph is this character, in one column.
-fn is_ascii(text: &str, columns: u16, offset: u16, byte: u8) -> bool
-    ensures { result ≡ (is_only byte text.now && (columns == 1) && (offset == 0)) }
-{
-    match text.as_bytes() {
-        [first] => byte == *first && columns == 1 && offset == 0,
-        _ => false,
-    }
-}
-
 impl Column {
+    /// A character of one byte, in one column.
+    pub(crate) fn of_byte(byte: u8, negative: bool) -> Column
+        ensures { seen result ≡ spec.Glyph (byte ∷ []) 1 0 negative }
+    {
+        Column::Glyph {
+            text: GlyphText::of_byte(byte),
+            columns: 1,
+            offset: 0,
+            negative,
+        }
+    }
+
     /// Whether this is a space, one column wide, in normal rendition.
     pub fn is_blank(&self) -> bool
         ensures { result ≡ is_blank (seen self.now) }
     {
         match self {
             Column::Unknown => false,
-            Column::Ascii { byte, negative } => *byte == b' ' && !*negative,
             Column::Glyph {
                 text,
                 columns,
                 offset,
                 negative,
-            } => is_ascii(text, *columns, *offset, b' ') && !*negative,
+            } => text.is_byte(b' ') && *columns == 1 && *offset == 0 && !*negative,
         }
     }
 
@@ -55,34 +53,6 @@ impl Column {
     {
         match (self, other) {
             (Column::Unknown, Column::Unknown) => true,
-            (
-                Column::Ascii { byte, negative },
-                Column::Ascii {
-                    byte: other_byte,
-                    negative: other_negative,
-                },
-            ) => *byte == *other_byte && *negative == *other_negative,
-            (
-                Column::Ascii { byte, negative },
-                Column::Glyph {
-                    text,
-                    columns,
-                    offset,
-                    negative: other_negative,
-                },
-            ) => is_ascii(text, *columns, *offset, *byte) && *negative == *other_negative,
-            (
-                Column::Glyph {
-                    text,
-                    columns,
-                    offset,
-                    negative,
-                },
-                Column::Ascii {
-                    byte,
-                    negative: other_negative,
-                },
-            ) => is_ascii(text, *columns, *offset, *byte) && *negative == *other_negative,
             (
                 Column::Glyph {
                     text,
@@ -97,7 +67,7 @@ impl Column {
                     negative: other_negative,
                 },
             ) => {
-                text.as_str() == other_text.as_str()
+                text.is_same(other_text)
                     && *columns == *other_columns
                     && *offset == *other_offset
                     && *negative == *other_negative

@@ -1,12 +1,13 @@
 //! Lists of columns: filling, putting, and forgetting what is left of a glyph.
 
-ghost use Rattle.std.specs.Prelude.{◌≡◌, ℕ, ◌+◌, ◌≤◌, [], ◌∷◌, length, replicate, ◌-◌, ◌*◌, ◌<◌, true, nat_le, ◌&&◌, false, IfOk, OnOk, OnErr, IsTrue, ◌↔◌};
+ghost use Rattle.std.specs.Prelude.{◌≡◌, ℕ, ◌+◌, ◌≤◌, [], ◌∷◌, length, replicate, ◌-◌, ◌*◌, ◌<◌, true, nat_le, ◌&&◌, false, IfOk, IsOk, OnOk, OnErr, IsTrue, ◌↔◌};
 ghost use Rattle.std.specs.List.{list_all};
 ghost use Rattle.bx_grid.specs.Columns.{are_ascii_printable, run_width, blank, is_blank, put, paste, AreBlank, AreSameAround, put_in_row, cut_before, cut_after, columns_after, columns_before, plain_columns, glyph_columns, run_columns};
 ghost use Rattle.bx_grid.specs.Columns as spec;
 ghost use Rattle.bx_grid.specs.Seen.{seen, all_seen};
 
 use crate::column::Column;
+use crate::glyph_text::GlyphText;
 use bx_terms::are_ascii_printable;
 use std::alloc::{AllocError, Global};
 
@@ -14,10 +15,7 @@ use std::alloc::{AllocError, Global};
 fn blank_column() -> Column
     ensures { seen result ≡ blank }
 {
-    Column::Ascii {
-        byte: b' ',
-        negative: false,
-    }
+    Column::of_byte(b' ', false)
 }
 
 pub fn blank_columns(alloc: Global, count: usize) -> Result<Vec<Column>, AllocError>
@@ -66,10 +64,7 @@ fn put_run(columns: &mut [Column], from: usize, run: &[u8], negative: bool)
     ensures { all_seen columns.new ≡ paste (all_seen columns.old) from (plain_columns negative run.now) }
 {
     for (i, byte) in run.iter().enumerate() {
-        columns[from + i] = Column::Ascii {
-            byte: *byte,
-            negative,
-        };
+        columns[from + i] = Column::of_byte(*byte, negative);
     }
 }
 
@@ -84,11 +79,12 @@ fn put_glyph(
 ) -> Result<(), AllocError>
     requires inside { from + count ≤ length columns.old }
     ensures ok { OnOk result (all_seen columns.new ≡ paste (all_seen columns.old) from (glyph_columns text.now count negative)) }
+    ensures short { length text.now ≤ 7 → IsOk result }
     ensures err { OnErr result (AreSameAround from count (all_seen columns.old) (all_seen columns.new)) }
 {
     for offset in 0..count {
         columns[from + offset as usize] = Column::Glyph {
-            text: String::from_str(alloc, text)?,
+            text: GlyphText::from_str(alloc, text)?,
             columns: count,
             offset,
             negative,
@@ -109,6 +105,7 @@ fn put_glyphs(
     requires counted { count ≡ run_width run.now }
     requires inside { from + count ≤ length columns.old }
     ensures ok { OnOk result (all_seen columns.new ≡ paste (all_seen columns.old) from (run_columns negative run.now)) }
+    ensures short { length run.now ≤ 7 → IsOk result }
     ensures err { OnErr result (AreSameAround from count (all_seen columns.old) (all_seen columns.new)) }
 {
     if are_ascii_printable(run) {
@@ -150,6 +147,7 @@ pub fn put_over_blanks(
     requires inside { from + count ≤ length columns.old }
     requires blank { AreBlank from count (all_seen columns.old) }
     ensures ok { OnOk result (all_seen columns.new ≡ paste (all_seen columns.old) from (run_columns negative run.now)) }
+    ensures short { length run.now ≤ 7 → IsOk result }
     ensures err { OnErr result (all_seen columns.new ≡ all_seen columns.old) }
 {
     let put = put_glyphs(alloc, columns, from, run, count, negative);
@@ -165,7 +163,7 @@ impl Column {
         ensures { result ≡ columns_after (seen self.now) }
     {
         match self {
-            Column::Unknown | Column::Ascii { .. } => 0,
+            Column::Unknown => 0,
             Column::Glyph {
                 columns,
                 offset,
@@ -178,7 +176,7 @@ impl Column {
         ensures { result ≡ columns_before (seen self.now) }
     {
         match self {
-            Column::Unknown | Column::Ascii { .. } => 0,
+            Column::Unknown => 0,
             Column::Glyph { offset, .. } => *offset,
         }
     }

@@ -1,15 +1,15 @@
 //! A grid of columns that are all known.
 
 ghost use Rattle.std.specs.Prelude.{◌≡◌, ℕ, ◌*◌, ◌+◌, ◌-◌, ◌<◌, ◌≤◌, ◌↔◌, List, ◌++◌, length, replicate, take, drop, IfOk, OnOk, OnErr, IfErr, IsErrOf, IsOk, IsTrue, true, false};
-ghost use Rattle.bx_grid.specs.Columns.{blank, is_ascii_glyph, is_one_glyph, paste, run_columns, run_width};
+ghost use Rattle.bx_grid.specs.Columns.{blank, is_one_glyph, paste, run_columns, run_width};
 ghost use Rattle.bx_grid.specs.Seen.{seen, all_seen};
 ghost use Rattle.bx_grid.specs.Picture.{GridState, HasRoom, IsGrid, IsWithin, is_size};
 
 use crate::cell::Cell;
+use crate::codes::{blank_codes, byte_code, note_codes};
 use crate::column::Column;
 use crate::columns::{are_blank, blank_columns, put_over_blanks};
 use crate::error::GridError;
-use crate::letters::{blank_letters, letter, note_letters};
 use crate::row::Row;
 use bx_terms::{ascii_glyph, is_side, run_width};
 use std::alloc::{AllocError, Global};
@@ -21,20 +21,20 @@ pub struct Grid {
     height: u16,
     width: u16,
     columns: Vec<Column>,
-    letters: Vec<u8>,
+    codes: Vec<u64>,
 }
 
 impl Model for Grid {
     ghost use Rattle.std.specs.Prelude.{◌≡◌, ◌*◌, ◌≤◌, length};
     ghost use Rattle.bx_grid.specs.Picture.{GridState, IsGrid};
-    ghost use Rattle.bx_grid.specs.Letters.{letters_of};
+    ghost use Rattle.bx_grid.specs.Codes.{codes_of};
     ghost use Rattle.bx_grid.specs.Seen.{all_seen};
 
     ghost Value = { GridState };
 
     ghost view = { λ g. record { height = g.height; width = g.width; columns = all_seen g.columns.items } };
 
-    ghost invariant = { λ g. IsGrid g.height g.width (all_seen g.columns.items) × (g.letters.items ≡ letters_of (all_seen g.columns.items)) };
+    ghost invariant = { λ g. IsGrid g.height g.width (all_seen g.columns.items) × (g.codes.items ≡ codes_of (all_seen g.columns.items)) };
 }
 
 impl Grid {
@@ -51,18 +51,18 @@ impl Grid {
         }
         let count = height as usize * width as usize;
         let columns = blank_columns(alloc, count)?;
-        let letters = blank_letters(alloc, count)?;
+        let codes = blank_codes(alloc, count)?;
         Ok(Grid {
             height,
             width,
             columns,
-            letters,
+            codes,
         })
     }
 
-    /// Puts a glyph at a cell, over blanks. A glyph is one character from SPACE to TILDE, which takes one column and no
-    /// memory, or other text that a terminal shows as one piece: characters that are no controls and that take a column
-    /// or more together (`run_width`), not all of them from SPACE to TILDE.
+    /// Puts a glyph at a cell, over blanks. A glyph is one character from SPACE to TILDE, which takes one column, or other
+    /// text that a terminal shows as one piece: characters that are no controls and that take a column or more together
+    /// (`run_width`), not all of them from SPACE to TILDE. One of at most seven bytes takes no memory.
     ///
     /// Errors: `OutOfMemory`, and nothing has changed.
     pub fn put(&mut self, cell: Cell, text: &str, negative: bool) -> Result<(), GridError>
@@ -72,13 +72,13 @@ impl Grid {
         ensures ok { OnOk result (self.new ≡ record self.old { columns = paste self.old.columns ((cell.line - 1) * self.old.width + (cell.column - 1)) (run_columns negative text.now) }) }
         ensures err { OnErr result (self.new ≡ self.old) }
         ensures memory { OnErr result (result ≡ Err GridError.OutOfMemory) }
-        ensures plain { is_ascii_glyph text.now ≡ true → IsOk result }
+        ensures short { length text.now ≤ 7 → IsOk result }
     {
         let index = (cell.line - 1) as usize * self.width as usize + (cell.column - 1) as usize;
         if let Some(byte) = ascii_glyph(text) {
-            let letter = letter(byte, negative);
-            self.columns[index] = Column::Ascii { byte, negative };
-            self.letters[index] = letter;
+            let code = byte_code(byte, negative);
+            self.columns[index] = Column::of_byte(byte, negative);
+            self.codes[index] = code;
             return Ok(());
         }
         let alloc = *self.columns.allocator();
@@ -91,8 +91,8 @@ impl Grid {
             count,
             negative,
         )?;
-        note_letters(
-            self.letters.as_mut_slice(),
+        note_codes(
+            self.codes.as_mut_slice(),
             &self.columns,
             index,
             index + count as usize,
@@ -132,7 +132,7 @@ impl Grid {
     {
         let start = row as usize * self.width as usize;
         let stop = start + self.width as usize;
-        Row::new(&self.columns[start..stop], &self.letters[start..stop])
+        Row::new(&self.columns[start..stop], &self.codes[start..stop])
     }
 
     /// How many rows, from 1 to 500.

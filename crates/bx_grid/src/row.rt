@@ -2,41 +2,41 @@
 
 ghost use Rattle.std.specs.Prelude.{◌≡◌, length};
 ghost use Rattle.bx_grid.specs.Columns.{are_equal};
-ghost use Rattle.bx_grid.specs.Letters.{letters_of};
+ghost use Rattle.bx_grid.specs.Codes.{codes_of};
 ghost use Rattle.bx_grid.specs.Seen.{all_seen};
 
+use crate::codes::are_same;
 use crate::column::Column;
-use crate::letters::are_same;
 use std::marker::Model;
 
 /// The columns of one row of a grid.
 #[derive(Drop)]
 pub struct Row<'g> {
     columns: &'g [Column],
-    letters: &'g [u8],
+    codes: &'g [u64],
 }
 
 // Clauses see what the columns show.
 impl<'g> Model for Row<'g> {
     ghost use Rattle.std.specs.Prelude.{◌≡◌, List};
     ghost use Rattle.bx_grid.specs.Columns.{Col};
-    ghost use Rattle.bx_grid.specs.Letters.{letters_of};
+    ghost use Rattle.bx_grid.specs.Codes.{codes_of};
     ghost use Rattle.bx_grid.specs.Seen.{all_seen};
 
     ghost Value = { List Col };
 
     ghost view = { λ r. all_seen r.columns.now };
 
-    ghost invariant = { λ r. r.letters.now ≡ letters_of (all_seen r.columns.now) };
+    ghost invariant = { λ r. r.codes.now ≡ codes_of (all_seen r.columns.now) };
 }
 
 impl<'g> Row<'g> {
-    /// The row of these columns, whose letters these are.
-    pub(crate) fn new(columns: &'g [Column], letters: &'g [u8]) -> Row<'g>
-        requires { letters.now ≡ letters_of (all_seen columns.now) }
+    /// The row of these columns, whose codes these are.
+    pub(crate) fn new(columns: &'g [Column], codes: &'g [u64]) -> Row<'g>
+        requires { codes.now ≡ codes_of (all_seen columns.now) }
         ensures { result ≡ all_seen columns.now }
     {
-        Row { columns, letters }
+        Row { columns, codes }
     }
 
     /// What stands in its columns, from the left.
@@ -51,6 +51,6 @@ impl<'g> Row<'g> {
         requires { length self.now ≡ length other.now }
         ensures { result ≡ are_equal self.now other.now }
     {
-        are_same(self.columns, self.letters, other.columns, other.letters)
+        are_same(self.columns, self.codes, other.columns, other.codes)
     }
 }

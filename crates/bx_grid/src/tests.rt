@@ -3,7 +3,7 @@
 ghost use Rattle.std.specs.Prelude.{◌≡◌, OnOk};
 ghost use Rattle.bx_grid.specs.Picture.{IsWithin};
 
-use crate::{Cell, Column, Grid, GridError, Picture, Screen};
+use crate::{Cell, Column, GlyphText, Grid, GridError, Picture, Screen};
 use bx_terms::{ascii_glyph, is_glyph, run_width};
 use std::alloc::Global;
 use std::test::Fail;
@@ -110,7 +110,7 @@ fn a_blank_is_a_space_in_normal_rendition(rt: HostRuntime) -> Result<(), Fail> {
         assert!(rt; column.is_blank());
     }
     let negative = Column::Glyph {
-        text: String::from_str(rt.alloc(), " ")?,
+        text: GlyphText::from_str(rt.alloc(), " ")?,
         columns: 1,
         offset: 0,
         negative: true,
@@ -177,7 +177,7 @@ fn a_wide_glyph_stands_in_two_columns(rt: HostRuntime) -> Result<(), Fail> {
     assert_eq!(rt; columns.len(), 4);
     for index in 0..2 {
         let half = Column::Glyph {
-            text: String::from_str(rt.alloc(), "\u{4E16}")?,
+            text: GlyphText::from_str(rt.alloc(), "\u{4E16}")?,
             columns: 2,
             offset: index as u16,
             negative: false,

@@ -49,19 +49,19 @@ pub record Stands (p : PictureState) (w : Terminal × List Effect) (near negativ
   pub leaves : Leaves p w (partly above done rest below) position negative all
   pub near_by : near ≡ true → Near p w negative above done rest below r c all
 
-inverted : (p : PictureState) (w : Terminal × List Effect) (negative inverse : Bool) (above done rest below : List Col) (r c : ℕ) (all : List Effect)
+inverted : (p : PictureState) (w : Terminal × List Effect) (negative glyph_negative : Bool) (above done rest below : List Col) (r c : ℕ) (all : List Effect)
     → IsPlace r c p.width above done rest → c < p.width → Near p w negative above done rest below r c all
-    → Near p (run w (render_bytes inverse)) inverse above done rest below r c all
-inverted p w negative inverse above done rest below r c all index small n =
+    → Near p (run w (render_bytes glyph_negative)) glyph_negative above done rest below r c all
+inverted p w negative glyph_negative above done rest below r c all index small n =
     let columns = partly above done rest below in
     let l = ready_leaves p w negative above done rest below r c all n.ready in
-    let h = place_ready p (run w (render_bytes inverse)) inverse above done rest below r c all index
-    (renders p w columns l.0 negative inverse all l.1 ∙ ap (λ q. (screen p columns q inverse [], all)) (l.2 small)) in
+    let h = place_ready p (run w (render_bytes glyph_negative)) glyph_negative above done rest below r c all index
+    (renders p w columns l.0 negative glyph_negative all l.1 ∙ ap (λ q. (screen p columns q glyph_negative [], all)) (l.2 small)) in
     record { ready = h.0; plain = ap (are_ascii_printable) h.1 }
 
-rendered : (p : PictureState) (w : Terminal × List Effect) (negative inverse : Bool) (above done rest below : List Col) (r c : ℕ) (all : List Effect)
+rendered : (p : PictureState) (w : Terminal × List Effect) (negative glyph_negative : Bool) (above done rest below : List Col) (r c : ℕ) (all : List Effect)
     → IsPlace r c p.width above done rest → c < p.width → Near p w negative above done rest below r c all
-    → Near p (run w (render_change negative inverse)) inverse above done rest below r c all
+    → Near p (run w (render_change negative glyph_negative)) glyph_negative above done rest below r c all
 rendered p w true true above done rest below r c all index small n = n
 rendered p w true false above done rest below r c all index small n = inverted p w true false above done rest below r c all index small n
 rendered p w false true above done rest below r c all index small n = inverted p w false true above done rest below r c all index small n

@@ -34,9 +34,9 @@ none_after negative = record { bytes = []; negative = negative }
 
 column_same : (r c : ℕ) (near negative : Bool) (x : Col) (xs : List Col) → column_sent r c near negative (x ∷ xs) (x ∷ xs) ≡ nothing_sent negative
 column_same r c near negative Unknown xs = refl
-column_same r c near negative (Glyph text columns offset inverse) xs =
-    let same : is_sent (Glyph text columns offset inverse ∷ xs) (Glyph text columns offset inverse ∷ xs) ≡ false =
-    rw (are_equal_refl (take columns (Glyph text columns offset inverse ∷ xs))) (and-false (nat_eq offset 0)) in
+column_same r c near negative (Glyph text columns offset glyph_negative) xs =
+    let same : is_sent (Glyph text columns offset glyph_negative ∷ xs) (Glyph text columns offset glyph_negative ∷ xs) ≡ false =
+    rw (are_equal_refl (take columns (Glyph text columns offset glyph_negative ∷ xs))) (and-false (nat_eq offset 0)) in
     rw same refl
 
 columns_same : (r c : ℕ) (near negative : Bool) (xs : List Col) → columns_sent r c near negative xs xs ≡ none_after negative

@@ -13,36 +13,36 @@ use Rattle.bx_paint.specs.Changed.{glyphs_changed}
 
 -- ---- the columns of a glyph after its first
 
-rest_none : (r c : ℕ) (negative : Bool) (text : List ℕ) (n : ℕ) (inverse : Bool) (offset count : ℕ) (olds xs : List Col) → 1 ≤ offset
-    → columns_sent r c false negative olds (glyph_columns_from text n inverse offset count ++ xs) ≡ columns_sent r (c + count) false negative (drop count olds) xs
-rest_none r c negative text n inverse offset zero olds xs h = ap (λ k. columns_sent r k false negative olds xs) (let e : c ≡ c + zero = omega arith in e)
-rest_none r c negative text n inverse offset (suc count) olds xs h =
+rest_none : (r c : ℕ) (negative : Bool) (text : List ℕ) (n : ℕ) (glyph_negative : Bool) (offset count : ℕ) (olds xs : List Col) → 1 ≤ offset
+    → columns_sent r c false negative olds (glyph_columns_from text n glyph_negative offset count ++ xs) ≡ columns_sent r (c + count) false negative (drop count olds) xs
+rest_none r c negative text n glyph_negative offset zero olds xs h = ap (λ k. columns_sent r k false negative olds xs) (let e : c ≡ c + zero = omega arith in e)
+rest_none r c negative text n glyph_negative offset (suc count) olds xs h =
     let later : nat_eq offset 0 ≡ false = grind (arith, nat_tests) in
     let e1 : (c + 1) + count ≡ c + suc count = omega arith in
     let e2 : 1 + count ≡ suc count = omega arith in
     rw later
-    (rest_none r (c + 1) negative text n inverse (offset + 1) count (drop 1 olds) xs (omega arith)
+    (rest_none r (c + 1) negative text n glyph_negative (offset + 1) count (drop 1 olds) xs (omega arith)
     ∙ ap (λ k. columns_sent r k false negative (drop count (drop 1 olds)) xs) e1
     ∙ ap (λ ys. columns_sent r (c + suc count) false negative ys xs) (drop-drop count 1 olds ∙ ap (λ k. drop k olds) e2))
 
-rest_sent : (near : Bool) (r c : ℕ) (negative : Bool) (text : List ℕ) (n : ℕ) (inverse : Bool) (offset count : ℕ) (olds xs : List Col) → 1 ≤ offset
+rest_sent : (near : Bool) (r c : ℕ) (negative : Bool) (text : List ℕ) (n : ℕ) (glyph_negative : Bool) (offset count : ℕ) (olds xs : List Col) → 1 ≤ offset
     → (near ≡ true → count ≡ 0)
-    → columns_sent r c near negative olds (glyph_columns_from text n inverse offset count ++ xs) ≡ columns_sent r (c + count) near negative (drop count olds) xs
-rest_sent false r c negative text n inverse offset count olds xs h alone = rest_none r c negative text n inverse offset count olds xs h
-rest_sent true r c negative text n inverse offset count olds xs h alone =
+    → columns_sent r c near negative olds (glyph_columns_from text n glyph_negative offset count ++ xs) ≡ columns_sent r (c + count) near negative (drop count olds) xs
+rest_sent false r c negative text n glyph_negative offset count olds xs h alone = rest_none r c negative text n glyph_negative offset count olds xs h
+rest_sent true r c negative text n glyph_negative offset count olds xs h alone =
     let none : count ≡ 0 = alone refl in
     let e : c ≡ c + 0 = omega arith in
     rw none (ap (λ k. columns_sent r k true negative olds xs) e)
 
-rest_changed : (index : ℕ) (text : List ℕ) (n : ℕ) (inverse : Bool) (offset count : ℕ) (olds xs : List Col) → 1 ≤ offset
-    → glyphs_changed index olds (glyph_columns_from text n inverse offset count ++ xs) ≡ glyphs_changed (index + count) (drop count olds) xs
-rest_changed index text n inverse offset zero olds xs h = ap (λ k. glyphs_changed k olds xs) (let e : index ≡ index + zero = omega arith in e)
-rest_changed index text n inverse offset (suc count) olds xs h =
+rest_changed : (index : ℕ) (text : List ℕ) (n : ℕ) (glyph_negative : Bool) (offset count : ℕ) (olds xs : List Col) → 1 ≤ offset
+    → glyphs_changed index olds (glyph_columns_from text n glyph_negative offset count ++ xs) ≡ glyphs_changed (index + count) (drop count olds) xs
+rest_changed index text n glyph_negative offset zero olds xs h = ap (λ k. glyphs_changed k olds xs) (let e : index ≡ index + zero = omega arith in e)
+rest_changed index text n glyph_negative offset (suc count) olds xs h =
     let later : nat_eq offset 0 ≡ false = grind (arith, nat_tests) in
     let e1 : (index + 1) + count ≡ index + suc count = omega arith in
     let e2 : 1 + count ≡ suc count = omega arith in
     rw later
-    (rest_changed (index + 1) text n inverse (offset + 1) count (drop 1 olds) xs (omega arith)
+    (rest_changed (index + 1) text n glyph_negative (offset + 1) count (drop 1 olds) xs (omega arith)
     ∙ ap (λ k. glyphs_changed k (drop count (drop 1 olds)) xs) e1
     ∙ ap (λ ys. glyphs_changed (index + suc count) ys xs) (drop-drop count 1 olds ∙ ap (λ k. drop k olds) e2))
 

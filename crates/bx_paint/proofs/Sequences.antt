@@ -89,16 +89,16 @@ moves p w columns q negative all r c h rh cw ph pw =
     (place_params_fit (r + 1) (c + 1) r64 c64) final_H (command_of-index (r + 1) (c + 1) r64 c64)
     ∙ moved_is p columns q negative (0x1B ∷ 0x5B ∷ place_params (r + 1) (c + 1)) all r c rh cw
 
-pub renders : (p : PictureState) (w : Terminal × List Effect) (columns : List Col) (q : Option (ℕ × ℕ)) (negative inverse : Bool) (all : List Effect)
+pub renders : (p : PictureState) (w : Terminal × List Effect) (columns : List Col) (q : Option (ℕ × ℕ)) (negative glyph_negative : Bool) (all : List Effect)
     → Leaves p w columns q negative all
-    → run w (render_bytes inverse) ≡ (screen p columns q inverse [], all)
+    → run w (render_bytes glyph_negative) ≡ (screen p columns q glyph_negative [], all)
 renders p w columns q negative true all h =
     obeys p w columns q negative all (0x37 ∷ []) 0x6D _ h refl final_m refl ∙ ap (λ log. (screen p columns q true [], log)) (append-nil all)
 renders p w columns q negative false all h =
     obeys p w columns q negative all (0x30 ∷ []) 0x6D _ h refl final_m refl ∙ ap (λ log. (screen p columns q false [], log)) (append-nil all)
 
-pub turned : (p : PictureState) (columns : List Col) (q : Option (ℕ × ℕ)) (negative inverse : Bool) (all : List Effect)
-    → run (screen p columns q negative [], all) (render_change negative inverse) ≡ (screen p columns q inverse [], all)
+pub turned : (p : PictureState) (columns : List Col) (q : Option (ℕ × ℕ)) (negative glyph_negative : Bool) (all : List Effect)
+    → run (screen p columns q negative [], all) (render_change negative glyph_negative) ≡ (screen p columns q glyph_negative [], all)
 turned p columns q true true all = refl
 turned p columns q true false all = renders p (screen p columns q true [], all) columns q true false all (plain_leaves p columns q true all)
 turned p columns q false true all = renders p (screen p columns q false [], all) columns q false true all (plain_leaves p columns q false all)

@@ -54,8 +54,8 @@ is_sent old (Glyph text columns offset negative ∷ cs) =
 
 -- a glyph; near says that it follows one that was just sent, and that one is a character from SPACE to TILDE
 abbrev pub glyph_bytes : ℕ → ℕ → Bool → Bool → List ℕ → Bool → List ℕ
-glyph_bytes row column near negative text inverse =
-    (if near && is_ascii_glyph text then [] else move_bytes row column) ++ (render_change negative inverse ++ text)
+glyph_bytes row column near negative text glyph_negative =
+    (if near && is_ascii_glyph text then [] else move_bytes row column) ++ (render_change negative glyph_negative ++ text)
 
 -- what is sent for one column, whether a character from SPACE to TILDE was sent that ends there, and the rendition after it
 pub record Step : Type 0 where
@@ -70,9 +70,9 @@ nothing_sent negative = record { bytes = []; near = false; negative = negative }
 abbrev pub column_sent : ℕ → ℕ → Bool → Bool → List Col → List Col → Step
 column_sent row column near negative old [] = nothing_sent negative
 column_sent row column near negative old (Unknown ∷ cs) = nothing_sent negative
-column_sent row column near negative old (Glyph text columns offset inverse ∷ cs) =
-    if is_sent old (Glyph text columns offset inverse ∷ cs)
-    then record { bytes = glyph_bytes row column near negative text inverse; near = is_ascii_glyph text; negative = inverse }
+column_sent row column near negative old (Glyph text columns offset glyph_negative ∷ cs) =
+    if is_sent old (Glyph text columns offset glyph_negative ∷ cs)
+    then record { bytes = glyph_bytes row column near negative text glyph_negative; near = is_ascii_glyph text; negative = glyph_negative }
     else nothing_sent negative
 
 -- the columns of a row before its tail, from one on

@@ -6,8 +6,7 @@ ghost use Rattle.bx_grid.specs.Seen.{seen, all_seen};
 ghost use Rattle.bx_paint.specs.Painting as spec;
 ghost use Rattle.bx_paint.specs.Painting.{move_bytes, render_change, glyph_bytes, before_tail, leading_blanks, column_sent, columns_sent, tail_sent, row_sent, rows_sent};
 
-use bx_grid::{Column, Grid, Row, all_same};
-use bx_terms::{ascii_glyph, is_ascii_printable};
+use bx_grid::{Column, GlyphText, Grid, Row, all_same};
 use itoa::Buffer;
 use std::alloc::AllocError;
 
@@ -46,42 +45,22 @@ struct Pen {
     negative: bool,
 }
 
-/// Sends a glyph of one byte.
-fn write_byte(
-    out: &mut Vec<u8>,
-    row: u16,
-    column: u16,
-    pen: Pen,
-    byte: u8,
-    inverse: bool,
-) -> Result<(), AllocError>
-    requires small { (row < 65535) × (column < 65535) }
-    ensures { OnOk result (out.new.items ≡ out.old.items ++ glyph_bytes row column pen.near pen.negative (byte ∷ []) inverse) }
-{
-    if !(pen.near && is_ascii_printable(byte)) {
-        write_move(out, row, column)?;
-    }
-    write_rendition(out, pen.negative, inverse)?;
-    out.push(byte)?;
-    Ok(())
-}
-
 /// Sends a glyph.
 fn write_glyph(
     out: &mut Vec<u8>,
     row: u16,
     column: u16,
     pen: Pen,
-    text: &str,
-    inverse: bool,
+    text: &GlyphText,
+    negative: bool,
 ) -> Result<(), AllocError>
     requires small { (row < 65535) × (column < 65535) }
-    ensures { OnOk result (out.new.items ≡ out.old.items ++ glyph_bytes row column pen.near pen.negative text.now inverse) }
+    ensures { OnOk result (out.new.items ≡ out.old.items ++ glyph_bytes row column pen.near pen.negative text.now negative) }
 {
-    if !(pen.near && ascii_glyph(text).is_some()) {
+    if !(pen.near && text.is_ascii_glyph()) {
         write_move(out, row, column)?;
     }
-    write_rendition(out, pen.negative, inverse)?;
+    write_rendition(out, pen.negative, negative)?;
     out.extend_from_slice(text.as_bytes())
 }
 
@@ -105,7 +84,6 @@ fn is_sent(old: &[Column], new: &[Column]) -> bool
 {
     match new.first() {
         None | Some(Column::Unknown) => false,
-        Some(Column::Ascii { .. }) => !are_same(front(old, 1), front(new, 1)),
         Some(
             Column::Glyph {
                 columns,
@@ -132,17 +110,10 @@ fn write_column(
 {
     let sent = is_sent(old, new);
     match new.first() {
-        Some(Column::Ascii { byte, negative }) if sent => {
-            write_byte(out, row, column, pen, *byte, *negative)?;
-            Ok(Pen {
-                near: is_ascii_printable(*byte),
-                negative: *negative,
-            })
-        }
         Some(Column::Glyph { text, negative, .. }) if sent => {
             write_glyph(out, row, column, pen, text, *negative)?;
             Ok(Pen {
-                near: ascii_glyph(text).is_some(),
+                near: text.is_ascii_glyph(),
                 negative: *negative,
             })
         }

@@ -1,50 +1,50 @@
-//! Paints pictures of 24 rows and 80 columns some times, to count instructions: WHAT TIMES, where WHAT is `changes` (two
-//! pictures that differ in one glyph), `same` (two that do not differ), `whole`, `read` (a screen reads a whole painting)
-//! or `blank` (a grid of blanks is made). It prints how many bytes were sent or read.
+//! Paints pictures of 24 rows and 80 columns some times, to count instructions: WHAT TEXT TIMES, where WHAT is `changes`
+//! (two pictures that differ in one glyph), `same` (two that do not differ), `whole`, `read` (a screen reads a whole
+//! painting), `picture` (a picture is made) or `blank` (a grid of blanks is made), and TEXT is `ascii`, `hebrew`, `arabic`,
+//! `wide` or `marked`. It prints how many bytes were sent or read.
 //!
 //! The cost is the difference of two runs under `valgrind --tool=callgrind` that differ in TIMES alone, by the difference
 //! in TIMES.
 #![tactic(auto)]
 
-ghost use Rattle.std.specs.Prelude.{◌≡◌, true, IfOk};
-ghost use Rattle.bx_grid.specs.Columns.{is_ascii_glyph};
+ghost use Rattle.std.specs.Prelude.{◌≡◌, ◌≤◌, true, IfOk};
+ghost use Rattle.bx_grid.specs.Columns.{is_one_glyph, run_width};
 
+mod glyphs;
+
+use crate::glyphs::{Glyph, Script};
 use anyhow::{Context, Result};
 use bx_grid::{Cell, Grid, GridError, Picture, Screen};
 use bx_paint::{changes, whole};
 use std::alloc::Global;
 use std::env;
 
-/// What stands in a cell.
-fn letter(marked: bool) -> &'static str
-    ensures { is_ascii_glyph result.now ≡ true }
-{
-    if marked { "x" } else { "a" }
-}
-
-/// A picture full of letters, but for five blanks at each row's end. One of them may be marked.
-fn full(alloc: Global, marked: bool) -> Result<Picture, GridError>
+/// A picture full of glyphs, but for five or six blanks at each row's end. One of them may be another, and negative.
+fn full(alloc: Global, script: Script, marked: bool) -> Result<Picture, GridError>
     ensures { IfOk result (λ p. (p.height ≡ 24) × (p.width ≡ 80)) }
 {
     let mut grid = Grid::blank(alloc, 24, 80)?;
     for line in 1..25 {
-        for column in 1..76 {
-            let here = marked && line == 12 && column == 40;
-            grid.put(Cell { line, column }, letter(here), here)?;
+        let mut column = 1;
+        while column < 75 {
+            let here = marked && line == 12 && column == 41;
+            let glyph = Glyph::of(script, here);
+            grid.put(Cell { line, column }, glyph.text, here)?;
+            column += glyph.columns;
         }
     }
     Ok(Picture::new(
         grid,
         Cell {
             line: 12,
-            column: 40,
+            column: 41,
         },
     ))
 }
 
-fn run(alloc: Global, what: &str, times: usize) -> Result<u64> {
-    let old = full(alloc, false)?;
-    let new = full(alloc, true)?;
+fn run(alloc: Global, what: &str, script: Script, times: usize) -> Result<u64> {
+    let old = full(alloc, script, false)?;
+    let new = full(alloc, script, true)?;
     let painting = whole(alloc, &new)?;
     let mut screen = Screen::new(alloc, 24, 80)?;
     let mut sum: u64 = 0;
@@ -58,6 +58,8 @@ fn run(alloc: Global, what: &str, times: usize) -> Result<u64> {
         } else if what == "read" {
             screen.read(painting.as_slice())?;
             painting.len()
+        } else if what == "picture" {
+            full(alloc, script, true)?.grid().columns().len()
         } else {
             Grid::blank(alloc, 24, 80)?.columns().len()
         };
@@ -70,12 +72,14 @@ fn main(rt: HostRuntime) -> Result<()> {
     let mut words = env::args(&rt)?;
     let _program = words.next();
     let what = words.next().context("nothing to do")?;
+    let text = words.next().context("no text")?;
+    let script = Script::named(text.as_str()).context("no such text")?;
     let times = words
         .next()
         .context("no number of times")?
         .as_str()
         .parse::<usize>()?;
-    let sum = run(rt.alloc(), what.as_str(), times)?;
+    let sum = run(rt.alloc(), what.as_str(), script, times)?;
     println!(rt; "{sum}")?;
     Ok(())
 }

@@ -1,4 +1,4 @@
-use Rattle.std.proofs.Common.{◌≡◌, ◌≤◌}
+use Rattle.std.proofs.Common.{◌≡◌, ◌≤◌, ◌-◌}
 use Rattle.bx_paint_bench.proofs.Laying.{IsLaid}
 use Rattle.bx_paint_bench.proofs.full.Given as goal
 
@@ -15,5 +15,10 @@ invariant-loop-column l = record {
   wide : l.grid.width ≡ 80;
   low : 1 ≤ l.line;
   high : l.line ≤ 24;
+  left : 1 ≤ l.column;
+  right : l.column ≤ 76;
   laid : IsLaid l.line l.column l.grid.columns;
 }
+
+abbrev pub decreases-loop-column : goal.decreases-loop-column
+decreases-loop-column l = 76 - l.column

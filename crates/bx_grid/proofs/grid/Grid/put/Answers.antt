@@ -1,11 +1,11 @@
-use Rattle.std.proofs.Common.{◌≡◌, ◌∙◌, ◌*◌, ◌+◌, ◌-◌, ◌≤◌, List, ap, sym, subst, refl, length, arith}
+use Rattle.std.proofs.Common.{◌≡◌, ◌∙◌, ◌*◌, ◌+◌, ◌-◌, ◌≤◌, List, [], ◌∷◌, ap, sym, subst, refl, length, arith}
 use Rattle.std.proofs.lemmas.List.{take_at}
-use Rattle.bx_grid.specs.Columns.{Col, paste, run_columns}
-use Rattle.bx_grid.specs.Letters.{letters_of}
+use Rattle.bx_grid.specs.Columns.{Col, Glyph, paste, run_columns}
+use Rattle.bx_grid.specs.Codes.{codes_of}
 use Rattle.bx_grid.specs.Picture.{GridState, IsGrid}
 use Rattle.bx_grid.specs.Seen.{all_seen}
-use Rattle.bx_grid.proofs.Grids.{CanPut, can_along, letter_set, plain_seen, put_kept, put_fits}
-use Rattle.bx_grid.proofs.Lettered.{noted}
+use Rattle.bx_grid.proofs.Grids.{CanPut, can_along, code_set, plain_seen, put_kept, put_fits}
+use Rattle.bx_grid.proofs.Coded.{noted}
 use Rattle.bx_grid.proofs.Puts.{run_length}
 use Rattle.bx_grid.proofs.grid.Grid.put.Goals as goal
 
@@ -19,9 +19,9 @@ invariant_of-self c =
     let can : CanPut g cell.line cell.column text = can_along g c.args.self.now cell.line cell.column text c.self.view_is
     (record { inside = c.requires.inside; glyph = c.requires.glyph; utf8 = c.utf8.text; room = c.requires.room }) in (
       subst (λ (cs : List Col). IsGrid g.height g.width cs)
-          (sym (plain_seen g c.self.inside.columns.items cell.line cell.column text c.in-Some.byte c.args.negative refl c.in-Some.ensures.0 c.in-Some.ensures.1 c.self.invariant.0 can))
+          (sym (plain_seen g c.self.inside.columns.items c.of_byte.result cell.line cell.column text c.in-Some.byte c.args.negative refl c.of_byte.ensures c.in-Some.ensures.0 c.in-Some.ensures.1 c.self.invariant.0 can))
           (put_kept g cell.line cell.column text c.args.negative c.self.invariant.0 can),
-      letter_set c.self.inside.columns.items c.self.inside.letters.items _ c.in-Some.byte c.letter-letter.result c.args.negative c.letter-letter.ensures c.self.invariant.1,
+      code_set c.self.inside.columns.items c.self.inside.codes.items c.of_byte.result (Glyph (c.in-Some.byte ∷ []) 1 0 c.args.negative) _ c.byte_code-code.result c.byte_code-code.ensures c.of_byte.ensures c.self.invariant.1,
     )
 
 pub returns-in-Some-clause-ok : goal.returns-in-Some-clause-ok
@@ -32,7 +32,7 @@ returns-in-Some-clause-ok c =
     let can : CanPut g cell.line cell.column text = can_along g c.args.self.now cell.line cell.column text c.self.view_is
     (record { inside = c.requires.inside; glyph = c.requires.glyph; utf8 = c.utf8.text; room = c.requires.room }) in
     ap (λ (cs : List Col). record { height = g.height; width = g.width; columns = cs })
-    (plain_seen g c.self.inside.columns.items cell.line cell.column text c.in-Some.byte c.args.negative refl c.in-Some.ensures.0 c.in-Some.ensures.1 c.self.invariant.0 can)
+    (plain_seen g c.self.inside.columns.items c.of_byte.result cell.line cell.column text c.in-Some.byte c.args.negative refl c.of_byte.ensures c.in-Some.ensures.0 c.in-Some.ensures.1 c.self.invariant.0 can)
     ∙ ap (λ (x : GridState). record { height = x.height; width = x.width; columns = paste x.columns ((cell.line - 1) * x.width + (cell.column - 1)) (run_columns c.args.negative text) }) c.self.view_is
 
 -- ---- any other glyph
@@ -53,8 +53,8 @@ invariant_of-self-2 c =
     let count : length news ≡ c.run_width-count.result = run_length c.args.negative text ∙ sym c.run_width-count.ensures in
     let fits : index + c.run_width-count.result ≤ length g.columns = put_fits g cell.line cell.column text c.run_width-count.result c.self.invariant.0 can c.run_width-count.ensures in (
       subst (λ (cs : List Col). IsGrid g.height g.width cs) (sym now) (put_kept g cell.line cell.column text c.args.negative c.self.invariant.0 can),
-      take_at c.note_letters.new.letters _ c.self.inside.letters.len (c.note_letters.auto.letters ∙ c.as_mut_slice-2.ensures.len)
-          ∙ noted g.columns (all_seen c.deref.result.now) news c.as_mut_slice-2.result.now c.note_letters.new.letters index (index + c.run_width-count.result) c.run_width-count.result
-          (c.as_mut_slice-2.ensures.value ∙ c.self.invariant.1) (ap all_seen c.deref.ensures.value ∙ now) count (omega arith) fits c.note_letters.ensures
-          ∙ ap (λ cs. letters_of (all_seen cs)) c.deref.ensures.value,
+      take_at c.note_codes.new.codes _ c.self.inside.codes.len (c.note_codes.auto.codes ∙ c.as_mut_slice-2.ensures.len)
+          ∙ noted g.columns (all_seen c.deref.result.now) news c.as_mut_slice-2.result.now c.note_codes.new.codes index (index + c.run_width-count.result) c.run_width-count.result
+          (c.as_mut_slice-2.ensures.value ∙ c.self.invariant.1) (ap all_seen c.deref.ensures.value ∙ now) count (omega arith) fits c.note_codes.ensures
+          ∙ ap (λ cs. codes_of (all_seen cs)) c.deref.ensures.value,
     )

@@ -1,11 +1,11 @@
 use Rattle.std.proofs.Common.{◌*◌, take, drop, ap, ◌∙◌}
 use Rattle.bx_grid.specs.Picture.{GridState}
-use Rattle.bx_grid.proofs.Grids.{row_seen, row_letters}
+use Rattle.bx_grid.proofs.Grids.{row_seen, row_codes}
 use Rattle.bx_grid.proofs.grid.Grid.row.Goals as goal
 
 pub new-requires : goal.new-requires
 new-requires c =
-    rw (c.deref-2.ensures.value, c.deref.ensures.value) (row_letters _ _ c.self.inside.columns.items c.self.inside.letters.items c.self.invariant.1)
+    rw (c.deref-2.ensures.value, c.deref.ensures.value) (row_codes _ _ c.self.inside.columns.items c.self.inside.codes.items c.self.invariant.1)
 
 pub returns-clause-row : goal.returns-clause-row
 returns-clause-row c =

@@ -1,8 +1,8 @@
 use Rattle.std.proofs.Common.{◌≡◌, ◌<◌, length, set, ap, sym, ◌∙◌, arith}
 use Rattle.std.proofs.lemmas.List.{get_or-map, length-map}
 use Rattle.bx_grid.specs.Seen.{seen, all_seen}
-use Rattle.bx_grid.proofs.Lettered.{note_more}
-use Rattle.bx_grid.proofs.letters.note_letters.Goals as goal
+use Rattle.bx_grid.proofs.Coded.{note_more}
+use Rattle.bx_grid.proofs.codes.note_codes.Goals as goal
 
 pub loop-index-preserved : goal.loop-index-preserved
 loop-index-preserved c =
@@ -11,7 +11,7 @@ loop-index-preserved c =
     let x = c.index-columns-index.result in
     let len : length (all_seen columns) ≡ length columns = length-map columns seen in
     let inside : i < length columns = omega (arith, c.loop-index-test.true, c.requires.inside, len) in
-    ap (λ b. set c.loop-index.letters i b) c.letter_of.ensures
-    ∙ note_more c.loop-index.letters c.args.letters.now (all_seen columns) c.args.from i c.args.to (seen x)
+    ap (λ b. set c.loop-index.codes i b) c.code_of.ensures
+    ∙ note_more c.loop-index.codes c.args.codes.now (all_seen columns) c.args.from i c.args.to (seen x)
     (omega (arith, c.loop-index.auto.index)) c.loop-index-test.true (omega (arith, c.requires.inside, len)) (c.requires.as_long ∙ sym len)
     (ap seen c.index-columns-index.is ∙ sym (get_or-map seen columns i x (seen x) inside)) c.loop-index.invariant

@@ -1,0 +1,35 @@
+-- The codes of columns, by which rows are compared at once.
+use Rattle.std.specs.Prelude.{ℕ, ◌+◌, ◌*◌, Bool, ◌&&◌, nat_le, nat_lt, List, [], ◌∷◌, map, length, if◌then◌else◌}
+use Rattle.std.specs.List.{list_all}
+use Rattle.bx_grid.specs.Columns.{Col, Unknown, Glyph}
+
+abbrev pub is_byte : ℕ → Bool
+is_byte b = nat_lt b 256
+
+-- a text of at most seven bytes
+abbrev pub is_short : List ℕ → Bool
+is_short text = nat_le (length text) 7 && list_all is_byte text
+
+-- the bytes as one number, the first lowest, below a 1 that tells how many they are
+abbrev pub packed : List ℕ → ℕ
+packed [] = 1
+packed (b ∷ bs) = packed bs * 256 + b
+
+-- what has no code of its own
+abbrev pub no_code : ℕ
+no_code = 0x8000_0000_0000_0000
+
+abbrev pub is_code : ℕ → Bool
+is_code code = nat_lt code no_code
+
+abbrev pub code_in : ℕ → ℕ → ℕ → Bool → ℕ
+code_in number columns offset negative = ((number * 4 + columns) * 4 + offset) * 2 + (if negative then 1 else 0)
+
+-- one column of a short glyph that takes at most three
+abbrev pub code_of : Col → ℕ
+code_of Unknown = no_code
+code_of (Glyph text columns offset negative) =
+    if (nat_lt columns 4 && nat_lt offset 4) && is_short text then code_in (packed text) columns offset negative else no_code
+
+abbrev pub codes_of : List Col → List ℕ
+codes_of columns = map code_of columns

@@ -1,0 +1,185 @@
+//! The text of a glyph, as a column keeps it.
+
+ghost use Rattle.std.specs.Prelude.{◌≡◌, ◌+◌, ◌*◌, ◌^◌, ◌≤◌, ◌<◌, [], ◌∷◌, length, IfOk, IsOk, MatchOption, false, true};
+ghost use Rattle.std.specs.Str.{bytes_eq};
+ghost use Rattle.bx_grid.specs.Codes.{packed, is_short};
+ghost use Rattle.bx_grid.specs.Columns.{is_ascii_glyph};
+ghost use Rattle.bx_grid.specs.Tokens.{is_only};
+
+use bx_terms::is_ascii_printable;
+use std::alloc::{AllocError, Global};
+use std::marker::Model;
+
+/// The most bytes of a text that takes no memory of its own.
+const SHORT: usize = 7;
+
+/// A text of at most seven bytes.
+#[derive(Drop)]
+struct ShortText {
+    bytes: [u8; 7],
+    len: u8,
+}
+
+impl Model for ShortText {
+    ghost use Rattle.std.specs.Prelude.{List, ℕ, ◌≤◌, take};
+
+    ghost Value = { List ℕ };
+
+    ghost view = { λ t. take t.len t.bytes };
+
+    ghost invariant = { λ t. t.len ≤ 7 };
+}
+
+impl ShortText {
+    fn new(text: &[u8]) -> ShortText
+        requires { length text.now ≤ 7 }
+        ensures { result ≡ text.now }
+    {
+        let mut bytes = [0; 7];
+        for (i, byte) in text.iter().enumerate() {
+            bytes[i] = *byte;
+        }
+        ShortText {
+            bytes,
+            len: text.len() as u8,
+        }
+    }
+
+    fn as_bytes(&self) -> &[u8]
+        ensures bytes { result.now ≡ self.now }
+        ensures short { length result.now ≤ 7 }
+    {
+        &self.bytes[..self.len as usize]
+    }
+}
+
+/// A short text stands in the column itself, any other in memory of its own.
+#[derive(Drop)]
+enum Stored {
+    Short(ShortText),
+    Long(String),
+}
+
+/// The text of a glyph. One of at most seven bytes takes no memory.
+#[derive(Drop)]
+pub struct GlyphText {
+    stored: Stored,
+}
+
+// Clauses see the bytes.
+impl Model for GlyphText {
+    ghost use Rattle.std.specs.Prelude.{List, ℕ};
+
+    ghost Value = { List ℕ };
+
+    ghost use Rattle.bx_grid.specs.GlyphTexts.{bytes_of, IsStored};
+
+    ghost view = { λ t. bytes_of t.stored };
+
+    ghost invariant = { λ t. IsStored t.stored };
+}
+
+impl GlyphText {
+    /// A text. One of at most seven bytes takes no memory.
+    ///
+    /// Errors: want of memory.
+    pub fn from_str(alloc: Global, text: &str) -> Result<GlyphText, AllocError>
+        ensures ok { IfOk result (λ t. t ≡ text.now) }
+        ensures short { length text.now ≤ 7 → IsOk result }
+    {
+        if text.len() <= SHORT {
+            return Ok(GlyphText {
+                stored: Stored::Short(ShortText::new(text.as_bytes())),
+            });
+        }
+        Ok(GlyphText {
+            stored: Stored::Long(String::from_str(alloc, text)?),
+        })
+    }
+
+    /// The text of one byte.
+    pub(crate) fn of_byte(byte: u8) -> GlyphText
+        ensures { result ≡ byte ∷ [] }
+    {
+        GlyphText {
+            stored: Stored::Short(ShortText::new(&[byte])),
+        }
+    }
+
+    /// Its bytes.
+    pub fn as_bytes(&self) -> &[u8]
+        ensures { result.now ≡ self.now }
+    {
+        match &self.stored {
+            Stored::Short(text) => text.as_bytes(),
+            Stored::Long(text) => text.as_bytes(),
+        }
+    }
+
+    /// Whether both are the same text.
+    pub fn is_same(&self, other: &GlyphText) -> bool
+        ensures { result ≡ bytes_eq self.now other.now }
+    {
+        self.as_bytes() == other.as_bytes()
+    }
+
+    /// Whether it is one byte, and this one.
+    pub(crate) fn is_byte(&self, byte: u8) -> bool
+        ensures { result ≡ is_only byte self.now }
+    {
+        match self.as_bytes() {
+            [first] => byte == *first,
+            _ => false,
+        }
+    }
+
+    /// Whether it is one character from SPACE to TILDE.
+    pub fn is_ascii_glyph(&self) -> bool
+        ensures { result ≡ is_ascii_glyph self.now }
+    {
+        match self.as_bytes() {
+            [byte] => is_ascii_printable(*byte),
+            _ => false,
+        }
+    }
+
+    /// The number that tells a short text, and none for any other.
+    pub(crate) fn packed(&self) -> Option<u64>
+        ensures { MatchOption result (is_short self.now ≡ false) (λ n. (n ≡ packed self.now) × (is_short self.now ≡ true) × (n < 2 ^ 57)) }
+    {
+        match &self.stored {
+            Stored::Short(text) => Some(packed_bytes(text.as_bytes())),
+            Stored::Long(_) => None,
+        }
+    }
+}
+
+/// The number that tells at most seven bytes.
+fn packed_bytes(bytes: &[u8]) -> u64
+    requires { length bytes.now ≤ 7 }
+    ensures number { result ≡ packed bytes.now }
+    ensures short { is_short bytes.now ≡ true }
+    ensures small { result < 2 ^ 57 }
+{
+    match bytes {
+        [] => 1,
+        [a] => under(1, *a),
+        [a, b] => under(under(1, *b), *a),
+        [a, b, c] => under(under(under(1, *c), *b), *a),
+        [a, b, c, d] => under(under(under(under(1, *d), *c), *b), *a),
+        [a, b, c, d, e] => under(under(under(under(under(1, *e), *d), *c), *b), *a),
+        [a, b, c, d, e, f] => under(under(under(under(under(under(1, *f), *e), *d), *c), *b), *a),
+        [a, b, c, d, e, f, g, ..] => under(
+            under(under(under(under(under(under(1, *g), *f), *e), *d), *c), *b),
+            *a,
+        ),
+    }
+}
+
+/// A number with one more byte below it.
+fn under(high: u64, byte: u8) -> u64
+    requires { high < 2 ^ 56 }
+    ensures { result ≡ high * 256 + byte }
+{
+    high * 256 + u64::from(byte)
+}
