@@ -15,4 +15,9 @@ abbrev pub class_of : ℕ → Class
 class_of c = if nat_lt c 0x80 then low_class c else high_class c
 
 abbrev pub bracket_of : ℕ → Option (Side × ℕ)
-bracket_of c = if c == 0x28 then Some (Opener, 0x29) else (if c == 0x29 then Some (Closer, 0x28) else None)
+bracket_of c =
+    if c == 0x28 then Some (Opener, 0x29)
+    else if c == 0x29 then Some (Closer, 0x28)
+    else if c == 0x24 then Some (Opener, 0x25)
+    else if c == 0x25 then Some (Closer, 0x24)
+    else None

@@ -1,5 +1,6 @@
 //! Finds the levels of a text some times, to count instructions: PATTERN CHARACTERS TIMES, where a pattern is mixed, latin,
-//! hebrew, arabic, hebrew_numbers, pairs, isolates, rli, fsi, terminators, one_number, nested, deep or isolated_brackets.
+//! hebrew, arabic, hebrew_numbers, pairs, isolates, empty_isolates, first_strong, deep_isolates, rli, fsi, terminators,
+//! one_number, nested, deep, idle_closers, blanks_inside or isolated_brackets.
 //! It prints the sum of the levels found.
 //!
 //! The cost of a character is the difference of two runs under `valgrind --tool=callgrind` that differ in TIMES alone, by

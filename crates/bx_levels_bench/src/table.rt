@@ -66,6 +66,8 @@ impl BidiData for Table {
         match c {
             '(' => Some((Side::Opener, ')')),
             ')' => Some((Side::Closer, '(')),
+            '$' => Some((Side::Opener, '%')),
+            '%' => Some((Side::Closer, '$')),
             _ => None,
         }
     }

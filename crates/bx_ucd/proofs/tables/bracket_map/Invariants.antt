@@ -1,9 +1,0 @@
-use Rattle.std.proofs.Common.{◌≡◌, ℕ, drop}
-use Rattle.std.specs.Option.{option_or}
-use Rattle.std.specs.Ordering.{nat_cmp}
-use Rattle.std.specs.BTreeMap.{get}
-use Rattle.bx_ucd.specs.Answers.{bracket_by_lines}
-use Rattle.bx_ucd.proofs.tables.bracket_map.Given as goal
-
-abbrev pub invariant-loop-entry : goal.invariant-loop-entry
-invariant-loop-entry l = (code : ℕ) → bracket_by_lines l.entries code ≡ option_or (bracket_by_lines (drop l.entry-index l.entries) code) (get nat_cmp l.brackets code)
