@@ -26,6 +26,10 @@ fn unit_of(pattern: &str) -> &'static [char] {
         &['\u{5d0}', '(', ')']
     } else if pattern == "isolates" {
         &['\u{2067}', 'a', '\u{2069}']
+    } else if pattern == "empty_isolates" {
+        &['\u{2067}', '\u{2069}']
+    } else if pattern == "first_strong" {
+        &['\u{2068}', 'a', '\u{2069}']
     } else if pattern == "rli" {
         &['\u{2067}']
     } else if pattern == "fsi" {
@@ -80,10 +84,56 @@ fn deep_brackets(alloc: Global, count: usize) -> Result<String, AllocError> {
     Ok(body)
 }
 
+/// Two letters and 62 brackets that open, and then closers that none of them is for.
+fn idle_closers(alloc: Global, count: usize) -> Result<String, AllocError> {
+    let mut body = String::new(alloc);
+    body.push_str("a\u{5d0}")?;
+    for k in 2..count {
+        body.push(if k < 64 { '(' } else { ']' })?;
+    }
+    Ok(body)
+}
+
+/// A letter, 60 brackets that open, each followed by a pair round a Hebrew letter, blanks, and 60 closers.
+fn blanks_inside(alloc: Global, count: usize) -> Result<String, AllocError> {
+    let mut body = String::new(alloc);
+    body.push('a')?;
+    for _ in 0..60 {
+        body.push_str("((\u{5d0})")?;
+    }
+    for _ in 301..count {
+        body.push(' ')?;
+    }
+    for _ in 0..60 {
+        body.push(')')?;
+    }
+    Ok(body)
+}
+
+/// 62 isolates in one another, again and again.
+fn deep_isolates(alloc: Global, count: usize) -> Result<String, AllocError> {
+    let mut body = String::new(alloc);
+    let mut k: usize = 0;
+    for _ in 0..count {
+        body.push(if k < 62 { '\u{2068}' } else { '\u{2069}' })?;
+        k = if k >= 123 { 0 } else { k.saturating_add(1) };
+    }
+    Ok(body)
+}
+
 /// A text of a pattern.
 pub fn text(alloc: Global, pattern: &str, count: usize) -> Result<String, AllocError> {
     if pattern == "deep" {
         return deep_brackets(alloc, count);
+    }
+    if pattern == "idle_closers" {
+        return idle_closers(alloc, count);
+    }
+    if pattern == "blanks_inside" {
+        return blanks_inside(alloc, count);
+    }
+    if pattern == "deep_isolates" {
+        return deep_isolates(alloc, count);
     }
     if pattern == "one_number" {
         return before_a_number(alloc, count);

@@ -1,5 +1,6 @@
 -- Ranges that are clear of a direction: what a look into one tells, and what a change leaves of it.
-use Rattle.std.proofs.Common.{◌≡◌, ◌<◌, ◌≤◌, ◌+◌, ◌-◌, ◌∙◌, ℕ, zero, suc, List, [], ◌∷◌, length, get_or, take, drop, refl, ap, arith, Bool, true, false, ◌⊎◌, inl, inr}
+use Rattle.std.proofs.Common.{◌≡◌, ◌<◌, ◌≤◌, ◌+◌, ◌-◌, ◌∙◌, ℕ, zero, suc, List, [], ◌∷◌, length, get_or, take, drop, refl, ap, arith, Bool, true, false, ◌⊎◌}
+use Rattle.std.proofs.Common.{inl, inr}
 use Rattle.std.specs.Prelude.{◌||◌}
 use Rattle.std.specs.List.{list_any}
 use Rattle.std.proofs.lemmas.List.{get_or-take, get_or-drop, get_or_default, length-take, get_or-append_right}
@@ -20,7 +21,8 @@ less_or_not zero (suc k) = inl (omega arith)
 less_or_not (suc j) (suc k) = elim (less_or_not j k) [ inl l ↦ inl (omega arith) | inr l ↦ inr (omega arith) ]
 
 -- one place more is clear
-pub clear_more : (d : Class) (ts : List Class) (a n : ℕ) → ((k : ℕ) → a ≤ k → k < n → counts_as d (get_or ts k L) ≡ false) → counts_as d (get_or ts n L) ≡ false → (k : ℕ) → a ≤ k → k < n + 1 → counts_as d (get_or ts k L) ≡ false
+pub clear_more : (d : Class) (ts : List Class) (a n : ℕ) → ((k : ℕ) → a ≤ k → k < n → counts_as d (get_or ts k L) ≡ false) → counts_as d (get_or ts n L) ≡ false
+    → (k : ℕ) → a ≤ k → k < n + 1 → counts_as d (get_or ts k L) ≡ false
 clear_more d ts a n old new k low high = elim (less_or_not k n) [
   | inl x ↦ old k low x
   | inr x ↦ let s : k ≡ n = omega arith in ap (λ i. counts_as d (get_or ts i L)) s ∙ new
@@ -35,22 +37,27 @@ any_at p (x ∷ xs) (suc i) d h e = elim (p x) as (λ b. (b || list_any p xs) �
 range_length : (ts : List Class) (a b : ℕ) → b ≤ length ts → length (take (b - a) (drop a ts)) ≤ b - a
 range_length ts a b h = omega (arith, length-take (b - a) (drop a ts))
 
-pub none_in : (d : Class) (ts : List Class) (a b : ℕ) → b ≤ length ts → ((k : ℕ) → a ≤ k → k < b → counts_as d (get_or ts k L) ≡ false) → list_any (counts_as d) (take (b - a) (drop a ts)) ≡ false
+pub none_in : (d : Class) (ts : List Class) (a b : ℕ) → b ≤ length ts → ((k : ℕ) → a ≤ k → k < b → counts_as d (get_or ts k L) ≡ false)
+    → list_any (counts_as d) (take (b - a) (drop a ts)) ≡ false
 none_in d ts a b h n = list_any_none (counts_as d) (take (b - a) (drop a ts)) (λ k e l.
     let low : k < b - a = omega (arith, range_length ts a b h) in
-    let at : get_or (take (b - a) (drop a ts)) k e ≡ get_or ts (a + k) L = get_or-take (b - a) (drop a ts) k e low ∙ get_or-drop a ts k e ∙ get_or_default ts (a + k) e L (omega arith) in
+    let at : get_or (take (b - a) (drop a ts)) k e ≡ get_or ts (a + k) L = get_or-take (b - a) (drop a ts) k e low ∙ get_or-drop a ts k e
+    ∙ get_or_default ts (a + k) e L (omega arith) in
     ap (counts_as d) at ∙ n (a + k) (omega arith) (omega arith))
 
-pub some_in : (d : Class) (ts : List Class) (a b k : ℕ) → b ≤ length ts → a ≤ k → k < b → counts_as d (get_or ts k L) ≡ true → list_any (counts_as d) (take (b - a) (drop a ts)) ≡ true
+pub some_in : (d : Class) (ts : List Class) (a b k : ℕ) → b ≤ length ts → a ≤ k → k < b → counts_as d (get_or ts k L) ≡ true
+    → list_any (counts_as d) (take (b - a) (drop a ts)) ≡ true
 some_in d ts a b k h low high e =
     let l : length (drop a ts) ≡ length ts - a = length-drop a ts in
     let t : length (take (b - a) (drop a ts)) ≡ b - a = omega (arith, length-take (b - a) (drop a ts)) in
     let s : a + (k - a) ≡ k = omega arith in
-    let at : get_or (take (b - a) (drop a ts)) (k - a) L ≡ get_or ts k L = get_or-take (b - a) (drop a ts) (k - a) L (omega arith) ∙ get_or-drop a ts (k - a) L ∙ ap (λ n. get_or ts n L) s in
+    let at : get_or (take (b - a) (drop a ts)) (k - a) L ≡ get_or ts k L = get_or-take (b - a) (drop a ts) (k - a) L (omega arith) ∙ get_or-drop a ts (k - a) L
+    ∙ ap (λ n. get_or ts n L) s in
     any_at (counts_as d) (take (b - a) (drop a ts)) (k - a) L (omega arith) (ap (counts_as d) at ∙ e)
 
 -- a change of a bracket leaves what stands before it, and all others or makes them the direction
-marks_either : (d : Class) (was : List Bool) (ts : List Class) (k : ℕ) → (get_or (change_marks d was ts) k L ≡ get_or ts k L) ⊎ (get_or (change_marks d was ts) k L ≡ d)
+marks_either : (d : Class) (was : List Bool) (ts : List Class) (k : ℕ)
+    → (get_or (change_marks d was ts) k L ≡ get_or ts k L) ⊎ (get_or (change_marks d was ts) k L ≡ d)
 marks_either d [] ts k = inl refl
 marks_either d (false ∷ was) ts k = inl refl
 marks_either d (true ∷ was) [] k = inl refl
@@ -62,7 +69,8 @@ module _ (d : Class) (was : List Bool) (ts : List Class) (p : ℕ) (h : p < leng
   before_long = omega (arith, length-take p ts)
 
   pub change_before : (k : ℕ) → k < p → get_or (change_bracket d was ts p) k L ≡ get_or ts k L
-  change_before k l = get_or-append (take p ts) (d ∷ change_marks d (drop (p + 1) was) (drop (p + 1) ts)) L k (omega (arith, before_long)) ∙ get_or-take p ts k L l
+  change_before k l = get_or-append (take p ts) (d ∷ change_marks d (drop (p + 1) was) (drop (p + 1) ts)) L k (omega (arith, before_long))
+      ∙ get_or-take p ts k L l
 
   change_from : (n k : ℕ) → p + n ≡ k → (get_or (change_bracket d was ts p) k L ≡ get_or ts k L) ⊎ (get_or (change_bracket d was ts p) k L ≡ d)
   change_from zero k e =
@@ -71,7 +79,9 @@ module _ (d : Class) (was : List Bool) (ts : List Class) (p : ℕ) (h : p < leng
   change_from (suc m) k e =
       let n : k - p ≡ suc m = omega arith in
       let s : p + 1 + m ≡ k = omega arith in
-      let at : get_or (change_bracket d was ts p) k L ≡ get_or (change_marks d (drop (p + 1) was) (drop (p + 1) ts)) m L = get_or-append_right (take p ts) (d ∷ change_marks d (drop (p + 1) was) (drop (p + 1) ts)) p k L before_long (omega arith) ∙ ap (λ i. get_or (d ∷ change_marks d (drop (p + 1) was) (drop (p + 1) ts)) i L) n in
+      let at : get_or (change_bracket d was ts p) k L ≡ get_or (change_marks d (drop (p + 1) was) (drop (p + 1) ts)) m L =
+      get_or-append_right (take p ts) (d ∷ change_marks d (drop (p + 1) was) (drop (p + 1) ts)) p k L before_long (omega arith)
+      ∙ ap (λ i. get_or (d ∷ change_marks d (drop (p + 1) was) (drop (p + 1) ts)) i L) n in
       elim (marks_either d (drop (p + 1) was) (drop (p + 1) ts) m) [
         | inl x ↦ inl (at ∙ x ∙ get_or-drop (p + 1) ts m L ∙ ap (λ i. get_or ts i L) s)
         | inr x ↦ inr (at ∙ x)
@@ -96,14 +106,16 @@ exclusive L d h = left_not_right d h
 exclusive _ d h = right_not_left d h
 
 -- a change to another direction leaves a range clear
-kept_clear : (e d : Class) (was : List Bool) (ts us : List Class) (p : ℕ) (c : Clear) → p < length ts → us ≡ change_bracket d was ts p → counts_as e d ≡ false → IsClear e ts c → IsClear e us c
+kept_clear : (e d : Class) (was : List Bool) (ts us : List Class) (p : ℕ) (c : Clear) → p < length ts → us ≡ change_bracket d was ts p → counts_as e d ≡ false
+    → IsClear e ts c → IsClear e us c
 kept_clear e d was ts us p c h n f clear k a b = ap (λ xs. counts_as e (get_or xs k L)) n ∙ (elim (change_either d was ts p h k) [
   | inl x ↦ ap (counts_as e) x ∙ clear k a b
   | inr x ↦ ap (counts_as e) x ∙ f
 ])
 
 -- and any change leaves what stands between its two parts
-cut_clear : (e d : Class) (was : List Bool) (ts us vs : List Class) (q n : ℕ) (c : Clear) → q < length us → vs ≡ change_bracket d was us q → AreSameFrom n ts us → IsClear e ts c → IsClear e vs (between c n q)
+cut_clear : (e d : Class) (was : List Bool) (ts us vs : List Class) (q n : ℕ) (c : Clear) → q < length us → vs ≡ change_bracket d was us q → AreSameFrom n ts us
+    → IsClear e ts c → IsClear e vs (between c n q)
 cut_clear e d was ts us vs q n c h w same clear k a b =
     let low : c.from ≤ k = omega arith in
     let after : n ≤ k = omega arith in
@@ -111,11 +123,14 @@ cut_clear e d was ts us vs q n c h w same clear k a b =
     let before : k < q = omega arith in
     ap (λ xs. counts_as e (get_or xs k L)) w ∙ ap (counts_as e) (change_before d was us q h k before ∙ same k after) ∙ clear k low high
 
-module _ (e d : Class) (was : List Bool) (ts us vs : List Class) (p q n : ℕ) (c : Clears) (h : p < length ts) (l : q < length us) (u : us ≡ change_bracket d was ts p) (v : vs ≡ change_bracket d was us q) (same : AreSameFrom n ts us) (clear : AreClear e ts c) where
-  clear_by : (b : Bool) → counts_as e d ≡ b → AreClear e vs (elim b as (λ x. Clears) [ true ↦ record c { embedding = between c.embedding n q } | false ↦ record c { other = between c.other n q } ])
+module _ (e d : Class) (was : List Bool) (ts us vs : List Class) (p q n : ℕ) (c : Clears) (h : p < length ts) (l : q < length us)
+    (u : us ≡ change_bracket d was ts p) (v : vs ≡ change_bracket d was us q) (same : AreSameFrom n ts us) (clear : AreClear e ts c) where
+  clear_by : (b : Bool) → counts_as e d ≡ b
+      → AreClear e vs (elim b as (λ x. Clears) [ true ↦ record c { embedding = between c.embedding n q } | false ↦ record c { other = between c.other n q } ])
   clear_by true t = record {
     embedding_is = cut_clear e d was ts us vs q n c.embedding l v same clear.embedding_is;
-    other_is = kept_clear (opposite e) d was us vs q c.other l v (exclusive e d t) (kept_clear (opposite e) d was ts us p c.other h u (exclusive e d t) clear.other_is);
+    other_is = kept_clear (opposite e) d was us vs q c.other l v (exclusive e d t)
+        (kept_clear (opposite e) d was ts us p c.other h u (exclusive e d t) clear.other_is);
   }
   clear_by false t = record {
     embedding_is = kept_clear e d was us vs q c.embedding l v t (kept_clear e d was ts us p c.embedding h u t clear.embedding_is);

@@ -8,7 +8,10 @@ use Rattle.bx_brackets.specs.Resolve.{resolve_pairs}
 
 -- round, square, and both kinds of angle brackets
 abbrev bracket : ℕ → Option (Side × ℕ)
-bracket c = cond (eqb c 40) (Some (Opener, 41)) (cond (eqb c 41) (Some (Closer, 40)) (cond (eqb c 91) (Some (Opener, 93)) (cond (eqb c 93) (Some (Closer, 91)) (cond (eqb c 0x2329) (Some (Opener, 0x232a)) (cond (eqb c 0x3009) (Some (Closer, 0x3008)) None)))))
+bracket c = cond (eqb c 40) (Some (Opener, 41))
+    (cond (eqb c 41) (Some (Closer, 40))
+    (cond (eqb c 91) (Some (Opener, 93))
+    (cond (eqb c 93) (Some (Closer, 91)) (cond (eqb c 0x2329) (Some (Opener, 0x232a)) (cond (eqb c 0x3009) (Some (Closer, 0x3008)) None)))))
 
 -- a(b]c)
 other_closer_passed : pairs bracket (97 ∷ 40 ∷ 98 ∷ 93 ∷ 99 ∷ 41 ∷ []) (replicate 6 ON) ≡ (1, 5) ∷ []
@@ -37,7 +40,8 @@ bracket_stack_overflow : pairs bracket (40 ∷ 41 ∷ (replicate 64 40 ++ (41 �
 bracket_stack_overflow = refl
 
 -- a B ( ( G ) A d ) from left to right: the outer pair is L, so the inner one is too
-inner_pair_sees_outer : resolve_pairs L L (replicate 9 false) ((2, 8) ∷ (3, 5) ∷ []) (L ∷ R ∷ ON ∷ ON ∷ R ∷ ON ∷ R ∷ L ∷ ON ∷ []) ≡ L ∷ R ∷ L ∷ L ∷ R ∷ L ∷ R ∷ L ∷ L ∷ []
+inner_pair_sees_outer : resolve_pairs L L (replicate 9 false) ((2, 8) ∷ (3, 5) ∷ []) (L ∷ R ∷ ON ∷ ON ∷ R ∷ ON ∷ R ∷ L ∷ ON ∷ [])
+    ≡ L ∷ R ∷ L ∷ L ∷ R ∷ L ∷ R ∷ L ∷ L ∷ []
 inner_pair_sees_outer = refl
 
 -- B ( G ) from left to right: the context is R too

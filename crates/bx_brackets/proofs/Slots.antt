@@ -1,5 +1,6 @@
 -- One character of the search, by the slots of the openers and the stack of those that are open.
-use Rattle.std.proofs.Common.{◌≡◌, ◌≢◌, ◌<◌, ◌≤◌, ◌+◌, ◌∙◌, ℕ, zero, suc, List, [], ◌∷◌, ◌++◌, append-nil, length, get_or, set, drop, map, refl, ap, sym, subst, arith, Option, Some, None, Bool, true, false, cond}
+use Rattle.std.proofs.Common.{◌≡◌, ◌≢◌, ◌<◌, ◌≤◌, ◌+◌, ◌∙◌, ℕ, zero, suc, List, [], ◌∷◌, ◌++◌, append-nil, length, get_or, set, drop, map, refl, ap, sym, subst}
+use Rattle.std.proofs.Common.{arith, Option, Some, None, Bool, true, false, cond}
 use Rattle.std.specs.Prelude.{All, find, filter, nat_lt, not, ◌==◌}
 use Rattle.std.proofs.lemmas.Bool.Decides.{nat_tests}
 use Rattle.std.proofs.lemmas.List.{at_drop_more, get_or-set_other, length-map}
@@ -12,7 +13,8 @@ use Rattle.bx_ucd.specs.declared.data.Side.{Side}
 use Rattle.bx_ucd.specs.declared.data.Side.TheVariants.{Opener, Closer}
 use Rattle.bx_brackets.specs.Pairs.{bracket_room, insert_pair, bracket_at, canonical}
 use Rattle.bx_brackets.specs.Resolve.{IsPairWithin}
-use Rattle.bx_brackets.specs.Search.{below_first, is_for, place_of, left_by, ends_search, open_after, is_closed, slot, with_closer, slots_after, is_opener, pairs_from, IsFalling, IsSlotWithin}
+use Rattle.bx_brackets.specs.Search.{below_first, is_for, place_of, left_by, ends_search, open_after, is_closed, slot, with_closer, slots_after, is_opener}
+use Rattle.bx_brackets.specs.Search.{pairs_from, IsFalling, IsSlotWithin}
 use Rattle.bx_brackets.proofs.Stack.{stack_run, stack_turn, rest_by_stack, found_below, falling_later}
 
 -- the openers of the slots rise, from `k` on
@@ -55,7 +57,8 @@ filter_no : (s : ℕ × ℕ) (ss : List (ℕ × ℕ)) → is_closed s ≡ false 
 filter_no s ss e = rw e
 
 -- to write the closer of an opener is to insert the pair
-write_inserts : (k i o j : ℕ) (ss : List (ℕ × ℕ)) → AreRising k ss → i < length ss → (slot ss i).0 ≡ o → (slot ss i).1 ≡ o → o < j → filter is_closed (set ss i (o, j)) ≡ insert_pair (o, j) (filter is_closed ss)
+write_inserts : (k i o j : ℕ) (ss : List (ℕ × ℕ)) → AreRising k ss → i < length ss → (slot ss i).0 ≡ o → (slot ss i).1 ≡ o → o < j
+    → filter is_closed (set ss i (o, j)) ≡ insert_pair (o, j) (filter is_closed ss)
 write_inserts k i o j [] r h a b l = absurd (omega arith)
 write_inserts k zero o j (s ∷ ss) r h a b l =
     let new : is_closed (o, j) ≡ true = grind (arith, nat_tests) in
@@ -65,7 +68,8 @@ write_inserts k zero o j (s ∷ ss) r h a b l =
 write_inserts k (suc i) o j (s ∷ ss) r h a b l =
     let ih : filter is_closed (set ss i (o, j)) ≡ insert_pair (o, j) (filter is_closed ss) = write_inserts (s.0 + 1) i o j ss r.1 (omega arith) a b l in
     let low : s.0 + 1 ≤ (slot ss i).0 = rising_at (s.0 + 1) i ss r.1 (omega arith) in
-    elim (is_closed s) as (λ v. cond v (s ∷ filter is_closed (set ss i (o, j))) (filter is_closed (set ss i (o, j))) ≡ insert_pair (o, j) (cond v (s ∷ filter is_closed ss) (filter is_closed ss))) [
+    elim (is_closed s) as (λ v. cond v (s ∷ filter is_closed (set ss i (o, j))) (filter is_closed (set ss i (o, j)))
+    ≡ insert_pair (o, j) (cond v (s ∷ filter is_closed ss) (filter is_closed ss))) [
       | true ↦ ap (λ ps. s ∷ ps) ih ∙ sym (insert_later (o, j) s (filter is_closed ss) (omega arith))
       | false ↦ ih
     ]
@@ -91,14 +95,18 @@ opt_map f (Some e) = Some (f e)
 
 find_in : (ss : List (ℕ × ℕ)) (c : ℕ) (os : List (ℕ × ℕ)) → find (is_for c) (map (opener_in ss) os) ≡ opt_map (opener_in ss) (find (is_for c) os)
 find_in ss c [] = refl
-find_in ss c (o ∷ os) = elim (o.1 == c) as (λ b. cond b (Some (opener_in ss o)) (find (is_for c) (map (opener_in ss) os)) ≡ opt_map (opener_in ss) (cond b (Some o) (find (is_for c) os))) [ true ↦ refl | false ↦ find_in ss c os ]
+find_in ss c (o ∷ os) = elim (o.1 == c) as (λ b. cond b (Some (opener_in ss o)) (find (is_for c) (map (opener_in ss) os))
+    ≡ opt_map (opener_in ss) (cond b (Some o) (find (is_for c) os))) [ true ↦ refl | false ↦ find_in ss c os ]
 
 below_in : (ss : List (ℕ × ℕ)) (c : ℕ) (os : List (ℕ × ℕ)) → below_first (is_for c) (map (opener_in ss) os) ≡ map (opener_in ss) (below_first (is_for c) os)
 below_in ss c [] = refl
-below_in ss c (o ∷ os) = elim (o.1 == c) as (λ b. elim b as (λ v. List (ℕ × ℕ)) [ true ↦ map (opener_in ss) os | false ↦ below_first (is_for c) (map (opener_in ss) os) ] ≡ map (opener_in ss) (elim b as (λ v. List (ℕ × ℕ)) [ true ↦ os | false ↦ below_first (is_for c) os ])) [ true ↦ refl | false ↦ below_in ss c os ]
+below_in ss c (o ∷ os) = elim (o.1 == c) as
+    (λ b. elim b as (λ v. List (ℕ × ℕ)) [ true ↦ map (opener_in ss) os | false ↦ below_first (is_for c) (map (opener_in ss) os) ]
+    ≡ map (opener_in ss) (elim b as (λ v. List (ℕ × ℕ)) [ true ↦ os | false ↦ below_first (is_for c) os ])) [ true ↦ refl | false ↦ below_in ss c os ]
 
 -- entries below `n` have the same openers where the slots below `n` are the same
-same_openers : (ss rs : List (ℕ × ℕ)) (n : ℕ) (os : List (ℕ × ℕ)) → IsFalling n os → ((k : ℕ) → k < n → slot ss k ≡ slot rs k) → map (opener_in ss) os ≡ map (opener_in rs) os
+same_openers : (ss rs : List (ℕ × ℕ)) (n : ℕ) (os : List (ℕ × ℕ)) → IsFalling n os → ((k : ℕ) → k < n → slot ss k ≡ slot rs k)
+    → map (opener_in ss) os ≡ map (opener_in rs) os
 same_openers ss rs n [] f h = refl
 same_openers ss rs n (o ∷ os) f h =
     let low : o.0 < n = f.0 in
@@ -119,7 +127,8 @@ same_open ss rs n (o ∷ os) f h a =
 
 open_below : (p : ℕ × ℕ → Bool) (ss os : List (ℕ × ℕ)) → AreOpen ss os → AreOpen ss (below_first p os)
 open_below p ss [] a = tt
-open_below p ss (o ∷ os) a = elim (p o) as (λ b. AreOpen ss (elim b as (λ v. List (ℕ × ℕ)) [ true ↦ os | false ↦ below_first p os ])) [ true ↦ a.1 | false ↦ open_below p ss os a.1 ]
+open_below p ss (o ∷ os) a = elim (p o) as (λ b. AreOpen ss (elim b as (λ v. List (ℕ × ℕ)) [ true ↦ os | false ↦ below_first p os ]))
+    [ true ↦ a.1 | false ↦ open_below p ss os a.1 ]
 
 found_open : (p : ℕ × ℕ → Bool) (ss os : List (ℕ × ℕ)) (o : ℕ × ℕ) → AreOpen ss os → find p os ≡ Some o → (slot ss o.0).1 ≡ (slot ss o.0).0
 found_open p ss [] o a e = absurd (cc)
@@ -153,20 +162,25 @@ slots_push : (j : ℕ) (ss : List (ℕ × ℕ)) → All (IsSlotWithin j) ss → 
 slots_push j [] a = All-cons (IsSlotWithin (j + 1)) (j, j) [] (record { ordered = omega arith; ends = omega arith }) (All-nil (IsSlotWithin (j + 1)))
 slots_push j (s ∷ ss) a =
     let w : IsSlotWithin j s = All-head (IsSlotWithin j) s ss a in
-    All-cons (IsSlotWithin (j + 1)) s (ss ++ (j, j) ∷ []) (record { ordered = w.ordered; ends = omega (arith, w.ends) }) (slots_push j ss (All-tail (IsSlotWithin j) s ss a))
+    All-cons (IsSlotWithin (j + 1)) s (ss ++ (j, j) ∷ []) (record { ordered = w.ordered; ends = omega (arith, w.ends) })
+    (slots_push j ss (All-tail (IsSlotWithin j) s ss a))
 
 slots_set : (i j o : ℕ) (ss : List (ℕ × ℕ)) → o < j → All (IsSlotWithin j) ss → All (IsSlotWithin (j + 1)) (set ss i (o, j))
 slots_set i j o [] h a = All-nil (IsSlotWithin (j + 1))
-slots_set zero j o (s ∷ ss) h a = All-cons (IsSlotWithin (j + 1)) (o, j) ss (record { ordered = omega arith; ends = omega arith }) (slots_later j (j + 1) ss (omega arith) (All-tail (IsSlotWithin j) s ss a))
+slots_set zero j o (s ∷ ss) h a = All-cons (IsSlotWithin (j + 1)) (o, j) ss (record { ordered = omega arith; ends = omega arith })
+    (slots_later j (j + 1) ss (omega arith) (All-tail (IsSlotWithin j) s ss a))
 slots_set (suc i) j o (s ∷ ss) h a =
     let w : IsSlotWithin j s = All-head (IsSlotWithin j) s ss a in
-    All-cons (IsSlotWithin (j + 1)) s (set ss i (o, j)) (record { ordered = w.ordered; ends = omega (arith, w.ends) }) (slots_set i j o ss h (All-tail (IsSlotWithin j) s ss a))
+    All-cons (IsSlotWithin (j + 1)) s (set ss i (o, j)) (record { ordered = w.ordered; ends = omega (arith, w.ends) })
+    (slots_set i j o ss h (All-tail (IsSlotWithin j) s ss a))
 
 abbrev pub closed : List (ℕ × ℕ) → List (ℕ × ℕ)
 closed ss = filter is_closed ss
 
 module _ (j c : ℕ) where
-  opener_kept : (m : ℕ) (os ss : List (ℕ × ℕ)) (b : Bool) → IsKept j os ss → IsKept (j + 1) (elim b as (λ v. List (ℕ × ℕ)) [ true ↦ (length ss, canonical m) ∷ os | false ↦ os ]) (elim b as (λ v. List (ℕ × ℕ)) [ true ↦ ss ++ (j, j) ∷ [] | false ↦ ss ])
+  opener_kept : (m : ℕ) (os ss : List (ℕ × ℕ)) (b : Bool) → IsKept j os ss
+      → IsKept (j + 1) (elim b as (λ v. List (ℕ × ℕ)) [ true ↦ (length ss, canonical m) ∷ os | false ↦ os ])
+      (elim b as (λ v. List (ℕ × ℕ)) [ true ↦ ss ++ (j, j) ∷ [] | false ↦ ss ])
   opener_kept m os ss true w =
       let long : length (ss ++ (j, j) ∷ []) ≡ length ss + 1 = length-append ss ((j, j) ∷ []) in
       let here : slot (ss ++ (j, j) ∷ []) (length ss) ≡ (j, j) = get_or-append_seam ss (j, j) [] (0, 0) in
@@ -174,11 +188,15 @@ module _ (j c : ℕ) where
         falling = (omega arith, w.falling);
         rising = rising_push 0 j ss w.rising (omega arith) w.within;
         within = slots_push j ss w.within;
-        opens = (ap (λ (x : ℕ × ℕ). x.1) here ∙ sym (ap (λ (x : ℕ × ℕ). x.0) here), same_open ss (ss ++ (j, j) ∷ []) (length ss) os w.falling (λ k l. get_or-append ss ((j, j) ∷ []) (0, 0) k l) w.opens);
+        opens = (
+          ap (λ (x : ℕ × ℕ). x.1) here ∙ sym (ap (λ (x : ℕ × ℕ). x.0) here),
+          same_open ss (ss ++ (j, j) ∷ []) (length ss) os w.falling (λ k l. get_or-append ss ((j, j) ∷ []) (0, 0) k l) w.opens,
+        );
       }
   opener_kept m os ss false w = record { falling = w.falling; rising = w.rising; within = slots_later j (j + 1) ss (omega arith) w.within; opens = w.opens }
 
-  closer_kept : (os ss : List (ℕ × ℕ)) (b : Option (ℕ × ℕ)) → find (is_for (canonical c)) os ≡ b → IsKept j os ss → IsKept (j + 1) (left_by b (canonical c) os) (with_closer (place_of b) j ss)
+  closer_kept : (os ss : List (ℕ × ℕ)) (b : Option (ℕ × ℕ)) → find (is_for (canonical c)) os ≡ b → IsKept j os ss
+      → IsKept (j + 1) (left_by b (canonical c) os) (with_closer (place_of b) j ss)
   closer_kept os ss None e w = record { falling = w.falling; rising = w.rising; within = slots_later j (j + 1) ss (omega arith) w.within; opens = w.opens }
   closer_kept os ss (Some o) e w =
       let p : ℕ × ℕ → Bool = is_for (canonical c) in
@@ -190,7 +208,8 @@ module _ (j c : ℕ) where
         falling = falling_later o.0 (length (set ss o.0 ((slot ss o.0).0, j))) (below_first p os) (omega arith) f;
         rising = rising_set 0 o.0 j ss w.rising;
         within = slots_set o.0 j (slot ss o.0).0 ss (omega (arith, in_text.ordered, in_text.ends)) w.within;
-        opens = same_open ss (set ss o.0 ((slot ss o.0).0, j)) o.0 (below_first p os) f (λ k l. let ne : k ≢ o.0 = omega arith in get_or-set_other ss o.0 k ((slot ss o.0).0, j) (0, 0) ne) (open_below p ss os w.opens);
+        opens = same_open ss (set ss o.0 ((slot ss o.0).0, j)) o.0 (below_first p os) f
+            (λ k l. let ne : k ≢ o.0 = omega arith in get_or-set_other ss o.0 k ((slot ss o.0).0, j) (0, 0) ne) (open_below p ss os w.opens);
       }
 
   pub turn_kept : (b : Option (Side × ℕ)) (os ss : List (ℕ × ℕ)) → IsKept j os ss → IsKept (j + 1) (open_after (length ss) c b os) (slots_after j c b os ss)
@@ -208,33 +227,48 @@ not_true false e = refl
 
 -- one turn of the search by a stack, where it goes on and where it ends
 module _ (k : List (ℕ × ℕ) → List (ℕ × ℕ) → List (ℕ × ℕ)) (j c : ℕ) where
-  turn_of : (m : ℕ) (st ps : List (ℕ × ℕ)) (b : Bool) → nat_lt (length st) bracket_room ≡ b → stack_turn k st ps j c (Some (Opener, m)) ≡ elim b [ true ↦ k ((j, canonical m) ∷ st) ps | false ↦ ps ]
+  turn_of : (m : ℕ) (st ps : List (ℕ × ℕ)) (b : Bool) → nat_lt (length st) bracket_room ≡ b
+      → stack_turn k st ps j c (Some (Opener, m)) ≡ elim b [ true ↦ k ((j, canonical m) ∷ st) ps | false ↦ ps ]
   turn_of m st ps true e = rw (e, stack_turn)
   turn_of m st ps false e = rw (e, stack_turn)
 
-  closer_turn_of : (m : ℕ) (st ps : List (ℕ × ℕ)) (b : Option (ℕ × ℕ)) → find (is_for (canonical c)) st ≡ b → stack_turn k st ps j c (Some (Closer, m)) ≡ elim b [ None ↦ k st ps | Some o ↦ k (below_first (is_for (canonical c)) st) (insert_pair (o.0, j) ps) ]
+  closer_turn_of : (m : ℕ) (st ps : List (ℕ × ℕ)) (b : Option (ℕ × ℕ)) → find (is_for (canonical c)) st ≡ b
+      → stack_turn k st ps j c (Some (Closer, m)) ≡ elim b [ None ↦ k st ps | Some o ↦ k (below_first (is_for (canonical c)) st) (insert_pair (o.0, j) ps) ]
   closer_turn_of m st ps None e = rw (e, stack_turn)
   closer_turn_of m st ps (Some o) e = rw (e, stack_turn)
 
   few : (ss os : List (ℕ × ℕ)) (b : Bool) → nat_lt (length os) bracket_room ≡ b → nat_lt (length (map (opener_in ss) os)) bracket_room ≡ b
   few ss os b e = ap (λ n. nat_lt n bracket_room) (length-map os (opener_in ss)) ∙ e
 
-  pushed : (m : ℕ) (os ss : List (ℕ × ℕ)) → IsKept j os ss → ((j, canonical m) ∷ map (opener_in ss) os ≡ map (opener_in (ss ++ (j, j) ∷ [])) ((length ss, canonical m) ∷ os)) × (closed ss ≡ closed (ss ++ (j, j) ∷ []))
+  pushed : (m : ℕ) (os ss : List (ℕ × ℕ)) → IsKept j os ss
+      → ((j, canonical m) ∷ map (opener_in ss) os ≡ map (opener_in (ss ++ (j, j) ∷ [])) ((length ss, canonical m) ∷ os))
+      × (closed ss ≡ closed (ss ++ (j, j) ∷ []))
   pushed m os ss w =
       let here : (j, j) ≡ slot (ss ++ (j, j) ∷ []) (length ss) = sym (get_or-append_seam ss (j, j) [] (0, 0)) in
       let first : (j, canonical m) ≡ opener_in (ss ++ (j, j) ∷ []) (length ss, canonical m) = ap (λ (x : ℕ × ℕ). (x.0, canonical m)) here in
-      let rest : map (opener_in ss) os ≡ map (opener_in (ss ++ (j, j) ∷ [])) os = same_openers ss (ss ++ (j, j) ∷ []) (length ss) os w.falling (λ i l. sym (get_or-append ss ((j, j) ∷ []) (0, 0) i l)) in
+      let rest : map (opener_in ss) os ≡ map (opener_in (ss ++ (j, j) ∷ [])) os =
+      same_openers ss (ss ++ (j, j) ∷ []) (length ss) os w.falling (λ i l. sym (get_or-append ss ((j, j) ∷ []) (0, 0) i l)) in
       let no : is_closed (j, j) ≡ false = grind (arith, nat_tests) in
-      let none : closed ((j, j) ∷ []) ≡ [] = filter_no (j, j) [] no in
-      (ap (λ x. x ∷ map (opener_in ss) os) first ∙ ap (λ xs. opener_in (ss ++ (j, j) ∷ []) (length ss, canonical m) ∷ xs) rest, sym (filter-append is_closed ss ((j, j) ∷ []) ∙ ap (λ xs. closed ss ++ xs) none ∙ append-nil (closed ss)))
+      let none : closed ((j, j) ∷ []) ≡ [] = filter_no (j, j) [] no in (
+        ap (λ x. x ∷ map (opener_in ss) os) first ∙ ap (λ xs. opener_in (ss ++ (j, j) ∷ []) (length ss, canonical m) ∷ xs) rest,
+        sym (filter-append is_closed ss ((j, j) ∷ []) ∙ ap (λ xs. closed ss ++ xs) none ∙ append-nil (closed ss)),
+      )
 
-  opener_goes : (m : ℕ) (os ss : List (ℕ × ℕ)) (b : Bool) → nat_lt (length os) bracket_room ≡ b → b ≡ true → IsKept j os ss → stack_turn k (map (opener_in ss) os) (closed ss) j c (Some (Opener, m)) ≡ k (map (opener_in (elim b as (λ v. List (ℕ × ℕ)) [ true ↦ ss ++ (j, j) ∷ [] | false ↦ ss ])) (elim b as (λ v. List (ℕ × ℕ)) [ true ↦ (length ss, canonical m) ∷ os | false ↦ os ])) (closed (elim b as (λ v. List (ℕ × ℕ)) [ true ↦ ss ++ (j, j) ∷ [] | false ↦ ss ]))
+  opener_goes : (m : ℕ) (os ss : List (ℕ × ℕ)) (b : Bool) → nat_lt (length os) bracket_room ≡ b → b ≡ true → IsKept j os ss
+      → stack_turn k (map (opener_in ss) os) (closed ss) j c (Some (Opener, m))
+      ≡ k (map (opener_in (elim b as (λ v. List (ℕ × ℕ)) [ true ↦ ss ++ (j, j) ∷ [] | false ↦ ss ]))
+      (elim b as (λ v. List (ℕ × ℕ)) [ true ↦ (length ss, canonical m) ∷ os | false ↦ os ]))
+      (closed (elim b as (λ v. List (ℕ × ℕ)) [ true ↦ ss ++ (j, j) ∷ [] | false ↦ ss ]))
   opener_goes m os ss true e t w =
-      let p : ((j, canonical m) ∷ map (opener_in ss) os ≡ map (opener_in (ss ++ (j, j) ∷ [])) ((length ss, canonical m) ∷ os)) × (closed ss ≡ closed (ss ++ (j, j) ∷ [])) = pushed m os ss w in
-      turn_of m (map (opener_in ss) os) (closed ss) true (few ss os true e) ∙ ap (λ st. k st (closed ss)) p.0 ∙ ap (k (map (opener_in (ss ++ (j, j) ∷ [])) ((length ss, canonical m) ∷ os))) p.1
+      let p : ((j, canonical m) ∷ map (opener_in ss) os ≡ map (opener_in (ss ++ (j, j) ∷ [])) ((length ss, canonical m) ∷ os))
+      × (closed ss ≡ closed (ss ++ (j, j) ∷ [])) = pushed m os ss w in
+      turn_of m (map (opener_in ss) os) (closed ss) true (few ss os true e) ∙ ap (λ st. k st (closed ss)) p.0
+      ∙ ap (k (map (opener_in (ss ++ (j, j) ∷ [])) ((length ss, canonical m) ∷ os))) p.1
   opener_goes m os ss false e t w = absurd (cc)
 
-  closer_goes : (m : ℕ) (os ss : List (ℕ × ℕ)) (b : Option (ℕ × ℕ)) → find (is_for (canonical c)) os ≡ b → IsKept j os ss → stack_turn k (map (opener_in ss) os) (closed ss) j c (Some (Closer, m)) ≡ k (map (opener_in (with_closer (place_of b) j ss)) (left_by b (canonical c) os)) (closed (with_closer (place_of b) j ss))
+  closer_goes : (m : ℕ) (os ss : List (ℕ × ℕ)) (b : Option (ℕ × ℕ)) → find (is_for (canonical c)) os ≡ b → IsKept j os ss
+      → stack_turn k (map (opener_in ss) os) (closed ss) j c (Some (Closer, m))
+      ≡ k (map (opener_in (with_closer (place_of b) j ss)) (left_by b (canonical c) os)) (closed (with_closer (place_of b) j ss))
   closer_goes m os ss None e w = closer_turn_of m (map (opener_in ss) os) (closed ss) None (find_in ss (canonical c) os ∙ ap (opt_map (opener_in ss)) e)
   closer_goes m os ss (Some o) e w =
       let p : ℕ × ℕ → Bool = is_for (canonical c) in
@@ -242,27 +276,40 @@ module _ (k : List (ℕ × ℕ) → List (ℕ × ℕ) → List (ℕ × ℕ)) (j 
       let low : o.0 < length ss = found_below p (length ss) os o w.falling e in
       let f : IsFalling o.0 (below_first p os) = falling_below p (length ss) os o w.falling e in
       let in_text : IsSlotWithin j (slot ss o.0) = w.within o.0 (0, 0) low in
-      let written : closed rs ≡ insert_pair ((slot ss o.0).0, j) (closed ss) = write_inserts 0 o.0 (slot ss o.0).0 j ss w.rising low refl (found_open p ss os o w.opens e) (omega (arith, in_text.ordered, in_text.ends)) in
-      let left : below_first p (map (opener_in ss) os) ≡ map (opener_in rs) (below_first p os) = below_in ss (canonical c) os ∙ same_openers ss rs o.0 (below_first p os) f (λ i l. let ne : i ≢ o.0 = omega arith in sym (get_or-set_other ss o.0 i ((slot ss o.0).0, j) (0, 0) ne)) in
-      closer_turn_of m (map (opener_in ss) os) (closed ss) (Some (opener_in ss o)) (find_in ss (canonical c) os ∙ ap (opt_map (opener_in ss)) e) ∙ ap (λ st. k st (insert_pair ((slot ss o.0).0, j) (closed ss))) left ∙ ap (k (map (opener_in rs) (below_first p os))) (sym written)
+      let written : closed rs ≡ insert_pair ((slot ss o.0).0, j) (closed ss) =
+      write_inserts 0 o.0 (slot ss o.0).0 j ss w.rising low refl (found_open p ss os o w.opens e) (omega (arith, in_text.ordered, in_text.ends)) in
+      let left : below_first p (map (opener_in ss) os) ≡ map (opener_in rs) (below_first p os) = below_in ss (canonical c) os
+      ∙ same_openers ss rs o.0 (below_first p os) f
+      (λ i l. let ne : i ≢ o.0 = omega arith in sym (get_or-set_other ss o.0 i ((slot ss o.0).0, j) (0, 0) ne)) in
+      closer_turn_of m (map (opener_in ss) os) (closed ss) (Some (opener_in ss o)) (find_in ss (canonical c) os ∙ ap (opt_map (opener_in ss)) e)
+      ∙ ap (λ st. k st (insert_pair ((slot ss o.0).0, j) (closed ss))) left ∙ ap (k (map (opener_in rs) (below_first p os))) (sym written)
 
-  pub goes_on : (b : Option (Side × ℕ)) (os ss : List (ℕ × ℕ)) → IsKept j os ss → ends_search b os ≡ false → stack_turn k (map (opener_in ss) os) (closed ss) j c b ≡ k (map (opener_in (slots_after j c b os ss)) (open_after (length ss) c b os)) (closed (slots_after j c b os ss))
+  pub goes_on : (b : Option (Side × ℕ)) (os ss : List (ℕ × ℕ)) → IsKept j os ss → ends_search b os ≡ false
+      → stack_turn k (map (opener_in ss) os) (closed ss) j c b
+      ≡ k (map (opener_in (slots_after j c b os ss)) (open_after (length ss) c b os)) (closed (slots_after j c b os ss))
   goes_on None os ss w e = refl
   goes_on (Some (Opener, m)) os ss w e = opener_goes m os ss (nat_lt (length os) bracket_room) refl (not_false (nat_lt (length os) bracket_room) e) w
   goes_on (Some (Closer, m)) os ss w e = closer_goes m os ss (find (is_for (canonical c)) os) refl w
 
-  opener_ends : (m : ℕ) (os ss : List (ℕ × ℕ)) (b : Bool) → nat_lt (length os) bracket_room ≡ b → b ≡ false → stack_turn k (map (opener_in ss) os) (closed ss) j c (Some (Opener, m)) ≡ closed (elim b as (λ v. List (ℕ × ℕ)) [ true ↦ ss ++ (j, j) ∷ [] | false ↦ ss ])
+  opener_ends : (m : ℕ) (os ss : List (ℕ × ℕ)) (b : Bool) → nat_lt (length os) bracket_room ≡ b → b ≡ false
+      → stack_turn k (map (opener_in ss) os) (closed ss) j c (Some (Opener, m))
+      ≡ closed (elim b as (λ v. List (ℕ × ℕ)) [ true ↦ ss ++ (j, j) ∷ [] | false ↦ ss ])
   opener_ends m os ss true e t = absurd (cc)
   opener_ends m os ss false e t = turn_of m (map (opener_in ss) os) (closed ss) false (few ss os false e)
 
-  pub ends : (b : Option (Side × ℕ)) (os ss : List (ℕ × ℕ)) → ends_search b os ≡ true → stack_turn k (map (opener_in ss) os) (closed ss) j c b ≡ closed (slots_after j c b os ss)
+  pub ends : (b : Option (Side × ℕ)) (os ss : List (ℕ × ℕ)) → ends_search b os ≡ true
+      → stack_turn k (map (opener_in ss) os) (closed ss) j c b ≡ closed (slots_after j c b os ss)
   ends None os ss e = absurd (cc)
   ends (Some (Opener, m)) os ss e = opener_ends m os ss (nat_lt (length os) bracket_room) refl (not_true (nat_lt (length os) bracket_room) e)
   ends (Some (Closer, m)) os ss e = absurd (cc)
 
 -- one character of the sequence
-pub run_turn : (bracket : ℕ → Option (Side × ℕ)) (cs : List ℕ) (ts : List Class) (i d : ℕ) → i < length cs → i < length ts → (st ps : List (ℕ × ℕ)) → stack_run bracket st ps i (drop i cs) (drop i ts) ≡ stack_turn (λ a b. stack_run bracket a b (i + 1) (drop (i + 1) cs) (drop (i + 1) ts)) st ps i (get_or cs i d) (bracket_at bracket (get_or cs i d) (get_or ts i L))
-run_turn bracket cs ts i d h k st ps = at_drop_more (λ xs. stack_run bracket st ps i xs (drop i ts)) cs i d h ∙ at_drop_more (λ ys. stack_run bracket st ps i (get_or cs i d ∷ drop (i + 1) cs) ys) ts i L k
+pub run_turn : (bracket : ℕ → Option (Side × ℕ)) (cs : List ℕ) (ts : List Class) (i d : ℕ) → i < length cs → i < length ts → (st ps : List (ℕ × ℕ))
+    → stack_run bracket st ps i (drop i cs) (drop i ts)
+    ≡ stack_turn (λ a b. stack_run bracket a b (i + 1) (drop (i + 1) cs) (drop (i + 1) ts)) st ps i (get_or cs i d)
+    (bracket_at bracket (get_or cs i d) (get_or ts i L))
+run_turn bracket cs ts i d h k st ps = at_drop_more (λ xs. stack_run bracket st ps i xs (drop i ts)) cs i d h
+    ∙ at_drop_more (λ ys. stack_run bracket st ps i (get_or cs i d ∷ drop (i + 1) cs) ys) ts i L k
 
 -- the slots that have a closer are pairs
 pub closed_within : (n : ℕ) (ss : List (ℕ × ℕ)) → All (IsSlotWithin n) ss → All (IsPairWithin n) (closed ss)
@@ -281,5 +328,9 @@ closed_turn k j c None e = refl
 closed_turn k j c (Some (Opener, m)) e = absurd (cc)
 closed_turn k j c (Some (Closer, m)) e = refl
 
-pub skip_more : (bracket : ℕ → Option (Side × ℕ)) (cs : List ℕ) (ts : List Class) (i d : ℕ) → i < length cs → i < length ts → is_opener (bracket_at bracket (get_or cs i d) (get_or ts i L)) ≡ false → pairs_from bracket i (drop i cs) (drop i ts) ≡ pairs_from bracket (i + 1) (drop (i + 1) cs) (drop (i + 1) ts)
-skip_more bracket cs ts i d h l e = rest_by_stack bracket i (drop i cs) (drop i ts) ∙ run_turn bracket cs ts i d h l [] [] ∙ closed_turn (λ a b. stack_run bracket a b (i + 1) (drop (i + 1) cs) (drop (i + 1) ts)) i (get_or cs i d) (bracket_at bracket (get_or cs i d) (get_or ts i L)) e ∙ sym (rest_by_stack bracket (i + 1) (drop (i + 1) cs) (drop (i + 1) ts))
+pub skip_more : (bracket : ℕ → Option (Side × ℕ)) (cs : List ℕ) (ts : List Class) (i d : ℕ) → i < length cs → i < length ts
+    → is_opener (bracket_at bracket (get_or cs i d) (get_or ts i L)) ≡ false
+    → pairs_from bracket i (drop i cs) (drop i ts) ≡ pairs_from bracket (i + 1) (drop (i + 1) cs) (drop (i + 1) ts)
+skip_more bracket cs ts i d h l e = rest_by_stack bracket i (drop i cs) (drop i ts) ∙ run_turn bracket cs ts i d h l [] []
+    ∙ closed_turn (λ a b. stack_run bracket a b (i + 1) (drop (i + 1) cs) (drop (i + 1) ts)) i (get_or cs i d)
+    (bracket_at bracket (get_or cs i d) (get_or ts i L)) e ∙ sym (rest_by_stack bracket (i + 1) (drop (i + 1) cs) (drop (i + 1) ts))

@@ -4,7 +4,8 @@ use Rattle.std.proofs.lemmas.Bool.Decides.{nat_tests}
 use Rattle.std.specs.Prelude.{filter, find, not, nat_le, nat_lt, ◌&&◌, ◌==◌, ◌||◌}
 use Rattle.std.specs.List.{list_any}
 use Rattle.bx_brackets.specs.Search.{below_first, is_for, IsFalling, pairs_from}
-use Rattle.bx_brackets.specs.Pairs.{bracket_room, Search, insert_pair, is_open, open_openers, meet, meet_opener, meet_closer, canonical, bracket_at, search_from}
+use Rattle.bx_brackets.specs.Pairs.{bracket_room, Search, insert_pair, is_open, open_openers, meet, meet_opener, meet_closer, canonical, bracket_at}
+use Rattle.bx_brackets.specs.Pairs.{search_from}
 use Rattle.bx_ucd.specs.declared.class.Class.{Class}
 use Rattle.bx_ucd.specs.declared.data.Side.{Side}
 use Rattle.bx_ucd.specs.declared.data.Side.TheVariants.{Opener, Closer}
@@ -21,19 +22,23 @@ pub falling_later : (i j : ℕ) (os : List Place) → i ≤ j → IsFalling i os
 falling_later i j [] h f = tt
 falling_later i j (o ∷ os) h f = (omega (arith, f.0), f.1)
 
-filter_step : (f : Place → Bool) (o : Place) (os : List Place) (b : Bool) → f o ≡ b → filter f (o ∷ os) ≡ elim b [ true ↦ o ∷ filter f os | false ↦ filter f os ]
+filter_step : (f : Place → Bool) (o : Place) (os : List Place) (b : Bool) → f o ≡ b
+    → filter f (o ∷ os) ≡ elim b [ true ↦ o ∷ filter f os | false ↦ filter f os ]
 filter_step f o os true e = rw e
 filter_step f o os false e = rw e
 
 pub falling_filter : (f : Place → Bool) (j : ℕ) (os : List Place) → IsFalling j os → IsFalling j (filter f os)
 falling_filter f j [] h = tt
-falling_filter f j (o ∷ os) h = let a : IsFalling o.0 (filter f os) = falling_filter f o.0 os h.1 in let lt : o.0 < j = h.0 in elim (f o) as (λ b. IsFalling j (cond b (o ∷ filter f os) (filter f os))) [ true ↦ (lt, a) | false ↦ falling_later o.0 j (filter f os) (omega arith) a ]
+falling_filter f j (o ∷ os) h = let a : IsFalling o.0 (filter f os) = falling_filter f o.0 os h.1 in let lt : o.0 < j =
+    h.0 in elim (f o) as (λ b. IsFalling j (cond b (o ∷ filter f os) (filter f os)))
+    [ true ↦ (lt, a) | false ↦ falling_later o.0 j (filter f os) (omega arith) a ]
 
 -- a filter of a filter
 filter_both : (f g : Place → Bool) (os : List Place) → filter (λ x. f x && g x) os ≡ filter g (filter f os)
 filter_both f g [] = refl
 filter_both f g (o ∷ os) = let ih : filter (λ x. f x && g x) os ≡ filter g (filter f os) = filter_both f g os in
-    elim (f o) as (λ b. cond (b && g o) (o ∷ filter (λ x. f x && g x) os) (filter (λ x. f x && g x) os) ≡ filter g (cond b (o ∷ filter f os) (filter f os))) [ true ↦ ap (λ r. cond (g o) (o ∷ r) r) ih | false ↦ ih ]
+    elim (f o) as (λ b. cond (b && g o) (o ∷ filter (λ x. f x && g x) os) (filter (λ x. f x && g x) os) ≡ filter g (cond b (o ∷ filter f os) (filter f os)))
+    [ true ↦ ap (λ r. cond (g o) (o ∷ r) r) ih | false ↦ ih ]
 
 filter_same : (f g : Place → Bool) → ((x : Place) → f x ≡ g x) → (os : List Place) → filter f os ≡ filter g os
 filter_same f g h [] = refl
@@ -64,14 +69,17 @@ or_turn false b = sym (or_false b)
 -- an insertion changes the order alone
 any_insert : (f : Place → Bool) (p : Place) (ps : List Place) → list_any f (insert_pair p ps) ≡ (f p || list_any f ps)
 any_insert f p [] = refl
-any_insert f p (q ∷ qs) = elim (nat_lt p.0 q.0) as (λ b. list_any f (elim b as (λ x. List Place) [ true ↦ p ∷ q ∷ qs | false ↦ q ∷ insert_pair p qs ]) ≡ (f p || (f q || list_any f qs))) [
-  | true ↦ refl
-  | false ↦ ap (λ b. f q || b) (any_insert f p qs) ∙ or_swap (f q) (f p) (list_any f qs)
-]
+any_insert f p (q ∷ qs) = elim (nat_lt p.0 q.0) as
+    (λ b. list_any f (elim b as (λ x. List Place) [ true ↦ p ∷ q ∷ qs | false ↦ q ∷ insert_pair p qs ]) ≡ (f p || (f q || list_any f qs))) [
+      | true ↦ refl
+      | false ↦ ap (λ b. f q || b) (any_insert f p qs) ∙ or_swap (f q) (f p) (list_any f qs)
+    ]
 
 -- one pair more
 open_more : (ps : List Place) (p x : Place) → is_open (insert_pair p ps) x ≡ (is_open ps x && not (nat_le p.0 x.0 && nat_lt x.0 p.1))
-open_more ps p x = ap not (any_insert (λ q. nat_le q.0 x.0 && nat_lt x.0 q.1) p ps ∙ or_turn (nat_le p.0 x.0 && nat_lt x.0 p.1) (list_any (λ q. nat_le q.0 x.0 && nat_lt x.0 q.1) ps)) ∙ not_or (list_any (λ q. nat_le q.0 x.0 && nat_lt x.0 q.1) ps) (nat_le p.0 x.0 && nat_lt x.0 p.1)
+open_more ps p x = ap not (any_insert (λ q. nat_le q.0 x.0 && nat_lt x.0 q.1) p ps
+    ∙ or_turn (nat_le p.0 x.0 && nat_lt x.0 p.1) (list_any (λ q. nat_le q.0 x.0 && nat_lt x.0 q.1) ps))
+    ∙ not_or (list_any (λ q. nat_le q.0 x.0 && nat_lt x.0 q.1) ps) (nat_le p.0 x.0 && nat_lt x.0 p.1)
 
 -- not from `a` on
 abbrev is_outside : ℕ → ℕ → Place → Bool
@@ -85,7 +93,8 @@ outside_from a j x h k = let e : nat_le a x.0 ≡ true = grind (arith, nat_tests
 
 filter_all_below : (a j : ℕ) (os : List Place) → IsFalling a os → filter (is_outside a j) os ≡ os
 filter_all_below a j [] h = refl
-filter_all_below a j (o ∷ os) h = let lt : o.0 < a = h.0 in filter_step (is_outside a j) o os true (outside_below a j o lt) ∙ ap (λ r. o ∷ r) (filter_all_below a j os (falling_later o.0 a os (omega arith) h.1))
+filter_all_below a j (o ∷ os) h = let lt : o.0 < a = h.0 in filter_step (is_outside a j) o os true (outside_below a j o lt)
+    ∙ ap (λ r. o ∷ r) (filter_all_below a j os (falling_later o.0 a os (omega arith) h.1))
 
 pub found_below : (p : Place → Bool) (j : ℕ) (os : List Place) (o : Place) → IsFalling j os → find p os ≡ Some o → o.0 < j
 found_below p j [] o h e = absurd (cc)
@@ -105,25 +114,34 @@ through p j (x ∷ xs) o h e =
     let later : IsFalling j xs = falling_later x.0 j xs (omega arith) h.1 in
     let ih : find p xs ≡ Some o → filter (is_outside o.0 j) xs ≡ below_first p xs = through p j xs o later in
     let fb : find p xs ≡ Some o → o.0 < x.0 = found_below p x.0 xs o h.1 in
-    (elim (p x) as (λ b. cond b (Some x) (find p xs) ≡ Some o → filter (is_outside o.0 j) (x ∷ xs) ≡ elim b as (λ v. List Place) [ true ↦ xs | false ↦ below_first p xs ]) [
-      | true ↦ λ k. let q : x ≡ o = cc in let n : x.0 ≡ o.0 = ap (λ (y : Place). y.0) q in filter_step (is_outside o.0 j) x xs false (outside_from o.0 j x (omega arith) lt) ∙ filter_all_below o.0 j xs (falling_later x.0 o.0 xs (omega arith) h.1)
+    (elim (p x) as (λ b. cond b (Some x) (find p xs) ≡ Some o
+    → filter (is_outside o.0 j) (x ∷ xs) ≡ elim b as (λ v. List Place) [ true ↦ xs | false ↦ below_first p xs ]) [
+      | true ↦ λ k. let q : x ≡ o = cc in let n : x.0 ≡ o.0 =
+          ap (λ (y : Place). y.0) q in filter_step (is_outside o.0 j) x xs false (outside_from o.0 j x (omega arith) lt)
+          ∙ filter_all_below o.0 j xs (falling_later x.0 o.0 xs (omega arith) h.1)
       | false ↦ λ k. let z : o.0 < x.0 = fb k in filter_step (is_outside o.0 j) x xs false (outside_from o.0 j x (omega arith) lt) ∙ ih k
     ]) e
 
 -- an opener is open while no pair reaches it
 open_new : (ps : List Place) (j c : ℕ) → EndsBelow j ps → is_open ps (j, c) ≡ true
 open_new [] j c h = refl
-open_new (p ∷ ps) j c h = let lt : p.1 < j = h.0 in let e : nat_lt j p.1 ≡ false = grind (arith, nat_tests) in let z : (nat_le p.0 j && nat_lt j p.1) ≡ false = rw e (and_false (nat_le p.0 j)) in rw z (open_new ps j c h.1)
+open_new (p ∷ ps) j c h = let lt : p.1 < j = h.0 in let e : nat_lt j p.1 ≡ false = grind (arith, nat_tests) in let z : (nat_le p.0 j && nat_lt j p.1) ≡ false =
+    rw e (and_false (nat_le p.0 j)) in rw z (open_new ps j c h.1)
 
 -- what stands open after a closer at `j` that meets `o`
-pub open_after_pair : (s : Search) (j c : ℕ) (o : Place) → IsFalling j s.openers → find (λ (x : Place). x.1 == canonical c) (open_openers s) ≡ Some o → open_openers (meet_closer s j c) ≡ below_first (λ x. x.1 == canonical c) (open_openers s)
-open_after_pair s j c o h e = rw (e, meet_closer) (filter_same (is_open (insert_pair (o.0, j) s.pairs)) (λ x. is_open s.pairs x && is_outside o.0 j x) (open_more s.pairs (o.0, j)) s.openers ∙ filter_both (is_open s.pairs) (is_outside o.0 j) s.openers ∙ through (λ x. x.1 == canonical c) j (open_openers s) o (falling_filter (is_open s.pairs) j s.openers h) e)
+pub open_after_pair : (s : Search) (j c : ℕ) (o : Place) → IsFalling j s.openers → find (λ (x : Place). x.1 == canonical c) (open_openers s) ≡ Some o
+    → open_openers (meet_closer s j c) ≡ below_first (λ x. x.1 == canonical c) (open_openers s)
+open_after_pair s j c o h e = rw (e, meet_closer)
+    (filter_same (is_open (insert_pair (o.0, j) s.pairs)) (λ x. is_open s.pairs x && is_outside o.0 j x) (open_more s.pairs (o.0, j)) s.openers
+    ∙ filter_both (is_open s.pairs) (is_outside o.0 j) s.openers
+    ∙ through (λ x. x.1 == canonical c) j (open_openers s) o (falling_filter (is_open s.pairs) j s.openers h) e)
 
 -- the search by a stack: a turn, and then the rest
 abbrev pub stack_turn : (List Place → List Place → List Place) → List Place → List Place → ℕ → ℕ → Option (Side × ℕ) → List Place
 stack_turn k st ps j c None = k st ps
 stack_turn k st ps j c (Some (Opener, m)) = elim (nat_lt (length st) bracket_room) [ true ↦ k ((j, canonical m) ∷ st) ps | false ↦ ps ]
-stack_turn k st ps j c (Some (Closer, m)) = elim (find (is_for (canonical c)) st) [ None ↦ k st ps | Some o ↦ k (below_first (is_for (canonical c)) st) (insert_pair (o.0, j) ps) ]
+stack_turn k st ps j c (Some (Closer, m)) = elim (find (is_for (canonical c)) st)
+    [ None ↦ k st ps | Some o ↦ k (below_first (is_for (canonical c)) st) (insert_pair (o.0, j) ps) ]
 
 abbrev pub stack_run : (ℕ → Option (Side × ℕ)) → List Place → List Place → ℕ → List ℕ → List Class → List Place
 stack_run bracket st ps j [] ts = ps
@@ -141,50 +159,70 @@ ends_push j (q ∷ ps) p e h = elim (nat_lt p.0 q.0) as (λ b. EndsBelow j (elim
   | false ↦ (e.0, ends_push j ps p e.1 h)
 ]
 
-search_over : (bracket : ℕ → Option (Side × ℕ)) (s : Search) (j : ℕ) (cs : List ℕ) (ts : List Class) → s.is_over ≡ true → (search_from bracket s j cs ts).pairs ≡ s.pairs
+search_over : (bracket : ℕ → Option (Side × ℕ)) (s : Search) (j : ℕ) (cs : List ℕ) (ts : List Class) → s.is_over ≡ true
+    → (search_from bracket s j cs ts).pairs ≡ s.pairs
 search_over bracket s j [] ts e = refl
 search_over bracket s j (c ∷ cs) [] e = refl
 search_over bracket s j (c ∷ cs) (t ∷ ts) e = rw (e, search_from)
 
 -- what the search and the stack make of the rest are one
 abbrev Agrees : (ℕ → Option (Side × ℕ)) → ℕ → List ℕ → List Class → Type 0
-Agrees bracket j cs ts = (s : Search) → s.is_over ≡ false → IsFalling j s.openers → EndsBelow j s.pairs → (search_from bracket s j cs ts).pairs ≡ stack_run bracket (open_openers s) s.pairs j cs ts
+Agrees bracket j cs ts = (s : Search) → s.is_over ≡ false → IsFalling j s.openers → EndsBelow j s.pairs
+    → (search_from bracket s j cs ts).pairs ≡ stack_run bracket (open_openers s) s.pairs j cs ts
 
-module _ (bracket : ℕ → Option (Side × ℕ)) (j : ℕ) (cs : List ℕ) (ts : List Class) (c : ℕ) (ih : Agrees bracket (j + 1) cs ts) (s : Search) (o : s.is_over ≡ false) (f : IsFalling j s.openers) (e : EndsBelow j s.pairs) where
-  opener_agrees : (m : ℕ) (b : Bool) → nat_lt (length (open_openers s)) bracket_room ≡ b → (search_from bracket (meet_opener s j m) (j + 1) cs ts).pairs ≡ stack_turn (λ x y. stack_run bracket x y (j + 1) cs ts) (open_openers s) s.pairs j c (Some (Opener, m))
+module _ (bracket : ℕ → Option (Side × ℕ)) (j : ℕ) (cs : List ℕ) (ts : List Class) (c : ℕ) (ih : Agrees bracket (j + 1) cs ts) (s : Search)
+    (o : s.is_over ≡ false) (f : IsFalling j s.openers) (e : EndsBelow j s.pairs) where
+  opener_agrees : (m : ℕ) (b : Bool) → nat_lt (length (open_openers s)) bracket_room ≡ b
+      → (search_from bracket (meet_opener s j m) (j + 1) cs ts).pairs
+      ≡ stack_turn (λ x y. stack_run bracket x y (j + 1) cs ts) (open_openers s) s.pairs j c (Some (Opener, m))
   opener_agrees m true q =
       let u : Search = record s { openers = (j, canonical m) ∷ s.openers } in
       let m1 : meet_opener s j m ≡ u = rw (q, meet_opener) in
-      let t1 : stack_turn (λ x y. stack_run bracket x y (j + 1) cs ts) (open_openers s) s.pairs j c (Some (Opener, m)) ≡ stack_run bracket ((j, canonical m) ∷ open_openers s) s.pairs (j + 1) cs ts = rw (q, stack_turn) in
-      let n1 : open_openers u ≡ (j, canonical m) ∷ open_openers s = filter_step (is_open s.pairs) (j, canonical m) s.openers true (open_new s.pairs j (canonical m) e) in
-      ap (λ (v : Search). (search_from bracket v (j + 1) cs ts).pairs) m1 ∙ ih u o (omega arith, f) (ends_later j (j + 1) s.pairs (omega arith) e) ∙ ap (λ st. stack_run bracket st s.pairs (j + 1) cs ts) n1 ∙ sym t1
+      let t1 : stack_turn (λ x y. stack_run bracket x y (j + 1) cs ts) (open_openers s) s.pairs j c (Some (Opener, m))
+      ≡ stack_run bracket ((j, canonical m) ∷ open_openers s) s.pairs (j + 1) cs ts = rw (q, stack_turn) in
+      let n1 : open_openers u ≡ (j, canonical m) ∷ open_openers s =
+      filter_step (is_open s.pairs) (j, canonical m) s.openers true (open_new s.pairs j (canonical m) e) in
+      ap (λ (v : Search). (search_from bracket v (j + 1) cs ts).pairs) m1 ∙ ih u o (omega arith, f) (ends_later j (j + 1) s.pairs (omega arith) e)
+      ∙ ap (λ st. stack_run bracket st s.pairs (j + 1) cs ts) n1 ∙ sym t1
   opener_agrees m false q =
       let u : Search = record s { is_over = true } in
       let m1 : meet_opener s j m ≡ u = rw (q, meet_opener) in
       let t1 : stack_turn (λ x y. stack_run bracket x y (j + 1) cs ts) (open_openers s) s.pairs j c (Some (Opener, m)) ≡ s.pairs = rw (q, stack_turn) in
       ap (λ (v : Search). (search_from bracket v (j + 1) cs ts).pairs) m1 ∙ search_over bracket u (j + 1) cs ts refl ∙ sym t1
 
-  closer_agrees : (m : ℕ) (b : Option Place) → find (λ (x : Place). x.1 == canonical c) (open_openers s) ≡ b → (search_from bracket (meet_closer s j c) (j + 1) cs ts).pairs ≡ stack_turn (λ x y. stack_run bracket x y (j + 1) cs ts) (open_openers s) s.pairs j c (Some (Closer, m))
+  closer_agrees : (m : ℕ) (b : Option Place) → find (λ (x : Place). x.1 == canonical c) (open_openers s) ≡ b
+      → (search_from bracket (meet_closer s j c) (j + 1) cs ts).pairs
+      ≡ stack_turn (λ x y. stack_run bracket x y (j + 1) cs ts) (open_openers s) s.pairs j c (Some (Closer, m))
   closer_agrees m None q =
       let m1 : meet_closer s j c ≡ s = rw (q, meet_closer) in
-      let t1 : stack_turn (λ x y. stack_run bracket x y (j + 1) cs ts) (open_openers s) s.pairs j c (Some (Closer, m)) ≡ stack_run bracket (open_openers s) s.pairs (j + 1) cs ts = rw (q, stack_turn) in
-      ap (λ (v : Search). (search_from bracket v (j + 1) cs ts).pairs) m1 ∙ ih s o (falling_later j (j + 1) s.openers (omega arith) f) (ends_later j (j + 1) s.pairs (omega arith) e) ∙ sym t1
+      let t1 : stack_turn (λ x y. stack_run bracket x y (j + 1) cs ts) (open_openers s) s.pairs j c (Some (Closer, m))
+      ≡ stack_run bracket (open_openers s) s.pairs (j + 1) cs ts = rw (q, stack_turn) in
+      ap (λ (v : Search). (search_from bracket v (j + 1) cs ts).pairs) m1
+      ∙ ih s o (falling_later j (j + 1) s.openers (omega arith) f) (ends_later j (j + 1) s.pairs (omega arith) e) ∙ sym t1
   closer_agrees m (Some a) q =
       let u : Search = record s { pairs = insert_pair (a.0, j) s.pairs } in
       let m1 : meet_closer s j c ≡ u = rw (q, meet_closer) in
-      let t1 : stack_turn (λ x y. stack_run bracket x y (j + 1) cs ts) (open_openers s) s.pairs j c (Some (Closer, m)) ≡ stack_run bracket (below_first (λ x. x.1 == canonical c) (open_openers s)) (insert_pair (a.0, j) s.pairs) (j + 1) cs ts = rw (q, stack_turn) in
+      let t1 : stack_turn (λ x y. stack_run bracket x y (j + 1) cs ts) (open_openers s) s.pairs j c (Some (Closer, m))
+      ≡ stack_run bracket (below_first (λ x. x.1 == canonical c) (open_openers s)) (insert_pair (a.0, j) s.pairs) (j + 1) cs ts = rw (q, stack_turn) in
       let n1 : open_openers u ≡ below_first (λ x. x.1 == canonical c) (open_openers s) = ap open_openers (sym m1) ∙ open_after_pair s j c a f q in
-      ap (λ (v : Search). (search_from bracket v (j + 1) cs ts).pairs) m1 ∙ ih u o (falling_later j (j + 1) s.openers (omega arith) f) (ends_push (j + 1) s.pairs (a.0, j) (ends_later j (j + 1) s.pairs (omega arith) e) (omega arith)) ∙ ap (λ st. stack_run bracket st (insert_pair (a.0, j) s.pairs) (j + 1) cs ts) n1 ∙ sym t1
+      ap (λ (v : Search). (search_from bracket v (j + 1) cs ts).pairs) m1
+      ∙ ih u o (falling_later j (j + 1) s.openers (omega arith) f)
+      (ends_push (j + 1) s.pairs (a.0, j) (ends_later j (j + 1) s.pairs (omega arith) e) (omega arith))
+      ∙ ap (λ st. stack_run bracket st (insert_pair (a.0, j) s.pairs) (j + 1) cs ts) n1 ∙ sym t1
 
-turn_agrees : (bracket : ℕ → Option (Side × ℕ)) (j : ℕ) (cs : List ℕ) (ts : List Class) (c : ℕ) → Agrees bracket (j + 1) cs ts → (b : Option (Side × ℕ)) (s : Search) → s.is_over ≡ false → IsFalling j s.openers → EndsBelow j s.pairs → (search_from bracket (meet s j c b) (j + 1) cs ts).pairs ≡ stack_turn (λ x y. stack_run bracket x y (j + 1) cs ts) (open_openers s) s.pairs j c b
+turn_agrees : (bracket : ℕ → Option (Side × ℕ)) (j : ℕ) (cs : List ℕ) (ts : List Class) (c : ℕ) → Agrees bracket (j + 1) cs ts
+    → (b : Option (Side × ℕ)) (s : Search) → s.is_over ≡ false → IsFalling j s.openers → EndsBelow j s.pairs
+    → (search_from bracket (meet s j c b) (j + 1) cs ts).pairs ≡ stack_turn (λ x y. stack_run bracket x y (j + 1) cs ts) (open_openers s) s.pairs j c b
 turn_agrees bracket j cs ts c ih None s o f e = ih s o (falling_later j (j + 1) s.openers (omega arith) f) (ends_later j (j + 1) s.pairs (omega arith) e)
 turn_agrees bracket j cs ts c ih (Some (Opener, m)) s o f e = opener_agrees bracket j cs ts c ih s o f e m (nat_lt (length (open_openers s)) bracket_room) refl
-turn_agrees bracket j cs ts c ih (Some (Closer, m)) s o f e = closer_agrees bracket j cs ts c ih s o f e m (find (λ (x : Place). x.1 == canonical c) (open_openers s)) refl
+turn_agrees bracket j cs ts c ih (Some (Closer, m)) s o f e =
+    closer_agrees bracket j cs ts c ih s o f e m (find (λ (x : Place). x.1 == canonical c) (open_openers s)) refl
 
 search_is_stack : (bracket : ℕ → Option (Side × ℕ)) (j : ℕ) (cs : List ℕ) (ts : List Class) → Agrees bracket j cs ts
 search_is_stack bracket j [] ts s o f e = refl
 search_is_stack bracket j (c ∷ cs) [] s o f e = refl
-search_is_stack bracket j (c ∷ cs) (t ∷ ts) s o f e = rw (o, search_from) (turn_agrees bracket j cs ts c (search_is_stack bracket (j + 1) cs ts) (bracket_at bracket c t) s o f e)
+search_is_stack bracket j (c ∷ cs) (t ∷ ts) s o f e =
+    rw (o, search_from) (turn_agrees bracket j cs ts c (search_is_stack bracket (j + 1) cs ts) (bracket_at bracket c t) s o f e)
 
 pub rest_by_stack : (bracket : ℕ → Option (Side × ℕ)) (j : ℕ) (cs : List ℕ) (ts : List Class) → pairs_from bracket j cs ts ≡ stack_run bracket [] [] j cs ts
 rest_by_stack bracket j cs ts = search_is_stack bracket j cs ts (record { openers = []; pairs = []; is_over = false }) refl tt tt

@@ -1,5 +1,6 @@
 -- Bracket pairs, BD14 to BD16, over the characters and types of one sequence.
-use Rattle.std.specs.Prelude.{◌==◌, ℕ, ◌+◌, nat_lt, nat_le, ◌&&◌, not, Bool, true, false, List, [], ◌∷◌, Option, Some, None, length, filter, find, if◌then◌else◌}
+use Rattle.std.specs.Prelude.{◌==◌, ℕ, ◌+◌, nat_lt, nat_le, ◌&&◌, not, Bool, true, false, List, [], ◌∷◌, Option, Some, None, length, filter, find}
+use Rattle.std.specs.Prelude.{if◌then◌else◌}
 use Rattle.std.specs.List.{list_any}
 use Rattle.bx_ucd.specs.declared.class.Class.{Class}
 use Rattle.bx_ucd.specs.declared.class.Class.TheVariants.{ON}

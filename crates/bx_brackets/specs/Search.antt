@@ -1,17 +1,10 @@
 -- What the search does with a slot for each opener met and a stack of the slots that are open, the last one first.
-use Rattle.std.specs.Prelude.{ℕ, ◌==◌, ◌<◌, ◌≤◌, nat_lt, not, find, Bool, true, false, List, [], ◌∷◌, ◌++◌, Option, Some, None, length, slice_set, slice_index_or}
+use Rattle.std.specs.Prelude.{◌≡◌, ℕ, ◌%◌, ◌==◌, ◌<◌, ◌≤◌, nat_lt, not, find, Bool, true, false, List, [], ◌∷◌, ◌++◌, Option, Some, None, length, slice_set}
+use Rattle.std.specs.Prelude.{slice_index_or}
 use Rattle.bx_ucd.specs.declared.data.Side.{Side}
 use Rattle.bx_ucd.specs.declared.data.Side.TheVariants.{Opener, Closer}
 use Rattle.bx_ucd.specs.declared.class.Class.{Class}
 use Rattle.bx_brackets.specs.Pairs.{bracket_room, canonical, search_from}
-
-abbrev pub first_of : List (ℕ × ℕ) → Option (ℕ × ℕ)
-first_of [] = None
-first_of (e ∷ es) = Some e
-
-abbrev pub rest_of : List (ℕ × ℕ) → List (ℕ × ℕ)
-rest_of [] = []
-rest_of (e ∷ es) = es
 
 -- what is below the first that passes
 abbrev pub below_first : ((ℕ × ℕ) → Bool) → List (ℕ × ℕ) → List (ℕ × ℕ)
@@ -20,6 +13,15 @@ below_first p (o ∷ os) = elim (p o) [ true ↦ os | false ↦ below_first p os
 
 abbrev pub is_for : ℕ → ℕ × ℕ → Bool
 is_for c o = o.1 == c
+
+-- the opener at an index, from the first one on
+abbrev pub opener_at : List (ℕ × ℕ) → Option ℕ → Option (ℕ × ℕ)
+opener_at os None = None
+opener_at os (Some k) = Some (slice_index_or os k (0, 0))
+
+-- the closers that are noted, each at its remainder, meet no opener
+abbrev pub AreMissed : List (Option ℕ) → List (ℕ × ℕ) → Type 0
+AreMissed missed os = (k c : ℕ) → slice_index_or missed k None ≡ Some c → (c % 31 ≡ k) × (find (is_for c) os ≡ None)
 
 -- the place of the opener that a closer meets
 abbrev pub place_of : Option (ℕ × ℕ) → Option ℕ

@@ -1,6 +1,6 @@
 //! Bracket pairs (BD14 to BD16).
-ghost use Rattle.std.specs.Prelude.{◌≡◌, ℕ, ◌<◌, ◌≤◌, drop, All, IfOk, OnOk, IfSome, length, List, [], ◌∷◌, reverse, not, nat_lt, find, filter};
-ghost use Rattle.bx_brackets.specs.Search.{first_of, rest_of, is_for, place_of, left_by, ends_search, open_after, with_closer, slots_after, is_closed, is_opener, pairs_from, IsFalling};
+ghost use Rattle.std.specs.Prelude.{◌≡◌, ℕ, ◌<◌, ◌≤◌, drop, All, IfOk, OnOk, IfSome, length, List, [], ◌∷◌, reverse, take, not, nat_lt, find, filter};
+ghost use Rattle.bx_brackets.specs.Search.{AreMissed, below_first, opener_at, is_for, place_of, left_by, ends_search, open_after, with_closer, slots_after, is_closed, is_opener, pairs_from, IsFalling};
 ghost use Rattle.bx_brackets.specs.Resolve.{IsPairWithin};
 ghost use Rattle.bx_brackets.specs.Search.{IsSlotWithin};
 ghost use Rattle.bx_brackets.specs.Pairs.{bracket_room, canonical, bracket_at, pairs};
@@ -42,10 +42,15 @@ fn is_opener(bracket: Option<(Side, char)>) -> bool
 /// How many openers the stack has room for (BD16).
 const BRACKET_ROOM: usize = 63;
 
+/// How many remainders of closers are told apart.
+const REMAINDERS: usize = 31;
+
 /// The openers that are open.
 #[derive(Drop)]
 struct OpenStack {
     openers: ArrayVec<(usize, char), BRACKET_ROOM>,
+    /// At each remainder a closer that none of the openers is for, so that it is looked for once.
+    missed: [Option<char>; REMAINDERS],
 }
 
 // Clauses see the openers, the last one first.
@@ -53,6 +58,25 @@ impl Model for OpenStack {
     ghost Value = { List (ℕ × ℕ) };
 
     ghost view = { λ s. reverse s.openers.items };
+
+    ghost invariant = { λ s. AreMissed s.missed (reverse s.openers.items) };
+}
+
+/// The index of the last opener for a closer, where the first ones stand first.
+#[tactic(auto, using(crate::proofs::Close::find_here, crate::proofs::Close::find_more, crate::proofs::Close::below_here, crate::proofs::Close::below_more, crate::proofs::Close::take_it))]
+fn last_for(openers: &[(usize, char)], closer: char) -> Option<usize>
+    ensures within { IfSome result (λ k. k < length openers.now) }
+    ensures found { find (is_for closer) (reverse openers.now) ≡ opener_at openers.now result }
+    ensures left { IfSome result (λ k. below_first (is_for closer) (reverse openers.now) ≡ reverse (take k openers.now)) }
+{
+    let mut k = openers.len();
+    while k > 0 {
+        k -= 1;
+        if openers[k].1 == closer {
+            return Some(k);
+        }
+    }
+    None
 }
 
 impl OpenStack {
@@ -62,6 +86,7 @@ impl OpenStack {
     {
         OpenStack {
             openers: ArrayVec::new(),
+            missed: [None; REMAINDERS],
         }
     }
 
@@ -84,33 +109,30 @@ impl OpenStack {
         requires { length self.old < bracket_room }
         ensures { self.new ≡ (place, closer) ∷ self.old }
     {
+        self.missed[closer as usize % REMAINDERS] = None;
         self.openers.push((place, closer));
     }
 
-    /// Takes the last opener off.
-    fn pop(&mut self) -> Option<(usize, char)>
-        ensures first { result ≡ first_of self.old }
-        ensures rest { self.new ≡ rest_of self.old }
-    {
-        self.openers.pop()
-    }
-
     /// Takes off the last opener that the closer meets, with what stands above it.
-    #[tactic(auto, using(crate::proofs::Close::find_here, crate::proofs::Close::find_more, crate::proofs::Close::below_here, crate::proofs::Close::below_more, crate::proofs::Close::take_it))]
     fn close(&mut self, closer: char) -> Option<usize>
         ensures place { result ≡ place_of (find (is_for closer) self.old) }
         ensures left { self.new ≡ left_by (find (is_for closer) self.old) closer self.old }
     {
-        let mut k = self.openers.len();
-        while k > 0 {
-            k -= 1;
-            let (place, opened) = self.openers[k];
-            if opened == closer {
+        let remainder = closer as usize % REMAINDERS;
+        if self.missed[remainder] == Some(closer) {
+            return None;
+        }
+        match last_for(&self.openers, closer) {
+            Some(k) => {
+                let (slot, _) = self.openers[k];
                 self.openers.truncate(k);
-                return Some(place);
+                Some(slot)
+            }
+            None => {
+                self.missed[remainder] = Some(closer);
+                None
             }
         }
-        None
     }
 }
 
@@ -122,6 +144,17 @@ fn note_closer(slots: &mut Vec<(usize, usize)>, slot: Option<usize>, closer: usi
     if let Some(k) = slot {
         slots[k].1 = closer;
     }
+}
+
+/// Makes room for one slot more. Doubling may leave half of the room unused: so it grows by a quarter.
+fn make_room(slots: &mut Vec<(usize, usize)>) -> Result<(), AllocError>
+    ensures { slots.new.items ≡ slots.old.items }
+{
+    let count = slots.len();
+    if count >= slots.capacity() {
+        slots.reserve_exact(count / 4 + 8)?;
+    }
+    Ok(())
 }
 
 /// Takes one character of the sequence. Whether the search ends there, for want of room.
@@ -145,6 +178,7 @@ fn meet(
                 return Ok(true);
             }
             let slot = slots.len();
+            make_room(slots)?;
             slots.push((place, place))?;
             open.push(slot, canonical(closer));
             Ok(false)

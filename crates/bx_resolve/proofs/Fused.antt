@@ -3,10 +3,10 @@ use Rattle.std.proofs.Common.{append_assoc, ◌≡◌, ◌<◌, ◌+◌, ◌∙�
 use Rattle.std.specs.Prelude.{◌&&◌, MatchOption}
 use Rattle.std.proofs.lemmas.List.{at_drop_more, take_more, take_more_set, drop-set-lt}
 use Rattle.std.proofs.Math.Seq.{drop-length}
-use Rattle.bx_ucd.specs.declared.class.Class.TheVariants.{L, R, AL, AN, EN, ES, ET, CS, ON}
+use Rattle.bx_ucd.specs.declared.class.Class.TheVariants.{L, R, AL, AN, EN, ES, ET, CS, B, S, WS, ON}
 use Rattle.bx_ucd.specs.declared.class.Class.{Class}
 use Rattle.bx_ucd.specs.Class.{is_neutral}
-use Rattle.bx_resolve.specs.Weak.{w1, w2, w3, w4, w5, w6, w7, weak, w3_at, w6_at, is_en, is_an, is_et, is_left_or_right, beside, separator, is_en_past, terminator_of}
+use Rattle.bx_resolve.specs.Weak.{w1, w2, w3, w4, w5, w6, w7, weak, w3_at, w6_at, is_en, is_an, is_et, is_settled, number_after, beside, separator, is_en_past, terminator_of}
 use Rattle.bx_resolve.specs.Turns.{rest_after_w3, after_w1, mark_next, after_w2, strong_next, ahead, after_w5, past_next, after_w7, side_next}
 use Rattle.bx_resolve.specs.Neutral.{n1, n2, n2_at}
 use Rattle.bx_resolve.proofs.Run.{run, w1_run, w2_run, n1_run, next_mark, out_mark, next_strong, out_number, next_beside, out_separator, next_past, out_terminator, next_side, out_left, w4_run, w5_run, w7_run, next_neutral, out_neutral}
@@ -183,20 +183,68 @@ known_after t mark strong ts i x known e =
       | false ↦ tt
     ])
 
--- an L or R stays, and is the nearest of all kinds
-settled_next : (mark strong b : Class) (p : Bool) (s t : Class) (a : List Class) → is_left_or_right t ≡ true → (t, t, t, false, t) ≡ next_all (mark, strong, b, p, s) t a
+-- a settled type stays, and an L or R is the nearest of all kinds
+settled_next : (mark strong b : Class) (p : Bool) (s t : Class) (a : List Class) → is_settled t ≡ true → (t, strong_next strong t, t, false, side_next s t) ≡ next_all (mark, strong, b, p, s) t a
 settled_next mark strong b p s L a e = refl
 settled_next mark strong b p s R a e = refl
+settled_next mark strong b p s B a e = refl
+settled_next mark strong b p s S a e = refl
+settled_next mark strong b p s WS a e = refl
+settled_next mark strong b p s ON a e = refl
 settled_next mark strong b p s _ a e = absurd (cc)
 
-settled_out : (mark strong b : Class) (p : Bool) (s t : Class) (a : List Class) → is_left_or_right t ≡ true → t ≡ out_all (mark, strong, b, p, s) t a
+settled_out : (mark strong b : Class) (p : Bool) (s t : Class) (a : List Class) → is_settled t ≡ true → t ≡ out_all (mark, strong, b, p, s) t a
 settled_out mark strong b p s L a e = refl
 settled_out mark strong b p s R a e = refl
+settled_out mark strong b p s B a e = refl
+settled_out mark strong b p s S a e = refl
+settled_out mark strong b p s WS a e = refl
+settled_out mark strong b p s ON a e = refl
 settled_out mark strong b p s _ a e = absurd (cc)
 
-pub settled_keep : (mark strong b : Class) (p : Bool) (s : Class) (ts : List Class) (i : ℕ) → i < length ts → is_left_or_right (get_or ts i L) ≡ true → take i ts ++ go next_all out_all (mark, strong, b, p, s) (drop i ts) ≡ take (i + 1) ts ++ go next_all out_all (get_or ts i L, get_or ts i L, get_or ts i L, false, get_or ts i L) (drop (i + 1) ts)
-settled_keep mark strong b p s ts i h e =
+pub settled_keep : (mark strong b : Class) (p : Bool) (s : Class) (ts : List Class) (i : ℕ) (u v : Class) → i < length ts → is_settled (get_or ts i L) ≡ true
+    → u ≡ strong_next strong (get_or ts i L) → v ≡ side_next s (get_or ts i L)
+    → take i ts ++ go next_all out_all (mark, strong, b, p, s) (drop i ts) ≡ take (i + 1) ts ++ go next_all out_all (get_or ts i L, u, get_or ts i L, false, v) (drop (i + 1) ts)
+settled_keep mark strong b p s ts i u v h e f g =
     let t : Class = get_or ts i L in
     let rest : List Class = drop (i + 1) ts in
-    let step : go next_all out_all (mark, strong, b, p, s) (drop i ts) ≡ t ∷ go next_all out_all (t, t, t, false, t) rest = at_drop_more (go next_all out_all (mark, strong, b, p, s)) ts i L h ∙ ap (λ x. x ∷ go next_all out_all (next_all (mark, strong, b, p, s) t rest) rest) (sym (settled_out mark strong b p s t rest e)) ∙ ap (λ u. t ∷ go next_all out_all u rest) (sym (settled_next mark strong b p s t rest e)) in
-    ap (λ xs. take i ts ++ xs) step ∙ sym (append_assoc (take i ts) (t ∷ []) (go next_all out_all (t, t, t, false, t) rest)) ∙ ap (λ xs. xs ++ go next_all out_all (t, t, t, false, t) rest) (sym (take_more ts i L h))
+    let state : (t, u, t, false, v) ≡ next_all (mark, strong, b, p, s) t rest = ap (λ x. (t, x, t, false, v)) f ∙ ap (λ x. (t, strong_next strong t, t, false, x)) g ∙ settled_next mark strong b p s t rest e in
+    let step : go next_all out_all (mark, strong, b, p, s) (drop i ts) ≡ t ∷ go next_all out_all (t, u, t, false, v) rest =
+    at_drop_more (go next_all out_all (mark, strong, b, p, s)) ts i L h
+    ∙ ap (λ x. x ∷ go next_all out_all (next_all (mark, strong, b, p, s) t rest) rest) (sym (settled_out mark strong b p s t rest e))
+    ∙ ap (λ x. t ∷ go next_all out_all x rest) (sym state) in
+    ap (λ xs. take i ts ++ xs) step
+    ∙ sym (append_assoc (take i ts) (t ∷ []) (go next_all out_all (t, u, t, false, v) rest))
+    ∙ ap (λ xs. xs ++ go next_all out_all (t, u, t, false, v) rest) (sym (take_more ts i L h))
+
+-- any other type, step by step
+pub turn_write : (mark strong b : Class) (p : Bool) (s : Class) (ts r : List Class) (i : ℕ) (first second third fourth fifth sixth x m n side : Class) (q : Bool) (known : Option Bool) → i < length ts
+    → r ≡ drop (i + 1) ts → first ≡ after_w1 mark (get_or ts i L) → second ≡ after_w2 strong first → third ≡ w3_at second
+    → m ≡ mark_next mark (get_or ts i L) → n ≡ strong_next strong first
+    → fourth ≡ separator b third (beside (rest_after_w3 m n r)) → known ≡ ahead fourth (rest_after_w3 m n r)
+    → fifth ≡ after_w5 fourth p known → sixth ≡ w6_at fifth → x ≡ after_w7 s sixth → q ≡ past_next p fourth → side ≡ side_next s sixth
+    → take i ts ++ go next_all out_all (mark, strong, b, p, s) (drop i ts) ≡ take (i + 1) (set ts i x) ++ go next_all out_all (m, n, third, q, side) (drop (i + 1) (set ts i x))
+turn_write mark strong b p s ts r i first second third fourth fifth sixth x m n side q known h er e1 e2 e3 em en e4 ek e5 e6 e7 eq es =
+    rw (e7, eq, es, e6, e5, ek, e4, em, en, e3, e2, e1, er) (go_write next_all out_all ts i (mark, strong, b, p, s) _ _ h refl refl)
+
+-- an EN changes by the nearest strong type alone
+number_out : (mark strong b : Class) (p : Bool) (s t : Class) (a : List Class) → is_en t ≡ true → after_w7 s (number_after strong) ≡ out_all (mark, strong, b, p, s) t a
+number_out mark AL b p s EN a e = refl
+number_out mark _ b p s EN a e = refl
+number_out mark strong b p s _ a e = absurd (cc)
+
+number_next : (mark strong b : Class) (p : Bool) (s t : Class) (a : List Class) → is_en t ≡ true → (t, strong, number_after strong, is_en (number_after strong), s) ≡ next_all (mark, strong, b, p, s) t a
+number_next mark AL b p s EN a e = refl
+number_next mark _ b p s EN a e = refl
+number_next mark strong b p s _ a e = absurd (cc)
+
+pub number_write : (mark strong b : Class) (p : Bool) (s : Class) (ts : List Class) (i : ℕ) (x third : Class) (q : Bool) → i < length ts → is_en (get_or ts i L) ≡ true
+    → third ≡ number_after strong → x ≡ after_w7 s third → q ≡ is_en third
+    → take i ts ++ go next_all out_all (mark, strong, b, p, s) (drop i ts) ≡ take (i + 1) (set ts i x) ++ go next_all out_all (get_or ts i L, strong, third, q, s) (drop (i + 1) (set ts i x))
+number_write mark strong b p s ts i x third q h e f g k =
+    let t : Class = get_or ts i L in
+    let rest : List Class = drop (i + 1) ts in
+    let out : x ≡ out_all (mark, strong, b, p, s) t rest = g ∙ ap (after_w7 s) f ∙ number_out mark strong b p s t rest e in
+    let state : (t, strong, third, q, s) ≡ next_all (mark, strong, b, p, s) t rest =
+    ap (λ v. (t, strong, third, v, s)) k ∙ ap (λ v. (t, strong, v, is_en v, s)) f ∙ number_next mark strong b p s t rest e in
+    go_write next_all out_all ts i (mark, strong, b, p, s) x (t, strong, third, q, s) h out state

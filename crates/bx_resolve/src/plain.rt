@@ -30,7 +30,12 @@ fn is_plain_right(class: Class) -> bool
 fn is_from_right(class: Class) -> bool
     ensures { result ≡ is_from_right class }
 {
-    is_plain_right(class) || matches!(class, Class::EN | Class::AN)
+    match class {
+        Class::R | Class::AL | Class::EN | Class::AN => true,
+        Class::ES | Class::ET | Class::CS => true,
+        Class::NSM | Class::B | Class::S | Class::WS | Class::ON => true,
+        _ => false,
+    }
 }
 
 /// Whether the explicit rules have nothing to do with a class.

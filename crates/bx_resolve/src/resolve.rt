@@ -39,7 +39,10 @@ fn levels_from_right(alloc: Global, classes: &mut [Class]) -> Result<Vec<Option<
     ensures { IfOk result (λ v. v.items ≡ map (λ t. Some (implicit_at 1 t)) (weak Class.R classes.old)) }
 {
     weak_in_one_pass(classes, Class::R);
-    found_levels(alloc, classes, 1)
+    classes
+        .iter()
+        .map(|t| Some(implicit_at(1, *t)))
+        .collect(alloc)
 }
 
 /// Gives the bracket pairs of a text that is one sequence their types (N0), in place. Its characters are read again only

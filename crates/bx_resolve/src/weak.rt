@@ -1,7 +1,7 @@
 //! The rules for weak types (W1 to W7), each over a whole sequence.
 ghost use Rattle.std.specs.Prelude.{◌≡◌, MatchOption, true};
 ghost use Rattle.bx_resolve.specs.Turns.{rest_after_w3, after_w1, mark_next, after_w2, strong_next, ahead, after_w5, past_next, after_w7, side_next};
-ghost use Rattle.bx_resolve.specs.Weak.{is_nsm, is_en, is_an, is_et, is_left_or_right, mark_after, number_after, w3_at, beside, separator, is_en_past, terminator_of, w6_at, left_number, w1, w2, w3, w4, w5, w6, w7, weak};
+ghost use Rattle.bx_resolve.specs.Weak.{is_nsm, is_en, is_an, is_et, is_settled, mark_after, number_after, w3_at, beside, separator, is_en_past, terminator_of, w6_at, left_number, w1, w2, w3, w4, w5, w6, w7, weak};
 
 use bx_ucd::Class;
 
@@ -338,9 +338,20 @@ fn side_next(side: Class, t: Class) -> Class
 
 /// Whether the rules leave a type as it is, whatever stands beside it.
 fn is_settled(t: Class) -> bool
-    ensures { result ≡ is_left_or_right t }
+    ensures { result ≡ is_settled t }
 {
-    matches!(t, Class::L | Class::R)
+    match t {
+        Class::L | Class::R => true,
+        Class::B | Class::S | Class::WS | Class::ON => true,
+        _ => false,
+    }
+}
+
+/// Whether a type is EN.
+fn is_number(t: Class) -> bool
+    ensures { result ≡ is_en t }
+{
+    t == Class::EN
 }
 
 /// W1 to W7 in one pass.
@@ -359,10 +370,17 @@ pub fn weak_in_one_pass(types: &mut [Class], sos: Class)
         let t = whole[i];
         if is_settled(t) {
             mark = t;
-            strong = t;
+            strong = strong_next(strong, t);
             before = t;
             past = false;
-            side = t;
+            side = side_next(side, t);
+            known = None;
+        } else if is_number(t) {
+            let third = number_after(strong);
+            types[i] = after_w7(side, third);
+            mark = t;
+            before = third;
+            past = is_number(third);
             known = None;
         } else {
             let rest = &whole[i + 1..];

@@ -8,3 +8,4 @@ pub mod LawLemmas
 pub mod BoundLemmas
 pub mod SmallTables
 mod Rows
+pub mod Remainders

@@ -16,7 +16,7 @@ tie_is false true exclusive = refl
 tie_is false false exclusive = refl
 
 -- the order's tie is equality
-is_eq-nat_cmp : (a b : ℕ) → is_eq (nat_cmp a b) ≡ (a == b)
+pub is_eq-nat_cmp : (a b : ℕ) → is_eq (nat_cmp a b) ≡ (a == b)
 is_eq-nat_cmp a b = tie_is (ltb a b) (a == b) (λ same. let e : a ≡ b = eqb-true a b same in lt-leb (suc a) b (omega arith))
 
 -- what is put in for a key takes the place of what was there

@@ -3,6 +3,7 @@
 
 mod blocks;
 mod bracket_file;
+mod bracket_table;
 pub mod class;
 mod class_file;
 mod class_table;

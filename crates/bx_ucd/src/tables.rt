@@ -4,9 +4,10 @@ ghost use Rattle.std.specs.Prelude.{◌≡◌, ℕ, ◌<◌, ◌⊎◌, false, N
 ghost use Rattle.std.specs.Option.{ForSome};
 ghost use Rattle.std.specs.Ordering.{nat_cmp};
 ghost use Rattle.std.specs.BTreeMap.{get};
-ghost use Rattle.bx_ucd.specs.Answers.{class_by_lines, bracket_by_lines, mirror_by_lines};
+ghost use Rattle.bx_ucd.specs.Answers.{class_by_lines, mirror_by_lines};
 ghost use Rattle.bx_ucd.specs.ClassFile.{class_lines};
 ghost use Rattle.bx_ucd.specs.ClassTable.{class_in_table};
+ghost use Rattle.bx_ucd.specs.BracketTable.{bracket_in_table};
 ghost use Rattle.bx_ucd.specs.BracketFile.{bracket_lines};
 ghost use Rattle.bx_ucd.specs.Control.{is_control, no_control_if_some};
 ghost use Rattle.bx_ucd.specs.Lines.{first_refusal, TellsRefusal};
@@ -15,6 +16,7 @@ ghost use Rattle.bx_ucd.specs.Reading.{refusal, NoMemoryAfter, class_in_file, br
 
 use crate::blocks::painted_blocks;
 use crate::bracket_file::BracketEntry;
+use crate::bracket_table::BracketTable;
 use crate::class::Class;
 use crate::class_file::ClassEntry;
 use crate::class_table::ClassTable;
@@ -29,7 +31,7 @@ use std::collections::BTreeMap;
 #[derive(Drop)]
 pub struct Tables {
     classes: ClassTable,
-    brackets: BTreeMap<char, (Side, char)>,
+    brackets: BracketTable,
     mirrors: BTreeMap<char, char>,
     ghost no_control: { (code : ℕ) → ForSome (get nat_cmp mirrors code) (λ m. is_control m ≡ false) },
 }
@@ -40,20 +42,6 @@ fn class_table(alloc: Global, entries: &[ClassEntry]) -> Result<ClassTable, Allo
 {
     let blocks = painted_blocks(alloc, entries)?;
     ClassTable::new(alloc, &blocks)
-}
-
-/// The brackets with their sides and pairs. The last entry for a bracket counts.
-fn bracket_map(
-    alloc: Global,
-    entries: &[BracketEntry],
-) -> Result<BTreeMap<char, (Side, char)>, AllocError>
-    ensures { IfOk result (λ m. (code : ℕ) → get nat_cmp m code ≡ bracket_by_lines entries.now code) }
-{
-    let mut brackets = BTreeMap::new(alloc);
-    for entry in entries {
-        brackets.insert(entry.bracket, (entry.side, entry.paired))?;
-    }
-    Ok(brackets)
 }
 
 /// The mirrored characters. The last entry for a character counts.
@@ -81,14 +69,14 @@ fn read_classes(alloc: Global, bytes: &[u8]) -> Result<ClassTable, UcdError>
 }
 
 /// The brackets of the file, or its first refused line.
-fn read_brackets(alloc: Global, bytes: &[u8]) -> Result<BTreeMap<char, (Side, char)>, UcdError>
+fn read_brackets(alloc: Global, bytes: &[u8]) -> Result<BracketTable, UcdError>
     ensures accepted { IfOk result (λ _. first_refusal UcdFile.Brackets (bracket_lines bytes.now) ≡ None) }
-    ensures answers { IfOk result (λ m. (code : ℕ) → get nat_cmp m code ≡ bracket_in_file bytes.now code) }
+    ensures answers { IfOk result (λ t. (code : ℕ) → bracket_in_table t code ≡ bracket_in_file bytes.now code) }
     ensures refused { IfErr result (λ e. TellsRefusal UcdFile.Brackets e (first_refusal UcdFile.Brackets (bracket_lines bytes.now))) }
 {
     let entries = read_entries::<BracketEntry>(alloc, UcdFile::Brackets, bytes)?;
-    match bracket_map(alloc, &entries) {
-        Ok(brackets) => Ok(brackets),
+    match BracketTable::new(alloc, &entries) {
+        Ok(table) => Ok(table),
         Err(_) => Err(UcdError::out_of_memory(UcdFile::Brackets)),
     }
 }
@@ -133,7 +121,7 @@ impl Tables {
 impl BidiData for Tables {
     ghost class_of = { λ t code. class_in_table t.classes code };
 
-    ghost bracket_of = { λ t code. get nat_cmp t.brackets code };
+    ghost bracket_of = { λ t code. bracket_in_table t.brackets code };
 
     ghost mirror_of = { λ t code. get nat_cmp t.mirrors code };
 
@@ -144,7 +132,7 @@ impl BidiData for Tables {
     }
 
     fn bracket(&self, c: char) -> Option<(Side, char)> {
-        self.brackets.get(&c).copied()
+        self.brackets.bracket(c)
     }
 
     fn mirror(&self, c: char) -> Option<char> {

@@ -15,7 +15,8 @@ loop-i-init g c =
     let none : c.args.slots.now.items ≡ [] = c.requires.empty in
     rw (start, none) (record {
       keeps = record { falling = tt; rising = tt; within = All-nil (IsSlotWithin c.args.start); opens = tt };
-      found = c.requires.rest ∙ rest_by_stack (g.D.BidiData.bracket_of c.args.source.now) c.args.start (drop c.args.start c.args.chars.now) (drop c.args.start c.args.types.now);
+      found = c.requires.rest ∙ rest_by_stack (g.D.BidiData.bracket_of c.args.source.now) c.args.start (drop c.args.start c.args.chars.now)
+          (drop c.args.start c.args.types.now);
     })
 
 pub loop-i-preserved : goal.loop-i-preserved
@@ -30,7 +31,13 @@ loop-i-preserved g c =
     let ts : List Class = c.args.types.now in
     let k : List (ℕ × ℕ) → List (ℕ × ℕ) → List (ℕ × ℕ) = λ st ps. stack_run bracket st ps (i + 1) (drop (i + 1) cs) (drop (i + 1) ts) in
     let st : List (ℕ × ℕ) = map (opener_in ss) os in
-    let turn : stack_run bracket st (closed ss) i (drop i cs) (drop i ts) ≡ stack_turn k st (closed ss) i (get_or cs i x) (bracket_at bracket (get_or cs i x) (get_or ts i L)) = run_turn bracket cs ts i x (omega arith) (omega (arith, c.requires.as_long)) st (closed ss) in
-    let here : stack_turn k st (closed ss) i (get_or cs i x) (bracket_at bracket (get_or cs i x) (get_or ts i L)) ≡ stack_turn k st (closed ss) i x b = ap (λ y. stack_turn k st (closed ss) i y (bracket_at bracket y (get_or ts i L))) (sym c.index-chars-i.is) ∙ ap (stack_turn k st (closed ss) i x) (sym c.bracket_at-bracket.ensures) in
-    let on : stack_turn k st (closed ss) i x b ≡ k (map (opener_in (slots_after i x b os ss)) (open_after (length ss) x b os)) (closed (slots_after i x b os ss)) = goes_on k i x b os ss c.loop-i.invariant.keeps (sym c.in_ok-meet.ensures.over ∙ c.if-branch.false) in
-    rw (c.in_ok-meet.ensures.left, c.in_ok-meet.ensures.slots) (record { keeps = turn_kept i x b os ss c.loop-i.invariant.keeps; found = c.loop-i.invariant.found ∙ turn ∙ here ∙ on })
+    let turn : stack_run bracket st (closed ss) i (drop i cs) (drop i ts)
+    ≡ stack_turn k st (closed ss) i (get_or cs i x) (bracket_at bracket (get_or cs i x) (get_or ts i L)) =
+    run_turn bracket cs ts i x (omega arith) (omega (arith, c.requires.as_long)) st (closed ss) in
+    let here : stack_turn k st (closed ss) i (get_or cs i x) (bracket_at bracket (get_or cs i x) (get_or ts i L)) ≡ stack_turn k st (closed ss) i x b =
+    ap (λ y. stack_turn k st (closed ss) i y (bracket_at bracket y (get_or ts i L))) (sym c.index-chars-i.is)
+    ∙ ap (stack_turn k st (closed ss) i x) (sym c.bracket_at-bracket.ensures) in
+    let on : stack_turn k st (closed ss) i x b ≡ k (map (opener_in (slots_after i x b os ss)) (open_after (length ss) x b os))
+    (closed (slots_after i x b os ss)) = goes_on k i x b os ss c.loop-i.invariant.keeps (sym c.in_ok-meet.ensures.over ∙ c.if-branch.false) in
+    rw (c.in_ok-meet.ensures.left, c.in_ok-meet.ensures.slots)
+    (record { keeps = turn_kept i x b os ss c.loop-i.invariant.keeps; found = c.loop-i.invariant.found ∙ turn ∙ here ∙ on })

@@ -4,4 +4,6 @@ use Rattle.bx_brackets.proofs.Context.{context_later}
 use Rattle.bx_brackets.proofs.resolve.context.Goals as goal
 
 pub returns-then-start-place : goal.returns-then-start-place
-returns-then-start-place c = c.nearest.ensures ∙ ap (λ s. nearest s (reverse (take (c.args.place - c.args.known.0) (drop c.args.known.0 c.args.types.now)))) c.requires.known ∙ context_later c.args.sos c.args.types.now c.args.known.0 c.args.place c.if-start-place.true
+returns-then-start-place c = c.nearest.ensures
+    ∙ ap (λ s. nearest s (reverse (take (c.args.place - c.args.known.0) (drop c.args.known.0 c.args.types.now)))) c.requires.known
+    ∙ context_later c.args.sos c.args.types.now c.args.known.0 c.args.place c.if-start-place.true

@@ -26,5 +26,6 @@ loop-pair-preserved c =
       within = omega arith;
       context = context ∙ sym (ap (λ xs. nearest sos (reverse xs)) same);
       clear = c.resolve_in-clears.ensures.clear;
-      done = c.loop-pair.invariant.done ∙ pairs_more e sos was ps i (0, 0) ts (omega arith) ∙ ap (resolve_pairs e sos was (drop (i + 1) ps)) (ap (λ x. resolve_in e x was pq ts) (sym context) ∙ sym new);
+      done = c.loop-pair.invariant.done ∙ pairs_more e sos was ps i (0, 0) ts (omega arith)
+          ∙ ap (resolve_pairs e sos was (drop (i + 1) ps)) (ap (λ x. resolve_in e x was pq ts) (sym context) ∙ sym new);
     }
