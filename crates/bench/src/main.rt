@@ -3,6 +3,7 @@
 //!     bench [--time] text TASK BYTES [EDITS]
 //!     bench [--time] paragraphs TASK BYTES LINE [EDITS]
 //!     bench [--time] levels PATTERN CHARACTERS TIMES
+//!     bench [--time] painting TASK TEXT TIMES
 //!     bench each
 //!
 //! It prints a line that depends on all that was done, and with --time also the processor time of what is measured. `each`
@@ -11,8 +12,10 @@
 #![tactic(auto)]
 
 mod edits;
+mod glyphs;
 mod levels;
 mod outcome;
+mod painting;
 mod paragraphs;
 mod texts;
 
@@ -28,15 +31,17 @@ fn measured<R: CpuClock + AllocGlobal>(rt: &R, words: &[String]) -> Result<Outco
         [layer, rest @ ..] if layer.as_str() == "text" => edits::run(rt, rest),
         [layer, rest @ ..] if layer.as_str() == "paragraphs" => paragraphs::run(rt, rest),
         [layer, rest @ ..] if layer.as_str() == "levels" => levels::run(rt, rest),
-        _ => bail!("usage: bench [--time] text|paragraphs|levels WORDS"),
+        [layer, rest @ ..] if layer.as_str() == "painting" => painting::run(rt, rest),
+        _ => bail!("usage: bench [--time] text|paragraphs|levels|painting WORDS"),
     }
 }
 
 /// One run of each layer.
-const EACH: [&str; 3] = [
+const EACH: [&str; 4] = [
     "text scattered 100000 2000",
     "paragraphs edit 10000 50 20",
     "levels mixed 80 1",
+    "painting changes ascii 1",
 ];
 
 /// Takes every layer once.

@@ -59,8 +59,7 @@ fn body_of<'a>(text: &'a str, tables: &Tables) -> &'a str {
 
 /// The levels of a body's characters before L1.
 fn levels_of(alloc: Global, body: &str, tables: &Tables, base: Base) -> Result<Levels> {
-    let chars: Vec<char> = body.chars().collect(alloc)?;
-    Ok(levels(alloc, &chars, tables, base)?)
+    Ok(levels(alloc, body, tables, base)?)
 }
 
 /// The unit of a character of a body that stands at this offset.

@@ -1,6 +1,6 @@
 use Rattle.std.proofs.Common.{◌≡◌, ◌≤◌, ◌-◌}
-use Rattle.bx_paint_bench.proofs.Laying.{IsLaid}
-use Rattle.bx_paint_bench.proofs.full.Given as goal
+use Rattle.bench.proofs.Laying.{IsLaid}
+use Rattle.bench.proofs.painting.full.Given as goal
 
 abbrev pub invariant-loop-line : goal.invariant-loop-line
 invariant-loop-line l = record {

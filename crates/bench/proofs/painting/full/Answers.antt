@@ -2,8 +2,8 @@ use Rattle.std.proofs.Common.{◌+◌, ◌∙◌, ap, sym, arith}
 use Rattle.bx_grid.specs.Columns.{run_columns}
 use Rattle.bx_grid.specs.Picture.{GridState}
 use Rattle.bx_grid.proofs.Puts.{run_length}
-use Rattle.bx_paint_bench.proofs.Laying.{is_inside, room_laid, laid_none, laid_on, laid_along, laid_below}
-use Rattle.bx_paint_bench.proofs.full.Goals as goal
+use Rattle.bench.proofs.Laying.{is_inside, room_laid, laid_none, laid_on, laid_along, laid_below}
+use Rattle.bench.proofs.painting.full.Goals as goal
 
 pub loop-line-init : goal.loop-line-init
 loop-line-init c = record {

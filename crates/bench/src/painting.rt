@@ -1,23 +1,17 @@
-//! Paints pictures of 24 rows and 80 columns some times, to count instructions: WHAT TEXT TIMES, where WHAT is `changes`
-//! (two pictures that differ in one glyph), `same` (two that do not differ), `whole`, `read` (a screen reads a whole
-//! painting), `picture` (a picture is made) or `blank` (a grid of blanks is made), and TEXT is `ascii`, `hebrew`, `arabic`,
-//! `wide` or `marked`. It prints how many bytes were sent or read.
-//!
-//! The cost is the difference of two runs under `valgrind --tool=callgrind` that differ in TIMES alone, by the difference
-//! in TIMES.
-#![tactic(auto)]
+//! Painting of pictures of 24 rows and 80 columns: TASK TEXT TIMES, where TASK is `changes` (two pictures that differ in one
+//! glyph), `same` (two that do not differ), `whole`, `read` (a screen reads a whole painting), `picture` (a picture is made)
+//! or `blank` (a grid of blanks is made), and TEXT is `ascii`, `hebrew`, `arabic`, `wide` or `marked`.
 
 ghost use Rattle.std.specs.Prelude.{◌≡◌, ◌≤◌, true, IfOk};
 ghost use Rattle.bx_grid.specs.Columns.{is_one_glyph, run_width};
 
-mod glyphs;
-
 use crate::glyphs::{Glyph, Script};
-use anyhow::{Context, Result};
+use crate::outcome::{Outcome, number};
+use anyhow::{Context, Result, bail};
 use bx_grid::{Cell, Grid, GridError, Picture, Screen};
 use bx_paint::{changes, whole};
 use std::alloc::Global;
-use std::env;
+use std::time::CpuClock;
 
 /// A picture full of glyphs, but for five or six blanks at each row's end. One of them may be another, and negative.
 fn full(alloc: Global, script: Script, marked: bool) -> Result<Picture, GridError>
@@ -42,7 +36,8 @@ fn full(alloc: Global, script: Script, marked: bool) -> Result<Picture, GridErro
     ))
 }
 
-fn run(alloc: Global, what: &str, script: Script, times: usize) -> Result<u64> {
+/// How many bytes or columns a task that is done some times makes or reads.
+fn sum(alloc: Global, what: &str, script: Script, times: usize) -> Result<u64> {
     let old = full(alloc, script, false)?;
     let new = full(alloc, script, true)?;
     let painting = whole(alloc, &new)?;
@@ -68,18 +63,19 @@ fn run(alloc: Global, what: &str, script: Script, times: usize) -> Result<u64> {
     Ok(sum)
 }
 
-fn main(rt: HostRuntime) -> Result<()> {
-    let mut words = env::args(&rt)?;
-    let _program = words.next();
-    let what = words.next().context("nothing to do")?;
-    let text = words.next().context("no text")?;
+/// What the words ask for: how many bytes or columns there were in all, and the time of making the pictures and of the task.
+pub(crate) fn run<R: CpuClock + AllocGlobal>(rt: &R, words: &[String]) -> Result<Outcome> {
+    let [task, text, times] = words else {
+        bail!("usage: bench painting TASK TEXT TIMES");
+    };
     let script = Script::named(text.as_str()).context("no such text")?;
-    let times = words
-        .next()
-        .context("no number of times")?
-        .as_str()
-        .parse::<usize>()?;
-    let sum = run(rt.alloc(), what.as_str(), script, times)?;
-    println!(rt; "{sum}")?;
-    Ok(())
+    let times = number(times)?;
+    let start = rt.thread_cpu_time()?;
+    let sum = sum(rt.alloc(), task.as_str(), script, times)?;
+    let end = rt.thread_cpu_time()?;
+    let line = format!(in rt.alloc(); "{sum}")?;
+    Ok(Outcome {
+        line,
+        time: end.saturating_sub(start),
+    })
 }
