@@ -5,7 +5,7 @@ ghost use Rattle.bx_cells.specs.Simple.{own_columns};
 ghost use Rattle.bx_cells.specs.SimpleFace.{simple_face};
 ghost use Rattle.bx_cells.specs.Units.{units_from};
 
-use crate::faces::{letter_of, sized_face};
+use crate::faces::{letter_if_any, small_face};
 use crate::simple::{Simple, simple_kind};
 use crate::unit::{Face, Unit};
 use bx_ucd::BidiData;
@@ -36,11 +36,11 @@ pub fn simple_face<D: BidiData>(
     ensures { result ≡ simple_face (D.class_of source.now) w first is_marked }
 {
     if is_marked {
-        return sized_face(w, usize::from(columns));
+        return small_face(w, columns);
     }
-    match letter_of(source.class(first)) {
+    match letter_if_any(source.class(first)) {
         Some(letter) => Face::Mark(letter),
-        None => sized_face(w, usize::from(columns)),
+        None => small_face(w, columns),
     }
 }
 

@@ -1,5 +1,5 @@
 //! Faces.
-ghost use Rattle.std.specs.Prelude.{◌≡◌, chars, length, ◌≤◌};
+ghost use Rattle.std.specs.Prelude.{◌≡◌, chars, false, length, None, ◌≤◌};
 ghost use Rattle.std.specs.List.{list_any};
 ghost use Rattle.bx_terms.specs.Characters.{is_control};
 ghost use Rattle.bx_cells.specs.Faces.{face, letter_of, sized_face, only_char, is_tab, format_letter};
@@ -10,7 +10,6 @@ use bx_ucd::{BidiData, Class};
 use unicode_width::UnicodeWidthStr;
 
 /// The letter of an explicit formatting character.
-#[inline]
 pub(crate) fn letter_of(class: Class) -> Option<u8>
     ensures { result ≡ letter_of class }
 {
@@ -28,8 +27,49 @@ pub(crate) fn letter_of(class: Class) -> Option<u8>
     }
 }
 
+/// Whether a class is that of an explicit formatting character, or another whose letter is still to be asked.
+#[inline(always)]
+fn may_have_letter(class: Class) -> bool
+    ensures { result ≡ false → letter_of class ≡ None }
+{
+    matches!(
+        class,
+        Class::LRE
+            | Class::RLE
+            | Class::LRO
+            | Class::RLO
+            | Class::PDF
+            | Class::LRI
+            | Class::RLI
+            | Class::FSI
+            | Class::PDI
+    )
+}
+
+/// The letter of an explicit formatting character, with a short test for the many classes that have none.
+#[inline(always)]
+pub(crate) fn letter_if_any(class: Class) -> Option<u8>
+    ensures { result ≡ letter_of class }
+{
+    if may_have_letter(class) {
+        letter_of(class)
+    } else {
+        None
+    }
+}
+
+/// The face of a character of few columns, one of them mostly.
+#[inline(always)]
+pub(crate) fn small_face(w: u16, columns: u8) -> Face
+    ensures { result ≡ sized_face w columns }
+{
+    if columns == 1 && w > 0 {
+        return Face::Own(1);
+    }
+    sized_face(w, usize::from(columns))
+}
+
 /// The face of a text of these columns that is neither a tab nor a control nor a formatting character.
-#[inline]
 pub(crate) fn sized_face(w: u16, columns: usize) -> Face
     ensures { result ≡ sized_face w columns }
 {
