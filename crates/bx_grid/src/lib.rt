@@ -53,6 +53,3 @@ pub fn pictures_differ_in_whole_glyphs()
     ensures differing { (p q : PictureState) → IsPicture p → IsPicture q → p.height ≡ q.height → p.width ≡ q.width
         → DifferInWholeGlyphs p.columns q.columns × DifferInWholeGlyphs q.columns p.columns }
 {}
-
-#[cfg(test)]
-mod tests;

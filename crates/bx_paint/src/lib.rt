@@ -7,6 +7,3 @@ mod writing;
 
 pub use error::PaintError;
 pub use painting::{changes, whole};
-
-#[cfg(test)]
-mod tests;

@@ -18,6 +18,3 @@ pub use error::{OpenError, Refused};
 pub use running::{run, run_within};
 pub use session::Session;
 pub use status::Status;
-
-#[cfg(test)]
-mod tests;

@@ -11,9 +11,13 @@ mod explicit;
 #[cfg(test)]
 mod files;
 #[cfg(test)]
+mod grid;
+#[cfg(test)]
 mod keys;
 #[cfg(test)]
 mod levels;
+#[cfg(test)]
+mod painting;
 #[cfg(test)]
 mod paragraphs;
 #[cfg(test)]
@@ -21,4 +25,8 @@ mod pieces;
 #[cfg(test)]
 mod rows;
 #[cfg(test)]
+mod session;
+#[cfg(test)]
 mod text;
+#[cfg(test)]
+mod utf8;

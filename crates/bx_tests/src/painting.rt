@@ -1,26 +1,10 @@
 //! What is sent for small pictures, and what a screen shows that reads it.
 
-ghost use Rattle.std.specs.Prelude.{◌≡◌, OnOk};
-ghost use Rattle.bx_grid.specs.Picture.{IsWithin};
-
-use crate::{changes, whole};
+use crate::grid::put;
 use bx_grid::{Cell, Grid, Picture, Screen};
-use bx_terms::{is_glyph, run_width};
+use bx_paint::{changes, whole};
 use std::alloc::Global;
 use std::test::Fail;
-
-/// Puts a glyph. Whether the text is one, with room for it, is asked when the test runs, so that no proof computes widths.
-fn put(grid: &mut Grid, cell: Cell, text: &str, negative: bool) -> Result<(), Fail>
-    requires { IsWithin grid.old.height grid.old.width cell.line cell.column }
-    ensures height { OnOk result (grid.new.height ≡ grid.old.height) }
-    ensures width { OnOk result (grid.new.width ≡ grid.old.width) }
-{
-    if !is_glyph(text) || !grid.has_room(cell, run_width(text)) {
-        return Err(Fail::new("no glyph, or no room for it"));
-    }
-    grid.put(cell, text, negative)?;
-    Ok(())
-}
 
 /// Whether these bytes are a picture's whole painting.
 fn is_whole(alloc: Global, picture: &Picture, bytes: &[u8]) -> Result<bool, Fail> {

@@ -3,13 +3,13 @@
 ghost use Rattle.std.specs.Prelude.{◌≡◌, OnOk};
 ghost use Rattle.bx_grid.specs.Picture.{IsWithin};
 
-use crate::{Cell, Column, GlyphText, Grid, GridError, Picture, Screen};
+use bx_grid::{Cell, Column, GlyphText, Grid, GridError, Picture, Screen};
 use bx_terms::{ascii_glyph, is_glyph, run_width};
 use std::alloc::Global;
 use std::test::Fail;
 
 /// Puts a glyph. Whether the text is one, with room for it, is asked when the test runs, so that no proof computes widths.
-fn put(grid: &mut Grid, cell: Cell, text: &str, negative: bool) -> Result<(), Fail>
+pub(crate) fn put(grid: &mut Grid, cell: Cell, text: &str, negative: bool) -> Result<(), Fail>
     requires { IsWithin grid.old.height grid.old.width cell.line cell.column }
     ensures height { OnOk result (grid.new.height ≡ grid.old.height) }
     ensures width { OnOk result (grid.new.width ≡ grid.old.width) }

@@ -1,6 +1,6 @@
 //! Worked rows: files, keys and the bytes that they append.
 
-use crate::{End, OpenError, RunFault, Session, Status, run, run_within};
+use bx_session::{End, OpenError, RunFault, Session, Status, run, run_within};
 use std::io::{self, ErrorKind, Read, Write};
 use std::process::Abort;
 use std::test::Fail;
