@@ -150,3 +150,8 @@ fn push_key(keys: &mut Vec<Key>, key: Option<Key>) -> Result<(), AllocError>
         None => Ok(()),
     }
 }
+
+#[cfg(test)]
+mod tests;
+#[cfg(test)]
+mod vectors;

@@ -13,8 +13,6 @@ mod files;
 #[cfg(test)]
 mod grid;
 #[cfg(test)]
-mod keys;
-#[cfg(test)]
 mod levels;
 #[cfg(test)]
 mod painting;

@@ -1,13 +1,9 @@
-//! Keys: outside values, and each call with ample memory.
 ghost use Rattle.std.specs.Prelude.{◌<◌, IfSome};
 
-mod vectors;
-
-use bx_keys::{Decoder, Key};
-use std::alloc::{AllocError, Global};
+use super::vectors::VECTORS;
+use super::*;
 use std::process::Abort;
 use std::test::Fail;
-use vectors::VECTORS;
 
 /// The keys of the input, in words, and the bytes that wait.
 fn decoded(alloc: Global, input: &[u8]) -> Result<(String, Vec<u8>), Fail> {
