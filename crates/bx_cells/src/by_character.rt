@@ -12,7 +12,7 @@ use bx_ucd::BidiData;
 use std::alloc::AllocError;
 
 /// The first character of a text, and the text behind it.
-#[inline]
+#[inline(always)]
 pub(crate) fn first_char(text: &str) -> Option<(char, &str)>
     ensures { MatchOption result (length text.now ≡ 0) (λ (c, rest). (text.now ≡ encode_utf8 c ++ rest.now) × (length rest.now < length text.now)) }
 {
@@ -24,7 +24,7 @@ pub(crate) fn first_char(text: &str) -> Option<(char, &str)>
 }
 
 /// The face of a cluster that begins with a character of these columns, with marks behind it or alone.
-#[inline]
+#[inline(always)]
 pub fn simple_face<D: BidiData>(
     first: char,
     columns: u8,

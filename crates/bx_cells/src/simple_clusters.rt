@@ -17,7 +17,7 @@ pub struct SimpleCluster {
 }
 
 /// The cluster that begins at an offset of a body, where its characters tell it. An answer of none tells nothing.
-#[inline]
+#[inline(always)]
 pub fn simple_cluster(body: &str, at: usize) -> Option<SimpleCluster>
     requires { IsCharBoundary body.now at }
     ensures { IfSome result (λ s. IsSimpleAt body.now at s) }

@@ -47,7 +47,7 @@ pub(crate) fn new_scan(start: RowStart) -> Scan
 }
 
 /// Whether a face fits at a column.
-#[inline]
+#[inline(always)]
 fn fits(columns: u16, face: Face, w: u16) -> bool
     requires { columns ≤ w }
     ensures { result ≡ (nat_lt columns w && nat_le (columns + columns_at w columns face) w) }
@@ -71,7 +71,7 @@ fn start_behind(body: &str, before: RowStart, offset: usize, units: usize) -> Ro
 }
 
 /// The row with one more unit, which fits.
-#[inline]
+#[inline(always)]
 fn advance(scan: Scan, unit: Extent, body: &str, w: u16) -> Scan
     requires placed { IsPlaced w body.now scan unit.start }
     requires grows { unit.start < unit.stop }
@@ -173,8 +173,31 @@ fn behind_break(scan: Scan, body: &str) -> Scan
     }
 }
 
-/// Reads a unit: where it does not fit, the row ends at its last break, else before the unit.
-#[inline]
+/// Reads a unit that does not fit: the row ends at its last break, else before the unit.
+fn turn(
+    starts: &mut Vec<RowStart>,
+    scan: Scan,
+    unit: Extent,
+    body: &str,
+    w: u16,
+) -> Result<Scan, AllocError>
+    requires placed { IsPlaced w body.now scan unit.start }
+    requires grows { unit.start < unit.stop }
+    requires start { IsCharBoundary body.now unit.start }
+    requires stop { IsCharBoundary body.now unit.stop }
+    requires full { (nat_lt scan.columns w && nat_le (scan.columns + columns_at w scan.columns unit.face) w) ≡ false }
+    ensures placed { IfOk result (λ t. IsPlaced w body.now t unit.stop) }
+    ensures takes { IfOk result (λ t. Takes w body.now unit starts.old.items scan starts.new.items t) }
+{
+    if scan.last == 0 {
+        return take_unbroken(starts, scan, unit, body, w);
+    }
+    starts.push(scan.start)?;
+    take_unbroken(starts, behind_break(scan, body), unit, body, w)
+}
+
+/// Reads a unit.
+#[inline(always)]
 pub(crate) fn take_unit(
     starts: &mut Vec<RowStart>,
     scan: Scan,
@@ -192,9 +215,5 @@ pub(crate) fn take_unit(
     if fits(scan.columns, unit.face, w) {
         return Ok(advance(scan, unit, body, w));
     }
-    if scan.last == 0 {
-        return take_unbroken(starts, scan, unit, body, w);
-    }
-    starts.push(scan.start)?;
-    take_unbroken(starts, behind_break(scan, body), unit, body, w)
+    turn(starts, scan, unit, body, w)
 }

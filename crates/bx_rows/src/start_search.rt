@@ -24,7 +24,7 @@ pub struct RowStart {
 }
 
 /// A face of as many columns as a simple cluster has. Where the characters have one column it has one, whatever the class.
-#[inline]
+#[inline(always)]
 fn sized_as<D: BidiData>(cluster: SimpleCluster, source: &D, w: u16) -> Face
     requires { own_columns cluster.first ≡ cluster.columns }
     ensures { (c : ℕ) → columns_at w c (simple_face (D.class_of source.now) w cluster.first cluster.is_marked) ≡ columns_at w c result }
@@ -36,7 +36,7 @@ fn sized_as<D: BidiData>(cluster: SimpleCluster, source: &D, w: u16) -> Face
 }
 
 /// Whether a row may end after a simple cluster.
-#[inline]
+#[inline(always)]
 fn is_blank_cluster<D: BidiData>(cluster: SimpleCluster, source: &D) -> bool
     ensures { result ≡ is_one_blank (D.class_of source.now) (cond cluster.is_marked None (Some cluster.first)) }
 {
@@ -47,7 +47,7 @@ fn is_blank_cluster<D: BidiData>(cluster: SimpleCluster, source: &D) -> bool
 }
 
 /// The unit that begins at an offset, as far as rows ask for it.
-#[inline]
+#[inline(always)]
 fn extent<D: BidiData>(body: &str, at: usize, source: &D, w: u16) -> Extent
     requires start { IsCharBoundary body.now at }
     requires some { at < length body.now }

@@ -11,6 +11,7 @@ use bx_ucd::{BidiData, Class};
 use std::alloc::{AllocError, Global};
 
 /// The columns of a face that begins at column `c`, counted from 0.
+#[inline]
 pub(crate) fn columns_at(w: u16, c: u16, face: Face) -> u16
     requires { c ≤ w }
     ensures { result ≡ columns_at w c face }
@@ -45,6 +46,7 @@ fn fitting(units: &[Unit], w: u16) -> usize
 }
 
 /// Whether a row may end after a character of a class.
+#[inline]
 pub(crate) fn is_blank(class: Class) -> bool
     ensures { result ≡ is_blank class }
 {

@@ -1,5 +1,8 @@
 //! Each call with ample memory, on small bodies.
-use bx_cells::{Face, Unit, face, is_printable, is_simple_within, units};
+use bx_cells::{
+    Face, SimpleCluster, Unit, face, is_printable, is_simple_within, ruled_unit, simple_cluster,
+    units,
+};
 use bx_ucd::Tables;
 use std::test::Fail;
 
@@ -67,5 +70,24 @@ fn texts_that_fit(rt: HostRuntime) -> Result<(), Fail> {
     assert_eq!(rt; is_simple_within("\u{5e9}\u{5b8}\u{5dc}", 2), true);
     assert_eq!(rt; is_simple_within("\u{5e9}\u{5b8}\u{5dc}", 1), false);
     assert_eq!(rt; is_simple_within("\u{4e16}", 2), true);
+    Ok(())
+}
+
+#[test]
+fn clusters_one_by_one(rt: HostRuntime) -> Result<(), Fail> {
+    let wanted = SimpleCluster {
+        first: 'e',
+        columns: 1,
+        is_marked: true,
+        stop: 3,
+    };
+    assert_eq!(rt; simple_cluster("e\u{301}x", 0), Some(wanted));
+    let tables = Tables::read(rt.alloc(), CLASSES.as_bytes(), b"", b"")?;
+    let flag = Unit {
+        start: 0,
+        stop: 8,
+        face: Face::Own(2),
+    };
+    assert_eq!(rt; ruled_unit("\u{1f1e9}\u{1f1ea}", 0, &tables, 80), flag);
     Ok(())
 }

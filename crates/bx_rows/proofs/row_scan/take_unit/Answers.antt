@@ -1,23 +1,4 @@
-use Rattle.std.proofs.Common.{ℕ, zero, suc, ◌≡◌, ◌<◌, length, take, chars, refl, sym, subst, ◌∙◌, arith}
-use Rattle.std.proofs.lemmas.Result.{IfOk-weaker}
-use Rattle.bx_rows.specs.RowScan.{Takes}
-use Rattle.bx_rows.proofs.RowReads.{takes-at-break}
 use Rattle.bx_rows.proofs.row_scan.take_unit.Goals as goal
-
-some-if : (n : ℕ) → (n ≡ 0 → ⊥) → 0 < n
-some-if zero h = absurd (h refl)
-some-if (suc n) h = omega arith
 
 pub returns-then-fits-clause-takes : goal.returns-then-fits-clause-takes
 returns-then-fits-clause-takes c = c.advance.ensures.takes c.args.starts.now.items
-
-pub returns-clause-takes : goal.returns-clause-takes
-returns-clause-takes c =
-    let body = c.args.body.now in
-    let new = c.push.new.self.items in
-    let last = c.take_unbroken-2.new.starts.items in
-    IfOk-weaker c.take_unbroken-2.result (λ t. Takes c.args.w body c.args.unit new c.behind_break.result last t) (λ t. Takes c.args.w body c.args.unit c.args.starts.now.items c.args.scan last t)
-    (λ t h. takes-at-break c.args.w body c.args.unit c.args.starts.now.items c.args.scan new last (length (chars (take c.args.scan.next body))) t
-    (sym c.fits.ensures ∙ c.if-fits.false) (some-if c.args.scan.last c.if-scan-eq0.false) refl c.in_ok-push.ensures.items
-    (subst (λ s. Takes c.args.w body c.args.unit new s last t) c.behind_break.ensures h))
-    c.take_unbroken-2.ensures.takes
