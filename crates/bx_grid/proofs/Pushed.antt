@@ -1,14 +1,14 @@
 -- One more byte in a sequence, and one more digit of a number.
-use Rattle.std.proofs.Common.{◌≡◌, ℕ, ◌+◌, ◌*◌, ◌-◌, ◌<◌, ◌≤◌, ◌⊎◌, Bool, true, false, min, List, [], ◌∷◌, ◌++◌, length, take, get_or, None, inl, inr, refl, arith, zero, suc}
+use Rattle.std.proofs.Common.{◌≡◌, ℕ, ◌+◌, ◌*◌, ◌-◌, ◌<◌, ◌≤◌, ◌⊎◌, Bool, true, false, min, List, [], ◌∷◌, ◌++◌, length, take, get_or, None, inl, inr, refl, ap, sym, ◌∙◌, arith, zero, suc}
 use Rattle.std.specs.List.{list_all}
 use Rattle.std.specs.Str.{all_ascii_digits}
 use Rattle.std.specs.Char.{is_ascii_digit}
 use Rattle.std.specs.Str.Parse.{digits_value}
 use Rattle.std.proofs.lemmas.Bool.Decides.{nat_tests}
-use Rattle.std.proofs.lemmas.List.{take_more}
+use Rattle.std.proofs.lemmas.List.{take_all, take_more}
 use Rattle.std.proofs.lemmas.Int.Digits.{digits_value_more}
 use Rattle.std.proofs.lemmas.Str.{digit_value_digit}
-use Rattle.std.proofs.Math.Bool.{and-false}
+use Rattle.std.proofs.Math.Bool.{and-false, and-true}
 use Rattle.bx_grid.proofs.Reading.{and_left, and_right}
 use Rattle.bx_grid.specs.Tokens.{is_param, is_intermediate, is_final, after_params, after_intermediates, final_fate, number}
 use Rattle.bx_bytes.specs.declared.fate.Fate.TheVariants.{Ends, Breaks}
@@ -62,6 +62,34 @@ ends (x ∷ rest) b h e (inr n) =
     params_rest (λ ys. after_intermediates ys ≡ b ∷ []) (is_param x) x (rest ++ b ∷ []) refl
     (λ goes. ends rest b (rw goes at h) e (inr (rw goes at n)))
     (λ stops. inter_ends (x ∷ rest) b (rw stops at h) e)
+
+-- the last of bytes that are all intermediate is no parameter
+no_param : (xs : List ℕ) (b : ℕ) → after_intermediates (xs ++ b ∷ []) ≡ [] → is_param b ≡ false
+no_param [] b h =
+    let r = inter_rest (is_intermediate b) b [] refl h in
+    let e : is_intermediate b ≡ true = r.0 in
+    grind (arith, nat_tests)
+no_param (x ∷ xs) b h =
+    let r = inter_rest (is_intermediate x) x (xs ++ b ∷ []) refl h in no_param xs b r.1
+
+-- ---- the last byte tells whether all are parameters
+
+push_by : (t : Bool) (x b : ℕ) (xs : List ℕ) → is_param x ≡ t → (after_intermediates (after_params (xs ++ b ∷ [])) ≡ [] → list_all is_param (xs ++ b ∷ []) ≡ is_param b)
+    → after_intermediates (after_params (x ∷ xs ++ b ∷ [])) ≡ [] → list_all is_param (x ∷ xs ++ b ∷ []) ≡ is_param b
+push_by true x b xs e more h = rw e (more (rw e at h))
+push_by false x b xs e more h = rw e (sym (no_param (x ∷ xs) b (rw e at h)))
+
+pub params_told : (xs : List ℕ) (b : ℕ) → after_intermediates (after_params (xs ++ b ∷ [])) ≡ [] → list_all is_param (xs ++ b ∷ []) ≡ is_param b
+params_told [] b h = and-true (is_param b)
+params_told (x ∷ xs) b h = push_by (is_param x) x b xs refl (params_told xs b) h
+
+pub params_at : (body : List ℕ) (r : Bool) → 0 < length body → after_intermediates (after_params body) ≡ [] → r ≡ is_param (get_or body (length body - 1) 0) → r ≡ list_all is_param body
+params_at body r some h e =
+    let n = length body - 1 in
+    let split : take n body ++ get_or body n 0 ∷ [] ≡ body = sym (take_more body n 0 (omega arith)) ∙ take_all (n + 1) body (omega arith) in
+    e
+    ∙ sym (params_told (take n body) (get_or body n 0) (ap (λ xs. after_intermediates (after_params xs)) split ∙ h))
+    ∙ ap (list_all is_param) split
 
 -- ---- what the code answers
 

@@ -37,10 +37,15 @@ fn last(byte: u8) -> bool
     0x40 <= byte && byte <= 0x7E
 }
 
-fn all_params(body: &[u8]) -> bool
+/// Whether all these bytes, after which a final byte may come, are parameters: the last one tells it.
+fn are_params(body: &[u8]) -> bool
+    requires { after_intermediates (after_params body.now) ≡ [] }
     ensures { result ≡ list_all is_param body.now }
 {
-    body.iter().all(|b| param(*b))
+    match body {
+        [] => true,
+        [.., last] => param(*last),
+    }
 }
 
 /// After what stands between the start of a sequence and the byte.
@@ -52,7 +57,7 @@ fn fate_in_sequence(body: &[u8], byte: u8) -> Fate
         Fate::Ends
     } else if intermediate(byte) {
         Fate::Waits
-    } else if param(byte) && all_params(body) {
+    } else if param(byte) && are_params(body) {
         Fate::Waits
     } else {
         Fate::Breaks
