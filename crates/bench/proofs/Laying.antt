@@ -34,7 +34,8 @@ room_laid g line column count wide in_row h =
       blank = rw at (ap (take count) h.blank ∙ take-replicate count (length g.columns - k) blank few);
     }
 
-pub laid_on : (line column width count : ℕ) (columns news : List Col) → IsInside line column count → width ≡ 80 → length news ≡ count → IsLaid line column columns
+pub laid_on : (line column width count : ℕ) (columns news : List Col) → IsInside line column count → width ≡ 80 → length news ≡ count
+    → IsLaid line column columns
     → IsLaid line (column + count) (paste columns ((line - 1) * width + (column - 1)) news)
 laid_on line column width count columns news in_row wide len h =
     let k = (line - 1) * 80 + (column - 1) in

@@ -69,7 +69,8 @@ pub missed_push : (missed : List (Option ℕ)) (os : List (ℕ × ℕ)) (j close
 missed_push missed os j closer a k c e = push_by missed os j closer k c (k == (closer % 31)) refl a e
 
 -- a closer meets none
-miss_by : (missed : List (Option ℕ)) (os : List (ℕ × ℕ)) (closer k c : ℕ) (b : Bool) → (k == (closer % 31)) ≡ b → AreMissed missed os → find (is_for closer) os ≡ None
+miss_by : (missed : List (Option ℕ)) (os : List (ℕ × ℕ)) (closer k c : ℕ) (b : Bool) → (k == (closer % 31)) ≡ b → AreMissed missed os
+    → find (is_for closer) os ≡ None
     → get_or (set missed (closer % 31) (Some closer)) k None ≡ Some c → (c % 31 ≡ k) × (find (is_for c) os ≡ None)
 miss_by missed os closer k c true s a n e =
     let same : k ≡ closer % 31 = eqb-true k (closer % 31) s in

@@ -1,6 +1,7 @@
 //! Bracket pairs (BD14 to BD16).
 ghost use Rattle.std.specs.Prelude.{◌≡◌, ℕ, ◌<◌, ◌≤◌, drop, All, IfOk, OnOk, IfSome, length, List, [], ◌∷◌, reverse, take, not, nat_lt, find, filter};
-ghost use Rattle.bx_brackets.specs.Search.{AreMissed, below_first, opener_at, is_for, place_of, left_by, ends_search, open_after, with_closer, slots_after, is_closed, is_opener, pairs_from, IsFalling};
+ghost use Rattle.bx_brackets.specs.Search.{AreMissed, below_first, opener_at, is_for, place_of, left_by, ends_search, open_after, with_closer, slots_after};
+ghost use Rattle.bx_brackets.specs.Search.{is_closed, is_opener, pairs_from, IsFalling};
 ghost use Rattle.bx_brackets.specs.Resolve.{IsPairWithin};
 ghost use Rattle.bx_brackets.specs.Search.{IsSlotWithin};
 ghost use Rattle.bx_brackets.specs.Pairs.{bracket_room, canonical, bracket_at, pairs};

@@ -3,7 +3,8 @@ ghost use Rattle.std.specs.Prelude.{◌≡◌, ◌+◌, ◌-◌, ◌<◌, ◌≤
 ghost use Rattle.std.specs.List.{list_any};
 ghost use Rattle.bx_ucd.specs.Class.{direction};
 ghost use Rattle.bx_brackets.specs.Clear.{IsClear, AreClear, AreSameFrom, between, clear_after};
-ghost use Rattle.bx_brackets.specs.Resolve.{opposite, is_left, is_right, counts_as, nearest, pair_direction, change_bracket, resolve_in, context_of, resolve_pairs, IsPairWithin};
+ghost use Rattle.bx_brackets.specs.Resolve.{opposite, is_left, is_right, counts_as, nearest, pair_direction, change_bracket, resolve_in, context_of};
+ghost use Rattle.bx_brackets.specs.Resolve.{resolve_pairs, IsPairWithin};
 
 use bx_ucd::Class;
 use bx_ucd::class::direction;

@@ -71,7 +71,8 @@ pub stays-extend : (c : ℕ) → extends_conjunct (indic_conjunct_break c) ≡ t
 stays-extend c h = implied (extends_conjunct (indic_conjunct_break c)) (stays (grapheme_cluster_break c)) (extend_stays_pass c) h
 
 -- one that breaks is no part of a conjunct, and no pictograph
-pub ends-breaking : (c : ℕ) → is_breaking (grapheme_cluster_break c) ≡ true → (is_no_part (indic_conjunct_break c) ≡ true) × (is_extended_pictographic c ≡ false)
+pub ends-breaking : (c : ℕ) → is_breaking (grapheme_cluster_break c) ≡ true
+    → (is_no_part (indic_conjunct_break c) ≡ true) × (is_extended_pictographic c ≡ false)
 ends-breaking c h =
     let p = and_parts (is_no_part (indic_conjunct_break c)) (not (is_extended_pictographic c))
     (implied (is_breaking (grapheme_cluster_break c)) (is_no_part (indic_conjunct_break c) && not (is_extended_pictographic c)) (breaking_ends_pass c) h) in

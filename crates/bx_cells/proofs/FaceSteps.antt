@@ -21,7 +21,8 @@ abbrev pub by_tab : Face → Bool → Face
 by_tab other true = Tab
 by_tab other false = other
 
-pub steps : (class : ℕ → Class) (w : ℕ) (cs : List ℕ) (t k : Bool) (l : Option ℕ) → is_tab (only_char cs) ≡ t → list_any is_control cs ≡ k → format_letter class (only_char cs) ≡ l → face_of class w cs ≡ by_tab (by_control (by_letter (sized_face w (columns_of cs)) l) k) t
+pub steps : (class : ℕ → Class) (w : ℕ) (cs : List ℕ) (t k : Bool) (l : Option ℕ) → is_tab (only_char cs) ≡ t → list_any is_control cs ≡ k
+    → format_letter class (only_char cs) ≡ l → face_of class w cs ≡ by_tab (by_control (by_letter (sized_face w (columns_of cs)) l) k) t
 steps class w cs t k l d e f =
     ap (λ x. by_tab (by_control (by_letter (sized_face w (columns_of cs)) (format_letter class (only_char cs))) (list_any is_control cs)) x) d
     ∙ ap (λ x. by_tab (by_control (by_letter (sized_face w (columns_of cs)) (format_letter class (only_char cs))) x) t) e
@@ -30,13 +31,16 @@ steps class w cs t k l d e f =
 pub of_tab : (class : ℕ → Class) (w : ℕ) (cluster : List ℕ) → is_tab (only_char (chars cluster)) ≡ true → face class w cluster ≡ Tab
 of_tab class w cluster d = steps class w (chars cluster) true _ _ d refl refl
 
-pub of_control : (class : ℕ → Class) (w : ℕ) (cluster : List ℕ) → is_tab (only_char (chars cluster)) ≡ false → list_any is_control (chars cluster) ≡ true → face class w cluster ≡ Mark 63
+pub of_control : (class : ℕ → Class) (w : ℕ) (cluster : List ℕ) → is_tab (only_char (chars cluster)) ≡ false → list_any is_control (chars cluster) ≡ true
+    → face class w cluster ≡ Mark 63
 of_control class w cluster d e = steps class w (chars cluster) false true _ d e refl
 
-pub of_format : (class : ℕ → Class) (w : ℕ) (cluster : List ℕ) (letter : ℕ) → is_tab (only_char (chars cluster)) ≡ false → list_any is_control (chars cluster) ≡ false → format_letter class (only_char (chars cluster)) ≡ Some letter → face class w cluster ≡ Mark letter
+pub of_format : (class : ℕ → Class) (w : ℕ) (cluster : List ℕ) (letter : ℕ) → is_tab (only_char (chars cluster)) ≡ false
+    → list_any is_control (chars cluster) ≡ false → format_letter class (only_char (chars cluster)) ≡ Some letter → face class w cluster ≡ Mark letter
 of_format class w cluster letter d e f = steps class w (chars cluster) false false (Some letter) d e f
 
-pub of_sized : (class : ℕ → Class) (w : ℕ) (cluster : List ℕ) → is_tab (only_char (chars cluster)) ≡ false → list_any is_control (chars cluster) ≡ false → format_letter class (only_char (chars cluster)) ≡ None → face class w cluster ≡ sized_face w (columns_of (chars cluster))
+pub of_sized : (class : ℕ → Class) (w : ℕ) (cluster : List ℕ) → is_tab (only_char (chars cluster)) ≡ false → list_any is_control (chars cluster) ≡ false
+    → format_letter class (only_char (chars cluster)) ≡ None → face class w cluster ≡ sized_face w (columns_of (chars cluster))
 of_sized class w cluster d e f = steps class w (chars cluster) false false None d e f
 
 -- ---- the only character, by the first two steps over a text

@@ -1,5 +1,6 @@
 -- What stands before a break has no part in the breaks behind it, so the clusters of what is left are its own.
-use Rattle.std.proofs.Common.{◌≡◌, ℕ, Bool, true, false, not, ◌&&◌, ◌||◌, cond, List, [], ◌∷◌, ◌++◌, map, unwrap_or, refl, sym, ap, ap₂, ◌∙◌, true≢false, append-nil}
+use Rattle.std.proofs.Common.{◌≡◌, ℕ, Bool, true, false, not, ◌&&◌, ◌||◌, cond, List, [], ◌∷◌, ◌++◌, map, unwrap_or, refl, sym, ap, ap₂, ◌∙◌, true≢false}
+use Rattle.std.proofs.Common.{append-nil}
 use Rattle.std.specs.List.{concat}
 use Rattle.std.specs.Bool.{⊤}
 use Rattle.std.proofs.lemmas.Bool.{and_parts, or_left, or_right}
@@ -10,7 +11,8 @@ use Rattle.ucd_derived.specs.IndicConjunctBreak.{indic_conjunct_break}
 use Rattle.ucd_derived.specs.declared.IndicConjunctBreak.{IndicConjunctBreak}
 use Rattle.ucd_derived.specs.declared.IndicConjunctBreak.TheVariants as InCb
 use Rattle.ucd_emoji.specs.Binary.{is_extended_pictographic}
-use Rattle.unicode_segmentation.specs.Grapheme.{break_by_pair, ends_in_linker, is_consonant, joins_conjunct, is_extend, is_zwj, is_regional, ends_in_pictograph, joins_emoji, ends_in_half_flag, is_grapheme_break}
+use Rattle.unicode_segmentation.specs.Grapheme.{break_by_pair, ends_in_linker, is_consonant, joins_conjunct, is_extend, is_zwj, is_regional, ends_in_pictograph}
+use Rattle.unicode_segmentation.specs.Grapheme.{joins_emoji, ends_in_half_flag, is_grapheme_break}
 use Rattle.unicode_segmentation.specs.Segments.{prepend, cut}
 use Rattle.bx_cells.proofs.BreakTables.{is_breaking, stays, extends_conjunct, is_no_part, stays-extend, ends-breaking}
 
@@ -21,7 +23,8 @@ pub record IsAlike (last : ℕ) (b d : List ℕ) : Type 0 where
   pub pictograph : ends_in_pictograph (last ∷ b) ≡ ends_in_pictograph (last ∷ d)
   pub flag : ends_in_half_flag (last ∷ b) ≡ ends_in_half_flag (last ∷ d)
 
-linker_step : (v : IndicConjunctBreak) (vs ws : List IndicConjunctBreak) → (extends_conjunct v ≡ true → ends_in_linker vs ≡ ends_in_linker ws) → ends_in_linker (v ∷ vs) ≡ ends_in_linker (v ∷ ws)
+linker_step : (v : IndicConjunctBreak) (vs ws : List IndicConjunctBreak) → (extends_conjunct v ≡ true → ends_in_linker vs ≡ ends_in_linker ws)
+    → ends_in_linker (v ∷ vs) ≡ ends_in_linker (v ∷ ws)
 unfolding ends_in_linker
 linker_step InCb.Linker vs ws h = refl
 linker_step InCb.Extend vs ws h = h refl
@@ -48,17 +51,21 @@ breaks-alike : (last : ℕ) (b d after : List ℕ) → IsAlike last b d → is_g
 unfolding is_grapheme_break
 breaks-alike last b d [] h = refl
 breaks-alike last b d (next ∷ after) h =
-    let all : Bool → Bool → Bool → Bool = λ x y z. unwrap_or (break_by_pair true (grapheme_cluster_break last) (grapheme_cluster_break next)) (not ((true && (x && is_consonant (indic_conjunct_break next))) || (y && is_extended_pictographic next) || (z && is_regional (grapheme_cluster_break next)))) in
+    let all : Bool → Bool → Bool → Bool = λ x y z. unwrap_or (break_by_pair true (grapheme_cluster_break last) (grapheme_cluster_break next))
+    (not ((true && (x && is_consonant (indic_conjunct_break next))) || (y && is_extended_pictographic next) || (z && is_regional
+    (grapheme_cluster_break next)))) in
     ap (λ x. all x (is_zwj (grapheme_cluster_break last) && ends_in_pictograph b) (ends_in_half_flag (last ∷ b))) h.linker
     ∙ ap (λ y. all (ends_in_linker (map indic_conjunct_break (last ∷ d))) y (ends_in_half_flag (last ∷ b))) h.emoji
     ∙ ap (λ z. all (ends_in_linker (map indic_conjunct_break (last ∷ d))) (is_zwj (grapheme_cluster_break last) && ends_in_pictograph d) z) h.flag
 
-cut-alike : (last : ℕ) (b d cs after : List ℕ) → IsAlike last b d → cut (is_grapheme_break true) (last ∷ b) cs after ≡ cut (is_grapheme_break true) (last ∷ d) cs after
+cut-alike : (last : ℕ) (b d cs after : List ℕ) → IsAlike last b d
+    → cut (is_grapheme_break true) (last ∷ b) cs after ≡ cut (is_grapheme_break true) (last ∷ d) cs after
 unfolding cut
 cut-alike last b d [] after h = refl
 cut-alike last b d (c ∷ cs) after h =
     let more = IsAlike-more c last b d h in
-    ap₂ (λ t rest. cond t ((c ∷ []) ∷ rest) (prepend (c ∷ []) rest)) (breaks-alike c (last ∷ b) (last ∷ d) (cs ++ after) more) (cut-alike c (last ∷ b) (last ∷ d) cs after more)
+    ap₂ (λ t rest. cond t ((c ∷ []) ∷ rest) (prepend (c ∷ []) rest)) (breaks-alike c (last ∷ b) (last ∷ d) (cs ++ after) more)
+    (cut-alike c (last ∷ b) (last ∷ d) cs after more)
 
 -- ---- at a break
 
@@ -183,11 +190,14 @@ IsAlike-at_break p c before after e =
       linker = linker_step (indic_conjunct_break c) (map indic_conjunct_break (p ∷ before)) [] (λ x. (ends (stays-extend c x)).linker);
       emoji = and_same (is_zwj h) _ _ (λ z. (ends (or_right (is_extend h) (is_zwj h) z)).pictograph);
       pictograph = ap (λ x. is_extended_pictographic c || x) (and_same (is_extend h) _ _ (λ z. (ends (or_left (is_extend h) (is_zwj h) z)).pictograph));
-      flag = and_same (is_regional h) _ _ (λ r. ap not (no_half g h (true && joins_conjunct (p ∷ before) c) (joins_emoji (p ∷ before) c) half (regional_from_test h r) (λ f. regional_from_test g (and_parts (is_regional g) (not (ends_in_half_flag before)) f).0) e));
+      flag = and_same (is_regional h) _ _
+          (λ r. ap not (no_half g h (true && joins_conjunct (p ∷ before) c) (joins_emoji (p ∷ before) c) half (regional_from_test h r)
+          (λ f. regional_from_test g (and_parts (is_regional g) (not (ends_in_half_flag before)) f).0) e));
     }
 
 -- the characters behind a break are cut as a text of their own
-pub cut-own : (before : List ℕ) (c : ℕ) (cs : List ℕ) → is_grapheme_break true before (c ∷ cs) ≡ true → cut (is_grapheme_break true) before (c ∷ cs) [] ≡ cut (is_grapheme_break true) [] (c ∷ cs) []
+pub cut-own : (before : List ℕ) (c : ℕ) (cs : List ℕ) → is_grapheme_break true before (c ∷ cs) ≡ true
+    → cut (is_grapheme_break true) before (c ∷ cs) [] ≡ cut (is_grapheme_break true) [] (c ∷ cs) []
 unfolding cut
 cut-own [] c cs e = refl
 cut-own (p ∷ before) c cs e =
@@ -204,7 +214,8 @@ concat_step false c (p ∷ ps) = refl
 pub concat-own : (before cs : List ℕ) → concat (cut (is_grapheme_break true) before cs []) ≡ cs
 unfolding cut
 concat-own before [] = refl
-concat-own before (c ∷ cs) = concat_step (is_grapheme_break true (c ∷ before) (cs ++ [])) c (cut (is_grapheme_break true) (c ∷ before) cs []) ∙ ap (λ xs. c ∷ xs) (concat-own (c ∷ before) cs)
+concat-own before (c ∷ cs) = concat_step (is_grapheme_break true (c ∷ before) (cs ++ [])) c (cut (is_grapheme_break true) (c ∷ before) cs [])
+    ∙ ap (λ xs. c ∷ xs) (concat-own (c ∷ before) cs)
 
 -- the lists are the clusters of what they make up
 abbrev pub AreOwn : List (List ℕ) → Type 0
@@ -218,7 +229,8 @@ none_own : AreOwn []
 unfolding cut
 none_own = refl
 
-own_behind : (before : List ℕ) (c : ℕ) (cs : List ℕ) → is_grapheme_break true (c ∷ before) (cs ++ []) ≡ true → AreOwn (cut (is_grapheme_break true) (c ∷ before) cs [])
+own_behind : (before : List ℕ) (c : ℕ) (cs : List ℕ) → is_grapheme_break true (c ∷ before) (cs ++ []) ≡ true
+    → AreOwn (cut (is_grapheme_break true) (c ∷ before) cs [])
 unfolding cut
 own_behind before c [] e = none_own
 own_behind before c (d ∷ ds) e =
@@ -234,4 +246,5 @@ pub tails-own : (before cs : List ℕ) → TailsOwn (cut (is_grapheme_break true
 unfolding cut
 tails-own before [] = tt
 tails-own before (c ∷ cs) =
-    tails_step (is_grapheme_break true (c ∷ before) (cs ++ [])) c (cut (is_grapheme_break true) (c ∷ before) cs []) (own_behind before c cs) (tails-own (c ∷ before) cs)
+    tails_step (is_grapheme_break true (c ∷ before) (cs ++ [])) c (cut (is_grapheme_break true) (c ∷ before) cs []) (own_behind before c cs)
+    (tails-own (c ∷ before) cs)

@@ -1,5 +1,6 @@
 -- A cluster of simple characters that is read one by one: a character that begins, and marks.
-use Rattle.std.proofs.Common.{◌≡◌, ℕ, ◌+◌, ◌-◌, ◌<◌, ◌≤◌, Bool, true, false, ◌||◌, cond, List, [], ◌∷◌, ◌++◌, map, length, take, drop, slice_range, Option, Some, None, refl, sym, ap, ap₂, subst, ◌∙◌, arith, append_assoc, append-nil, length-append, encode_utf8, encode_utf8_all}
+use Rattle.std.proofs.Common.{◌≡◌, ℕ, ◌+◌, ◌-◌, ◌<◌, ◌≤◌, Bool, true, false, ◌||◌, cond, List, [], ◌∷◌, ◌++◌, map, length, take, drop, slice_range, Option}
+use Rattle.std.proofs.Common.{Some, None, refl, sym, ap, ap₂, subst, ◌∙◌, arith, append_assoc, append-nil, length-append, encode_utf8, encode_utf8_all}
 use Rattle.std.specs.List.{list_all, list_any}
 use Rattle.std.specs.Str.{chars, IsUtf8, IsCharBoundary, all_scalars}
 use Rattle.std.proofs.lemmas.Bool.{and_parts, and_from, or_left, or_right}
@@ -41,7 +42,8 @@ marks_no_control (m ∷ ms) h =
     let p = and_parts (is_mark m) (list_all is_mark ms) h in
     ap₂ (λ x y. x || y) (shown_no_control m (IsMark-from_test m p.0).shown) (marks_no_control ms p.1)
 
-only_of_marks : (class : ℕ → Class) (c : ℕ) (ms : List ℕ) → format_letter class (only_char (c ∷ ms)) ≡ format_letter class (cond (is_some_mark ms) None (Some c))
+only_of_marks : (class : ℕ → Class) (c : ℕ) (ms : List ℕ) → format_letter class (only_char (c ∷ ms))
+    ≡ format_letter class (cond (is_some_mark ms) None (Some c))
 only_of_marks class c [] = refl
 only_of_marks class c (m ∷ ms) = refl
 
@@ -53,7 +55,8 @@ by_letter_is : (f : Face) (l : Option ℕ) → by_letter f l ≡ elim l [ Some l
 by_letter_is f (Some letter) = refl
 by_letter_is f None = refl
 
-pub face-simple : (class : ℕ → Class) (w c : ℕ) (ms : List ℕ) → begins c ≡ true → list_all is_mark ms ≡ true → face_of class w (c ∷ ms) ≡ simple_face class w c (is_some_mark ms)
+pub face-simple : (class : ℕ → Class) (w c : ℕ) (ms : List ℕ) → begins c ≡ true → list_all is_mark ms ≡ true
+    → face_of class w (c ∷ ms) ≡ simple_face class w c (is_some_mark ms)
 face-simple class w c ms b h =
     let shown = (Begins-from_test c b).shown in
     let none = ap₂ (λ x y. x || y) (shown_no_control c shown) (marks_no_control ms h) in
@@ -69,7 +72,8 @@ mark_is_simple m h = or_right (begins m) (is_mark m) h
 begin_is_simple : (c : ℕ) → begins c ≡ true → is_simple c ≡ true
 begin_is_simple c h = or_left (begins c) (is_mark c) h
 
-cut_at_begin : (before : List ℕ) (c : ℕ) (ms : List ℕ) (d : ℕ) (ds : List ℕ) → is_simple c ≡ true → list_all is_mark ms ≡ true → begins d ≡ true → cut (is_grapheme_break true) before (c ∷ (ms ++ d ∷ ds)) [] ≡ (c ∷ ms) ∷ cut (is_grapheme_break true) [] (d ∷ ds) []
+cut_at_begin : (before : List ℕ) (c : ℕ) (ms : List ℕ) (d : ℕ) (ds : List ℕ) → is_simple c ≡ true → list_all is_mark ms ≡ true → begins d ≡ true
+    → cut (is_grapheme_break true) before (c ∷ (ms ++ d ∷ ds)) [] ≡ (c ∷ ms) ∷ cut (is_grapheme_break true) [] (d ∷ ds) []
 unfolding cut
 cut_at_begin before c [] d ds s h b =
     let t = breaks-simple c d before (ds ++ []) s (begin_is_simple d b) ∙ b in
@@ -80,7 +84,8 @@ cut_at_begin before c (m ∷ ms) d ds s h b =
     let t = breaks-simple c m before ((ms ++ d ∷ ds) ++ []) s (mark_is_simple m p.0) ∙ mark_begins_none m p.0 in
     ap₂ (λ x rest. cond x ((c ∷ []) ∷ rest) (prepend (c ∷ []) rest)) t (cut_at_begin (c ∷ before) m ms d ds (mark_is_simple m p.0) p.1 b)
 
-cut_at_end : (before : List ℕ) (c : ℕ) (ms : List ℕ) → is_simple c ≡ true → list_all is_mark ms ≡ true → cut (is_grapheme_break true) before (c ∷ ms) [] ≡ (c ∷ ms) ∷ []
+cut_at_end : (before : List ℕ) (c : ℕ) (ms : List ℕ) → is_simple c ≡ true → list_all is_mark ms ≡ true
+    → cut (is_grapheme_break true) before (c ∷ ms) [] ≡ (c ∷ ms) ∷ []
 unfolding cut is_grapheme_break
 cut_at_end before c [] s h = refl
 cut_at_end before c (m ∷ ms) s h =
@@ -99,17 +104,20 @@ pub record IsOpen (body : List ℕ) (start c : ℕ) (is_marked : Bool) (rest : L
   pub marked : is_marked ≡ is_some_mark marks
 
 pub open-first : (body : List ℕ) (start c : ℕ) (rest : List ℕ) → drop start body ≡ encode_utf8 c ++ rest → begins c ≡ true → IsOpen body start c false rest
-open-first body start c rest e b = record { marks = []; bytes = e ∙ ap (λ x. x ++ rest) (sym (append-nil (encode_utf8 c))); begin = b; all = refl; marked = refl }
+open-first body start c rest e b =
+    record { marks = []; bytes = e ∙ ap (λ x. x ++ rest) (sym (append-nil (encode_utf8 c))); begin = b; all = refl; marked = refl }
 
 all_push : (ms : List ℕ) (m : ℕ) → list_all is_mark ms ≡ true → is_mark m ≡ true → list_all is_mark (ms ++ m ∷ []) ≡ true
 all_push [] m h k = and_from (is_mark m) true k refl
-all_push (x ∷ ms) m h k = let p = and_parts (is_mark x) (list_all is_mark ms) h in and_from (is_mark x) (list_all is_mark (ms ++ m ∷ [])) p.0 (all_push ms m p.1 k)
+all_push (x ∷ ms) m h k = let p = and_parts (is_mark x) (list_all is_mark ms) h in and_from (is_mark x) (list_all is_mark (ms ++ m ∷ [])) p.0
+    (all_push ms m p.1 k)
 
 some_push : (ms : List ℕ) (m : ℕ) → is_some_mark (ms ++ m ∷ []) ≡ true
 some_push [] m = refl
 some_push (x ∷ ms) m = refl
 
-pub open-mark : (body : List ℕ) (start c : ℕ) (k : Bool) (rest : List ℕ) (m : ℕ) (more : List ℕ) → IsOpen body start c k rest → rest ≡ encode_utf8 m ++ more → is_mark m ≡ true → IsOpen body start c true more
+pub open-mark : (body : List ℕ) (start c : ℕ) (k : Bool) (rest : List ℕ) (m : ℕ) (more : List ℕ) → IsOpen body start c k rest → rest ≡ encode_utf8 m ++ more
+    → is_mark m ≡ true → IsOpen body start c true more
 open-mark body start c k rest m more o e h = record {
   marks = o.marks ++ m ∷ [];
   bytes = o.bytes ∙ ap (λ x. encode_utf8_all (c ∷ o.marks) ++ x) (e ∙ ap (λ x. x ++ more) (sym (append-nil (encode_utf8 m))))
@@ -139,7 +147,8 @@ module _ (body : List ℕ) (start c : ℕ) (k : Bool) (rest : List ℕ) (u : IsU
       let valid = scalars_front (c ∷ o.marks) (chars rest) (ap all_scalars (sym open-chars) ∙ scalars-chars (drop start body) (IsUtf8-drop body start u b)) in
       ap (face_of class w) (chars-encodes (c ∷ o.marks) valid) ∙ face-simple class w c o.marks o.begin o.all ∙ ap (simple_face class w c) (sym o.marked)
 
-  open-unit : (class : ℕ → Class) (w stop : ℕ) → stop + length rest ≡ length body → unit_at class w (start, encode_utf8_all (c ∷ o.marks)) ≡ open_unit class w start stop c k
+  open-unit : (class : ℕ → Class) (w stop : ℕ) → stop + length rest ≡ length body
+      → unit_at class w (start, encode_utf8_all (c ∷ o.marks)) ≡ open_unit class w start stop c k
   open-unit class w stop e = ap₂ (λ n f. record { start = start; stop = n; face = f }) (open-width stop e) (open-face class w)
 
   pub open-left : (stop : ℕ) → stop + length rest ≡ length body → drop stop body ≡ rest
@@ -156,7 +165,8 @@ module _ (body : List ℕ) (start c : ℕ) (k : Bool) (rest : List ℕ) (u : IsU
   open-after stop e = let width = open-width stop e in omega (arith, width)
 
   -- the next character begins: the cluster ends before it
-  pub open-next : (class : ℕ → Class) (w stop d : ℕ) (more : List ℕ) → stop + length rest ≡ length body → rest ≡ encode_utf8 d ++ more → begins d ≡ true → units_from class w body start ≡ open_unit class w start stop c k ∷ units_from class w body stop
+  pub open-next : (class : ℕ → Class) (w stop d : ℕ) (more : List ℕ) → stop + length rest ≡ length body → rest ≡ encode_utf8 d ++ more → begins d ≡ true
+      → units_from class w body start ≡ open_unit class w start stop c k ∷ units_from class w body stop
   unfolding segments with_offsets
   open-next class w stop d more e f begin =
       let R = is_grapheme_break true in
@@ -172,14 +182,16 @@ module _ (body : List ℕ) (start c : ℕ) (k : Bool) (rest : List ℕ) (u : IsU
       ∙ ap (λ x. open_unit class w start stop c k ∷ map (unit_at class w) (with_offsets stop (graphemes true x))) (sym (open-left stop e))
 
   -- nothing is left: the cluster ends with the body
-  pub open-last : (class : ℕ → Class) (w stop : ℕ) → stop ≡ length body → length rest ≡ 0 → units_from class w body start ≡ open_unit class w start stop c k ∷ []
+  pub open-last : (class : ℕ → Class) (w stop : ℕ) → stop ≡ length body → length rest ≡ 0
+      → units_from class w body start ≡ open_unit class w start stop c k ∷ []
   unfolding segments with_offsets
   open-last class w stop e z =
       let R = is_grapheme_break true in
       let none : rest ≡ [] = empty_from_length rest z in
       let whole : stop + length rest ≡ length body = omega (arith, e, z) in
       let clusters : graphemes true (drop start body) ≡ encode_utf8_all (c ∷ o.marks) ∷ [] =
-      ap (λ cs. map encode_utf8_all (cut R [] cs [])) (open-chars ∙ ap (λ x. c ∷ (o.marks ++ chars x)) none ∙ ap (λ x. c ∷ (o.marks ++ x)) chars-nil ∙ append-nil (c ∷ o.marks))
+      ap (λ cs. map encode_utf8_all (cut R [] cs [])) (open-chars ∙ ap (λ x. c ∷ (o.marks ++ chars x)) none ∙ ap (λ x. c ∷ (o.marks ++ x)) chars-nil
+      ∙ append-nil (c ∷ o.marks))
       ∙ ap (map encode_utf8_all) (cut_at_end [] c o.marks (begin_is_simple c o.begin) o.all) in
       ap (λ gs. map (unit_at class w) (with_offsets start gs)) clusters ∙ ap (λ x. x ∷ []) (open-unit class w stop whole)
 
@@ -192,13 +204,17 @@ module _ (body : List ℕ) (start c : ℕ) (k : Bool) (rest : List ℕ) (u : IsU
       ∙ ap (λ x. map (unit_at class w) (with_offsets stop (map encode_utf8_all (cut (is_grapheme_break true) [] x [])))) chars-nil
 
   -- its unit is added
-  pub unit-more : (class : ℕ → Class) (w stop d : ℕ) (more : List ℕ) (f : Face) (done new all : List Unit) → stop + length rest ≡ length body → rest ≡ encode_utf8 d ++ more → begins d ≡ true → f ≡ simple_face class w c k → new ≡ done ++ record { start = start; stop = stop; face = f } ∷ [] → done ++ units_from class w body start ≡ all → new ++ units_from class w body stop ≡ all
+  pub unit-more : (class : ℕ → Class) (w stop d : ℕ) (more : List ℕ) (f : Face) (done new all : List Unit) → stop + length rest ≡ length body
+      → rest ≡ encode_utf8 d ++ more → begins d ≡ true → f ≡ simple_face class w c k → new ≡ done ++ record { start = start; stop = stop; face = f } ∷ []
+      → done ++ units_from class w body start ≡ all → new ++ units_from class w body stop ≡ all
   unit-more class w stop d more f done new all e next begin face pushed inv =
       ap (λ x. x ++ units_from class w body stop) (pushed ∙ ap (λ x. done ++ record { start = start; stop = stop; face = x } ∷ []) face)
       ∙ append_assoc done (open_unit class w start stop c k ∷ []) (units_from class w body stop)
       ∙ ap (λ x. done ++ x) (sym (open-next class w stop d more e next begin)) ∙ inv
 
-  pub unit-last : (class : ℕ → Class) (w stop : ℕ) (f : Face) (done new all : List Unit) → stop ≡ length body → length rest ≡ 0 → f ≡ simple_face class w c k → new ≡ done ++ record { start = start; stop = stop; face = f } ∷ [] → done ++ units_from class w body start ≡ all → new ++ units_from class w body stop ≡ all
+  pub unit-last : (class : ℕ → Class) (w stop : ℕ) (f : Face) (done new all : List Unit) → stop ≡ length body → length rest ≡ 0 → f ≡ simple_face class w c k
+      → new ≡ done ++ record { start = start; stop = stop; face = f } ∷ [] → done ++ units_from class w body start ≡ all
+      → new ++ units_from class w body stop ≡ all
   unit-last class w stop f done new all e z face pushed inv =
       ap₂ (λ x y. x ++ y) (pushed ∙ ap (λ x. done ++ record { start = start; stop = stop; face = x } ∷ []) face) (open-none class w stop e z)
       ∙ append-nil (done ++ open_unit class w start stop c k ∷ [])
@@ -220,7 +236,8 @@ module _ (body : List ℕ) (start c : ℕ) (k : Bool) (rest : List ℕ) (u : IsU
       omega (arith, width, some, length-append (encode_utf8 c) (encode_utf8_all o.marks))
 
   -- a cluster that is read to its end
-  pub at-next : (stop d n : ℕ) (more : List ℕ) → stop + length rest ≡ length body → rest ≡ encode_utf8 d ++ more → begins d ≡ true → own_columns c ≡ n → IsSimpleAt body start (record { first = c; columns = n; is_marked = k; stop = stop })
+  pub at-next : (stop d n : ℕ) (more : List ℕ) → stop + length rest ≡ length body → rest ≡ encode_utf8 d ++ more → begins d ≡ true → own_columns c ≡ n
+      → IsSimpleAt body start (record { first = c; columns = n; is_marked = k; stop = stop })
   at-next stop d n more e f begin columns = record {
     units = λ class w. open-next class w stop d more e f begin;
     only = open-only stop e;
@@ -229,7 +246,8 @@ module _ (body : List ℕ) (start c : ℕ) (k : Bool) (rest : List ℕ) (u : IsU
     boundary = open-boundary stop e;
   }
 
-  pub at-last : (stop n : ℕ) → stop ≡ length body → length rest ≡ 0 → own_columns c ≡ n → IsSimpleAt body start (record { first = c; columns = n; is_marked = k; stop = stop })
+  pub at-last : (stop n : ℕ) → stop ≡ length body → length rest ≡ 0 → own_columns c ≡ n
+      → IsSimpleAt body start (record { first = c; columns = n; is_marked = k; stop = stop })
   at-last stop n e z columns =
       let whole : stop + length rest ≡ length body = omega (arith, e, z) in
       record {

@@ -1,5 +1,6 @@
 -- A body's clusters one after another: the first of what is left, and the units of what is left behind it.
-use Rattle.std.proofs.Common.{◌≡◌, ℕ, ◌+◌, ◌<◌, ◌≤◌, true, List, [], ◌∷◌, ◌++◌, map, length, drop, refl, sym, ap, ap₂, subst, ◌∙◌, arith, append_assoc, append-nil, length-append, encode_utf8, encode_utf8_all}
+use Rattle.std.proofs.Common.{◌≡◌, ℕ, ◌+◌, ◌<◌, ◌≤◌, true, List, [], ◌∷◌, ◌++◌, map, length, drop, refl, sym, ap, ap₂, subst, ◌∙◌, arith, append_assoc}
+use Rattle.std.proofs.Common.{append-nil, length-append, encode_utf8, encode_utf8_all}
 use Rattle.std.specs.List.{concat}
 use Rattle.std.specs.Str.{chars, IsUtf8, IsCharBoundary, all_scalars}
 use lib.Utf8.{scalar}
@@ -47,7 +48,8 @@ pub record IsFirst (bs p : List ℕ) (ps : List (List ℕ)) : Type 0 where
   pub utf8 : IsUtf8 (drop (length p) bs)
   pub own : ps ≡ graphemes true (drop (length p) bs)
 
-first_of : (gs : List (List ℕ)) (bs p : List ℕ) (ps : List (List ℕ)) → IsUtf8 bs → encode_utf8_all (concat gs) ≡ bs → TailsOwn gs → map encode_utf8_all gs ≡ p ∷ ps → IsFirst bs p ps
+first_of : (gs : List (List ℕ)) (bs p : List ℕ) (ps : List (List ℕ)) → IsUtf8 bs → encode_utf8_all (concat gs) ≡ bs → TailsOwn gs
+    → map encode_utf8_all gs ≡ p ∷ ps → IsFirst bs p ps
 unfolding segments
 first_of [] bs p ps u e t h = cc
 first_of (g ∷ gs) bs p ps u e t h =
@@ -88,7 +90,8 @@ pub record IsNext (class : ℕ → Class) (w : ℕ) (body : List ℕ) (at : ℕ)
   pub own : ps ≡ graphemes true (drop (at + length p) body)
   pub boundary : IsCharBoundary body (at + length p)
 
-pub next-cluster : (class : ℕ → Class) (w : ℕ) (body : List ℕ) (at : ℕ) (p : List ℕ) (ps : List (List ℕ)) → IsUtf8 body → IsCharBoundary body at → graphemes true (drop at body) ≡ p ∷ ps → IsNext class w body at p ps
+pub next-cluster : (class : ℕ → Class) (w : ℕ) (body : List ℕ) (at : ℕ) (p : List ℕ) (ps : List (List ℕ)) → IsUtf8 body → IsCharBoundary body at
+    → graphemes true (drop at body) ≡ p ∷ ps → IsNext class w body at p ps
 unfolding with_offsets
 next-cluster class w body at p ps u b h =
     let f = first-cluster (drop at body) p ps (IsUtf8-drop body at u b) h in
@@ -118,7 +121,9 @@ pub past-all : (body : List ℕ) (at : ℕ) → IsUtf8 body → IsCharBoundary b
 past-all body at u b h = omega (arith, ap length (no-cluster (drop at body) (IsUtf8-drop body at u b) h), length-drop at body)
 
 -- one more unit is added
-pub unit-added : (class : ℕ → Class) (w : ℕ) (body : List ℕ) (at : ℕ) (p : List ℕ) (ps : List (List ℕ)) (f : Face) (done new all : List Unit) → IsNext class w body at p ps → f ≡ face class w p → new ≡ done ++ record { start = at; stop = at + length p; face = f } ∷ [] → done ++ units_from class w body at ≡ all → new ++ units_from class w body (at + length p) ≡ all
+pub unit-added : (class : ℕ → Class) (w : ℕ) (body : List ℕ) (at : ℕ) (p : List ℕ) (ps : List (List ℕ)) (f : Face) (done new all : List Unit)
+    → IsNext class w body at p ps → f ≡ face class w p → new ≡ done ++ record { start = at; stop = at + length p; face = f } ∷ []
+    → done ++ units_from class w body at ≡ all → new ++ units_from class w body (at + length p) ≡ all
 unit-added class w body at p ps f done new all n e pushed inv =
     ap (λ x. x ++ units_from class w body (at + length p)) (pushed ∙ ap (λ x. done ++ record { start = at; stop = at + length p; face = x } ∷ []) e)
     ∙ append_assoc done (unit_at class w (at, p) ∷ []) (units_from class w body (at + length p))
@@ -133,5 +138,7 @@ pub cluster-grows : (body : List ℕ) (at : ℕ) (p : List ℕ) (ps : List (List
 cluster-grows body at p ps e = head_some (graphemes true (drop at body)) p ps (segments_nonempty (is_grapheme_break true) (drop at body)) e
 
 -- the unit of the next cluster, with its face
-pub unit-next : (class : ℕ → Class) (w : ℕ) (body : List ℕ) (at : ℕ) (p : List ℕ) (ps : List (List ℕ)) (f : Face) → IsNext class w body at p ps → f ≡ face class w p → units_from class w body at ≡ record { start = at; stop = at + length p; face = f } ∷ units_from class w body (at + length p)
-unit-next class w body at p ps f n e = n.units ∙ ap (λ x. record { start = at; stop = at + length p; face = x } ∷ units_from class w body (at + length p)) (sym e)
+pub unit-next : (class : ℕ → Class) (w : ℕ) (body : List ℕ) (at : ℕ) (p : List ℕ) (ps : List (List ℕ)) (f : Face) → IsNext class w body at p ps
+    → f ≡ face class w p → units_from class w body at ≡ record { start = at; stop = at + length p; face = f } ∷ units_from class w body (at + length p)
+unit-next class w body at p ps f n e = n.units
+    ∙ ap (λ x. record { start = at; stop = at + length p; face = x } ∷ units_from class w body (at + length p)) (sym e)

@@ -16,7 +16,10 @@ class_among [] c = L
 class_among (p ∷ ps) c = if c == p.0 then p.1 else class_among ps c
 
 abbrev class : ℕ → Class
-class = class_among ((0x202a, LRE) ∷ (0x202b, RLE) ∷ (0x202c, PDF) ∷ (0x202d, LRO) ∷ (0x202e, RLO) ∷ (0x2066, LRI) ∷ (0x2067, RLI) ∷ (0x2068, FSI) ∷ (0x2069, PDI) ∷ [])
+class = class_among ((0x202a, LRE) ∷ (0x202b, RLE) ∷ (0x202c, PDF) ∷ (0x202d, LRO) ∷ (0x202e, RLO) ∷ (0x2066, LRI) ∷ (0x2067, RLI) ∷ (0x2068, FSI) ∷ (
+  0x2069,
+  PDI,
+) ∷ [])
 
 abbrev of : ℕ → List ℕ → List Unit
 of w cs = units class w (encode_utf8_all cs)
@@ -39,7 +42,8 @@ unfolding unicode_segmentation unicode_width
 wider_than_the_window = refl
 
 -- U+0001, and a line feed after a carriage return: one cluster
-controls : of 4 (1 ∷ 13 ∷ 10 ∷ 0x7f ∷ 0x85 ∷ 0x2028 ∷ []) ≡ unit 0 1 (Mark 63) ∷ unit 1 3 (Mark 63) ∷ unit 3 4 (Mark 63) ∷ unit 4 6 (Mark 63) ∷ unit 6 9 (Mark 63) ∷ []
+controls : of 4 (1 ∷ 13 ∷ 10 ∷ 0x7f ∷ 0x85 ∷ 0x2028 ∷ [])
+    ≡ unit 0 1 (Mark 63) ∷ unit 1 3 (Mark 63) ∷ unit 3 4 (Mark 63) ∷ unit 4 6 (Mark 63) ∷ unit 6 9 (Mark 63) ∷ []
 unfolding unicode_segmentation unicode_width
 controls = refl
 
@@ -58,11 +62,14 @@ unfolding unicode_segmentation unicode_width
 letter_with_a_mark = refl
 
 -- two pairs of regional indicators, and three emoji joined by U+200D
-flags_and_a_family : of 4 (0x1f1e9 ∷ 0x1f1ea ∷ 0x1f1eb ∷ 0x1f1f7 ∷ 0x1f468 ∷ 0x200d ∷ 0x1f469 ∷ 0x200d ∷ 0x1f467 ∷ []) ≡ unit 0 8 (Own 2) ∷ unit 8 16 (Own 2) ∷ unit 16 34 (Own 2) ∷ []
+flags_and_a_family : of 4 (0x1f1e9 ∷ 0x1f1ea ∷ 0x1f1eb ∷ 0x1f1f7 ∷ 0x1f468 ∷ 0x200d ∷ 0x1f469 ∷ 0x200d ∷ 0x1f467 ∷ [])
+    ≡ unit 0 8 (Own 2) ∷ unit 8 16 (Own 2) ∷ unit 16 34 (Own 2) ∷ []
 unfolding unicode_segmentation unicode_width
 flags_and_a_family = refl
 
 -- the nine formatting characters
-formatting_characters : of 4 (0x202a ∷ 0x202b ∷ 0x202d ∷ 0x202e ∷ 0x202c ∷ 0x2066 ∷ 0x2067 ∷ 0x2068 ∷ 0x2069 ∷ []) ≡ unit 0 3 (Mark 101) ∷ unit 3 6 (Mark 69) ∷ unit 6 9 (Mark 111) ∷ unit 9 12 (Mark 79) ∷ unit 12 15 (Mark 112) ∷ unit 15 18 (Mark 105) ∷ unit 18 21 (Mark 73) ∷ unit 21 24 (Mark 102) ∷ unit 24 27 (Mark 80) ∷ []
+formatting_characters : of 4 (0x202a ∷ 0x202b ∷ 0x202d ∷ 0x202e ∷ 0x202c ∷ 0x2066 ∷ 0x2067 ∷ 0x2068 ∷ 0x2069 ∷ [])
+    ≡ unit 0 3 (Mark 101) ∷ unit 3 6 (Mark 69) ∷ unit 6 9 (Mark 111) ∷ unit 9 12 (Mark 79) ∷ unit 12 15 (Mark 112) ∷ unit 15 18 (Mark 105) ∷ unit 18 21
+    (Mark 73) ∷ unit 21 24 (Mark 102) ∷ unit 24 27 (Mark 80) ∷ []
 unfolding unicode_segmentation unicode_width
 formatting_characters = refl

@@ -1,5 +1,6 @@
 -- The units of a simple text, and how many columns they take at most.
-use Rattle.std.proofs.Common.{◌≡◌, ℕ, ◌≤◌, Bool, true, false, ◌==◌, nat_lt, List, [], ◌∷◌, map, Option, Some, None, chars, encode_utf8_all, refl, sym, ap, subst, arith, leb-true}
+use Rattle.std.proofs.Common.{◌≡◌, ℕ, ◌≤◌, Bool, true, false, ◌==◌, nat_lt, List, [], ◌∷◌, map, Option, Some, None, chars, encode_utf8_all, refl, sym, ap}
+use Rattle.std.proofs.Common.{subst, arith, leb-true}
 use Rattle.std.specs.List.{list_all, list_any}
 use Rattle.std.specs.Str.{all_scalars}
 use Rattle.std.proofs.lemmas.Bool.Decides.{nat_tests}
@@ -56,7 +57,8 @@ unit_is_no_tab c [] h = no_tab c h
 unit_is_no_tab c (m ∷ ms) h = refl
 
 -- the face of one that begins and its marks
-pub most-unit : (class : ℕ → Class) (w c : ℕ) (ms : List ℕ) → begins c ≡ true → list_all is_mark ms ≡ true → HasAtMost (own_columns c) (face_of class w (c ∷ ms))
+pub most-unit : (class : ℕ → Class) (w c : ℕ) (ms : List ℕ) → begins c ≡ true → list_all is_mark ms ≡ true
+    → HasAtMost (own_columns c) (face_of class w (c ∷ ms))
 most-unit class w c ms b h =
     let begun = Begins-from_test c b in
     let n = own_columns c in
@@ -68,5 +70,6 @@ most-unit class w c ms b h =
     (most-control n _ (list_any is_control (c ∷ ms)) one (most-letter n _ (format_letter class (only_char (c ∷ ms))) one sized))
 
 -- the same of its bytes
-pub most-cluster : (class : ℕ → Class) (w c : ℕ) (ms : List ℕ) → begins c ≡ true → list_all is_mark ms ≡ true → all_scalars (c ∷ ms) ≡ true → HasAtMost (own_columns c) (face class w (encode_utf8_all (c ∷ ms)))
+pub most-cluster : (class : ℕ → Class) (w c : ℕ) (ms : List ℕ) → begins c ≡ true → list_all is_mark ms ≡ true → all_scalars (c ∷ ms) ≡ true
+    → HasAtMost (own_columns c) (face class w (encode_utf8_all (c ∷ ms)))
 most-cluster class w c ms b h v = subst (λ cs. HasAtMost (own_columns c) (face_of class w cs)) (sym (chars-encodes (c ∷ ms) v)) (most-unit class w c ms b h)

@@ -10,7 +10,8 @@ use Rattle.bx_cells.specs.Units.{units_from}
 
 -- the cluster is the first of those of a body from an offset on
 pub record IsSimpleAt (body : List ℕ) (at : ℕ) (s : SimpleCluster) : Type 0 where
-  pub units : (class : ℕ → Class) (w : ℕ) → units_from class w body at ≡ record { start = at; stop = s.stop; face = simple_face class w s.first s.is_marked } ∷ units_from class w body s.stop
+  pub units : (class : ℕ → Class) (w : ℕ) → units_from class w body at
+      ≡ record { start = at; stop = s.stop; face = simple_face class w s.first s.is_marked } ∷ units_from class w body s.stop
   pub only : only_char (chars (slice_range body at s.stop)) ≡ cond s.is_marked None (Some s.first)
   pub columns : own_columns s.first ≡ s.columns
   pub grows : at < s.stop

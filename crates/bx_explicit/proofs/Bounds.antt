@@ -64,7 +64,9 @@ runs_low k (Some c ∷ g) a = join_low k c.level (runs_from (k + 1) g) (All-head
 
 module _ (paragraph : ℕ) (cs : List Class) (kept : List (Option Kept)) (P : RunSequence → Type 0) where
   -- what holds of each sequence that begins with one of the runs
-  pub sequences_each : (Q : Run → Type 0) → ((r : Run) (fs : List Run) → Q r → All Q fs → P (sequence_of paragraph cs kept r fs)) → ((r : Run) (rs : List Run) → All Q rs → All Q (followers cs r rs)) → (before rs : List Run) → All Q rs → All P (sequences_from paragraph cs kept before rs)
+  pub sequences_each : (Q : Run → Type 0) → ((r : Run) (fs : List Run) → Q r → All Q fs → P (sequence_of paragraph cs kept r fs))
+      → ((r : Run) (rs : List Run) → All Q rs → All Q (followers cs r rs)) → (before rs : List Run) → All Q rs
+      → All P (sequences_from paragraph cs kept before rs)
   sequences_each Q one chain before [] a = All-nil P
   sequences_each Q one chain before (r ∷ rs) a =
       let h : Q r = All-head Q r rs a in
@@ -86,7 +88,8 @@ followers_each cs Q r (q ∷ qs) a =
     ]
 
 pub sequences_low : (paragraph : ℕ) (cs : List Class) (kept : List (Option Kept)) → All IsLow kept → All (λ s. s.level ≤ 125) (sequences paragraph cs kept)
-sequences_low paragraph cs kept a = sequences_each paragraph cs kept (λ s. s.level ≤ 125) IsLowRun (λ r fs h t. h) (followers_each cs IsLowRun) [] (runs_from 0 kept) (runs_low 0 kept a)
+sequences_low paragraph cs kept a = sequences_each paragraph cs kept (λ s. s.level ≤ 125) IsLowRun (λ r fs h t. h) (followers_each cs IsLowRun) []
+    (runs_from 0 kept) (runs_low 0 kept a)
 
 -- the places of a run lie in it
 kept_below : (n k : ℕ) (g : List (Option Kept)) → k + length g ≤ n → All (λ p. p < n) (kept_places k g)
@@ -96,12 +99,17 @@ kept_below n k (Some c ∷ g) h = All-cons (λ p. p < n) k (kept_places (k + 1) 
 
 places_below : (n : ℕ) (kept : List (Option Kept)) (r : Run) → IsRunWithin 0 n r → All (λ p. p < n) (places_of kept r)
 places_below n kept r w =
-    let t : length (take (r.last + 1 - r.first) (drop r.first kept)) ≤ r.last + 1 - r.first = omega (arith, length-take (r.last + 1 - r.first) (drop r.first kept)) in
+    let t : length (take (r.last + 1 - r.first) (drop r.first kept)) ≤ r.last + 1 - r.first =
+    omega (arith, length-take (r.last + 1 - r.first) (drop r.first kept)) in
     kept_below n r.first (take (r.last + 1 - r.first) (drop r.first kept)) (omega (arith, w.ordered, w.ends))
 
 chain_below : (n : ℕ) (kept : List (Option Kept)) (rs : List Run) → All (IsRunWithin 0 n) rs → All (λ p. p < n) (chain_places kept rs)
 chain_below n kept [] a = All-nil (λ p. p < n)
-chain_below n kept (r ∷ rs) a = All-append (λ p. p < n) (places_of kept r) (chain_places kept rs) (places_below n kept r (All-head (IsRunWithin 0 n) r rs a)) (chain_below n kept rs (All-tail (IsRunWithin 0 n) r rs a))
+chain_below n kept (r ∷ rs) a = All-append (λ p. p < n) (places_of kept r) (chain_places kept rs) (places_below n kept r (All-head (IsRunWithin 0 n) r rs a))
+    (chain_below n kept rs (All-tail (IsRunWithin 0 n) r rs a))
 
-pub sequences_below : (paragraph : ℕ) (cs : List Class) (kept : List (Option Kept)) → All (λ s. All (λ p. p < length kept) s.places) (sequences paragraph cs kept)
-sequences_below paragraph cs kept = sequences_each paragraph cs kept (λ s. All (λ p. p < length kept) s.places) (IsRunWithin 0 (length kept)) (λ r fs h t. chain_below (length kept) kept (r ∷ fs) (All-cons (IsRunWithin 0 (length kept)) r fs h t)) (followers_each cs (IsRunWithin 0 (length kept))) [] (runs_from 0 kept) (all_within kept)
+pub sequences_below : (paragraph : ℕ) (cs : List Class) (kept : List (Option Kept))
+    → All (λ s. All (λ p. p < length kept) s.places) (sequences paragraph cs kept)
+sequences_below paragraph cs kept = sequences_each paragraph cs kept (λ s. All (λ p. p < length kept) s.places) (IsRunWithin 0 (length kept))
+    (λ r fs h t. chain_below (length kept) kept (r ∷ fs) (All-cons (IsRunWithin 0 (length kept)) r fs h t)) (followers_each cs (IsRunWithin 0 (length kept))) []
+    (runs_from 0 kept) (all_within kept)

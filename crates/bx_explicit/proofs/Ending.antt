@@ -10,11 +10,13 @@ use Rattle.bx_explicit.specs.OpenChains.{OpenRuns, run_at, is_over, with_run, ne
 use Rattle.bx_explicit.specs.Sequences.{RunSequence}
 use Rattle.bx_explicit.specs.Walk.{over_before, still_open, ending, sequences_of, runs_to_come, IsToCome, left_of}
 
-over_at : (cs : List Class) (c : List Run) (chains : List (List Run)) (q : Run) (b : Bool) → is_over cs (c ∷ chains) q ≡ b → over_before cs (c ∷ chains) q ≡ elim b [ true ↦ c ∷ over_before cs chains q | false ↦ [] ]
+over_at : (cs : List Class) (c : List Run) (chains : List (List Run)) (q : Run) (b : Bool) → is_over cs (c ∷ chains) q ≡ b
+    → over_before cs (c ∷ chains) q ≡ elim b [ true ↦ c ∷ over_before cs chains q | false ↦ [] ]
 over_at cs c chains q true e = rw (e, over_before)
 over_at cs c chains q false e = rw (e, over_before)
 
-open_at : (cs : List Class) (c : List Run) (chains : List (List Run)) (q : Run) (b : Bool) → is_over cs (c ∷ chains) q ≡ b → still_open cs (c ∷ chains) q ≡ elim b [ true ↦ still_open cs chains q | false ↦ c ∷ chains ]
+open_at : (cs : List Class) (c : List Run) (chains : List (List Run)) (q : Run) (b : Bool) → is_over cs (c ∷ chains) q ≡ b
+    → still_open cs (c ∷ chains) q ≡ elim b [ true ↦ still_open cs chains q | false ↦ c ∷ chains ]
 open_at cs c chains q true e = rw (e, still_open)
 open_at cs c chains q false e = rw (e, still_open)
 
@@ -23,18 +25,22 @@ module _ (paragraph : ℕ) (cs : List Class) (kept : List (Option Kept)) where
   all_ending over stay q rest = sequences_of paragraph cs kept over ++ ending paragraph cs kept (with_run stay q) rest
 
   -- a chain that ends before the next run, and one that may go on
-  pub ending_over : (c : List Run) (chains : List (List Run)) (q : Run) (rest : List Run) → is_over cs (c ∷ chains) q ≡ true → ending paragraph cs kept (c ∷ chains) (q ∷ rest) ≡ sequence_of_runs paragraph cs kept (reverse c) ∷ ending paragraph cs kept chains (q ∷ rest)
+  pub ending_over : (c : List Run) (chains : List (List Run)) (q : Run) (rest : List Run) → is_over cs (c ∷ chains) q ≡ true
+      → ending paragraph cs kept (c ∷ chains) (q ∷ rest) ≡ sequence_of_runs paragraph cs kept (reverse c) ∷ ending paragraph cs kept chains (q ∷ rest)
   ending_over c chains q rest e =
       ap (λ xs. all_ending xs (still_open cs (c ∷ chains) q) q rest) (over_at cs c chains q true e)
       ∙ ap (λ xs. all_ending (c ∷ over_before cs chains q) xs q rest) (open_at cs c chains q true e)
 
-  pub ending_open : (chains : List (List Run)) (q : Run) (rest : List Run) → is_over cs chains q ≡ false → ending paragraph cs kept chains (q ∷ rest) ≡ ending paragraph cs kept (with_run chains q) rest
+  pub ending_open : (chains : List (List Run)) (q : Run) (rest : List Run) → is_over cs chains q ≡ false
+      → ending paragraph cs kept chains (q ∷ rest) ≡ ending paragraph cs kept (with_run chains q) rest
   ending_open [] q rest e = refl
   ending_open (c ∷ chains) q rest e =
       ap (λ xs. all_ending xs (still_open cs (c ∷ chains) q) q rest) (over_at cs c chains q false e)
       ∙ ap (λ xs. all_ending [] xs q rest) (open_at cs c chains q false e)
 
 -- the run to come
-pub come_is : (kept : List (Option Kept)) (from : ℕ) (o : Option Run) → IfNone o (runs_from from (drop from kept) ≡ []) → IfSome o (λ r. runs_from from (drop from kept) ≡ r ∷ runs_from (r.last + 1) (drop (r.last + 1) kept)) → runs_to_come kept o ≡ runs_from from (drop from kept)
+pub come_is : (kept : List (Option Kept)) (from : ℕ) (o : Option Run) → IfNone o (runs_from from (drop from kept) ≡ [])
+    → IfSome o (λ r. runs_from from (drop from kept) ≡ r ∷ runs_from (r.last + 1) (drop (r.last + 1) kept))
+    → runs_to_come kept o ≡ runs_from from (drop from kept)
 come_is kept from None n s = sym n
 come_is kept from (Some r) n s = sym s

@@ -47,10 +47,13 @@ further_pick k false true a h = refl
 further_pick k false false a h = refl
 
 -- a kept character that joins a run, or begins one
-resumed_by : (l k level : ℕ) (r : Run) (rs : List Run) (b : Bool) → (r.level == level) ≡ b → resumed_run l (elim b as (λ x. List Run) [ true ↦ run level k r.last ∷ rs | false ↦ run level k k ∷ r ∷ rs ]) ≡ pick (nat_lt l level) (level == l) (resumed_run l (r ∷ rs)) (Some k)
+resumed_by : (l k level : ℕ) (r : Run) (rs : List Run) (b : Bool) → (r.level == level) ≡ b
+    → resumed_run l (elim b as (λ x. List Run) [ true ↦ run level k r.last ∷ rs | false ↦ run level k k ∷ r ∷ rs ])
+    ≡ pick (nat_lt l level) (level == l) (resumed_run l (r ∷ rs)) (Some k)
 resumed_by l k level r rs true e =
     let s : r.level ≡ level = grind (arith, nat_tests) in
-    sym (ap (λ n. pick (nat_lt l level) (level == l) (pick (nat_lt l n) (n == l) (resumed_run l rs) (Some r.first)) (Some k)) s ∙ pick_twice (nat_lt l level) (level == l) (resumed_run l rs) (Some k) (Some r.first))
+    sym (ap (λ n. pick (nat_lt l level) (level == l) (pick (nat_lt l n) (n == l) (resumed_run l rs) (Some r.first)) (Some k)) s
+    ∙ pick_twice (nat_lt l level) (level == l) (resumed_run l rs) (Some k) (Some r.first))
 resumed_by l k level r rs false e = refl
 
 resumed_join : (l k level : ℕ) (rs : List Run) → resumed_run l (join_run k level rs) ≡ pick (nat_lt l level) (level == l) (resumed_run l rs) (Some k)
@@ -62,10 +65,13 @@ pub resumed_runs : (l k : ℕ) (ks : List (Option Kept)) → resumed_run l (runs
 resumed_runs l k [] = refl
 resumed_runs l k (None ∷ ks) = resumed_runs l (k + 1) ks ∙ sym (further_more k (resumes_at l ks))
 resumed_runs l k (Some c ∷ ks) =
-    let later : resumed_run l (runs_from (k + 1) ks) ≡ further k (one_more (resumes_at l ks)) = resumed_runs l (k + 1) ks ∙ sym (further_more k (resumes_at l ks)) in
+    let later : resumed_run l (runs_from (k + 1) ks) ≡ further k (one_more (resumes_at l ks)) = resumed_runs l (k + 1) ks
+    ∙ sym (further_more k (resumes_at l ks)) in
     let z : k ≡ k + 0 = omega arith in
     let here : Some k ≡ further k (Some 0) = ap (λ n. Some n) z in
-    resumed_join l k c.level (runs_from (k + 1) ks) ∙ ap (λ o. pick (nat_lt l c.level) (c.level == l) o (Some k)) later ∙ ap (pick (nat_lt l c.level) (c.level == l) (further k (one_more (resumes_at l ks)))) here ∙ sym (further_pick k (nat_lt l c.level) (c.level == l) (one_more (resumes_at l ks)) (Some 0))
+    resumed_join l k c.level (runs_from (k + 1) ks) ∙ ap (λ o. pick (nat_lt l c.level) (c.level == l) o (Some k)) later
+    ∙ ap (pick (nat_lt l c.level) (c.level == l) (further k (one_more (resumes_at l ks)))) here
+    ∙ sym (further_pick k (nat_lt l c.level) (c.level == l) (one_more (resumes_at l ks)) (Some 0))
 
 -- a place, if there is one, is the place `f`
 abbrev pub begins_at : Option ℕ → ℕ → Bool
@@ -94,7 +100,8 @@ and_false : (b : Bool) → false ≡ (b && false)
 and_false true = refl
 and_false false = refl
 
-here_by : (l : ℕ) (q : Run) (after : List Run) (b s : Bool) → AreRising (q ∷ after) → nat_lt l q.level ≡ b → (q.level == l) ≡ s → begins_at (pick b s (resumed_run l after) (Some q.first)) q.first ≡ (s && true)
+here_by : (l : ℕ) (q : Run) (after : List Run) (b s : Bool) → AreRising (q ∷ after) → nat_lt l q.level ≡ b → (q.level == l) ≡ s
+    → begins_at (pick b s (resumed_run l after) (Some q.first)) q.first ≡ (s && true)
 here_by l q after true true h e f = let a : l < q.level = grind (arith, nat_tests) in let b : q.level ≡ l = grind (arith, nat_tests) in absurd (omega arith)
 here_by l q after true false h e f = later_elsewhere l q.last q.first after h.0 h.1
 here_by l q after false true h e f = grind (arith, nat_tests)
@@ -106,9 +113,11 @@ before_by false true t p f o c h e = let n : (p == f) ≡ false = grind (arith, 
 before_by false false t p f o c h e = and_false t
 
 -- a run is the first one that is not above a level, and has it
-pub first_is : (l : ℕ) (between : List Run) (q : Run) (after : List Run) → AreRising (between ++ q ∷ after) → begins_at (resumed_run l (between ++ q ∷ after)) q.first ≡ ((q.level == l) && all_above l between)
+pub first_is : (l : ℕ) (between : List Run) (q : Run) (after : List Run) → AreRising (between ++ q ∷ after)
+    → begins_at (resumed_run l (between ++ q ∷ after)) q.first ≡ ((q.level == l) && all_above l between)
 first_is l [] q after h = here_by l q after (nat_lt l q.level) (q.level == l) h refl refl
 first_is l (b ∷ bs) q after h =
     let x : b.first ≤ b.last = h.0 in
     let y : b.last < q.first = middle (IsAfter b.last) bs q after h.1 in
-    before_by (nat_lt l b.level) (b.level == l) (q.level == l) b.first q.first (resumed_run l (bs ++ q ∷ after)) (all_above l bs) (omega arith) (first_is l bs q after h.2)
+    before_by (nat_lt l b.level) (b.level == l) (q.level == l) b.first q.first (resumed_run l (bs ++ q ∷ after)) (all_above l bs) (omega arith)
+    (first_is l bs q after h.2)

@@ -18,7 +18,9 @@ use Rattle.bx_explicit.proofs.FirstLow.{pick, pick_above, pick_same, resumes_at}
 -- top has the level `l`
 abbrev pub IsUnder : ℕ → ℕ → List Entry → Type 0
 IsUnder l inner [] = ⊥
-IsUnder l inner (e ∷ es) = (l < e.level) × (elim (e.isolate) as (λ b. Type 0) [ false ↦ IsUnder l inner es | true ↦ elim inner as (λ n. Type 0) [ zero ↦ (top_of es).level ≡ l | suc n ↦ IsUnder l n es ] ])
+IsUnder l inner (e ∷ es) = (l < e.level)
+    × (elim (e.isolate) as (λ b. Type 0)
+    [ false ↦ IsUnder l inner es | true ↦ elim inner as (λ n. Type 0) [ zero ↦ (top_of es).level ≡ l | suc n ↦ IsUnder l n es ] ])
 
 under_top : (l inner : ℕ) (es : List Entry) → IsUnder l inner es → l < (top_of es).level
 under_top l inner [] h = absurd h
@@ -28,7 +30,8 @@ under_top l inner (e ∷ es) h = h.0
 under_after : (l inner : ℕ) (es : List Entry) → IsUnder l (suc inner) es → IsUnder l inner (after_isolate es)
 under_after l inner [] h = absurd h
 under_after l inner (e ∷ es) h =
-    (elim (e.isolate) as (λ b. (elim b as (λ x. Type 0) [ false ↦ IsUnder l (suc inner) es | true ↦ IsUnder l inner es ]) → IsUnder l inner (elim b as (λ x. List Entry) [ true ↦ es | false ↦ after_isolate es ])) [
+    (elim (e.isolate) as (λ b. (elim b as (λ x. Type 0) [ false ↦ IsUnder l (suc inner) es | true ↦ IsUnder l inner es ])
+    → IsUnder l inner (elim b as (λ x. List Entry) [ true ↦ es | false ↦ after_isolate es ])) [
       | true ↦ λ k. k
       | false ↦ λ k. under_after l inner es k
     ]) h.1
@@ -36,7 +39,8 @@ under_after l inner (e ∷ es) h =
 under_end : (l : ℕ) (es : List Entry) → IsUnder l 0 es → (top_of (after_isolate es)).level ≡ l
 under_end l [] h = absurd h
 under_end l (e ∷ es) h =
-    (elim (e.isolate) as (λ b. (elim b as (λ x. Type 0) [ false ↦ IsUnder l 0 es | true ↦ (top_of es).level ≡ l ]) → (top_of (elim b as (λ x. List Entry) [ true ↦ es | false ↦ after_isolate es ])).level ≡ l) [
+    (elim (e.isolate) as (λ b. (elim b as (λ x. Type 0) [ false ↦ IsUnder l 0 es | true ↦ (top_of es).level ≡ l ])
+    → (top_of (elim b as (λ x. List Entry) [ true ↦ es | false ↦ after_isolate es ])).level ≡ l) [
       | true ↦ λ k. k
       | false ↦ λ k. under_end l es k
     ]) h.1
@@ -46,7 +50,9 @@ under_embedding : (l inner : ℕ) (es : List Entry) → IsUnder l inner es → I
 under_embedding l inner [] h = h
 under_embedding l inner (e ∷ []) h = h
 under_embedding l inner (e ∷ f ∷ es) h =
-    (elim (e.isolate) as (λ b. (elim b as (λ x. Type 0) [ false ↦ IsUnder l inner (f ∷ es) | true ↦ elim inner as (λ n. Type 0) [ zero ↦ f.level ≡ l | suc n ↦ IsUnder l n (f ∷ es) ] ]) → IsUnder l inner (elim b as (λ x. List Entry) [ true ↦ e ∷ f ∷ es | false ↦ f ∷ es ])) [
+    (elim (e.isolate) as (λ b. (elim b as (λ x. Type 0)
+    [ false ↦ IsUnder l inner (f ∷ es) | true ↦ elim inner as (λ n. Type 0) [ zero ↦ f.level ≡ l | suc n ↦ IsUnder l n (f ∷ es) ] ])
+    → IsUnder l inner (elim b as (λ x. List Entry) [ true ↦ e ∷ f ∷ es | false ↦ f ∷ es ])) [
       | true ↦ λ k. h
       | false ↦ λ k. k
     ]) h.1
@@ -65,7 +71,12 @@ inside_embed : (l count : ℕ) (s : State) (level : ℕ) (o : Override) → IsIn
 inside_embed l count s level o w h =
     let a : l < (top s).level = inside_top l count s w in
     let b : l < level = omega arith in
-    elim (is_valid s level) as (λ v. IsInside l count (elim v as (λ x. State) [ true ↦ record s { stack = entry level o false ∷ s.stack } | false ↦ record s { overflow_embeddings = elim (s.overflow_isolates) [ zero ↦ s.overflow_embeddings + 1 | suc n ↦ s.overflow_embeddings ] } ])) [
+    elim (is_valid s level) as (λ v. IsInside l count
+    (elim v as (λ x. State) [
+      | true ↦ record s { stack = entry level o false ∷ s.stack }
+      | false ↦ record s
+          { overflow_embeddings = elim (s.overflow_isolates) [ zero ↦ s.overflow_embeddings + 1 | suc n ↦ s.overflow_embeddings ] }
+    ])) [
       | true ↦ record { inner = w.inner; under = (b, w.under); counted = w.counted; valid = w.valid }
       | false ↦ record { inner = w.inner; under = w.under; counted = w.counted; valid = w.valid }
     ]
@@ -74,26 +85,43 @@ inside_isolate : (l count : ℕ) (s : State) (level : ℕ) → IsInside l count 
 inside_isolate l count s level w h =
     let a : l < (top s).level = inside_top l count s w in
     let b : l < level = omega arith in
-    elim (is_valid s level) as (λ v. IsInside l (suc count) (elim v as (λ x. State) [ true ↦ record s { stack = entry level Neutral true ∷ s.stack; valid_isolates = s.valid_isolates + 1 } | false ↦ record s { overflow_isolates = s.overflow_isolates + 1 } ])) [
+    elim (is_valid s level) as (λ v. IsInside l (suc count)
+    (elim v as (λ x. State) [
+      | true ↦ record s { stack = entry level Neutral true ∷ s.stack; valid_isolates = s.valid_isolates + 1 }
+      | false ↦ record s
+          { overflow_isolates = s.overflow_isolates + 1 }
+    ])) [
       | true ↦ record { inner = suc w.inner; under = (b, w.under); counted = omega (arith, w.counted); valid = omega (arith, w.valid) }
       | false ↦ record { inner = w.inner; under = w.under; counted = omega (arith, w.counted); valid = w.valid }
     ]
 
 inside_end_embedding : (l count : ℕ) (s : State) → IsInside l count s → IsInside l count (end_embedding s)
 inside_end_embedding l count s w =
-    elim (s.overflow_isolates) as (λ n. IsInside l count (elim n as (λ x. State) [ suc m ↦ s | zero ↦ elim (s.overflow_embeddings) as (λ x. State) [ suc m ↦ record s { overflow_embeddings = m } | zero ↦ record s { stack = after_embedding s.stack } ] ])) [
+    elim (s.overflow_isolates) as (λ n. IsInside l count
+    (elim n as (λ x. State) [
+      | suc m ↦ s
+      | zero ↦ elim (s.overflow_embeddings) as (λ x. State)
+          [ suc m ↦ record s { overflow_embeddings = m } | zero ↦ record s { stack = after_embedding s.stack } ]
+    ])) [
       | suc n ↦ w
-      | zero ↦ elim (s.overflow_embeddings) as (λ n. IsInside l count (elim n as (λ x. State) [ suc m ↦ record s { overflow_embeddings = m } | zero ↦ record s { stack = after_embedding s.stack } ])) [
-        | suc n ↦ record { inner = w.inner; under = w.under; counted = w.counted; valid = w.valid }
-        | zero ↦ record { inner = w.inner; under = under_embedding l w.inner s.stack w.under; counted = w.counted; valid = w.valid }
-      ]
+      | zero ↦ elim (s.overflow_embeddings) as
+          (λ n. IsInside l count (elim n as (λ x. State)
+          [ suc m ↦ record s { overflow_embeddings = m } | zero ↦ record s { stack = after_embedding s.stack } ])) [
+            | suc n ↦ record { inner = w.inner; under = w.under; counted = w.counted; valid = w.valid }
+            | zero ↦ record { inner = w.inner; under = under_embedding l w.inner s.stack w.under; counted = w.counted; valid = w.valid }
+          ]
     ]
 
 -- the state after a PDI, by the counts before it
 abbrev ended : State → ℕ → ℕ → State
-ended s o v = elim o [ suc n ↦ record s { overflow_isolates = n } | zero ↦ elim v [ zero ↦ s | suc n ↦ record s { stack = after_isolate s.stack; overflow_embeddings = 0; valid_isolates = n } ] ]
+ended s o v = elim o [
+  | suc n ↦ record s { overflow_isolates = n }
+  | zero ↦ elim v
+      [ zero ↦ s | suc n ↦ record s { stack = after_isolate s.stack; overflow_embeddings = 0; valid_isolates = n } ]
+]
 
-inside_ended : (l count : ℕ) (s : State) (o v : ℕ) → s.overflow_isolates ≡ o → s.valid_isolates ≡ v → IsInside l (suc (suc count)) s → IsInside l (suc count) (ended s o v)
+inside_ended : (l count : ℕ) (s : State) (o v : ℕ) → s.overflow_isolates ≡ o → s.valid_isolates ≡ v → IsInside l (suc (suc count)) s
+    → IsInside l (suc count) (ended s o v)
 inside_ended l count s (suc n) v e f w = record { inner = w.inner; under = w.under; counted = omega (arith, w.counted); valid = w.valid }
 inside_ended l count s zero zero e f w = absurd (omega (arith, w.valid))
 inside_ended l count s zero (suc n) e f w =
@@ -115,16 +143,21 @@ inside_left : (l : ℕ) (s : State) → IsInside l 1 s → (top (end_isolate s))
 inside_left l s w = left_by l s s.overflow_isolates s.valid_isolates refl refl w
 
 -- a kept character above the level `l`
-passed : (l level m : ℕ) (t : State) (cs : List Class) → l < level → resumes_at l (explicit_from t cs) ≡ before_pdi (suc m) cs → pick (nat_lt l level) (level == l) (one_more (resumes_at l (explicit_from t cs))) (Some 0) ≡ one_more (before_pdi (suc m) cs)
+passed : (l level m : ℕ) (t : State) (cs : List Class) → l < level → resumes_at l (explicit_from t cs) ≡ before_pdi (suc m) cs
+    → pick (nat_lt l level) (level == l) (one_more (resumes_at l (explicit_from t cs))) (Some 0) ≡ one_more (before_pdi (suc m) cs)
 passed l level m t cs h e = pick_above l level (one_more (resumes_at l (explicit_from t cs))) (Some 0) h ∙ ap one_more e
 
 -- the first kept character that is not above `l` is the PDI that leads out, and it has that level
 pub out_at : (cs : List Class) (l n : ℕ) (s : State) → IsInside l (suc n) s → resumes_at l (explicit_from s cs) ≡ before_pdi (suc n) cs
 out_at [] l n s w = refl
-out_at (LRE ∷ cs) l n s w = ap one_more (out_at cs l n (embed s (even_above (top s).level) Neutral) (inside_embed l (suc n) s (even_above (top s).level) Neutral w (omega arith)))
-out_at (RLE ∷ cs) l n s w = ap one_more (out_at cs l n (embed s (odd_above (top s).level) Neutral) (inside_embed l (suc n) s (odd_above (top s).level) Neutral w (omega arith)))
-out_at (LRO ∷ cs) l n s w = ap one_more (out_at cs l n (embed s (even_above (top s).level) Left) (inside_embed l (suc n) s (even_above (top s).level) Left w (omega arith)))
-out_at (RLO ∷ cs) l n s w = ap one_more (out_at cs l n (embed s (odd_above (top s).level) Right) (inside_embed l (suc n) s (odd_above (top s).level) Right w (omega arith)))
+out_at (LRE ∷ cs) l n s w = ap one_more
+    (out_at cs l n (embed s (even_above (top s).level) Neutral) (inside_embed l (suc n) s (even_above (top s).level) Neutral w (omega arith)))
+out_at (RLE ∷ cs) l n s w = ap one_more
+    (out_at cs l n (embed s (odd_above (top s).level) Neutral) (inside_embed l (suc n) s (odd_above (top s).level) Neutral w (omega arith)))
+out_at (LRO ∷ cs) l n s w = ap one_more
+    (out_at cs l n (embed s (even_above (top s).level) Left) (inside_embed l (suc n) s (even_above (top s).level) Left w (omega arith)))
+out_at (RLO ∷ cs) l n s w = ap one_more
+    (out_at cs l n (embed s (odd_above (top s).level) Right) (inside_embed l (suc n) s (odd_above (top s).level) Right w (omega arith)))
 out_at (LRI ∷ cs) l n s w =
     let t : State = isolate s (even_above (top s).level) in
     let v : IsInside l (suc (suc n)) t = inside_isolate l (suc n) s (even_above (top s).level) w (omega arith) in

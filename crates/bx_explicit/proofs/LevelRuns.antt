@@ -1,5 +1,6 @@
 -- Level runs: what a turn of each loop does.
-use Rattle.std.proofs.Common.{◌≡◌, ◌<◌, ◌+◌, ◌-◌, ◌∙◌, ℕ, suc, List, [], ◌∷◌, ◌++◌, length, get_or, drop, take, set, reverse, refl, ap, sym, arith, Option, Some, None, subst, true, false}
+use Rattle.std.proofs.Common.{◌≡◌, ◌<◌, ◌+◌, ◌-◌, ◌∙◌, ℕ, suc, List, [], ◌∷◌, ◌++◌, length, get_or, drop, take, set, reverse, refl, ap, sym, arith, Option}
+use Rattle.std.proofs.Common.{Some, None, subst, true, false}
 use Rattle.std.proofs.lemmas.List.{at_drop_more, take_more, take_more_set, reverse-append}
 use Rattle.std.proofs.Math.Seq.{take-length}
 use Rattle.std.proofs.Math.ListN.{length-set}
@@ -23,7 +24,8 @@ pub reverse_set : {A : Type 0} (rs : List A) (r : A) → 0 < length rs → rever
 reverse_set rs r h =
     let a : take (length rs - 1 + 1) (set rs (length rs - 1) r) ≡ take (length rs - 1) rs ++ r ∷ [] = take_more_set rs (length rs - 1) r (omega arith) in
     let l : length (set rs (length rs - 1) r) ≡ length rs = length-set rs (length rs - 1) r in
-    let b : take (length rs - 1 + 1) (set rs (length rs - 1) r) ≡ set rs (length rs - 1) r = take_whole (set rs (length rs - 1) r) (length rs - 1 + 1) (omega arith) in
+    let b : take (length rs - 1 + 1) (set rs (length rs - 1) r) ≡ set rs (length rs - 1) r =
+    take_whole (set rs (length rs - 1) r) (length rs - 1 + 1) (omega arith) in
     ap reverse (sym b ∙ a) ∙ reverse-append (take (length rs - 1) rs) (r ∷ [])
 
 pub reverse_one : {A : Type 0} (rs : List A) (r : A) → reverse (rs ++ r ∷ []) ≡ r ∷ reverse rs
@@ -36,7 +38,8 @@ runs_at_none k (Some r) g e = absurd (cc)
 pub runs_none : (g : List (Option Kept)) (k : ℕ) → k < length g → get_or g k None ≡ None → runs_from k (drop k g) ≡ runs_from (k + 1) (drop (k + 1) g)
 runs_none g k h e = at_drop_more (runs_from k) g k None h ∙ runs_at_none k (get_or g k None) (drop (k + 1) g) e
 
-pub runs_some : (g : List (Option Kept)) (k : ℕ) (r : Kept) → k < length g → get_or g k None ≡ Some r → runs_from k (drop k g) ≡ join_run k r.level (runs_from (k + 1) (drop (k + 1) g))
+pub runs_some : (g : List (Option Kept)) (k : ℕ) (r : Kept) → k < length g → get_or g k None ≡ Some r
+    → runs_from k (drop k g) ≡ join_run k r.level (runs_from (k + 1) (drop (k + 1) g))
 runs_some g k r h e = at_drop_more (runs_from k) g k None h ∙ ap (λ o. runs_from k (o ∷ drop (k + 1) g)) e
 
 -- each run lies within the list
@@ -47,13 +50,16 @@ widen_all : (k n : ℕ) (rs : List Run) → All (IsRunWithin (k + 1) n) rs → A
 widen_all k n rs a = λ i d h. widen k n (get_or rs i d) (a i d h)
 
 within_join : (k n level : ℕ) (rs : List Run) → k < n → All (IsRunWithin (k + 1) n) rs → All (IsRunWithin k n) (join_run k level rs)
-within_join k n level [] h a = All-cons (IsRunWithin k n) (run level k k) [] (record { starts = omega arith; ordered = omega arith; ends = h }) (All-nil (IsRunWithin k n))
+within_join k n level [] h a = All-cons (IsRunWithin k n) (run level k k) [] (record { starts = omega arith; ordered = omega arith; ends = h })
+    (All-nil (IsRunWithin k n))
 within_join k n level (r ∷ rs) h a =
     let w : IsRunWithin (k + 1) n r = All-head (IsRunWithin (k + 1) n) r rs a in
     let b : All (IsRunWithin k n) rs = widen_all k n rs (All-tail (IsRunWithin (k + 1) n) r rs a) in
     elim (r.level == level) as (λ v. All (IsRunWithin k n) (elim v as (λ x. List Run) [ true ↦ run level k r.last ∷ rs | false ↦ run level k k ∷ r ∷ rs ])) [
-      | true ↦ All-cons (IsRunWithin k n) (run level k r.last) rs (record { starts = omega arith; ordered = omega (arith, w.starts, w.ordered); ends = w.ends }) b
-      | false ↦ All-cons (IsRunWithin k n) (run level k k) (r ∷ rs) (record { starts = omega arith; ordered = omega arith; ends = h }) (widen_all k n (r ∷ rs) a)
+      | true ↦ All-cons (IsRunWithin k n) (run level k r.last) rs (record { starts = omega arith; ordered = omega (arith, w.starts, w.ordered); ends = w.ends })
+          b
+      | false ↦ All-cons (IsRunWithin k n) (run level k k) (r ∷ rs) (record { starts = omega arith; ordered = omega arith; ends = h })
+          (widen_all k n (r ∷ rs) a)
     ]
 
 pub within_eq : (k a b : ℕ) (rs : List Run) → a ≡ b → All (IsRunWithin k a) rs → All (IsRunWithin k b) rs
@@ -61,8 +67,10 @@ within_eq k a b rs e h = subst (λ n. All (IsRunWithin k n) rs) e h
 
 pub runs_within : (k : ℕ) (g : List (Option Kept)) → All (IsRunWithin k (k + length g)) (runs_from k g)
 runs_within k [] = All-nil (IsRunWithin k (k + 0))
-runs_within k (None ∷ g) = within_eq k (k + 1 + length g) (k + suc (length g)) (runs_from (k + 1) g) (omega arith) (widen_all k (k + 1 + length g) (runs_from (k + 1) g) (runs_within (k + 1) g))
-runs_within k (Some r ∷ g) = within_eq k (k + 1 + length g) (k + suc (length g)) (join_run k r.level (runs_from (k + 1) g)) (omega arith) (within_join k (k + 1 + length g) r.level (runs_from (k + 1) g) (omega arith) (runs_within (k + 1) g))
+runs_within k (None ∷ g) = within_eq k (k + 1 + length g) (k + suc (length g)) (runs_from (k + 1) g) (omega arith)
+    (widen_all k (k + 1 + length g) (runs_from (k + 1) g) (runs_within (k + 1) g))
+runs_within k (Some r ∷ g) = within_eq k (k + 1 + length g) (k + suc (length g)) (join_run k r.level (runs_from (k + 1) g)) (omega arith)
+    (within_join k (k + 1 + length g) r.level (runs_from (k + 1) g) (omega arith) (runs_within (k + 1) g))
 
 pub all_within : (g : List (Option Kept)) → All (IsRunWithin 0 (length g)) (runs_from 0 g)
 all_within g = within_eq 0 (0 + length g) (length g) (runs_from 0 g) (omega arith) (runs_within 0 g)

@@ -1,9 +1,11 @@
 -- The sequences in order of their first places are what a sort of them makes, in whatever order they came.
-use Rattle.std.proofs.Common.{◌≡◌, ◌<◌, ◌≤◌, ◌+◌, ◌-◌, ◌∙◌, ◌==◌, ℕ, zero, suc, List, [], ◌∷◌, ◌++◌, length, get_or, drop, take, refl, ap, sym, subst, arith, Bool, true, false, Option, Some, None, nat_lt, ltb-true, ltb-false, lt-ltb, le-ltb}
+use Rattle.std.proofs.Common.{◌≡◌, ◌<◌, ◌≤◌, ◌+◌, ◌-◌, ◌∙◌, ◌==◌, ℕ, zero, suc, List, [], ◌∷◌, ◌++◌, length, get_or, drop, take, refl, ap, sym, subst, arith}
+use Rattle.std.proofs.Common.{Bool, true, false, Option, Some, None, nat_lt, ltb-true, ltb-false, lt-ltb, le-ltb}
 use Rattle.std.specs.Prelude.{All, sum_by}
 use Rattle.std.specs.List.Sorted.{IsPermutation, IsNonDecreasingBy}
 use Rattle.std.proofs.lemmas.Bool.Decides.{nat_tests}
-use Rattle.std.proofs.lemmas.List.Sorted.{IsPermutation-refl, IsPermutation-sym, IsPermutation-trans, IsPermutation-cons, IsPermutation-middle, All-permutation, sum_by-IsPermutation}
+use Rattle.std.proofs.lemmas.List.Sorted.{IsPermutation-refl, IsPermutation-sym, IsPermutation-trans, IsPermutation-cons, IsPermutation-middle, All-permutation}
+use Rattle.std.proofs.lemmas.List.Sorted.{sum_by-IsPermutation}
 use Rattle.std.proofs.lemmas.List.Sums.{sum_by-cons}
 use Rattle.std.proofs.lemmas.List.Elements.{All-cons, All-nil, All-head, All-tail}
 use Rattle.bx_ucd.specs.declared.class.Class.{Class}
@@ -36,19 +38,22 @@ drop_on [] g (suc k) o e = absurd (cc)
 drop_on (x ∷ kept) g zero o e = cc
 drop_on (x ∷ kept) g (suc k) o e = let n : suc k + 1 ≡ suc (k + 1) = omega arith in ap (λ m. drop m (x ∷ kept)) n ∙ drop_on kept g k o e
 
-begin_join : (kept g : List (Option Kept)) (k top : ℕ) (c : Kept) (rs : List Run) → drop k kept ≡ Some c ∷ g → All (IsRunWithin (k + 1) top) rs → All (BeginsIt kept) rs → All (BeginsIt kept) (join_run k c.level rs)
+begin_join : (kept g : List (Option Kept)) (k top : ℕ) (c : Kept) (rs : List Run) → drop k kept ≡ Some c ∷ g → All (IsRunWithin (k + 1) top) rs
+    → All (BeginsIt kept) rs → All (BeginsIt kept) (join_run k c.level rs)
 begin_join kept g k top c [] e w a = All-cons (BeginsIt kept) (run c.level k k) [] (begins_it kept g c.level k k c e (omega arith)) (All-nil (BeginsIt kept))
 begin_join kept g k top c (r ∷ rs) e w a =
     let v : IsRunWithin (k + 1) top r = All-head (IsRunWithin (k + 1) top) r rs w in
     elim (r.level == c.level) as (λ b. All (BeginsIt kept) (elim b as (λ x. List Run) [ true ↦ run c.level k r.last ∷ rs | false ↦ run c.level k k ∷ r ∷ rs ])) [
-      | true ↦ All-cons (BeginsIt kept) (run c.level k r.last) rs (begins_it kept g c.level k r.last c e (omega (arith, v.starts, v.ordered))) (All-tail (BeginsIt kept) r rs a)
+      | true ↦ All-cons (BeginsIt kept) (run c.level k r.last) rs (begins_it kept g c.level k r.last c e (omega (arith, v.starts, v.ordered)))
+          (All-tail (BeginsIt kept) r rs a)
       | false ↦ All-cons (BeginsIt kept) (run c.level k k) (r ∷ rs) (begins_it kept g c.level k k c e (omega arith)) a
     ]
 
 begin_all : (kept g : List (Option Kept)) (k : ℕ) → drop k kept ≡ g → All (BeginsIt kept) (runs_from k g)
 begin_all kept [] k e = All-nil (BeginsIt kept)
 begin_all kept (None ∷ g) k e = begin_all kept g (k + 1) (drop_on kept g k None e)
-begin_all kept (Some c ∷ g) k e = begin_join kept g k (k + 1 + length g) c (runs_from (k + 1) g) e (runs_within (k + 1) g) (begin_all kept g (k + 1) (drop_on kept g k (Some c) e))
+begin_all kept (Some c ∷ g) k e = begin_join kept g k (k + 1 + length g) c (runs_from (k + 1) g) e (runs_within (k + 1) g)
+    (begin_all kept g (k + 1) (drop_on kept g k (Some c) e))
 
 module _ (paragraph : ℕ) (cs : List Class) (kept : List (Option Kept)) where
   first_of_sequence : (r : Run) (fs : List Run) → BeginsIt kept r → first_place (sequence_of paragraph cs kept r fs) ≡ r.first
@@ -57,8 +62,11 @@ module _ (paragraph : ℕ) (cs : List Class) (kept : List (Option Kept)) where
   abbrev IsBeyond : ℕ → Run → Type 0
   IsBeyond low r = (low < r.first) × BeginsIt kept r
 
-  beyond : (low : ℕ) (before rs : List Run) → All (IsBeyond low) rs → All (λ (s : RunSequence). low < first_place s) (sequences_from paragraph cs kept before rs)
-  beyond low before rs a = sequences_each paragraph cs kept (λ (s : RunSequence). low < first_place s) (IsBeyond low) (λ r fs h t. let e : first_place (sequence_of paragraph cs kept r fs) ≡ r.first = first_of_sequence r fs h.1 in let l : low < r.first = h.0 in omega arith) (followers_each cs (IsBeyond low)) before rs a
+  beyond : (low : ℕ) (before rs : List Run) → All (IsBeyond low) rs
+      → All (λ (s : RunSequence). low < first_place s) (sequences_from paragraph cs kept before rs)
+  beyond low before rs a = sequences_each paragraph cs kept (λ (s : RunSequence). low < first_place s) (IsBeyond low)
+      (λ r fs h t. let e : first_place (sequence_of paragraph cs kept r fs)
+      ≡ r.first = first_of_sequence r fs h.1 in let l : low < r.first = h.0 in omega arith) (followers_each cs (IsBeyond low)) before rs a
 
   behind : (before rs : List Run) → AreRising rs → All (BeginsIt kept) rs → AreBehind (sequences_from paragraph cs kept before rs)
   behind before [] h a = tt
@@ -86,7 +94,8 @@ permuted (s ∷ given) all a =
     let after : List RunSequence = a.1 in
     let e : all ≡ before ++ s ∷ after = a.2 in
     let rest : IsPermutation (s ∷ given) (s ∷ (before ++ after)) = IsPermutation-cons s given (before ++ after) (permuted given (before ++ after) a.4) in
-    let middle : IsPermutation (s ∷ (before ++ after)) (before ++ s ∷ after) = IsPermutation-sym (before ++ s ∷ after) (s ∷ (before ++ after)) (IsPermutation-middle before s after) in
+    let middle : IsPermutation (s ∷ (before ++ after)) (before ++ s ∷ after) =
+    IsPermutation-sym (before ++ s ∷ after) (s ∷ (before ++ after)) (IsPermutation-middle before s after) in
     subst (IsPermutation (s ∷ given)) (sym e) (IsPermutation-trans (s ∷ given) (s ∷ (before ++ after)) (before ++ s ∷ after) rest middle)
 
 -- the sequence of a list that begins at a place
@@ -97,7 +106,8 @@ abbrev sequence_from : List RunSequence → ℕ → RunSequence
 sequence_from [] p = no_sequence
 sequence_from (s ∷ ss) p = elim (first_place s == p) [ true ↦ s | false ↦ sequence_from ss p ]
 
-from_at : (s : RunSequence) (ss : List RunSequence) (p : ℕ) (b : Bool) → (first_place s == p) ≡ b → sequence_from (s ∷ ss) p ≡ elim b [ true ↦ s | false ↦ sequence_from ss p ]
+from_at : (s : RunSequence) (ss : List RunSequence) (p : ℕ) (b : Bool) → (first_place s == p) ≡ b
+    → sequence_from (s ∷ ss) p ≡ elim b [ true ↦ s | false ↦ sequence_from ss p ]
 from_at s ss p true e = rw (e, sequence_from)
 from_at s ss p false e = rw (e, sequence_from)
 
@@ -145,26 +155,30 @@ abbrev AreAlike : List RunSequence → List RunSequence → Type 0
 AreAlike xs ys = (f : RunSequence → ℕ) → total f xs ≡ total f ys
 
 -- two heads of lists in order that are alike
-not_lower : (x y : RunSequence) (xs ys : List RunSequence) → AreAlike (x ∷ xs) (y ∷ ys) → All (λ (s : RunSequence). first_place y ≤ first_place s) ys → first_place y ≤ first_place x
+not_lower : (x y : RunSequence) (xs ys : List RunSequence) → AreAlike (x ∷ xs) (y ∷ ys) → All (λ (s : RunSequence). first_place y ≤ first_place s) ys
+    → first_place y ≤ first_place x
 not_lower x y xs ys h a = elim (nat_lt (first_place x) (first_place y)) as (λ b. nat_lt (first_place x) (first_place y) ≡ b → first_place y ≤ first_place x) [
   | false ↦ λ e. ltb-false (first_place x) (first_place y) e
   | true ↦ λ e.
       let k : ℕ = first_place x in
       let l : k < first_place y = ltb-true k (first_place y) e in
-      let all : All (λ (s : RunSequence). k < first_place s) (y ∷ ys) = All-cons (λ (s : RunSequence). k < first_place s) y ys l (λ i d j. let m : first_place y ≤ first_place (get_or ys i d) = a i d j in omega arith) in
+      let all : All (λ (s : RunSequence). k < first_place s) (y ∷ ys) =
+      All-cons (λ (s : RunSequence). k < first_place s) y ys l (λ i d j. let m : first_place y ≤ first_place (get_or ys i d) = a i d j in omega arith) in
       let none : total (low_count k) (y ∷ ys) ≡ 0 = none_low k (y ∷ ys) all in
       let some : 0 < total (low_count k) (x ∷ xs) = some_low x xs in
       let same : total (low_count k) (x ∷ xs) ≡ total (low_count k) (y ∷ ys) = h (low_count k) in
       absurd (omega arith)
 ] refl
 
-unique : (all xs ys : List RunSequence) → All (IsFound all) xs → All (IsFound all) ys → IsNonDecreasingBy first_place xs → AreBehind ys → AreAlike xs ys → xs ≡ ys
+unique : (all xs ys : List RunSequence) → All (IsFound all) xs → All (IsFound all) ys → IsNonDecreasingBy first_place xs → AreBehind ys → AreAlike xs ys
+    → xs ≡ ys
 unique all [] [] p q n b h = refl
 unique all [] (y ∷ ys) p q n b h = let e : 0 ≡ 1 + total (λ s. 1) ys = h (λ s. 1) in absurd (omega arith)
 unique all (x ∷ xs) [] p q n b h = let e : 1 + total (λ s. 1) xs ≡ 0 = h (λ s. 1) in absurd (omega arith)
 unique all (x ∷ xs) (y ∷ ys) p q n b h =
     let up : All (λ (s : RunSequence). first_place x ≤ first_place s) xs = λ k d i. n 0 (suc k) d (omega arith) (omega arith) in
-    let behind : All (λ (s : RunSequence). first_place y ≤ first_place s) ys = λ k d i. let l : first_place y < first_place (get_or ys k d) = b.0 k d i in omega arith in
+    let behind : All (λ (s : RunSequence). first_place y ≤ first_place s) ys = λ k d i. let l : first_place y < first_place (get_or ys k d) =
+    b.0 k d i in omega arith in
     let low : first_place y ≤ first_place x = not_lower x y xs ys h behind in
     let high : first_place x ≤ first_place y = not_lower y x ys xs (λ f. sym (h f)) up in
     let same : first_place x ≡ first_place y = omega arith in
@@ -175,10 +189,12 @@ unique all (x ∷ xs) (y ∷ ys) p q n b h =
     ap (λ s. s ∷ xs) e ∙ ap (λ ss. y ∷ ss) tails
 
 -- a sort of the sequences that are given
-pub sorted : (paragraph : ℕ) (cs : List Class) (kept : List (Option Kept)) (given found : List RunSequence) → AreGiven given (sequences paragraph cs kept) → IsPermutation given found → IsNonDecreasingBy first_place found → found ≡ sequences paragraph cs kept
+pub sorted : (paragraph : ℕ) (cs : List Class) (kept : List (Option Kept)) (given found : List RunSequence) → AreGiven given (sequences paragraph cs kept)
+    → IsPermutation given found → IsNonDecreasingBy first_place found → found ≡ sequences paragraph cs kept
 sorted paragraph cs kept given found g p n =
     let all : List RunSequence = sequences paragraph cs kept in
     let b : AreBehind all = all_behind paragraph cs kept in
     let back : IsPermutation all found = IsPermutation-trans all given found (IsPermutation-sym given all (permuted given all g)) p in
     let each : All (IsFound all) all = found_each all b in
-    unique all found all (All-permutation (IsFound all) all found back each) each n b (λ f. total_is f found ∙ sum_by-IsPermutation f all found back ∙ sym (total_is f all))
+    unique all found all (All-permutation (IsFound all) all found back each) each n b
+    (λ f. total_is f found ∙ sum_by-IsPermutation f all found back ∙ sym (total_is f all))

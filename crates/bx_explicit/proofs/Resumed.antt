@@ -1,5 +1,6 @@
 -- A run that ends in an initiator is joined to the first later run that is not above it, if that one has its level.
-use Rattle.std.proofs.Common.{◌≡◌, ◌<◌, ◌≤◌, ◌+◌, ◌∙◌, ℕ, zero, suc, List, [], ◌∷◌, ◌++◌, drop, refl, ap, sym, subst, arith, Bool, true, false, Option, Some, None, append_assoc}
+use Rattle.std.proofs.Common.{◌≡◌, ◌<◌, ◌≤◌, ◌+◌, ◌∙◌, ℕ, zero, suc, List, [], ◌∷◌, ◌++◌, drop, refl, ap, sym, subst, arith, Bool, true, false, Option, Some}
+use Rattle.std.proofs.Common.{None, append_assoc}
 use Rattle.std.specs.Prelude.{◌==◌, ◌&&◌}
 use Rattle.std.proofs.lemmas.Bool.Decides.{nat_tests}
 use Rattle.bx_ucd.specs.declared.class.Class.{Class}
@@ -12,7 +13,8 @@ use Rattle.bx_explicit.specs.declared.runs.Run.{Run}
 use Rattle.bx_explicit.specs.declared.state.State.{State}
 use Rattle.bx_explicit.specs.Stack.{entry}
 use Rattle.bx_explicit.specs.ParagraphLevel.{isolate_level}
-use Rattle.bx_explicit.specs.Explicit.{start, top, forced_class, is_valid, isolate, even_above, odd_above, first_above, next_state, kept_by, explicit_from, explicit_levels}
+use Rattle.bx_explicit.specs.Explicit.{start, top, forced_class, is_valid, isolate, even_above, odd_above, first_above, next_state, kept_by, explicit_from}
+use Rattle.bx_explicit.specs.Explicit.{explicit_levels}
 use Rattle.bx_explicit.specs.Matching.{before_pdi, match_after}
 use Rattle.bx_explicit.specs.Runs.{runs_from, AreRising}
 use Rattle.bx_explicit.specs.Sequences.{is_joined, starts_with_initiator}
@@ -49,10 +51,12 @@ module _ (t : Run) (between : List Run) (q : Run) (after : List Run) where
   rising ks e = subst AreRising e (runs_rising (t.last + 1) ks)
 
   -- in an isolate of the level of `t`
-  joined_inside : (s : State) (cs : List Class) → IsInside t.level 1 s → runs_from (t.last + 1) (explicit_from s cs) ≡ rest → begins_at (further (t.last + 1) (before_pdi 1 cs)) q.first ≡ is_first
+  joined_inside : (s : State) (cs : List Class) → IsInside t.level 1 s → runs_from (t.last + 1) (explicit_from s cs) ≡ rest
+      → begins_at (further (t.last + 1) (before_pdi 1 cs)) q.first ≡ is_first
   joined_inside s cs w e =
       let ks : List (Option Kept) = explicit_from s cs in
-      let a : resumed_run t.level rest ≡ further (t.last + 1) (before_pdi 1 cs) = ap (resumed_run t.level) (sym e) ∙ resumed_runs t.level (t.last + 1) ks ∙ ap (further (t.last + 1)) (out_at cs t.level 0 s w) in
+      let a : resumed_run t.level rest ≡ further (t.last + 1) (before_pdi 1 cs) = ap (resumed_run t.level) (sym e) ∙ resumed_runs t.level (t.last + 1) ks
+      ∙ ap (further (t.last + 1)) (out_at cs t.level 0 s w) in
       ap (λ o. begins_at o q.first) (sym a) ∙ first_is t.level between q after (rising ks e)
 
   -- behind an initiator
@@ -62,25 +66,41 @@ module _ (t : Run) (between : List Run) (q : Run) (after : List Run) where
         let o : s.overflow_isolates ≤ 0 = grind (arith, nat_tests) in
         record { inner = 0; under = (omega arith, same); counted = omega arith; valid = omega arith }
 
-    joined_isolate : runs_from (t.last + 1) (explicit_from (isolate s level) cs) ≡ rest → IsUnlike t.level rest → begins_at (further (t.last + 1) (before_pdi 1 cs)) q.first ≡ is_first
-    joined_isolate = elim (is_valid s level) as (λ b. is_valid s level ≡ b → runs_from (t.last + 1) (explicit_from (elim b as (λ x. State) [ true ↦ record s { stack = entry level Neutral true ∷ s.stack; valid_isolates = s.valid_isolates + 1 } | false ↦ record s { overflow_isolates = s.overflow_isolates + 1 } ]) cs) ≡ rest → IsUnlike t.level rest → begins_at (further (t.last + 1) (before_pdi 1 cs)) q.first ≡ is_first) [
-      | true ↦ λ v e u. joined_inside (record s { stack = entry level Neutral true ∷ s.stack; valid_isolates = s.valid_isolates + 1 }) cs (valid_inside v) e
-      | false ↦ λ v e u. absurd (no_other_run (record s { overflow_isolates = s.overflow_isolates + 1 }) s.overflow_isolates t.level (t.last + 1) cs between q after (omega arith) same e u)
-    ] refl
+    joined_isolate : runs_from (t.last + 1) (explicit_from (isolate s level) cs) ≡ rest → IsUnlike t.level rest
+        → begins_at (further (t.last + 1) (before_pdi 1 cs)) q.first ≡ is_first
+    joined_isolate = elim (is_valid s level) as (λ b. is_valid s level ≡ b
+        → runs_from (t.last + 1) (explicit_from
+        (elim b as (λ x. State) [
+          | true ↦ record s { stack = entry level Neutral true ∷ s.stack; valid_isolates = s.valid_isolates + 1 }
+          | false ↦ record s
+              { overflow_isolates = s.overflow_isolates + 1 }
+        ]) cs) ≡ rest → IsUnlike t.level rest
+        → begins_at (further (t.last + 1) (before_pdi 1 cs)) q.first ≡ is_first) [
+          | true ↦ λ v e u. joined_inside (record s { stack = entry level Neutral true ∷ s.stack; valid_isolates = s.valid_isolates + 1 }) cs (valid_inside v) e
+          | false ↦ λ v e u. absurd (no_other_run (record s { overflow_isolates = s.overflow_isolates + 1 }) s.overflow_isolates t.level (t.last + 1) cs between q
+              after (omega arith) same e u)
+        ] refl
 
   -- the runs after `t` are those of the text after a character that is kept at its level
-  module _ (s : State) (char : Kept) (ks : List (Option Kept)) (same : char.level ≡ t.level) (later : runs_from (t.last + 1) ks ≡ rest) (unlike : IsUnlike t.level rest) where
-    after_initiator : (level : ℕ) (cs : List Class) → (top s).level < level → (top s).level ≡ char.level → explicit_from (isolate s level) cs ≡ ks → begins_at (elim (before_pdi 1 cs) as (λ x. Option ℕ) [ None ↦ None | Some k ↦ Some (t.last + 1 + k) ]) q.first ≡ is_first
+  module _ (s : State) (char : Kept) (ks : List (Option Kept)) (same : char.level ≡ t.level) (later : runs_from (t.last + 1) ks ≡ rest)
+      (unlike : IsUnlike t.level rest) where
+    after_initiator : (level : ℕ) (cs : List Class) → (top s).level < level → (top s).level ≡ char.level → explicit_from (isolate s level) cs ≡ ks
+        → begins_at (elim (before_pdi 1 cs) as (λ x. Option ℕ) [ None ↦ None | Some k ↦ Some (t.last + 1 + k) ]) q.first ≡ is_first
     after_initiator level cs h e f =
-        ap (λ o. begins_at o q.first) (sym (matched t.last (before_pdi 1 cs))) ∙ joined_isolate s level cs h (e ∙ same) (ap (runs_from (t.last + 1)) f ∙ later) unlike
+        ap (λ o. begins_at o q.first) (sym (matched t.last (before_pdi 1 cs)))
+        ∙ joined_isolate s level cs h (e ∙ same) (ap (runs_from (t.last + 1)) f ∙ later) unlike
 
-    joined_after : (c : Class) (cs : List Class) → kept_by (role_of c) c s (next_state (role_of c) cs s) ≡ Some char → explicit_from (next_state (role_of c) cs s) cs ≡ ks → begins_at (match_after t.last (c ∷ cs)) q.first ≡ (is_initiator c && (q.level == t.level) && all_above t.level between)
+    joined_after : (c : Class) (cs : List Class) → kept_by (role_of c) c s (next_state (role_of c) cs s) ≡ Some char
+        → explicit_from (next_state (role_of c) cs s) cs ≡ ks
+        → begins_at (match_after t.last (c ∷ cs)) q.first ≡ (is_initiator c && (q.level == t.level) && all_above t.level between)
     joined_after LRI cs e f = after_initiator (even_above (top s).level) cs (omega arith) (kept_level (top s).level (forced_class (top s).forced LRI) char e) f
     joined_after RLI cs e f = after_initiator (odd_above (top s).level) cs (omega arith) (kept_level (top s).level (forced_class (top s).forced RLI) char e) f
-    joined_after FSI cs e f = after_initiator (first_above (isolate_level cs) (top s).level) cs (first_higher (isolate_level cs) (top s).level) (kept_level (top s).level (forced_class (top s).forced FSI) char e) f
+    joined_after FSI cs e f = after_initiator (first_above (isolate_level cs) (top s).level) cs (first_higher (isolate_level cs) (top s).level)
+        (kept_level (top s).level (forced_class (top s).forced FSI) char e) f
     joined_after _ cs e f = refl
 
-    joined_at : (ds : List Class) → explicit_from s ds ≡ Some char ∷ ks → begins_at (match_after t.last ds) q.first ≡ (starts_with_initiator ds && (q.level == t.level) && all_above t.level between)
+    joined_at : (ds : List Class) → explicit_from s ds ≡ Some char ∷ ks
+        → begins_at (match_after t.last ds) q.first ≡ (starts_with_initiator ds && (q.level == t.level) && all_above t.level between)
     joined_at [] e = absurd (cc)
     joined_at (c ∷ cs) e = joined_after c cs (cc) (cc)
 
@@ -91,13 +111,15 @@ levels_drop (suc p) s [] = refl
 levels_drop (suc p) s (c ∷ cs) = levels_drop p (next_state (role_of c) cs s) cs
 
 -- a run is joined to the first later one that is not above it, where it ends in an initiator and that one has its level
-pub joined_by_level : (paragraph : ℕ) (cs : List Class) → paragraph ≤ 1 → (before : List Run) (t : Run) (between : List Run) (q : Run) (after : List Run) → runs_from 0 (explicit_levels paragraph cs) ≡ before ++ t ∷ between ++ q ∷ after → is_joined cs t q ≡ is_resumed cs t between q
+pub joined_by_level : (paragraph : ℕ) (cs : List Class) → paragraph ≤ 1 → (before : List Run) (t : Run) (between : List Run) (q : Run) (after : List Run)
+    → runs_from 0 (explicit_levels paragraph cs) ≡ before ++ t ∷ between ++ q ∷ after → is_joined cs t q ≡ is_resumed cs t between q
 joined_by_level paragraph cs h before t between q after e =
     let all : List (Option Kept) = explicit_levels paragraph cs in
     let w : EndsAt 0 all t (between ++ q ∷ after) = run_ends 0 all before t (between ++ q ∷ after) (e ∙ append_assoc before (t ∷ between) (q ∷ after)) in
     let p : w.skipped ≡ t.last = omega (arith, w.place) in
     let n : 0 + suc w.skipped ≡ t.last + 1 = omega (arith, w.place) in
     let ks : List (Option Kept) = drop (suc w.skipped) all in
-    let here : explicit_from (state_at t.last cs (start paragraph)) (drop t.last cs) ≡ Some w.char ∷ ks = sym (levels_drop t.last (start paragraph) cs) ∙ ap (λ i. drop i all) (sym p) ∙ w.here in
+    let here : explicit_from (state_at t.last cs (start paragraph)) (drop t.last cs) ≡ Some w.char ∷ ks = sym (levels_drop t.last (start paragraph) cs)
+    ∙ ap (λ i. drop i all) (sym p) ∙ w.here in
     let later : runs_from (t.last + 1) ks ≡ between ++ q ∷ after = ap (λ i. runs_from i ks) (sym n) ∙ w.later in
     joined_at t between q after (state_at t.last cs (start paragraph)) w.char ks w.level later w.unlike (drop t.last cs) here

@@ -7,7 +7,8 @@ use Rattle.bx_explicit.specs.Stack.{IsRising, top_of, rest_of}
 pub rising_length : (es : List Entry) → IsRising es → length es ≤ (top_of es).level + 1
 rising_length [] r = omega arith
 rising_length (e ∷ []) r = omega arith
-rising_length (e ∷ f ∷ es) r = let h : length (f ∷ es) ≤ f.level + 1 = rising_length (f ∷ es) r.2 in let k : f.level < e.level = r.1 in let a : length (e ∷ f ∷ es) ≡ length (f ∷ es) + 1 = omega arith in omega arith
+rising_length (e ∷ f ∷ es) r = let h : length (f ∷ es) ≤ f.level + 1 = rising_length (f ∷ es) r.2 in let k : f.level < e.level =
+    r.1 in let a : length (e ∷ f ∷ es) ≡ length (f ∷ es) + 1 = omega arith in omega arith
 
 pub rising_top : (es : List Entry) → IsRising es → (top_of es).level ≤ 125
 rising_top [] r = omega arith
@@ -19,6 +20,7 @@ rising_push (f ∷ es) e r h k = (h, k, r)
 
 -- a stack of rising levels has room for a higher one
 pub room : (xs : List Entry) (n : ℕ) → IsRising (reverse xs) → (top_of (reverse xs)).level < n → n ≤ 125 → length xs < 127
-room xs n r h k = let a : length (reverse xs) ≤ (top_of (reverse xs)).level + 1 = rising_length (reverse xs) r in let b : length (reverse xs) ≡ length xs = length-reverse xs in omega arith
+room xs n r h k = let a : length (reverse xs) ≤ (top_of (reverse xs)).level + 1 = rising_length (reverse xs) r in let b : length (reverse xs) ≡ length xs =
+    length-reverse xs in omega arith
 
 -- what is true of every stack is true of the list with its last entry last

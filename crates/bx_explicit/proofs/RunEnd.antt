@@ -34,12 +34,22 @@ end_more k o ks t rest w =
       unlike = w.unlike;
     }
 
-end_joined : (k : ℕ) (c : Kept) (ks : List (Option Kept)) (r : Run) (rest : List Run) → r.level ≡ c.level → EndsAt (k + 1) ks r rest → EndsAt k (Some c ∷ ks) (run c.level k r.last) rest
+end_joined : (k : ℕ) (c : Kept) (ks : List (Option Kept)) (r : Run) (rest : List Run) → r.level ≡ c.level → EndsAt (k + 1) ks r rest
+    → EndsAt k (Some c ∷ ks) (run c.level k r.last) rest
 end_joined k c ks r rest e v =
     let w : EndsAt k (Some c ∷ ks) r rest = end_more k (Some c) ks r rest v in
-    record { skipped = w.skipped; char = w.char; place = w.place; here = w.here; level = w.level ∙ e; later = w.later; unlike = subst (λ n. IsUnlike n rest) e w.unlike }
+    record {
+      skipped = w.skipped;
+      char = w.char;
+      place = w.place;
+      here = w.here;
+      level = w.level ∙ e;
+      later = w.later;
+      unlike = subst (λ n. IsUnlike n rest) e w.unlike;
+    }
 
-end_here : (k : ℕ) (c : Kept) (ks : List (Option Kept)) (rest : List Run) → runs_from (k + 1) ks ≡ rest → IsUnlike c.level rest → EndsAt k (Some c ∷ ks) (run c.level k k) rest
+end_here : (k : ℕ) (c : Kept) (ks : List (Option Kept)) (rest : List Run) → runs_from (k + 1) ks ≡ rest → IsUnlike c.level rest
+    → EndsAt k (Some c ∷ ks) (run c.level k k) rest
 end_here k c ks rest e u = record { skipped = 0; char = c; place = omega arith; here = refl; level = refl; later = e; unlike = u }
 
 no_run : (bs : List Run) (t : Run) (rest : List Run) → [] ≡ bs ++ t ∷ rest → ⊥
@@ -54,11 +64,14 @@ module _ (k : ℕ) (c : Kept) (ks : List (Option Kept)) where
   end_as : (t u : Run) (rest us : List Run) → u ≡ t → us ≡ rest → EndsAt k (Some c ∷ ks) u us → EndsAt k (Some c ∷ ks) t rest
   end_as t u rest us e f w = subst (λ xs. EndsAt k (Some c ∷ ks) t xs) f (subst (λ x. EndsAt k (Some c ∷ ks) x us) e w)
 
-  end_alone : runs_from (k + 1) ks ≡ [] → (before : List Run) (t : Run) (rest : List Run) → run c.level k k ∷ [] ≡ before ++ t ∷ rest → EndsAt k (Some c ∷ ks) t rest
+  end_alone : runs_from (k + 1) ks ≡ [] → (before : List Run) (t : Run) (rest : List Run) → run c.level k k ∷ [] ≡ before ++ t ∷ rest
+      → EndsAt k (Some c ∷ ks) t rest
   end_alone g [] t rest e = end_as t (run c.level k k) rest [] (cc) (cc) (end_here k c ks [] g tt)
   end_alone g (b ∷ bs) t rest e = absurd (no_run bs t rest (cc))
 
-  end_by : (r : Run) (rs : List Run) (b : Bool) → (r.level == c.level) ≡ b → runs_from (k + 1) ks ≡ r ∷ rs → Within (r ∷ rs) → (before : List Run) (t : Run) (rest : List Run) → (elim b as (λ x. List Run) [ true ↦ run c.level k r.last ∷ rs | false ↦ run c.level k k ∷ r ∷ rs ]) ≡ before ++ t ∷ rest → EndsAt k (Some c ∷ ks) t rest
+  end_by : (r : Run) (rs : List Run) (b : Bool) → (r.level == c.level) ≡ b → runs_from (k + 1) ks ≡ r ∷ rs → Within (r ∷ rs)
+      → (before : List Run) (t : Run) (rest : List Run) → (elim b as (λ x. List Run) [ true ↦ run c.level k r.last ∷ rs | false ↦ run c.level k k ∷ r ∷ rs ])
+      ≡ before ++ t ∷ rest → EndsAt k (Some c ∷ ks) t rest
   end_by r rs true s g w [] t rest e =
       let l : r.level ≡ c.level = grind (arith, nat_tests) in
       end_as t (run c.level k r.last) rest rs (cc) (cc) (end_joined k c ks r rs l (w [] r rs refl))
@@ -68,7 +81,8 @@ module _ (k : ℕ) (c : Kept) (ks : List (Option Kept)) where
       end_as t (run c.level k k) rest (r ∷ rs) (cc) (cc) (end_here k c ks (r ∷ rs) g l)
   end_by r rs false s g w (b ∷ bs) t rest e = let f : r ∷ rs ≡ bs ++ t ∷ rest = cc in end_more k (Some c) ks t rest (w bs t rest f)
 
-  end_join : (inner : List Run) → runs_from (k + 1) ks ≡ inner → Within inner → (before : List Run) (t : Run) (rest : List Run) → join_run k c.level inner ≡ before ++ t ∷ rest → EndsAt k (Some c ∷ ks) t rest
+  end_join : (inner : List Run) → runs_from (k + 1) ks ≡ inner → Within inner → (before : List Run) (t : Run) (rest : List Run)
+      → join_run k c.level inner ≡ before ++ t ∷ rest → EndsAt k (Some c ∷ ks) t rest
   end_join [] g w before t rest e = end_alone g before t rest e
   end_join (r ∷ rs) g w before t rest e = end_by r rs (r.level == c.level) refl g w before t rest e
 

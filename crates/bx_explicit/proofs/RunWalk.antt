@@ -1,5 +1,6 @@
 -- The places of a run are the kept characters of its level from its first place on, up to a kept one of another level.
-use Rattle.std.proofs.Common.{◌≡◌, ◌≢◌, ◌<◌, ◌≤◌, ◌+◌, ◌-◌, ◌∙◌, ℕ, zero, suc, List, [], ◌∷◌, length, drop, take, refl, ap, sym, subst, arith, Bool, true, false, Option, Some, None, length-drop}
+use Rattle.std.proofs.Common.{◌≡◌, ◌≢◌, ◌<◌, ◌≤◌, ◌+◌, ◌-◌, ◌∙◌, ℕ, zero, suc, List, [], ◌∷◌, length, drop, take, refl, ap, sym, subst, arith, Bool, true}
+use Rattle.std.proofs.Common.{false, Option, Some, None, length-drop}
 use Rattle.std.specs.Prelude.{All, ◌==◌}
 use Rattle.std.proofs.lemmas.Bool.Decides.{nat_tests}
 use Rattle.std.proofs.lemmas.List.Elements.{All-head, All-drop}
@@ -13,24 +14,27 @@ use Rattle.bx_explicit.proofs.LevelRuns.{runs_within, within_eq}
 use Rattle.bx_explicit.proofs.Bounds.{IsLow, IsLowRun, runs_low}
 
 -- a character of a level, and of another one
-places_at : (level k : ℕ) (c : Kept) (g : List (Option Kept)) (b : Bool) → (c.level == level) ≡ b → level_places level k (Some c ∷ g) ≡ elim b [ true ↦ k ∷ level_places level (k + 1) g | false ↦ [] ]
+places_at : (level k : ℕ) (c : Kept) (g : List (Option Kept)) (b : Bool) → (c.level == level) ≡ b
+    → level_places level k (Some c ∷ g) ≡ elim b [ true ↦ k ∷ level_places level (k + 1) g | false ↦ [] ]
 places_at level k c g true e = rw (e, level_places)
 places_at level k c g false e = rw (e, level_places)
 
 -- a character that joins the runs after it is the first one of the first of them
 join_some : (k level : ℕ) (rs : List Run) → join_run k level rs ≢ []
 join_some k level [] e = cc
-join_some k level (r ∷ rs) e = elim (r.level == level) as (λ b. (elim b as (λ x. List Run) [ true ↦ run level k r.last ∷ rs | false ↦ run level k k ∷ r ∷ rs ]) ≡ [] → ⊥) [
-  | true ↦ λ t. cc
-  | false ↦ λ t. cc
-] e
+join_some k level (r ∷ rs) e = elim (r.level == level) as
+    (λ b. (elim b as (λ x. List Run) [ true ↦ run level k r.last ∷ rs | false ↦ run level k k ∷ r ∷ rs ]) ≡ [] → ⊥) [
+      | true ↦ λ t. cc
+      | false ↦ λ t. cc
+    ] e
 
 join_level : (k level : ℕ) (rs : List Run) (r : Run) (qs : List Run) → join_run k level rs ≡ r ∷ qs → r.level ≡ level
 join_level k level [] r qs e = cc
-join_level k level (q ∷ rs) r qs e = elim (q.level == level) as (λ b. (elim b as (λ x. List Run) [ true ↦ run level k q.last ∷ rs | false ↦ run level k k ∷ q ∷ rs ]) ≡ r ∷ qs → r.level ≡ level) [
-  | true ↦ λ t. cc
-  | false ↦ λ t. cc
-] e
+join_level k level (q ∷ rs) r qs e = elim (q.level == level) as
+    (λ b. (elim b as (λ x. List Run) [ true ↦ run level k q.last ∷ rs | false ↦ run level k k ∷ q ∷ rs ]) ≡ r ∷ qs → r.level ≡ level) [
+      | true ↦ λ t. cc
+      | false ↦ λ t. cc
+    ] e
 
 -- where there is no run, no character is kept
 no_places : (g : List (Option Kept)) (k n : ℕ) → runs_from k g ≡ [] → kept_places k (take n g) ≡ []
@@ -59,10 +63,14 @@ reaches g k r rs e =
     omega (arith, w.starts, w.ordered)
 
 -- the places after the first one of a run, by the runs of what comes after it
-later : (level k : ℕ) (g : List (Option Kept)) (qs : List Run) (r : Run) (rs : List Run) → runs_from (k + 1) g ≡ qs → join_run k level qs ≡ r ∷ rs → ((q : Run) (qs' : List Run) → runs_from (k + 1) g ≡ q ∷ qs' → q.level ≡ level → kept_places (k + 1) (take (q.last + 1 - (k + 1)) g) ≡ level_places level (k + 1) g) → kept_places (k + 1) (take (r.last + 1 - (k + 1)) g) ≡ level_places level (k + 1) g
+later : (level k : ℕ) (g : List (Option Kept)) (qs : List Run) (r : Run) (rs : List Run) → runs_from (k + 1) g ≡ qs → join_run k level qs ≡ r ∷ rs
+    → ((q : Run) (qs' : List Run) → runs_from (k + 1) g ≡ q ∷ qs' → q.level ≡ level
+    → kept_places (k + 1) (take (q.last + 1 - (k + 1)) g) ≡ level_places level (k + 1) g)
+    → kept_places (k + 1) (take (r.last + 1 - (k + 1)) g) ≡ level_places level (k + 1) g
 later level k g [] r rs e j ih = no_places g (k + 1) (r.last + 1 - (k + 1)) e ∙ sym (none_of_level level g (k + 1) e)
 later level k g (q ∷ qs) r rs e j ih =
-    elim (q.level == level) as (λ b. (q.level == level) ≡ b → (elim b as (λ x. List Run) [ true ↦ run level k q.last ∷ qs | false ↦ run level k k ∷ q ∷ qs ]) ≡ r ∷ rs → kept_places (k + 1) (take (r.last + 1 - (k + 1)) g) ≡ level_places level (k + 1) g) [
+    elim (q.level == level) as (λ b. (q.level == level) ≡ b → (elim b as (λ x. List Run) [ true ↦ run level k q.last ∷ qs | false ↦ run level k k ∷ q ∷ qs ])
+    ≡ r ∷ rs → kept_places (k + 1) (take (r.last + 1 - (k + 1)) g) ≡ level_places level (k + 1) g) [
       | true ↦ λ t f.
           let s : q.level ≡ level = grind (arith, nat_tests) in
           let l : r.last ≡ q.last = cc in
@@ -74,7 +82,8 @@ later level k g (q ∷ qs) r rs e j ih =
           ap (λ n. kept_places (k + 1) (take n g)) z ∙ sym (other_level level g (k + 1) q qs e s)
     ] refl j
 
-pub walked : (level : ℕ) (g : List (Option Kept)) (k : ℕ) (r : Run) (rs : List Run) → runs_from k g ≡ r ∷ rs → r.level ≡ level → kept_places k (take (r.last + 1 - k) g) ≡ level_places level k g
+pub walked : (level : ℕ) (g : List (Option Kept)) (k : ℕ) (r : Run) (rs : List Run) → runs_from k g ≡ r ∷ rs → r.level ≡ level
+    → kept_places k (take (r.last + 1 - k) g) ≡ level_places level k g
 walked level [] k r rs e s = absurd (cc)
 walked level (None ∷ g) k r rs e s =
     let h : k + 1 ≤ r.last = reaches g (k + 1) r rs e in
@@ -86,16 +95,20 @@ walked level (Some c ∷ g) k r rs e s =
     let l : c.level ≡ level = sym (join_level k c.level (runs_from (k + 1) g) r rs e) ∙ s in
     let t : (c.level == level) ≡ true = grind (arith, nat_tests) in
     let j : join_run k level (runs_from (k + 1) g) ≡ r ∷ rs = ap (λ x. join_run k x (runs_from (k + 1) g)) (sym l) ∙ e in
-    ap (λ n. kept_places k (take n (Some c ∷ g))) m ∙ ap (λ ps. k ∷ ps) (later level k g (runs_from (k + 1) g) r rs refl j (λ q qs f u. walked level g (k + 1) q qs f u)) ∙ sym (places_at level k c g true t)
+    ap (λ n. kept_places k (take n (Some c ∷ g))) m
+    ∙ ap (λ ps. k ∷ ps) (later level k g (runs_from (k + 1) g) r rs refl j (λ q qs f u. walked level g (k + 1) q qs f u))
+    ∙ sym (places_at level k c g true t)
 
 -- the same for the first run of a list, if there is one
-walked_first : (level : ℕ) (g : List (Option Kept)) (k : ℕ) (rs : List Run) → runs_from k g ≡ rs → (first_run_of rs).level ≡ level → kept_places k (take ((first_run_of rs).last + 1 - k) g) ≡ level_places level k g
+walked_first : (level : ℕ) (g : List (Option Kept)) (k : ℕ) (rs : List Run) → runs_from k g ≡ rs → (first_run_of rs).level ≡ level
+    → kept_places k (take ((first_run_of rs).last + 1 - k) g) ≡ level_places level k g
 walked_first level g k [] e s = no_places g k (0 + 1 - k) e ∙ sym (none_of_level level g k e)
 walked_first level g k (r ∷ rs) e s = walked level g k r rs e s
 
 pub places_walked : (kept : List (Option Kept)) (level p : ℕ) → BeginsRun kept level p → places_of kept (run_at kept p) ≡ level_places level p (drop p kept)
 places_walked kept level p w =
-    ap (λ n. kept_places n (take ((run_at kept p).last + 1 - n) (drop n kept))) w.here ∙ walked_first level (drop p kept) p (runs_from p (drop p kept)) refl w.of_level
+    ap (λ n. kept_places n (take ((run_at kept p).last + 1 - n) (drop n kept))) w.here
+    ∙ walked_first level (drop p kept) p (runs_from p (drop p kept)) refl w.of_level
 
 -- what bounds it
 last_in : (n k : ℕ) (rs : List Run) → 0 < n → All (IsRunWithin k n) rs → (first_run_of rs).last < n
@@ -105,7 +118,8 @@ last_in n k (r ∷ rs) h a = (All-head (IsRunWithin k n) r rs a).ends
 pub last_below : (kept : List (Option Kept)) (p : ℕ) → p < length kept → (run_at kept p).last < length kept
 last_below kept p h =
     let e : p + length (drop p kept) ≡ length kept = omega (arith, length-drop p kept) in
-    last_in (length kept) p (runs_from p (drop p kept)) (omega arith) (within_eq p (p + length (drop p kept)) (length kept) (runs_from p (drop p kept)) e (runs_within p (drop p kept)))
+    last_in (length kept) p (runs_from p (drop p kept)) (omega arith)
+    (within_eq p (p + length (drop p kept)) (length kept) (runs_from p (drop p kept)) e (runs_within p (drop p kept)))
 
 low_in : (rs : List Run) → All IsLowRun rs → (first_run_of rs).level ≤ 125
 low_in [] a = omega arith

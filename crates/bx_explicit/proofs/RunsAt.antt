@@ -1,5 +1,6 @@
 -- The run that begins at a place: what a character more does to it.
-use Rattle.std.proofs.Common.{◌≡◌, ◌≢◌, ◌<◌, ◌≤◌, ◌+◌, ◌-◌, ◌∙◌, ℕ, suc, List, [], ◌∷◌, ◌++◌, length, get_or, drop, refl, ap, sym, subst, arith, Bool, true, false, Option, Some, None, length-append}
+use Rattle.std.proofs.Common.{◌≡◌, ◌≢◌, ◌<◌, ◌≤◌, ◌+◌, ◌-◌, ◌∙◌, ℕ, suc, List, [], ◌∷◌, ◌++◌, length, get_or, drop, refl, ap, sym, subst, arith, Bool, true}
+use Rattle.std.proofs.Common.{false, Option, Some, None, length-append}
 use Rattle.std.specs.Prelude.{All, ◌==◌}
 use Rattle.std.proofs.lemmas.Bool.Decides.{nat_tests}
 use Rattle.std.proofs.lemmas.List.{at_drop_more, at_drop_all, get_or_at}
@@ -14,11 +15,13 @@ abbrev pub extend : ℕ → ℕ → ℕ → List Run → List Run
 extend level first last [] = run level first last ∷ []
 extend level first last (r ∷ rs) = elim (r.level == level) [ true ↦ run level first r.last ∷ rs | false ↦ run level first last ∷ r ∷ rs ]
 
-extend_at : (level f last : ℕ) (r : Run) (rs : List Run) (b : Bool) → (r.level == level) ≡ b → extend level f last (r ∷ rs) ≡ elim b [ true ↦ run level f r.last ∷ rs | false ↦ run level f last ∷ r ∷ rs ]
+extend_at : (level f last : ℕ) (r : Run) (rs : List Run) (b : Bool) → (r.level == level) ≡ b
+    → extend level f last (r ∷ rs) ≡ elim b [ true ↦ run level f r.last ∷ rs | false ↦ run level f last ∷ r ∷ rs ]
 extend_at level f last r rs true e = rw (e, extend)
 extend_at level f last r rs false e = rw (e, extend)
 
-join_at : (k level : ℕ) (r : Run) (rs : List Run) (b : Bool) → (r.level == level) ≡ b → join_run k level (r ∷ rs) ≡ elim b [ true ↦ run level k r.last ∷ rs | false ↦ run level k k ∷ r ∷ rs ]
+join_at : (k level : ℕ) (r : Run) (rs : List Run) (b : Bool) → (r.level == level) ≡ b
+    → join_run k level (r ∷ rs) ≡ elim b [ true ↦ run level k r.last ∷ rs | false ↦ run level k k ∷ r ∷ rs ]
 join_at k level r rs true e = rw (e, join_run)
 join_at k level r rs false e = rw (e, join_run)
 
@@ -37,16 +40,20 @@ extend_join : (level f last k : ℕ) (rs : List Run) → extend level f last (jo
 extend_join level f last k [] = extend_at level f last (run level k k) [] true (same level)
 extend_join level f last k (r ∷ rs) =
     elim (r.level == level) as (λ b. (r.level == level) ≡ b → extend level f last (join_run k level (r ∷ rs)) ≡ extend level f k (r ∷ rs)) [
-      | true ↦ λ t. ap (extend level f last) (join_at k level r rs true t) ∙ extend_at level f last (run level k r.last) rs true (same level) ∙ sym (extend_at level f k r rs true t)
-      | false ↦ λ t. ap (extend level f last) (join_at k level r rs false t) ∙ extend_at level f last (run level k k) (r ∷ rs) true (same level) ∙ sym (extend_at level f k r rs false t)
+      | true ↦ λ t. ap (extend level f last) (join_at k level r rs true t) ∙ extend_at level f last (run level k r.last) rs true (same level)
+          ∙ sym (extend_at level f k r rs true t)
+      | false ↦ λ t. ap (extend level f last) (join_at k level r rs false t) ∙ extend_at level f last (run level k k) (r ∷ rs) true (same level)
+          ∙ sym (extend_at level f k r rs false t)
     ] refl
 
 extend_other : (level f last k other : ℕ) (rs : List Run) → other ≢ level → extend level f last (join_run k other rs) ≡ run level f last ∷ join_run k other rs
 extend_other level f last k other [] h = extend_at level f last (run other k k) [] false (differ other level h)
 extend_other level f last k other (r ∷ rs) h =
     elim (r.level == other) as (λ b. (r.level == other) ≡ b → extend level f last (join_run k other (r ∷ rs)) ≡ run level f last ∷ join_run k other (r ∷ rs)) [
-      | true ↦ λ t. ap (extend level f last) (join_at k other r rs true t) ∙ extend_at level f last (run other k r.last) rs false (differ other level h) ∙ sym (ap (λ qs. run level f last ∷ qs) (join_at k other r rs true t))
-      | false ↦ λ t. ap (extend level f last) (join_at k other r rs false t) ∙ extend_at level f last (run other k k) (r ∷ rs) false (differ other level h) ∙ sym (ap (λ qs. run level f last ∷ qs) (join_at k other r rs false t))
+      | true ↦ λ t. ap (extend level f last) (join_at k other r rs true t) ∙ extend_at level f last (run other k r.last) rs false (differ other level h)
+          ∙ sym (ap (λ qs. run level f last ∷ qs) (join_at k other r rs true t))
+      | false ↦ λ t. ap (extend level f last) (join_at k other r rs false t) ∙ extend_at level f last (run other k k) (r ∷ rs) false (differ other level h)
+          ∙ sym (ap (λ qs. run level f last ∷ qs) (join_at k other r rs false t))
     ] refl
 
 -- the same in a text: the first character of a run, one more of it, and where it ends
@@ -54,14 +61,18 @@ begun_by : (k level : ℕ) (o : Option Kept) (g : List (Option Kept)) → HasLev
 begun_by k level None g h = absurd h
 begun_by k level (Some c) g h = ap (λ l. join_run k l (runs_from (k + 1) g)) h ∙ join_is k level (runs_from (k + 1) g)
 
-pub begins_at : (g : List (Option Kept)) (k level : ℕ) → k < length g → HasLevel level (get_or g k None) → runs_from k (drop k g) ≡ extend level k k (runs_from (k + 1) (drop (k + 1) g))
+pub begins_at : (g : List (Option Kept)) (k level : ℕ) → k < length g → HasLevel level (get_or g k None)
+    → runs_from k (drop k g) ≡ extend level k k (runs_from (k + 1) (drop (k + 1) g))
 begins_at g k level h l = at_drop_more (runs_from k) g k None h ∙ begun_by k level (get_or g k None) (drop (k + 1) g) l
 
-pub goes_on : (g : List (Option Kept)) (k level f last : ℕ) (c : Kept) → k < length g → get_or g k None ≡ Some c → c.level ≡ level → extend level f last (runs_from k (drop k g)) ≡ extend level f k (runs_from (k + 1) (drop (k + 1) g))
+pub goes_on : (g : List (Option Kept)) (k level f last : ℕ) (c : Kept) → k < length g → get_or g k None ≡ Some c → c.level ≡ level
+    → extend level f last (runs_from k (drop k g)) ≡ extend level f k (runs_from (k + 1) (drop (k + 1) g))
 goes_on g k level f last c h e s =
-    ap (extend level f last) (runs_some g k c h e ∙ ap (λ l. join_run k l (runs_from (k + 1) (drop (k + 1) g))) s) ∙ extend_join level f last k (runs_from (k + 1) (drop (k + 1) g))
+    ap (extend level f last) (runs_some g k c h e ∙ ap (λ l. join_run k l (runs_from (k + 1) (drop (k + 1) g))) s)
+    ∙ extend_join level f last k (runs_from (k + 1) (drop (k + 1) g))
 
-pub ends_before : (g : List (Option Kept)) (k level f last : ℕ) (c : Kept) → k < length g → get_or g k None ≡ Some c → c.level ≢ level → extend level f last (runs_from k (drop k g)) ≡ run level f last ∷ runs_from k (drop k g)
+pub ends_before : (g : List (Option Kept)) (k level f last : ℕ) (c : Kept) → k < length g → get_or g k None ≡ Some c → c.level ≢ level
+    → extend level f last (runs_from k (drop k g)) ≡ run level f last ∷ runs_from k (drop k g)
 ends_before g k level f last c h e s =
     let a : runs_from k (drop k g) ≡ join_run k c.level (runs_from (k + 1) (drop (k + 1) g)) = runs_some g k c h e in
     ap (extend level f last) a ∙ extend_other level f last k c.level (runs_from (k + 1) (drop (k + 1) g)) s ∙ sym (ap (λ qs. run level f last ∷ qs) a)
@@ -69,7 +80,8 @@ ends_before g k level f last c h e s =
 pub no_more : (g : List (Option Kept)) (k : ℕ) → length g ≤ k → runs_from k (drop k g) ≡ []
 no_more g k h = at_drop_all (runs_from k) g k h
 
-pub ends_last : (g : List (Option Kept)) (k level f last : ℕ) → length g ≤ k → extend level f last (runs_from k (drop k g)) ≡ run level f last ∷ runs_from k (drop k g)
+pub ends_last : (g : List (Option Kept)) (k level f last : ℕ) → length g ≤ k
+    → extend level f last (runs_from k (drop k g)) ≡ run level f last ∷ runs_from k (drop k g)
 ends_last g k level f last h = ap (extend level f last) (no_more g k h) ∙ sym (ap (λ qs. run level f last ∷ qs) (no_more g k h))
 
 -- nothing is kept before the first character that is
@@ -80,26 +92,32 @@ level_of_some (Some d) c e = cc
 -- the runs from the first place of one of them on
 place_in : (k n : ℕ) (before : List Run) (r : Run) (rest rs : List Run) → rs ≡ before ++ (r ∷ rest) → All (IsRunWithin k n) rs → k ≤ r.first
 place_in k n before r rest rs e a =
-    let w : IsRunWithin k n r = subst (IsRunWithin k n) (get_or_at before r rest r (length before) refl) (subst (All (IsRunWithin k n)) e a (length before) r (omega (arith, length-append before (r ∷ rest)))) in
+    let w : IsRunWithin k n r = subst (IsRunWithin k n) (get_or_at before r rest r (length before) refl)
+    (subst (All (IsRunWithin k n)) e a (length before) r (omega (arith, length-append before (r ∷ rest)))) in
     w.starts
 
 begins_there : (k level : ℕ) (rs : List Run) (r : Run) (rest : List Run) → join_run k level rs ≡ r ∷ rest → r.first ≡ k
 begins_there k level [] r rest e = cc
-begins_there k level (q ∷ qs) r rest e = elim (q.level == level) as (λ b. (elim b as (λ x. List Run) [ true ↦ run level k q.last ∷ qs | false ↦ run level k k ∷ q ∷ qs ]) ≡ r ∷ rest → r.first ≡ k) [
-  | true ↦ λ t. cc
-  | false ↦ λ t. cc
-] e
+begins_there k level (q ∷ qs) r rest e = elim (q.level == level) as
+    (λ b. (elim b as (λ x. List Run) [ true ↦ run level k q.last ∷ qs | false ↦ run level k k ∷ q ∷ qs ]) ≡ r ∷ rest → r.first ≡ k) [
+      | true ↦ λ t. cc
+      | false ↦ λ t. cc
+    ] e
 
 -- a run that is not the first one is a run of what comes after a character
-stays_later : (k level : ℕ) (rs : List Run) (b : Run) (before : List Run) (r : Run) (rest : List Run) → join_run k level rs ≡ b ∷ before ++ (r ∷ rest) → (xs : List Run) × (rs ≡ xs ++ (r ∷ rest))
+stays_later : (k level : ℕ) (rs : List Run) (b : Run) (before : List Run) (r : Run) (rest : List Run) → join_run k level rs ≡ b ∷ before ++ (r ∷ rest)
+    → (xs : List Run) × (rs ≡ xs ++ (r ∷ rest))
 stays_later k level [] b [] r rest e = absurd (cc)
 stays_later k level [] b (x ∷ before) r rest e = absurd (cc)
-stays_later k level (q ∷ qs) b before r rest e = elim (q.level == level) as (λ v. (elim v as (λ x. List Run) [ true ↦ run level k q.last ∷ qs | false ↦ run level k k ∷ q ∷ qs ]) ≡ b ∷ before ++ (r ∷ rest) → (xs : List Run) × ((q ∷ qs) ≡ xs ++ (r ∷ rest))) [
-  | true ↦ λ t. let f : qs ≡ before ++ (r ∷ rest) = cc in (q ∷ before, ap (λ xs. q ∷ xs) f)
-  | false ↦ λ t. let f : q ∷ qs ≡ before ++ (r ∷ rest) = cc in (before, f)
-] e
+stays_later k level (q ∷ qs) b before r rest e = elim (q.level == level) as
+    (λ v. (elim v as (λ x. List Run) [ true ↦ run level k q.last ∷ qs | false ↦ run level k k ∷ q ∷ qs ]) ≡ b ∷ before ++ (r ∷ rest)
+    → (xs : List Run) × ((q ∷ qs) ≡ xs ++ (r ∷ rest))) [
+      | true ↦ λ t. let f : qs ≡ before ++ (r ∷ rest) = cc in (q ∷ before, ap (λ xs. q ∷ xs) f)
+      | false ↦ λ t. let f : q ∷ qs ≡ before ++ (r ∷ rest) = cc in (before, f)
+    ] e
 
-runs_there : (g : List (Option Kept)) (k : ℕ) (before : List Run) (r : Run) (rest : List Run) → runs_from k g ≡ before ++ (r ∷ rest) → runs_from r.first (drop (r.first - k) g) ≡ r ∷ rest
+runs_there : (g : List (Option Kept)) (k : ℕ) (before : List Run) (r : Run) (rest : List Run) → runs_from k g ≡ before ++ (r ∷ rest)
+    → runs_from r.first (drop (r.first - k) g) ≡ r ∷ rest
 runs_there [] k [] r rest e = absurd (cc)
 runs_there [] k (b ∷ before) r rest e = absurd (cc)
 runs_there (None ∷ g) k before r rest e =

@@ -54,7 +54,8 @@ count_after_le zero PDI = omega arith
 count_after_le (suc n) PDI = omega arith
 count_after_le n _ = omega arith
 
-pub scan_more : (cs : List Class) (i n : ℕ) → i < length cs → (n ≡ 0 → is_strong (get_or cs i L) ≡ false) → level_of_rest n (drop i cs) ≡ level_of_rest (count_after n (get_or cs i L)) (drop (i + 1) cs)
+pub scan_more : (cs : List Class) (i n : ℕ) → i < length cs → (n ≡ 0 → is_strong (get_or cs i L) ≡ false)
+    → level_of_rest n (drop i cs) ≡ level_of_rest (count_after n (get_or cs i L)) (drop (i + 1) cs)
 scan_more cs i n h s = at_drop_more (level_of_rest n) cs i L h ∙ level_step n (get_or cs i L) (drop (i + 1) cs) s
 
 pub scan_here : (cs : List Class) (i : ℕ) → i < length cs → is_strong (get_or cs i L) ≡ true → level_of_rest 0 (drop i cs) ≡ level_of_strong (get_or cs i L)

@@ -33,11 +33,13 @@ first_get x (l ∷ ls) = refl
 abbrev pub text_level : ℕ → List Class → ℕ
 text_level n cs = level_of_rest n (take (until_pdi (suc n) cs) cs)
 
-text_more : (n m : ℕ) (c : Class) (cs : List Class) → count_after (suc n) c ≡ suc m → count_after n c ≡ m → (n ≡ 0 → is_strong c ≡ false) → text_level n (c ∷ cs) ≡ text_level m cs
+text_more : (n m : ℕ) (c : Class) (cs : List Class) → count_after (suc n) c ≡ suc m → count_after n c ≡ m → (n ≡ 0 → is_strong c ≡ false)
+    → text_level n (c ∷ cs) ≡ text_level m cs
 text_more n m c cs e f s =
     let a : until_pdi (suc n) (c ∷ cs) ≡ 1 + until_pdi (suc m) cs = until_cons (suc n) c cs (suc m) e (omega arith) in
     let b : 1 + until_pdi (suc m) cs ≡ suc (until_pdi (suc m) cs) = omega arith in
-    ap (λ k. level_of_rest n (take k (c ∷ cs))) (a ∙ b) ∙ level_step n c (take (until_pdi (suc m) cs) cs) s ∙ ap (λ k. level_of_rest k (take (until_pdi (suc m) cs) cs)) f
+    ap (λ k. level_of_rest n (take k (c ∷ cs))) (a ∙ b) ∙ level_step n c (take (until_pdi (suc m) cs) cs) s
+    ∙ ap (λ k. level_of_rest k (take (until_pdi (suc m) cs) cs)) f
 
 text_strong : (c : Class) (cs : List Class) → count_after 1 c ≡ 1 → is_strong c ≡ true → text_level 0 (c ∷ cs) ≡ level_of_strong c
 text_strong c cs e s =

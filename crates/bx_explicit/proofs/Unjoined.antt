@@ -1,5 +1,6 @@
 -- Which of the runs to come a run of a chain is joined to.
-use Rattle.std.proofs.Common.{◌≡◌, ◌≢◌, ◌<◌, ◌≤◌, ◌∙◌, ℕ, List, [], ◌∷◌, ◌++◌, append_assoc, get_or, drop, refl, ap, sym, arith, Bool, true, false, not, ◌&&◌, ◌||◌, ◌==◌, Some, None, le-ltb, lt-ltb, ltb-true, nat_lt}
+use Rattle.std.proofs.Common.{◌≡◌, ◌≢◌, ◌<◌, ◌≤◌, ◌∙◌, ℕ, List, [], ◌∷◌, ◌++◌, append_assoc, get_or, drop, refl, ap, sym, arith, Bool, true, false, not, ◌&&◌}
+use Rattle.std.proofs.Common.{◌||◌, ◌==◌, Some, None, le-ltb, lt-ltb, ltb-true, nat_lt}
 use Rattle.std.specs.Prelude.{All}
 use Rattle.std.proofs.lemmas.Bool.{and_from, and_parts, and_left, and_right}
 use Rattle.std.proofs.lemmas.Bool.Decides.{nat_tests}
@@ -23,7 +24,9 @@ joined_none cs t q h = ap (λ o. elim o as (λ x. Bool) [ None ↦ false | Some 
 -- runs above a level, one more
 pub above_more : (level : ℕ) (rs : List Run) (q : Run) → all_above level rs ≡ true → level < q.level → all_above level (rs ++ q ∷ []) ≡ true
 above_more level [] q a h = and_from (nat_lt level q.level) true (lt-ltb level q.level h) refl
-above_more level (r ∷ rs) q a h = let b : (nat_lt level r.level ≡ true) × (all_above level rs ≡ true) = and_parts (nat_lt level r.level) (all_above level rs) a in and_from (nat_lt level r.level) (all_above level (rs ++ q ∷ [])) b.0 (above_more level rs q b.1 h)
+above_more level (r ∷ rs) q a h = let b : (nat_lt level r.level ≡ true)
+    × (all_above level rs ≡ true) = and_parts (nat_lt level r.level) (all_above level rs) a in and_from (nat_lt level r.level) (all_above level (rs ++ q ∷ []))
+    b.0 (above_more level rs q b.1 h)
 
 not_above : (level : ℕ) (rs : List Run) (q : Run) → q.level ≤ level → all_above level (rs ++ q ∷ []) ≡ false
 not_above level [] q h = and_left (nat_lt level q.level) true (le-ltb level q.level h)
@@ -38,7 +41,8 @@ still_not level [] q h = absurd (cc)
 still_not level (r ∷ rs) q h = and_kept (nat_lt level r.level) (all_above level rs) (all_above level (rs ++ q ∷ [])) h (still_not level rs q)
 
 pub append_one : (before between after : List Run) (t q : Run) → (before ++ t ∷ between ++ q ∷ after) ≡ (before ++ t ∷ (between ++ q ∷ []) ++ after)
-append_one before between after t q = sym (append_assoc (before ++ t ∷ between) (q ∷ []) after) ∙ ap (λ xs. xs ++ after) (append_assoc before (t ∷ between) (q ∷ []))
+append_one before between after t q = sym (append_assoc (before ++ t ∷ between) (q ∷ []) after)
+    ∙ ap (λ xs. xs ++ after) (append_assoc before (t ∷ between) (q ∷ []))
 
 three : (a b c : Bool) → b ≡ false → (a && b && c) ≡ false
 three a b c h = and_left (a && b) c (and_right a b h)
@@ -51,7 +55,8 @@ all_three a b c p q r = and_from (a && b) c (and_from a b p q) r
 
 -- the run `t` is joined to `q` just where it waits for it
 abbrev pub AreResumed : List Class → List Run → Type 0
-AreResumed cs all = (before : List Run) (t : Run) (between : List Run) (q : Run) (after : List Run) → all ≡ before ++ t ∷ between ++ q ∷ after → is_joined cs t q ≡ is_resumed cs t between q
+AreResumed cs all = (before : List Run) (t : Run) (between : List Run) (q : Run) (after : List Run) → all ≡ before ++ t ∷ between ++ q ∷ after
+    → is_joined cs t q ≡ is_resumed cs t between q
 
 abbrev pub IsAlone : List Class → Run → List Run → Type 0
 IsAlone cs t rest = All (λ q. is_joined cs t q ≡ false) rest
@@ -65,31 +70,40 @@ module _ (cs : List Class) (all : List Run) (law : AreResumed cs all) where
       (law before t between q rest e ∙ last_of_three (ends_in_initiator cs t) (q.level == t.level) (all_above t.level between) h)
       (passed before t (between ++ q ∷ []) rest (e ∙ append_one before between rest t q) (still_not t.level between q h))
 
-  later_alone : (before : List Run) (t : Run) (between : List Run) (q : Run) (rest : List Run) → all ≡ before ++ t ∷ between ++ q ∷ rest → q.level ≤ t.level → IsAlone cs t rest
+  later_alone : (before : List Run) (t : Run) (between : List Run) (q : Run) (rest : List Run) → all ≡ before ++ t ∷ between ++ q ∷ rest → q.level ≤ t.level
+      → IsAlone cs t rest
   later_alone before t between q rest e h = passed before t (between ++ q ∷ []) rest (e ∙ append_one before between rest t q) (not_above t.level between q h)
 
-  pub other_level : (before : List Run) (t : Run) (between : List Run) (q : Run) (rest : List Run) → all ≡ before ++ t ∷ between ++ q ∷ rest → q.level ≢ t.level → is_joined cs t q ≡ false
-  other_level before t between q rest e h = let n : (q.level == t.level) ≡ false = grind (arith, nat_tests) in law before t between q rest e ∙ three (ends_in_initiator cs t) (q.level == t.level) (all_above t.level between) n
+  pub other_level : (before : List Run) (t : Run) (between : List Run) (q : Run) (rest : List Run) → all ≡ before ++ t ∷ between ++ q ∷ rest → q.level ≢ t.level
+      → is_joined cs t q ≡ false
+  other_level before t between q rest e h = let n : (q.level == t.level) ≡ false = grind (arith, nat_tests) in law before t between q rest e
+      ∙ three (ends_in_initiator cs t) (q.level == t.level) (all_above t.level between) n
 
   -- a chain that is over
-  pub over_alone : (before : List Run) (t : Run) (between : List Run) (q : Run) (rest : List Run) → all ≡ before ++ t ∷ between ++ q ∷ rest → (nat_lt q.level t.level || not (ends_in_initiator cs t)) ≡ true → IsAlone cs t (q ∷ rest)
+  pub over_alone : (before : List Run) (t : Run) (between : List Run) (q : Run) (rest : List Run) → all ≡ before ++ t ∷ between ++ q ∷ rest
+      → (nat_lt q.level t.level || not (ends_in_initiator cs t)) ≡ true → IsAlone cs t (q ∷ rest)
   over_alone before t between q rest e h = by (nat_lt q.level t.level) (ends_in_initiator cs t) refl refl h
     where
       by : (a b : Bool) → nat_lt q.level t.level ≡ a → ends_in_initiator cs t ≡ b → (a || not b) ≡ true → IsAlone cs t (q ∷ rest)
       by true b x y z =
           let l : q.level < t.level = ltb-true q.level t.level x in
-          All-cons (λ u. is_joined cs t u ≡ false) q rest (other_level before t between q rest e (omega arith)) (later_alone before t between q rest e (omega arith))
+          All-cons (λ u. is_joined cs t u ≡ false) q rest (other_level before t between q rest e (omega arith))
+          (later_alone before t between q rest e (omega arith))
       by false true x y z = absurd (cc)
       by false false x y z = λ k d i. joined_none cs t (get_or (q ∷ rest) k d) y
 
   -- a chain that goes on
-  pub resumed : (before : List Run) (t : Run) (between : List Run) (q : Run) (rest : List Run) → all ≡ before ++ t ∷ between ++ q ∷ rest → all_above t.level between ≡ true → ends_in_initiator cs t ≡ true → q.level ≡ t.level → (is_joined cs t q ≡ true) × IsAlone cs t rest
+  pub resumed : (before : List Run) (t : Run) (between : List Run) (q : Run) (rest : List Run) → all ≡ before ++ t ∷ between ++ q ∷ rest
+      → all_above t.level between ≡ true → ends_in_initiator cs t ≡ true → q.level ≡ t.level → (is_joined cs t q ≡ true) × IsAlone cs t rest
   resumed before t between q rest e a i h =
-      let s : (q.level == t.level) ≡ true = grind (arith, nat_tests) in
-      (law before t between q rest e ∙ all_three (ends_in_initiator cs t) (q.level == t.level) (all_above t.level between) i s a, later_alone before t between q rest e (omega arith))
+      let s : (q.level == t.level) ≡ true = grind (arith, nat_tests) in (
+        law before t between q rest e ∙ all_three (ends_in_initiator cs t) (q.level == t.level) (all_above t.level between) i s a,
+        later_alone before t between q rest e (omega arith),
+      )
 
 -- what follows a run
-followers_at : (cs : List Class) (r q : Run) (qs : List Run) (b : Bool) → is_joined cs r q ≡ b → followers cs r (q ∷ qs) ≡ elim b [ true ↦ q ∷ followers cs q qs | false ↦ followers cs r qs ]
+followers_at : (cs : List Class) (r q : Run) (qs : List Run) (b : Bool) → is_joined cs r q ≡ b
+    → followers cs r (q ∷ qs) ≡ elim b [ true ↦ q ∷ followers cs q qs | false ↦ followers cs r qs ]
 followers_at cs r q qs true e = rw (e, followers)
 followers_at cs r q qs false e = rw (e, followers)
 
@@ -101,7 +115,8 @@ not_followed cs t q rest h = followers_at cs t q rest false h
 
 pub alone : (cs : List Class) (t : Run) (rest : List Run) → IsAlone cs t rest → followers cs t rest ≡ []
 alone cs t [] a = refl
-alone cs t (q ∷ rest) a = not_followed cs t q rest (All-head (λ x. is_joined cs t x ≡ false) q rest a) ∙ alone cs t rest (All-tail (λ x. is_joined cs t x ≡ false) q rest a)
+alone cs t (q ∷ rest) a = not_followed cs t q rest (All-head (λ x. is_joined cs t x ≡ false) q rest a)
+    ∙ alone cs t rest (All-tail (λ x. is_joined cs t x ≡ false) q rest a)
 
 -- the runs that are joined to one of those met, where the newest of each chain stand for all
 abbrev pub StandFor : List Class → List Run → List Run → List Run → Type 0

@@ -60,11 +60,22 @@ pub wait_before : (done : List Run) (chains : List (List Run)) (low high : ℕ) 
 wait_before done [] low high h w = tt
 wait_before done ([] ∷ chains) low high h w = w
 wait_before done ((r ∷ rs) ∷ chains) low high h w =
-    let c : IsWaiting done r rs (heads chains) w.0 low = w.1 in
-    (w.0, record { before = c.before; between = c.between; split = c.split; above = c.above; lower = c.lower; within = widen_all w.0 low w.0 high (r ∷ rs) (omega arith) h c.within }, w.2)
+    let c : IsWaiting done r rs (heads chains) w.0 low = w.1 in (
+      w.0,
+      record {
+        before = c.before;
+        between = c.between;
+        split = c.split;
+        above = c.above;
+        lower = c.lower;
+        within = widen_all w.0 low w.0 high (r ∷ rs) (omega arith) h c.within;
+      },
+      w.2,
+    )
 
 -- one more run is met, which is above all newest runs
-pub wait_over : (done : List Run) (chains : List (List Run)) (high : ℕ) (q : Run) → All (λ (u : Run). u.level < q.level) (heads chains) → AreWaiting done chains high → AreWaiting (done ++ q ∷ []) chains high
+pub wait_over : (done : List Run) (chains : List (List Run)) (high : ℕ) (q : Run) → All (λ (u : Run). u.level < q.level) (heads chains)
+    → AreWaiting done chains high → AreWaiting (done ++ q ∷ []) chains high
 wait_over done [] high q l w = tt
 wait_over done ([] ∷ chains) high q l w = w
 wait_over done ((r ∷ rs) ∷ chains) high q l w =
@@ -85,7 +96,9 @@ pub lower_all : (m n : ℕ) (us : List Run) → m ≤ n → All (λ (u : Run). u
 lower_all m n us h a = λ k d i. let l : (get_or us k d).level < m = a k d i in omega arith
 
 -- a run that is above the newest runs is joined to none of them
-pub none_joined : (cs : List Class) (all : List Run) → AreResumed cs all → (done : List Run) (chains : List (List Run)) (high : ℕ) (q : Run) (rest : List Run) → all ≡ done ++ q ∷ rest → All (λ (u : Run). u.level < q.level) (heads chains) → AreWaiting done chains high → All (λ u. is_joined cs u q ≡ false) (heads chains)
+pub none_joined : (cs : List Class) (all : List Run) → AreResumed cs all → (done : List Run) (chains : List (List Run)) (high : ℕ) (q : Run) (rest : List Run)
+    → all ≡ done ++ q ∷ rest → All (λ (u : Run). u.level < q.level) (heads chains) → AreWaiting done chains high
+    → All (λ u. is_joined cs u q ≡ false) (heads chains)
 none_joined cs all law done [] high q rest e l w = All-nil (λ u. is_joined cs u q ≡ false)
 none_joined cs all law done ([] ∷ chains) high q rest e l w = absurd w
 none_joined cs all law done ((r ∷ rs) ∷ chains) high q rest e l w =
@@ -98,12 +111,14 @@ none_joined cs all law done ((r ∷ rs) ∷ chains) high q rest e l w =
 
 module _ (paragraph : ℕ) (cs : List Class) (kept : List (Option Kept)) where
   -- chains that a run is joined to none of wait on
-  pub wait_on : (chains : List (List Run)) (q : Run) (rest : List Run) → All (λ u. is_joined cs u q ≡ false) (heads chains) → waiting paragraph cs kept chains (q ∷ rest) ≡ waiting paragraph cs kept chains rest
+  pub wait_on : (chains : List (List Run)) (q : Run) (rest : List Run) → All (λ u. is_joined cs u q ≡ false) (heads chains)
+      → waiting paragraph cs kept chains (q ∷ rest) ≡ waiting paragraph cs kept chains rest
   wait_on [] q rest a = refl
   wait_on (c ∷ chains) q rest a =
       let u : Run = first_run_of c in
       ap (λ ss. ss ++ completed paragraph cs kept c (q ∷ rest) ∷ []) (wait_on chains q rest (All-tail (λ x. is_joined cs x q ≡ false) u (heads chains) a))
-      ∙ ap (λ fs. waiting paragraph cs kept chains rest ++ sequence_of_runs paragraph cs kept (reverse c ++ fs) ∷ []) (not_followed cs u q rest (All-head (λ x. is_joined cs x q ≡ false) u (heads chains) a))
+      ∙ ap (λ fs. waiting paragraph cs kept chains rest ++ sequence_of_runs paragraph cs kept (reverse c ++ fs) ∷ [])
+      (not_followed cs u q rest (All-head (λ x. is_joined cs x q ≡ false) u (heads chains) a))
 
   pub places_of_runs : (rs : List Run) → chain_places kept rs ≡ (sequence_of_runs paragraph cs kept rs).places
   places_of_runs [] = refl
@@ -118,7 +133,8 @@ module _ (paragraph : ℕ) (cs : List Class) (kept : List (Option Kept)) where
       ]
 
   -- the sequences of chains before a place, which go on after another
-  pub waiting_out : (done : List Run) (chains : List (List Run)) (rest : List Run) (place low high top : ℕ) → place ≤ low → AreWaiting done chains place → All (IsRunWithin high top) rest → All (λ (s : RunSequence). All (IsOut low high) s.places) (waiting paragraph cs kept chains rest)
+  pub waiting_out : (done : List Run) (chains : List (List Run)) (rest : List Run) (place low high top : ℕ) → place ≤ low → AreWaiting done chains place
+      → All (IsRunWithin high top) rest → All (λ (s : RunSequence). All (IsOut low high) s.places) (waiting paragraph cs kept chains rest)
   waiting_out done [] rest place low high top h w a = All-nil (λ (s : RunSequence). All (IsOut low high) s.places)
   waiting_out done ([] ∷ chains) rest place low high top h w a = absurd w
   waiting_out done ((r ∷ rs) ∷ chains) rest place low high top h w a =
@@ -129,7 +145,9 @@ module _ (paragraph : ℕ) (cs : List Class) (kept : List (Option Kept)) where
       let first : All spans (reverse (r ∷ rs)) = all_reverse spans (r ∷ rs) (λ k d i. spans_before low high w.0 (get_or (r ∷ rs) k d) (own k d i)) in
       let later : All spans (followers cs r rest) = followers_each spans r rest (λ k d i. spans_after low high top (get_or rest k d) (a k d i)) in
       let runs : List Run = reverse (r ∷ rs) ++ followers cs r rest in
-      let here : outs (completed paragraph cs kept (r ∷ rs) rest) = subst (All (IsOut low high)) (places_of_runs runs) (each_of_chain (IsOut low high) kept runs (All-append spans (reverse (r ∷ rs)) (followers cs r rest) first later)) in
+      let here : outs (completed paragraph cs kept (r ∷ rs) rest) =
+      subst (All (IsOut low high)) (places_of_runs runs)
+      (each_of_chain (IsOut low high) kept runs (All-append spans (reverse (r ∷ rs)) (followers cs r rest) first later)) in
       let begins : w.0 ≤ place = begins_low w.0 place r rs c.within in
       All-append outs (waiting paragraph cs kept chains rest) (completed paragraph cs kept (r ∷ rs) rest ∷ [])
       (waiting_out done chains rest w.0 low high top (omega arith) w.2 a)

@@ -26,7 +26,8 @@ sequences_of paragraph cs kept (c ∷ chains) = sequence_of_runs paragraph cs ke
 -- the sequences of chains and of the runs to come, in the order in which the chains end
 abbrev pub ending : ℕ → List Class → List (Option Kept) → List (List Run) → List Run → List RunSequence
 ending paragraph cs kept chains [] = sequences_of paragraph cs kept chains
-ending paragraph cs kept chains (q ∷ rest) = sequences_of paragraph cs kept (over_before cs chains q) ++ ending paragraph cs kept (with_run (still_open cs chains q) q) rest
+ending paragraph cs kept chains (q ∷ rest) = sequences_of paragraph cs kept (over_before cs chains q)
+    ++ ending paragraph cs kept (with_run (still_open cs chains q) q) rest
 
 -- a place lies between two places, or it does not
 abbrev pub IsIn : ℕ → ℕ → ℕ → Type 0
@@ -46,7 +47,8 @@ pub record IsApart (s : RunSequence) (others : List RunSequence) : Type 0 where
 -- that it overtakes
 abbrev pub AreGiven : List RunSequence → List RunSequence → Type 0
 AreGiven [] all = all ≡ []
-AreGiven (s ∷ given) all = (before : List RunSequence) × (after : List RunSequence) × (all ≡ before ++ s ∷ after) × IsApart s before × AreGiven given (before ++ after)
+AreGiven (s ∷ given) all = (before : List RunSequence) × (after : List RunSequence) × (all ≡ before ++ s ∷ after) × IsApart s before
+    × AreGiven given (before ++ after)
 
 -- the run to come and those after it
 abbrev pub runs_to_come : List (Option Kept) → Option Run → List Run

@@ -1,5 +1,6 @@
 //! Level runs (BD7).
-ghost use Rattle.std.specs.Prelude.{◌≡◌, ◌+◌, ◌<◌, ◌≤◌, IfOk, IfNone, IfSome, OnOk, OnErr, All, [], ◌∷◌, drop, length, reverse, Some, slice_index_or, vec_len, vec_capacity};
+ghost use Rattle.std.specs.Prelude.{◌≡◌, ◌+◌, ◌<◌, ◌≤◌, IfOk, IfNone, IfSome, OnOk, OnErr, All, [], ◌∷◌, drop, length, reverse, Some, slice_index_or, vec_len};
+ghost use Rattle.std.specs.Prelude.{vec_capacity};
 ghost use Rattle.bx_explicit.specs.Kept.{HasLevel};
 ghost use Rattle.bx_explicit.specs.OpenChains.{run_at};
 ghost use Rattle.bx_explicit.specs.Runs.{run, join_run, runs_from, IsRunWithin, AreRising};

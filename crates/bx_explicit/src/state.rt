@@ -2,7 +2,8 @@
 ghost use Rattle.std.specs.Prelude.{◌≡◌, ◌<◌, ◌≤◌};
 ghost use Rattle.bx_explicit.specs.Role.{role_of};
 ghost use Rattle.bx_explicit.specs.Stack.{max_depth};
-ghost use Rattle.bx_explicit.specs.Explicit.{start, top, odd_above, even_above, is_valid, embed, isolate, end_isolate, end_embedding, forced_class, kept_under, first_above, state_after, kept_by};
+ghost use Rattle.bx_explicit.specs.Explicit.{start, top, odd_above, even_above, is_valid, embed, isolate, end_isolate, end_embedding, forced_class, kept_under};
+ghost use Rattle.bx_explicit.specs.Explicit.{first_above, state_after, kept_by};
 
 use crate::entry::{Entry, Kept, Override};
 use crate::role::{Role, role_of};

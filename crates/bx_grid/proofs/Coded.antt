@@ -1,8 +1,10 @@
 -- Rows whose codes are equal and all tell their columns show the same.
-use Rattle.std.proofs.Common.{◌≡◌, ◌≢◌, ℕ, ◌+◌, ◌*◌, ◌-◌, ◌≤◌, ◌<◌, Bool, true, false, ◌&&◌, nat_eq, nat_le, nat_lt, if◌then◌else◌, List, [], ◌∷◌, ◌++◌, length, take, drop, set, get_or, zero, suc, refl, ap, sym, ◌∙◌, append_assoc, length-append, below_more, arith}
+use Rattle.std.proofs.Common.{◌≡◌, ◌≢◌, ℕ, ◌+◌, ◌*◌, ◌-◌, ◌≤◌, ◌<◌, Bool, true, false, ◌&&◌, nat_eq, nat_le, nat_lt, if◌then◌else◌, List, [], ◌∷◌, ◌++◌, length}
+use Rattle.std.proofs.Common.{take, drop, set, get_or, zero, suc, refl, ap, sym, ◌∙◌, append_assoc, length-append, below_more, arith}
 use lib.Bits.{bit_or, bit_xor, xor_assoc, xor_self, xor_zero_l, xor_zero_r}
 use Rattle.std.specs.List.{list_all}
-use Rattle.std.proofs.lemmas.List.{same_lists, drop_more, get_or-drop, length-drop, length-map, length-take-le, map-append, set_at, take_more, take-map, drop-map}
+use Rattle.std.proofs.lemmas.List.{same_lists, drop_more, get_or-drop, length-drop, length-map, length-take-le, map-append, set_at, take_more, take-map}
+use Rattle.std.proofs.lemmas.List.{drop-map}
 use Rattle.std.proofs.lemmas.Bool.Decides.{nat_tests}
 use Rattle.std.proofs.lemmas.Nat.{le_or_l, le_or_r}
 use Rattle.bx_grid.specs.Columns.{Col, Unknown, Glyph, are_equal, paste}
@@ -34,7 +36,8 @@ packed_tells [] [] a b e = refl
 packed_tells [] (y ∷ ys) a b e = absurd (omega (arith, e, packed_some ys))
 packed_tells (x ∷ xs) [] a b e = absurd (omega (arith, e, packed_some xs))
 packed_tells (x ∷ xs) (y ∷ ys) a b e =
-    let parts = split_byte (packed xs) (packed ys) x y e (byte_low x (and_left (is_byte x) (list_all is_byte xs) a)) (byte_low y (and_left (is_byte y) (list_all is_byte ys) b)) in
+    let parts = split_byte (packed xs) (packed ys) x y e (byte_low x (and_left (is_byte x) (list_all is_byte xs) a))
+    (byte_low y (and_left (is_byte y) (list_all is_byte ys) b)) in
     cons_is x y xs ys parts.1 (packed_tells xs ys (and_right (is_byte x) (list_all is_byte xs) a) (and_right (is_byte y) (list_all is_byte ys) b) parts.0)
 
 abbrev flag : Bool → ℕ
@@ -87,7 +90,8 @@ told_by true text columns offset negative e h =
       code = rw e refl;
     }
 
-glyphs_same : (a b : List ℕ) (n m i j : ℕ) (x y : Bool) → IsTold a n i x → IsTold b m j y → code_of (Glyph a n i x) ≡ code_of (Glyph b m j y) → Glyph a n i x ≡ Glyph b m j y
+glyphs_same : (a b : List ℕ) (n m i j : ℕ) (x y : Bool) → IsTold a n i x → IsTold b m j y → code_of (Glyph a n i x) ≡ code_of (Glyph b m j y)
+    → Glyph a n i x ≡ Glyph b m j y
 glyphs_same a b n m i j x y ta tb e =
     let same : code_in (packed a) n i x ≡ code_in (packed b) m j y = sym ta.code ∙ e ∙ tb.code in
     let parts = code_parts (packed a) (packed b) n m i j (flag x) (flag y) same ta.narrow tb.narrow ta.near tb.near (flag_low x) (flag_low y) in
@@ -149,7 +153,8 @@ at_default [] k d h = absurd (omega arith)
 at_default (x ∷ xs) zero d h = refl
 at_default (x ∷ xs) (suc k) d h = at_default xs k d (omega arith)
 
-pub codes_equal : (xs ys : List ℕ) (differing : ℕ) → length xs ≡ length ys → ((k : ℕ) → k < length xs → bit_xor (get_or xs k 0) (get_or ys k 0) ≤ differing) → differing ≡ 0 → xs ≡ ys
+pub codes_equal : (xs ys : List ℕ) (differing : ℕ) → length xs ≡ length ys → ((k : ℕ) → k < length xs → bit_xor (get_or xs k 0) (get_or ys k 0) ≤ differing)
+    → differing ≡ 0 → xs ≡ ys
 codes_equal xs ys differing len h none =
     same_lists xs ys len (λ k d inside.
     let small : bit_xor (get_or xs k 0) (get_or ys k 0) ≤ differing = h k inside in
@@ -168,13 +173,15 @@ note_more codes start columns from i to x low inside fits same is e =
     let noted = codes_of (take j rest) in
     let few : j < length rest = omega (arith, length-drop from columns) in
     let front : length (take from start ++ noted) ≡ i =
-    length-append (take from start) noted ∙ omega (arith, length-take-le from start (omega (arith, same)), length-map (take j rest) code_of, length-take-le j rest (omega (arith, few))) in
+    length-append (take from start) noted
+    ∙ omega (arith, length-take-le from start (omega (arith, same)), length-map (take j rest) code_of, length-take-le j rest (omega (arith, few))) in
     let next : get_or rest j x ≡ x = get_or-drop from columns j x ∙ ap (λ n. get_or columns n x) (omega arith) ∙ sym is in
     let one : codes_of (take (i + 1 - from) rest) ≡ noted ++ code_of x ∷ [] =
     ap (λ n. codes_of (take n rest)) (let m : i + 1 - from ≡ j + 1 = omega arith in m)
     ∙ ap codes_of (take_more rest j x few) ∙ map-append code_of (take j rest) (get_or rest j x ∷ [])
     ∙ ap (λ y. noted ++ code_of y ∷ []) next in
-    ap (λ ls. set ls i (code_of x)) (e ∙ sym (append_assoc (take from start) noted (drop i start)) ∙ ap (λ ls. (take from start ++ noted) ++ ls) (drop_more start i 0 (omega (arith, same))))
+    ap (λ ls. set ls i (code_of x)) (e ∙ sym (append_assoc (take from start) noted (drop i start))
+    ∙ ap (λ ls. (take from start ++ noted) ++ ls) (drop_more start i 0 (omega (arith, same))))
     ∙ set_at (take from start ++ noted) (get_or start i 0) (drop (i + 1) start) (code_of x) i front
     ∙ append_assoc (take from start) noted (code_of x ∷ drop (i + 1) start)
     ∙ ap (λ ls. take from start ++ ls) (sym (append_assoc noted (code_of x ∷ []) (drop (i + 1) start)) ∙ ap (λ ls. ls ++ drop (i + 1) start) (sym one))

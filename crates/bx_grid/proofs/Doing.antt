@@ -41,7 +41,8 @@ params_do t log qs (p ∷ ps) h g =
     ∙ ap (λ rest. (at t (0x1B ∷ 0x5B ∷ rest), log)) (append_assoc qs (p ∷ []) ps))
 
 final_does : (t : Terminal) (log : List Effect) (ps : List ℕ) (f : ℕ) → list_all is_param ps ≡ true → IsFinal f
-    → run (at t (0x1B ∷ 0x5B ∷ ps), log) (f ∷ []) ≡ (after_command (at t []) (command_of ps f), log ++ command_effects (at t (0x1B ∷ 0x5B ∷ ps)) (command_of ps f))
+    → run (at t (0x1B ∷ 0x5B ∷ ps), log) (f ∷ [])
+    ≡ (after_command (at t []) (command_of ps f), log ++ command_effects (at t (0x1B ∷ 0x5B ∷ ps)) (command_of ps f))
 final_does t log ps f h e =
     let split = params_then ps f h e.no_param in
     rw (split.1, e.no_intermediate, e.ends, split.0, split.1) refl
@@ -50,7 +51,11 @@ final_does t log ps f h e =
 pub sequence_does : (t : Terminal) (log : List Effect) (ps : List ℕ) (f : ℕ)
     → t.half_read ≡ [] → list_all is_param ps ≡ true → IsFinal f
     → run (t, log) (0x1B ∷ 0x5B ∷ (ps ++ f ∷ []))
-    ≡ (after_command (at (run_ended t) []) (command_of ps f), (log ++ pending_effects t) ++ command_effects (at (run_ended t) (0x1B ∷ 0x5B ∷ ps)) (command_of ps f))
+    ≡ (
+      after_command (at (run_ended t) []) (command_of ps f),
+      (log ++ pending_effects t)
+          ++ command_effects (at (run_ended t) (0x1B ∷ 0x5B ∷ ps)) (command_of ps f),
+    )
 sequence_does t log ps f r h e =
     let u : Terminal = run_ended t in
     let done : List Effect = log ++ pending_effects t in

@@ -1,5 +1,6 @@
 -- Grids: their sizes, a grid of blanks, and what putting one more glyph keeps.
-use Rattle.std.proofs.Common.{◌≡◌, ℕ, ◌+◌, ◌*◌, ◌-◌, ◌<◌, ◌≤◌, nat_le, Bool, true, ◌&&◌, List, [], ◌∷◌, ◌++◌, length, map, take, drop, set, get_or, replicate, zero, suc, refl, subst, ap, sym, ◌∙◌, append_assoc, arith}
+use Rattle.std.proofs.Common.{◌≡◌, ℕ, ◌+◌, ◌*◌, ◌-◌, ◌<◌, ◌≤◌, nat_le, Bool, true, ◌&&◌, List, [], ◌∷◌, ◌++◌, length, map, take, drop, set, get_or, replicate}
+use Rattle.std.proofs.Common.{zero, suc, refl, subst, ap, sym, ◌∙◌, append_assoc, arith}
 use Rattle.std.specs.Str.{IsUtf8}
 use Rattle.std.proofs.lemmas.List.{get_or-map, map-set, set_at, drop_more, length-take-le, length-replicate, take-append-drop, take-map, drop-map}
 use Rattle.std.proofs.lemmas.Bool.Decides.{nat_tests}
@@ -67,7 +68,8 @@ can_along g old line column text e can = subst (λ (x : GridState). CanPut x lin
 
 -- a character of one byte, put by its column
 pub plain_seen : (g : GridState) (items : List Column) (x : Column) (line column : ℕ) (text : List ℕ) (byte : ℕ) (negative : Bool) → g.columns ≡ all_seen items
-    → seen x ≡ Glyph (byte ∷ []) 1 0 negative → text ≡ byte ∷ [] → is_ascii_printable byte ≡ true → IsGrid g.height g.width g.columns → CanPut g line column text
+    → seen x ≡ Glyph (byte ∷ []) 1 0 negative → text ≡ byte ∷ [] → is_ascii_printable byte ≡ true → IsGrid g.height g.width g.columns
+    → CanPut g line column text
     → all_seen (set items ((line - 1) * g.width + (column - 1)) x) ≡ paste g.columns ((line - 1) * g.width + (column - 1)) (run_columns negative text)
 plain_seen g items x line column text byte negative seen_as one e h is can =
     let r = line - 1 in
@@ -94,7 +96,13 @@ put_kept g line column text negative is can =
     let blanks : AreBlank (r * g.width + k) (length news) g.columns = rw len can.room.blank in
     let fits : r * g.width + k + length news ≤ length g.columns = span_inside r k (length news) g.height g.width (length g.columns) is.sized.each below room in
     record {
-      sized = record { low = is.sized.low; high = is.sized.high; narrow = is.sized.narrow; wide = is.sized.wide; each = length-paste g.columns news (r * g.width + k) fits ∙ is.sized.each };
+      sized = record {
+        low = is.sized.low;
+        high = is.sized.high;
+        narrow = is.sized.narrow;
+        wide = is.sized.wide;
+        each = length-paste g.columns news (r * g.width + k) fits ∙ is.sized.each;
+      };
       rows = rows_paste g.height g.width r k g.columns news is.sized.each below room (columns_some glyph one) blanks (whole_glyph glyph one) is.rows;
     }
 
@@ -107,16 +115,20 @@ codes_of_blanks (suc n) = ap (λ ls. 9224 ∷ ls) (codes_of_blanks n)
 pub blank_codes : (codes : List ℕ) (columns : List Col) (n : ℕ) → codes ≡ replicate n 9224 → columns ≡ replicate n blank → codes ≡ codes_of columns
 blank_codes codes columns n e f = e ∙ sym (codes_of_blanks n) ∙ sym (ap codes_of f)
 
-pub row_seen : (row width : ℕ) (columns : List Column) → all_seen (take (row * width + width - row * width) (drop (row * width) columns)) ≡ take width (drop (row * width) (all_seen columns))
+pub row_seen : (row width : ℕ) (columns : List Column) → all_seen (take (row * width + width - row * width) (drop (row * width) columns))
+    ≡ take width (drop (row * width) (all_seen columns))
 row_seen row width columns =
     let e : row * width + width - row * width ≡ width = omega arith in
-    ap (λ n. all_seen (take n (drop (row * width) columns))) e ∙ sym (take-map seen width (drop (row * width) columns)) ∙ ap (take width) (sym (drop-map seen (row * width) columns))
+    ap (λ n. all_seen (take n (drop (row * width) columns))) e ∙ sym (take-map seen width (drop (row * width) columns))
+    ∙ ap (take width) (sym (drop-map seen (row * width) columns))
 
-part_codes : (count from : ℕ) (columns : List Col) (codes : List ℕ) → codes ≡ codes_of columns → take count (drop from codes) ≡ codes_of (take count (drop from columns))
+part_codes : (count from : ℕ) (columns : List Col) (codes : List ℕ) → codes ≡ codes_of columns
+    → take count (drop from codes) ≡ codes_of (take count (drop from columns))
 part_codes count from columns codes e =
     ap (λ ls. take count (drop from ls)) e ∙ ap (take count) (drop-map code_of from columns) ∙ take-map code_of count (drop from columns)
 
-pub row_codes : (count from : ℕ) (columns : List Column) (codes : List ℕ) → codes ≡ codes_of (all_seen columns) → take count (drop from codes) ≡ codes_of (all_seen (take count (drop from columns)))
+pub row_codes : (count from : ℕ) (columns : List Column) (codes : List ℕ) → codes ≡ codes_of (all_seen columns)
+    → take count (drop from codes) ≡ codes_of (all_seen (take count (drop from columns)))
 row_codes count from columns codes e =
     part_codes count from (all_seen columns) codes e
     ∙ ap codes_of (ap (take count) (drop-map seen from columns) ∙ take-map seen count (drop from columns))

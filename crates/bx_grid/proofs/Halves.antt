@@ -1,5 +1,6 @@
 -- What half-read bytes look like, and what their token does.
-use Rattle.std.proofs.Common.{◌≡◌, ℕ, ◌≤◌, Bool, true, false, cond, nat_le, min, List, [], ◌∷◌, ◌++◌, drop, get_or, Result, Ok, Err, OnOk, inl, inr, refl, ap, sym, ◌∙◌, arith}
+use Rattle.std.proofs.Common.{◌≡◌, ℕ, ◌≤◌, Bool, true, false, cond, nat_le, min, List, [], ◌∷◌, ◌++◌, drop, get_or, Result, Ok, Err, OnOk, inl, inr, refl, ap}
+use Rattle.std.proofs.Common.{sym, ◌∙◌, arith}
 use Rattle.std.proofs.lemmas.Bool.{cases_lt}
 use Rattle.std.proofs.lemmas.Bool.Decides.{nat_tests}
 use Rattle.bx_grid.proofs.Reading.{at}
@@ -61,7 +62,8 @@ obeyed_capped t (Render negative) h w = refl
 obeyed_capped t Other h w = refl
 
 -- the last byte of a sequence
-pub end_read : (t : Terminal) (b : ℕ) (rest : List ℕ) → t.half_read ++ b ∷ [] ≡ 0x1B ∷ 0x5B ∷ drop 2 (t.half_read ++ b ∷ []) → rest ≡ drop 2 (t.half_read ++ b ∷ [])
+pub end_read : (t : Terminal) (b : ℕ) (rest : List ℕ) → t.half_read ++ b ∷ [] ≡ 0x1B ∷ 0x5B ∷ drop 2 (t.half_read ++ b ∷ [])
+    → rest ≡ drop 2 (t.half_read ++ b ∷ [])
     → t.height ≤ 500 → t.width ≤ 500
     → after_command (at t []) (capped (command rest)) ≡ token_read t (t.half_read ++ b ∷ [])
 end_read t b rest h e hh ww =

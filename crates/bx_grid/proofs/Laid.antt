@@ -15,7 +15,8 @@ plain_text byte text e h = ap is_ascii_glyph e ∙ h
 pub plain_glyph : (text : List ℕ) → is_ascii_glyph text ≡ true → is_one_glyph text ≡ true
 plain_glyph text h = rw h refl
 
-pub plain_is_one : (negative : Bool) (text : List ℕ) (byte : ℕ) → text ≡ byte ∷ [] → is_ascii_printable byte ≡ true → run_columns negative text ≡ Glyph (byte ∷ []) 1 0 negative ∷ []
+pub plain_is_one : (negative : Bool) (text : List ℕ) (byte : ℕ) → text ≡ byte ∷ [] → is_ascii_printable byte ≡ true
+    → run_columns negative text ≡ Glyph (byte ∷ []) 1 0 negative ∷ []
 plain_is_one negative text byte e h = rw (e, h) refl
 
 pub plain_run_width : (text : List ℕ) → is_ascii_glyph text ≡ true → run_width text ≡ 1
@@ -47,7 +48,8 @@ laid_next done news k m rest at split =
     let few : length news ≤ m = omega (arith, split) in
     let left : m - length news ≡ rest = omega (arith, split) in
     let back : drop (k + length news) cs ≡ replicate rest blank =
-    ap (λ l. drop l cs) end ∙ drop-append-add done (replicate m blank) (length news) ∙ drop-replicate (length news) m blank ∙ ap (λ l. replicate l blank) left in
+    ap (λ l. drop l cs) end ∙ drop-append-add done (replicate m blank) (length news) ∙ drop-replicate (length news) m blank
+    ∙ ap (λ l. replicate l blank) left in
     rw (front, back) refl
 
 -- ---- all from an index on are blanks
@@ -70,7 +72,8 @@ rest_later k m columns low h =
     ∙ ap (λ l. replicate l blank) left
 
 -- the rest after a glyph that was put there
-pub rest_after : (k : ℕ) (columns news : List Col) → k + length news ≤ length columns → RestIsBlank k columns → RestIsBlank (k + length news) (paste columns k news)
+pub rest_after : (k : ℕ) (columns news : List Col) → k + length news ≤ length columns → RestIsBlank k columns
+    → RestIsBlank (k + length news) (paste columns k news)
 rest_after k columns news fits h =
     let n = length news in
     let len : length (paste columns k news) ≡ length columns = length-paste columns news k fits in

@@ -1,5 +1,6 @@
 -- Columns pasted over others: what stays on both sides, and whole glyphs over blanks.
-use Rattle.std.proofs.Common.{◌≡◌, false, ℕ, ◌+◌, ◌*◌, ◌-◌, ◌<◌, ◌≤◌, List, [], ◌∷◌, ◌++◌, length, take, drop, replicate, zero, suc, Result, Ok, Err, OnErr, subst, ap, sym, ◌∙◌, append_assoc, length-append, arith}
+use Rattle.std.proofs.Common.{◌≡◌, false, ℕ, ◌+◌, ◌*◌, ◌-◌, ◌<◌, ◌≤◌, List, [], ◌∷◌, ◌++◌, length, take, drop, replicate, zero, suc, Result, Ok, Err, OnErr}
+use Rattle.std.proofs.Common.{subst, ap, sym, ◌∙◌, append_assoc, length-append, arith}
 use Rattle.std.proofs.Math.Seq.{take-append-add, drop-append-add}
 use Rattle.std.proofs.lemmas.List.{take-append-drop, take-append-le, drop-append-le, take_at, drop_at, drop-drop, length-drop, length-take-le, length-replicate}
 use Rattle.bx_grid.specs.Columns.{Col, blank, paste, AreBlank, AreSameAround}
@@ -15,7 +16,8 @@ paste_after a b news k q e =
     ap (λ n. paste (a ++ b) n news) e
     ∙ ap (λ n. (take (length a + q) (a ++ b) ++ news) ++ drop n (a ++ b)) (let r : length a + q + length news ≡ length a + (q + length news) = omega arith in r)
     ∙ rw (take-append-add a b q, drop-append-add a b (q + length news))
-    (append_assoc (a ++ take q b) news (drop (q + length news) b) ∙ append_assoc a (take q b) (news ++ drop (q + length news) b) ∙ ap (λ cs. a ++ cs) (sym (append_assoc (take q b) news (drop (q + length news) b))))
+    (append_assoc (a ++ take q b) news (drop (q + length news) b) ∙ append_assoc a (take q b) (news ++ drop (q + length news) b)
+    ∙ ap (λ cs. a ++ cs) (sym (append_assoc (take q b) news (drop (q + length news) b))))
 
 -- what stands behind is kept
 pub paste_before : (a b news : List Col) (k : ℕ) → k + length news ≤ length a → paste (a ++ b) k news ≡ paste a k news ++ b
@@ -45,7 +47,8 @@ paste_around xs news k n few fits =
     let past : k + n ≡ length (take k xs ++ news) + (n - m) = omega (arith, front) in
     record {
       before = ap (take k) (append_assoc (take k xs) news (drop (k + m) xs)) ∙ take_at (take k xs) (news ++ drop (k + m) xs) k (length-take-le k xs low);
-      after = ap (λ l. drop l (paste xs k news)) past ∙ drop-append-add (take k xs ++ news) (drop (k + m) xs) (n - m) ∙ drop-drop (n - m) (k + m) xs ∙ ap (λ l. drop l xs) (omega arith);
+      after = ap (λ l. drop l (paste xs k news)) past ∙ drop-append-add (take k xs ++ news) (drop (k + m) xs) (n - m) ∙ drop-drop (n - m) (k + m) xs
+          ∙ ap (λ l. drop l xs) (omega arith);
     }
 
 -- blanks over blanks leave all as it was
@@ -100,7 +103,8 @@ rows_first h w k a b news wide fits low blanks new first rest =
     rw (paste_before a b news k fits', take_at (paste a k news) b w len, drop_at (paste a k news) b w len)
     (whole_paste a news k low (blank_before a b k (length news) fits' blanks) new first, rest)
 
-rows_next : (h w k q : ℕ) (a b news : List Col) → length a ≡ w → k ≡ w + q → AreWhole a → AreWholeRows h w (paste b q news) → AreWholeRows (suc h) w (paste (a ++ b) k news)
+rows_next : (h w k q : ℕ) (a b news : List Col) → length a ≡ w → k ≡ w + q → AreWhole a → AreWholeRows h w (paste b q news)
+    → AreWholeRows (suc h) w (paste (a ++ b) k news)
 rows_next h w k q a b news wide at first rest =
     rw (paste_after a b news k q (omega arith), take_at a (paste b q news) w wide, drop_at a (paste b q news) w wide) (first, rest)
 
@@ -108,14 +112,16 @@ pub rows_along : (h w : ℕ) (xs ys : List Col) → xs ≡ ys → AreWholeRows h
 rows_along h w xs ys e rows = let P : List Col → Type 0 = λ cs. AreWholeRows h w cs in subst P e rows
 
 -- a glyph put over blanks leaves rows of whole glyphs
-pub rows_paste : (h w r k : ℕ) (cs news : List Col) → length cs ≡ h * w → r < h → k + length news ≤ w → 1 ≤ length news → AreBlank (r * w + k) (length news) cs → AreWhole news
+pub rows_paste : (h w r k : ℕ) (cs news : List Col) → length cs ≡ h * w → r < h → k + length news ≤ w → 1 ≤ length news → AreBlank (r * w + k) (length news) cs
+    → AreWhole news
     → AreWholeRows h w cs → AreWholeRows h w (paste cs (r * w + k) news)
 rows_paste zero w r k cs news len below fits low blanks new rows = absurd (omega arith)
 rows_paste (suc h) w zero k cs news len below fits low blanks new rows =
     let start : k ≡ zero * w + k = omega arith in
     let wide : length (take w cs) ≡ w = length-take-le w cs (omega (arith, len)) in
     let split : take w cs ++ drop w cs ≡ cs = take-append-drop w cs in
-    let there : AreBlank k (length news) (take w cs ++ drop w cs) = ap (λ c. take (length news) (drop k c)) split ∙ ap (λ m. take (length news) (drop m cs)) start ∙ blanks in
+    let there : AreBlank k (length news) (take w cs ++ drop w cs) = ap (λ c. take (length news) (drop k c)) split
+    ∙ ap (λ m. take (length news) (drop m cs)) start ∙ blanks in
     rows_along (suc h) w _ _ (ap (λ c. paste c k news) split ∙ ap (λ m. paste cs m news) start)
     (rows_first h w k (take w cs) (drop w cs) news wide fits low there new rows.0 rows.1)
 rows_paste (suc h) w (suc r) k cs news len below fits low blanks new rows =

@@ -1,6 +1,7 @@
 -- A row after its parts were changed one after another.
 use Rattle.std.proofs.Common.{◌≡◌, ℕ, ◌+◌, ◌*◌, ◌-◌, ◌≤◌, List, [], ◌++◌, length, take, drop, replicate, refl, ap, sym, ◌∙◌, append_assoc, length-append, arith}
-use Rattle.std.proofs.lemmas.List.{length-take-le, take-append-drop, take_at, drop_at, drop-drop, take_rest, drop_all, append-nil, map-append, take-map, drop-map, length-map, length-drop, take-take, length-replicate}
+use Rattle.std.proofs.lemmas.List.{length-take-le, take-append-drop, take_at, drop_at, drop-drop, take_rest, drop_all, append-nil, map-append, take-map}
+use Rattle.std.proofs.lemmas.List.{drop-map, length-map, length-drop, take-take, length-replicate}
 use borrow.Rule.Slice.PartMut.{put_mid}
 use Rattle.bx_grid.specs.Columns.{Col, cut_before, cut_after, paste, put, put_in_row}
 use Rattle.bx_grid.specs.Seen.{seen, all_seen}
@@ -31,7 +32,8 @@ row_shown row L R k n news count fits hl hr =
     let len : length L ≡ k = left_len row L k (omega arith) hl in
     let rest : drop (k + n) base ≡ drop (k + n) row = drop_base row L k n len in
     let right : all_seen R ≡ cut_after 0 (all_seen (drop (k + n) row)) = hr ∙ ap (λ xs. cut_after 0 (all_seen xs)) (take_rest base (k + n) ∙ rest) in
-    let none : drop (length base - (k + n)) (drop (k + n) base) ≡ [] = drop_all (length base - (k + n)) (drop (k + n) base) (omega (arith, length-drop (k + n) base)) in
+    let none : drop (length base - (k + n)) (drop (k + n) base) ≡ [] =
+    drop_all (length base - (k + n)) (drop (k + n) base) (omega (arith, length-drop (k + n) base)) in
     let mid : List Column = drop k (take (k + n) base) in
     let base_len : length base ≡ length row = length-append L (drop k row) ∙ omega (arith, len, length-drop k row) in
     let front : take (k + n) base ≡ L ++ mid =
@@ -74,4 +76,10 @@ placed columns part w row k news h =
     ap (λ n. all_seen (put_mid (row * w) n columns part)) e
     ∙ map-append seen (take (row * w) columns) (part ++ drop w (drop (row * w) columns))
     ∙ ap (λ xs. all_seen (take (row * w) columns) ++ xs) (map-append seen part (drop w (drop (row * w) columns)))
-    ∙ rw (h', take-map seen (row * w) columns, drop-map seen (row * w) columns, take-map seen w (drop (row * w) columns), drop-map seen w (drop (row * w) columns)) refl
+    ∙ rw (
+      h',
+      take-map seen (row * w) columns,
+      drop-map seen (row * w) columns,
+      take-map seen w (drop (row * w) columns),
+      drop-map seen w (drop (row * w) columns),
+    ) refl

@@ -1,5 +1,6 @@
 -- One more byte in a sequence, and one more digit of a number.
-use Rattle.std.proofs.Common.{◌≡◌, ℕ, ◌+◌, ◌*◌, ◌-◌, ◌<◌, ◌≤◌, ◌⊎◌, Bool, true, false, min, List, [], ◌∷◌, ◌++◌, length, take, get_or, None, inl, inr, refl, ap, sym, ◌∙◌, arith, zero, suc}
+use Rattle.std.proofs.Common.{◌≡◌, ℕ, ◌+◌, ◌*◌, ◌-◌, ◌<◌, ◌≤◌, ◌⊎◌, Bool, true, false, min, List, [], ◌∷◌, ◌++◌, length, take, get_or, None, inl, inr, refl, ap}
+use Rattle.std.proofs.Common.{sym, ◌∙◌, arith, zero, suc}
 use Rattle.std.specs.List.{list_all}
 use Rattle.std.specs.Str.{all_ascii_digits}
 use Rattle.std.specs.Char.{is_ascii_digit}
@@ -13,7 +14,8 @@ use Rattle.bx_grid.proofs.Reading.{and_left, and_right}
 use Rattle.bx_grid.specs.Tokens.{is_param, is_intermediate, is_final, after_params, after_intermediates, final_fate, number}
 use Rattle.bx_bytes.specs.declared.fate.Fate.TheVariants.{Ends, Breaks}
 
-pub inter_rest : (t : Bool) (x : ℕ) (rest : List ℕ) → is_intermediate x ≡ t → after_intermediates (x ∷ rest) ≡ [] → (is_intermediate x ≡ true) × (after_intermediates rest ≡ [])
+pub inter_rest : (t : Bool) (x : ℕ) (rest : List ℕ) → is_intermediate x ≡ t → after_intermediates (x ∷ rest) ≡ []
+    → (is_intermediate x ≡ true) × (after_intermediates rest ≡ [])
 inter_rest true x rest e h = (e, rw e at h)
 inter_rest false x rest e h = absurd (let g : x ∷ rest ≡ [] = rw e at h in cc g)
 
@@ -74,7 +76,8 @@ no_param (x ∷ xs) b h =
 
 -- ---- the last byte tells whether all are parameters
 
-push_by : (t : Bool) (x b : ℕ) (xs : List ℕ) → is_param x ≡ t → (after_intermediates (after_params (xs ++ b ∷ [])) ≡ [] → list_all is_param (xs ++ b ∷ []) ≡ is_param b)
+push_by : (t : Bool) (x b : ℕ) (xs : List ℕ) → is_param x ≡ t
+    → (after_intermediates (after_params (xs ++ b ∷ [])) ≡ [] → list_all is_param (xs ++ b ∷ []) ≡ is_param b)
     → after_intermediates (after_params (x ∷ xs ++ b ∷ [])) ≡ [] → list_all is_param (x ∷ xs ++ b ∷ []) ≡ is_param b
 push_by true x b xs e more h = rw e (more (rw e at h))
 push_by false x b xs e more h = rw e (sym (no_param (x ∷ xs) b (rw e at h)))
@@ -83,7 +86,8 @@ pub params_told : (xs : List ℕ) (b : ℕ) → after_intermediates (after_param
 params_told [] b h = and-true (is_param b)
 params_told (x ∷ xs) b h = push_by (is_param x) x b xs refl (params_told xs b) h
 
-pub params_at : (body : List ℕ) (r : Bool) → 0 < length body → after_intermediates (after_params body) ≡ [] → r ≡ is_param (get_or body (length body - 1) 0) → r ≡ list_all is_param body
+pub params_at : (body : List ℕ) (r : Bool) → 0 < length body → after_intermediates (after_params body) ≡ [] → r ≡ is_param (get_or body (length body - 1) 0)
+    → r ≡ list_all is_param body
 params_at body r some h e =
     let n = length body - 1 in
     let split : take n body ++ get_or body n 0 ∷ [] ≡ body = sym (take_more body n 0 (omega arith)) ∙ take_all (n + 1) body (omega arith) in

@@ -1,6 +1,8 @@
 -- One more column paste.
-use Rattle.std.proofs.Common.{◌≡◌, ℕ, ◌+◌, ◌<◌, ◌≤◌, Bool, true, false, zero, suc, refl, List, [], ◌∷◌, ◌++◌, length, take, drop, set, replicate, get_or, ap, sym, ◌∙◌, append_assoc, length-append, arith}
-use Rattle.std.proofs.lemmas.List.{append-nil, set_at, drop_more, length-take-le, length_push, map-set, map_more, length-map, replicate_more, length-replicate, drop_all}
+use Rattle.std.proofs.Common.{◌≡◌, ℕ, ◌+◌, ◌<◌, ◌≤◌, Bool, true, false, zero, suc, refl, List, [], ◌∷◌, ◌++◌, length, take, drop, set, replicate, get_or, ap}
+use Rattle.std.proofs.Common.{sym, ◌∙◌, append_assoc, length-append, arith}
+use Rattle.std.proofs.lemmas.List.{append-nil, set_at, drop_more, length-take-le, length_push, map-set, map_more, length-map, replicate_more, length-replicate}
+use Rattle.std.proofs.lemmas.List.{drop_all}
 use Rattle.bx_grid.specs.Columns.{Col, Glyph, paste, plain_columns, run_columns, glyph_columns_from, are_ascii_printable, run_width}
 use Rattle.std.specs.Str.{chars}
 use Rattle.unicode_width.specs.Width.{str_width}
@@ -12,7 +14,8 @@ pub put_more : (columns : List Col) (k : ℕ) (news : List Col) (x : Col) → k 
 put_more columns k news x h =
     let front : length (take k columns ++ news) ≡ k + length news =
     length-append (take k columns) news ∙ ap (λ n. n + length news) (length-take-le k columns (omega arith)) in
-    let rest : drop (k + length news) columns ≡ get_or columns (k + length news) x ∷ drop (k + length news + 1) columns = drop_more columns (k + length news) x h in
+    let rest : drop (k + length news) columns ≡ get_or columns (k + length news) x ∷ drop (k + length news + 1) columns =
+    drop_more columns (k + length news) x h in
     let count : k + length (news ++ x ∷ []) ≡ k + length news + 1 = omega (arith, length_push news x) in
     rw (rest, set_at (take k columns ++ news) (get_or columns (k + length news) x) (drop (k + length news + 1) columns) x (k + length news) front, count)
     (sym (append_assoc (take k columns ++ news) (x ∷ []) (drop (k + length news + 1) columns))
@@ -51,12 +54,14 @@ put_all start n y e =
 
 -- one more column of a glyph
 pub glyph_more : (text : List ℕ) (columns offset count : ℕ) (negative : Bool)
-    → glyph_columns_from text columns negative offset (suc count) ≡ glyph_columns_from text columns negative offset count ++ Glyph text columns (offset + count) negative ∷ []
+    → glyph_columns_from text columns negative offset (suc count) ≡ glyph_columns_from text columns negative offset count
+    ++ Glyph text columns (offset + count) negative ∷ []
 glyph_more text columns offset zero negative = ap (λ n. Glyph text columns n negative ∷ []) (let e : offset ≡ offset + zero = omega arith in e)
 glyph_more text columns offset (suc count) negative =
     ap (λ xs. Glyph text columns offset negative ∷ xs)
     (glyph_more text columns (offset + 1) count negative
-    ∙ ap (λ n. glyph_columns_from text columns negative (offset + 1) count ++ Glyph text columns n negative ∷ []) (let e : (offset + 1) + count ≡ offset + suc count = omega arith in e))
+    ∙ ap (λ n. glyph_columns_from text columns negative (offset + 1) count ++ Glyph text columns n negative ∷ [])
+    (let e : (offset + 1) + count ≡ offset + suc count = omega arith in e))
 
 pub length-glyph : (text : List ℕ) (columns offset count : ℕ) (negative : Bool) → length (glyph_columns_from text columns negative offset count) ≡ count
 length-glyph text columns offset zero negative = refl

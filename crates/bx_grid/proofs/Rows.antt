@@ -73,13 +73,22 @@ unfolding chars
 never_wraps = refl
 
 -- a change of the window within a sequence; then the whole painting of another size
-pub resized_within : reads (after_resize (reads (fresh 4 20) (codes "\u{1b}[0m\u{1b}[2J\u{1b}[")) 1 5) (codes "1;1Hab\u{1b}[0m\u{1b}[2J\u{1b}[1;1Hab\u{1b}[1;1H")
+pub resized_within : reads (after_resize (reads (fresh 4 20) (codes "\u{1b}[0m\u{1b}[2J\u{1b}[")) 1 5)
+    (codes "1;1Hab\u{1b}[0m\u{1b}[2J\u{1b}[1;1Hab\u{1b}[1;1H")
     ≡ row 5 (g 0x61 ∷ g 0x62 ∷ replicate 3 blank) (Some (0, 0))
 unfolding chars
 resized_within = refl
 
 -- a character that is broken off, and what follows it in a run
-pub broken_off : reads (record { height = 1; width = 2; columns = blank ∷ blank ∷ []; position = Some (0, 0); negative = Some false; run = 0x61 ∷ []; half_read = 0xD7 ∷ [] }) (0x62 ∷ [])
+pub broken_off : reads (record {
+  height = 1;
+  width = 2;
+  columns = blank ∷ blank ∷ [];
+  position = Some (0, 0);
+  negative = Some false;
+  run = 0x61 ∷ [];
+  half_read = 0xD7 ∷ [];
+}) (0x62 ∷ [])
     ≡ record { height = 1; width = 2; columns = Unknown ∷ Unknown ∷ []; position = None; negative = None; run = 0x62 ∷ []; half_read = [] }
 unfolding chars
 broken_off = refl
@@ -89,7 +98,15 @@ pub next_line_control : reads (row 1 (blank ∷ []) (Some (0, 0))) (0xC2 ∷ 0x8
 unfolding chars
 next_line_control = refl
 
-pub escape_ends_a_run : reads (record { height = 1; width = 1; columns = blank ∷ []; position = Some (0, 0); negative = Some false; run = 0x61 ∷ []; half_read = [] }) (0x1B ∷ [])
+pub escape_ends_a_run : reads (record {
+  height = 1;
+  width = 1;
+  columns = blank ∷ [];
+  position = Some (0, 0);
+  negative = Some false;
+  run = 0x61 ∷ [];
+  half_read = [];
+}) (0x1B ∷ [])
     ≡ record { height = 1; width = 1; columns = g 0x61 ∷ []; position = None; negative = Some false; run = []; half_read = 0x1B ∷ [] }
 unfolding chars
 escape_ends_a_run = refl

@@ -1,5 +1,6 @@
 -- A run that takes effect, and a character that goes on with one.
-use Rattle.std.proofs.Common.{◌≡◌, ℕ, ◌+◌, ◌<◌, ◌≤◌, ◌⊎◌, Bool, true, false, ◌&&◌, nat_le, nat_lt, nat_eq, List, [], ◌∷◌, ◌++◌, length, Option, Some, None, inl, inr, refl, ap, sym, ◌∙◌, arith}
+use Rattle.std.proofs.Common.{◌≡◌, ℕ, ◌+◌, ◌<◌, ◌≤◌, ◌⊎◌, Bool, true, false, ◌&&◌, nat_le, nat_lt, nat_eq, List, [], ◌∷◌, ◌++◌, length, Option, Some, None, inl}
+use Rattle.std.proofs.Common.{inr, refl, ap, sym, ◌∙◌, arith}
 use Rattle.std.specs.Str.{chars}
 use Rattle.std.specs.Char.{encode_utf8}
 use Rattle.std.proofs.Math.Bool.{and-false}
@@ -23,7 +24,8 @@ glyphs_of negative run count h e =
 
 -- ---- putting
 
-pub no_room : (t : Terminal) (row column : ℕ) (new : List Col) → (length new < 1) ⊎ (t.width < column + length new) → glyphs_put t (row, column) new ≡ all_unknown t
+pub no_room : (t : Terminal) (row column : ℕ) (new : List Col) → (length new < 1) ⊎ (t.width < column + length new)
+    → glyphs_put t (row, column) new ≡ all_unknown t
 no_room t row column new (inl few) =
     let test : nat_le 1 (length new) ≡ false = grind (arith, nat_tests) in
     rw test refl
@@ -47,7 +49,8 @@ put_is u row column count negative columns position run counted some fits ec ep 
     let b : nat_le (column + count) u.width ≡ true = grind (arith, nat_tests) in
     rw (ec, ep, er, len, a, b) refl
 
-put_by : (t : Terminal) (p : ℕ × ℕ) (negative : Bool) (run : List ℕ) → 0 < length run → run_put t (Some p) (Some negative) run ≡ glyphs_put t p (run_columns negative run)
+put_by : (t : Terminal) (p : ℕ × ℕ) (negative : Bool) (run : List ℕ) → 0 < length run
+    → run_put t (Some p) (Some negative) run ≡ glyphs_put t p (run_columns negative run)
 put_by t p negative [] h = absurd (omega arith)
 put_by t p negative (b ∷ bs) h = refl
 
@@ -65,7 +68,8 @@ unplaced t negative (b ∷ bs) h = refl
 pub ends_unplaced : (t : Terminal) → t.position ≡ None → 0 < length t.run → run_ended t ≡ all_unknown t
 ends_unplaced t e some = ap (λ q. run_put t q t.negative t.run) e ∙ unplaced t t.negative t.run some
 
-put_half : (t : Terminal) (p : ℕ × ℕ) (fits : Bool) (new : List Col) → t.half_read ≡ [] → nat_le 1 (length new) && nat_le (p.1 + length new) t.width ≡ fits → (glyphs_put t p new).half_read ≡ []
+put_half : (t : Terminal) (p : ℕ × ℕ) (fits : Bool) (new : List Col) → t.half_read ≡ [] → nat_le 1 (length new) && nat_le (p.1 + length new) t.width ≡ fits
+    → (glyphs_put t p new).half_read ≡ []
 put_half t p true new h e = rw e h
 put_half t p false new h e = rw e refl
 
@@ -88,7 +92,8 @@ character_is u bs c run half_read spells fine bytes er eh =
     let printed : are_printable bs ≡ true = rw (spells, fine) refl in
     rw (er, eh, printed, bytes) refl
 
-pub escape_begun : (u t : Terminal) (b : ℕ) (half_read : List ℕ) → u ≡ run_ended t → b ≡ 0x1B → half_read ≡ b ∷ [] → record u { half_read = half_read } ≡ after_first_byte t b
+pub escape_begun : (u t : Terminal) (b : ℕ) (half_read : List ℕ) → u ≡ run_ended t → b ≡ 0x1B → half_read ≡ b ∷ []
+    → record u { half_read = half_read } ≡ after_first_byte t b
 escape_begun u t b half_read e is eh =
     let test : nat_eq b 0x1B ≡ true = grind (arith, nat_tests) in
     rw (e, eh, test) refl

@@ -1,19 +1,22 @@
 -- Where two lists of whole glyphs have a column in common, and where they differ.
-use Rattle.std.proofs.Common.{◌≡◌, ℕ, ◌+◌, ◌-◌, ◌<◌, ◌≤◌, Bool, List, [], ◌∷◌, ◌++◌, length, take, drop, get_or, zero, suc, inl, inr, refl, subst, ap, sym, ◌∙◌, length-append, arith}
+use Rattle.std.proofs.Common.{◌≡◌, ℕ, ◌+◌, ◌-◌, ◌<◌, ◌≤◌, Bool, List, [], ◌∷◌, ◌++◌, length, take, drop, get_or, zero, suc, inl, inr, refl, subst, ap, sym, ◌∙◌}
+use Rattle.std.proofs.Common.{length-append, arith}
 use Rattle.std.specs.List.{All}
 use Rattle.std.proofs.Math.Seq.{drop-append-add}
 use Rattle.std.proofs.lemmas.Bool.{cases_lt}
 use Rattle.std.proofs.lemmas.List.{get_or-take, get_or-drop, get_or-append_right, get_or_append_left, take_at, length-take, length-drop}
 use Rattle.std.proofs.lemmas.List.Elements.{All-head, All-tail}
 use Rattle.bx_grid.specs.Columns.{Col, Unknown, Glyph, glyph_columns, glyph_columns_from}
-use Rattle.bx_grid.specs.Glyphs.{WholeGlyph, IsGlyph, columns_of, all_columns, AreWhole, StandsWhole, IsWholeAt, ShareWholeGlyphs, IsOfGlyph, DifferInWholeGlyphs}
+use Rattle.bx_grid.specs.Glyphs.{WholeGlyph, IsGlyph, columns_of, all_columns, AreWhole, StandsWhole, IsWholeAt, ShareWholeGlyphs, IsOfGlyph}
+use Rattle.bx_grid.specs.Glyphs.{DifferInWholeGlyphs}
 use Rattle.bx_grid.proofs.Puts.{length-glyph}
 use Rattle.bx_grid.proofs.Whole.{columns_form}
 
 abbrev at : List Col → ℕ → Col
 at columns i = get_or columns i Unknown
 
-column_from : (text : List ℕ) (count m offset i : ℕ) (negative : Bool) → i < m → at (glyph_columns_from text count negative offset m) i ≡ Glyph text count (offset + i) negative
+column_from : (text : List ℕ) (count m offset i : ℕ) (negative : Bool) → i < m
+    → at (glyph_columns_from text count negative offset m) i ≡ Glyph text count (offset + i) negative
 column_from text count zero offset i negative low = absurd (omega arith)
 column_from text count (suc m) offset zero negative low = ap (λ o. Glyph text count o negative) (omega arith)
 column_from text count (suc m) offset (suc i) negative low =
@@ -37,7 +40,8 @@ later (Glyph text count offset negative) i j front rest e h =
       all = ap (λ k. take count (drop k (front ++ rest))) there ∙ ap (take count) (drop-append-add front rest (j - offset)) ∙ h.all;
     }
 
-first : (g : WholeGlyph) (n i : ℕ) (rest : List Col) → IsGlyph g → columns_of g ≡ glyph_columns g.text n g.negative → i < n → IsWholeAt (at (columns_of g ++ rest) i) i (columns_of g ++ rest)
+first : (g : WholeGlyph) (n i : ℕ) (rest : List Col) → IsGlyph g → columns_of g ≡ glyph_columns g.text n g.negative → i < n
+    → IsWholeAt (at (columns_of g ++ rest) i) i (columns_of g ++ rest)
 first g n i rest one form low =
     let len : length (columns_of g) ≡ n = ap length form ∙ length-glyph g.text n 0 n g.negative in
     let is : at (columns_of g ++ rest) i ≡ Glyph g.text n i g.negative =
@@ -109,7 +113,8 @@ inside_all text count offset negative i k columns h high =
     let len : length (take count (drop (i - offset) columns)) ≡ count = ap length h.all ∙ sym h.counted in
     omega (arith, len, length-take count (drop (i - offset) columns), length-drop (i - offset) columns)
 
-differ_at : (x : Col) (old new : List Col) (i k : ℕ) → length old ≡ length new → AreWhole new → at old i ≡ x → IsWholeAt x i old → IsOfGlyph x i k → at old k ≡ at new k → at old i ≡ at new i
+differ_at : (x : Col) (old new : List Col) (i k : ℕ) → length old ≡ length new → AreWhole new → at old i ≡ x → IsWholeAt x i old → IsOfGlyph x i k
+    → at old k ≡ at new k → at old i ≡ at new i
 differ_at Unknown old new i k size b is h of e = absurd h
 differ_at (Glyph text count offset negative) old new i k size b is h of e =
     let j = k + offset - i in

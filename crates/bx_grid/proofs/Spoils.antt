@@ -4,7 +4,8 @@ use Rattle.bx_grid.specs.declared.column.Column.{Column}
 use Rattle.bx_grid.specs.declared.column.Column.TheVariants as column
 use Rattle.std.proofs.lemmas.Bool.Decides.{nat_tests}
 use Rattle.std.proofs.lemmas.List.{get_or-map, map-set, length-map}
-use Rattle.std.proofs.Common.{◌≡◌, ℕ, ◌+◌, ◌-◌, ◌<◌, ◌≤◌, true, false, cond, nat_lt, List, [], ◌∷◌, ◌++◌, length, take, drop, set, get_or, zero, suc, refl, ap, sym, ◌∙◌, append_assoc, arith}
+use Rattle.std.proofs.Common.{◌≡◌, ℕ, ◌+◌, ◌-◌, ◌<◌, ◌≤◌, true, false, cond, nat_lt, List, [], ◌∷◌, ◌++◌, length, take, drop, set, get_or, zero, suc, refl, ap}
+use Rattle.std.proofs.Common.{sym, ◌∙◌, append_assoc, arith}
 use Rattle.std.proofs.lemmas.List.{set_at, drop_more, take_more, get_or_at, length-take-le, append-nil, drop_all, take_all}
 use Rattle.bx_grid.specs.Columns.{Col, Unknown, columns_after, columns_before, cut_before, cut_after}
 

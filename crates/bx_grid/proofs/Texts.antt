@@ -26,7 +26,8 @@ use Rattle.bx_grid.proofs.Reading.{at, and_left, and_right, prints}
 
 -- ---- the beginning of a character
 
-waits_by : (m : Bool) (xs more : List ℕ) (b : ℕ) → matches_any characters xs ≡ m → begins_any characters xs ≡ true → begins_any characters (xs ++ b ∷ more) ≡ true
+waits_by : (m : Bool) (xs more : List ℕ) (b : ℕ) → matches_any characters xs ≡ m → begins_any characters xs ≡ true
+    → begins_any characters (xs ++ b ∷ more) ≡ true
     → fate_in characters xs ≡ Waits
 waits_by true xs more b e begins longer = absurd (let none : begins_any characters (xs ++ b ∷ more) ≡ false = none_begins_longer characters refl xs b more e in
     let t : true ≡ false = sym longer ∙ none in cc t)
@@ -46,7 +47,8 @@ waits_begin t log a idle other waits =
     ap (λ half_read. run_step (read_after t a half_read) (log ++ effects_after t a half_read)) idle
     ∙ rw (other, waits) (ap (λ l. run_step (at t (a ∷ [])) l) (append-nil log))
 
-ends_begin : (t : Terminal) (log : List Effect) (a : ℕ) → t.half_read ≡ [] → nat_eq a 0x1B ≡ false → fate_in characters (a ∷ []) ≡ Ends → are_printable (a ∷ []) ≡ true
+ends_begin : (t : Terminal) (log : List Effect) (a : ℕ) → t.half_read ≡ [] → nat_eq a 0x1B ≡ false → fate_in characters (a ∷ []) ≡ Ends
+    → are_printable (a ∷ []) ≡ true
     → run (t, log) (a ∷ []) ≡ (record t { run = t.run ++ a ∷ []; half_read = [] }, log)
 ends_begin t log a idle other ends printed =
     ap (λ half_read. run_step (read_after t a half_read) (log ++ effects_after t a half_read)) idle
@@ -101,7 +103,8 @@ no_escape : (t : Bool) (a : ℕ) → nat_eq a 0x1B ≡ t → (a ≡ 0x1B → ⊥
 no_escape true a e h = absurd (h (escape_is a e))
 no_escape false a e h = e
 
-char_does : (t : Terminal) (log : List Effect) (bs : List ℕ) (c : ℕ) → t.half_read ≡ [] → fate_in characters bs ≡ Ends → chars bs ≡ c ∷ [] → is_control c ≡ false
+char_does : (t : Terminal) (log : List Effect) (bs : List ℕ) (c : ℕ) → t.half_read ≡ [] → fate_in characters bs ≡ Ends → chars bs ≡ c ∷ []
+    → is_control c ≡ false
     → run (t, log) bs ≡ (record t { run = t.run ++ bs; half_read = [] }, log)
 char_does t log [] c idle ends spells fine = absurd (cc ends)
 char_does t log (a ∷ []) c idle ends spells fine =
@@ -138,7 +141,8 @@ chars_do t log (c ∷ cs) scalars fine idle =
     let here : IsScalar c = and_left (scalar c) (all_scalars cs) scalars in
     let bs = encode_utf8 c in
     let rest = encode_utf8_all cs in
-    let first = char_does t log bs c idle (ends_whole bs (encoded_is c here)) (chars_of c here) (not_true (is_control c) (and_left (not (is_control c)) (list_all (λ x. not (is_control x)) cs) fine)) in
+    let first = char_does t log bs c idle (ends_whole bs (encoded_is c here)) (chars_of c here)
+    (not_true (is_control c) (and_left (not (is_control c)) (list_all (λ x. not (is_control x)) cs) fine)) in
     let u : Terminal = record t { run = t.run ++ bs; half_read = [] } in
     run-append (t, log) bs rest
     ∙ ap (λ w. run w rest) first
@@ -156,7 +160,8 @@ text_does t log text utf8 printed idle =
     ∙ chars_do t log cs utf8.1.0 fine idle
     ∙ ap (λ bs. run_step (record t { run = t.run ++ bs; half_read = [] }) log) utf8.1.1
 
-pub text_read : (t : Terminal) (text : List ℕ) → IsUtf8 text → are_printable text ≡ true → t.half_read ≡ [] → reads t text ≡ record t { run = t.run ++ text; half_read = [] }
+pub text_read : (t : Terminal) (text : List ℕ) → IsUtf8 text → are_printable text ≡ true → t.half_read ≡ []
+    → reads t text ≡ record t { run = t.run ++ text; half_read = [] }
 text_read t text utf8 printed idle = ap (λ (w : Terminal × List Effect). w.0) (sym (run_is t [] text) ∙ text_does t [] text utf8 printed idle)
 
 -- ---- a glyph's text

@@ -1,9 +1,11 @@
 -- Whole glyphs: what a glyph's columns are, and where columns of whole glyphs may be cut.
-use Rattle.std.proofs.Common.{◌≡◌, ℕ, ◌+◌, ◌*◌, ◌-◌, ◌≤◌, Bool, true, false, not, ◌&&◌, ◌||◌, nat_le, nat_lt, nat_eq, List, [], ◌∷◌, ◌++◌, length, take, drop, replicate, zero, suc, refl, ap, sym, ◌∙◌, append_assoc, length-append, arith}
+use Rattle.std.proofs.Common.{◌≡◌, ℕ, ◌+◌, ◌*◌, ◌-◌, ◌≤◌, Bool, true, false, not, ◌&&◌, ◌||◌, nat_le, nat_lt, nat_eq, List, [], ◌∷◌, ◌++◌, length, take, drop}
+use Rattle.std.proofs.Common.{replicate, zero, suc, refl, ap, sym, ◌∙◌, append_assoc, length-append, arith}
 use Rattle.std.specs.List.{list_all, All}
 use Rattle.std.specs.Str.{chars}
 use Rattle.std.proofs.lemmas.Bool.Decides.{nat_tests}
-use Rattle.std.proofs.lemmas.List.{append-nil, append_cancel_left, take-append-drop, length-drop, replicate-append-replicate, take_at, drop_at, length-replicate}
+use Rattle.std.proofs.lemmas.List.{append-nil, append_cancel_left, take-append-drop, length-drop, replicate-append-replicate, take_at, drop_at}
+use Rattle.std.proofs.lemmas.List.{length-replicate}
 use Rattle.std.proofs.lemmas.List.Elements.{All-nil, All-cons, All-head, All-tail, All-append}
 use Rattle.unicode_width.specs.Width.{str_width}
 use Rattle.bx_bytes.specs.Utf8.{are_printable}
@@ -32,7 +34,9 @@ form_by true text negative e h = (1, omega arith, plain_form text negative e)
 form_by false text negative e h =
     let w = str_width false (chars text) in
     let other : list_all is_ascii_printable text ≡ false =
-    not_false (list_all is_ascii_printable text) (and_right (are_printable text) (not (list_all is_ascii_printable text)) (and_left (are_printable text && not (list_all is_ascii_printable text)) (nat_le 1 w) h)) in
+    not_false (list_all is_ascii_printable text)
+    (and_right (are_printable text) (not (list_all is_ascii_printable text))
+    (and_left (are_printable text && not (list_all is_ascii_printable text)) (nat_le 1 w) h)) in
     let wide : nat_le 1 w ≡ true = and_right (are_printable text && not (list_all is_ascii_printable text)) (nat_le 1 w) h in
     (w, grind (arith, nat_tests), rw other refl)
 
@@ -103,8 +107,10 @@ split_by (g ∷ gs) h (x ∷ xs) text columns negative ys e =
     let one = All-head IsGlyph g gs h in
     let f = columns_form g one in
     let cut = first_cut g f.0 (all_columns gs) xs ys x text columns negative f.1 (ap (λ cs. cs ++ all_columns gs) (sym f.2) ∙ e) in
-    let rest = split_by gs (All-tail IsGlyph g gs h) cut.0 text columns negative ys cut.2 in
-    (whole_along (columns_of g ++ cut.0) (x ∷ xs) (ap (λ cs. cs ++ cut.0) f.2 ∙ sym cut.1) (whole-append (columns_of g) cut.0 (whole_glyph g one) rest.0), rest.1)
+    let rest = split_by gs (All-tail IsGlyph g gs h) cut.0 text columns negative ys cut.2 in (
+      whole_along (columns_of g ++ cut.0) (x ∷ xs) (ap (λ cs. cs ++ cut.0) f.2 ∙ sym cut.1) (whole-append (columns_of g) cut.0 (whole_glyph g one) rest.0),
+      rest.1,
+    )
 
 -- a column of offset 0 begins a glyph
 pub whole_split : (xs : List Col) (text : List ℕ) (columns : ℕ) (negative : Bool) (ys : List Col)
@@ -147,7 +153,8 @@ head_by (g ∷ gs) h text columns negative ys e =
     let is = first_is g f.0 (all_columns gs) ys text columns negative f.1 (ap (λ cs. cs ++ all_columns gs) (sym f.2) ∙ e) in
     headed g f.0 (all_columns gs) ys text columns negative is.0 is.1 is.2 one f.1 f.2 (record { glyphs = gs; each = All-tail IsGlyph g gs h; are = refl }) e
 
-pub whole_head : (text : List ℕ) (columns : ℕ) (negative : Bool) (ys : List Col) → AreWhole (Glyph text columns 0 negative ∷ ys) → IsHeaded text columns negative ys
+pub whole_head : (text : List ℕ) (columns : ℕ) (negative : Bool) (ys : List Col) → AreWhole (Glyph text columns 0 negative ∷ ys)
+    → IsHeaded text columns negative ys
 whole_head text columns negative ys a = head_by a.glyphs a.each text columns negative ys a.are
 
 after_by : (g : WholeGlyph) (n : ℕ) (ys : List Col) → 1 ≤ n → columns_of g ≡ glyph_columns g.text n g.negative → AreWhole (columns_of g ++ ys) → AreWhole ys
@@ -171,7 +178,8 @@ left_from text count zero offset negative later e kept = kept
 left_from text count (suc n) offset negative later e kept =
     let rest = glyph_columns_from text count negative (offset + 1) n ++ later in
     let len : length rest ≡ n + length later =
-    length-append (glyph_columns_from text count negative (offset + 1) n) later ∙ ap (λ m. m + length later) (length-glyph text count (offset + 1) n negative) in
+    length-append (glyph_columns_from text count negative (offset + 1) n) later
+    ∙ ap (λ m. m + length later) (length-glyph text count (offset + 1) n negative) in
     let test : nat_lt (length rest) (count - (offset + 1)) ≡ false = let low : count - (offset + 1) ≤ length rest = omega arith in grind (arith, nat_tests) in
     rw test (ap (λ cs. Glyph text count offset negative ∷ cs) (left_from text count n (offset + 1) negative later (omega arith) kept))
 
@@ -228,13 +236,16 @@ rows-blank zero w = tt
 rows-blank (suc h) w =
     let split : replicate (suc h * w) blank ≡ replicate w blank ++ replicate (h * w) blank =
     ap (λ n. replicate n blank) (let e : suc h * w ≡ w + h * w = omega arith in e) ∙ sym (replicate-append-replicate w (h * w) blank) in
-    let first : take w (replicate w blank ++ replicate (h * w) blank) ≡ replicate w blank = take_at (replicate w blank) (replicate (h * w) blank) w (length-replicate w blank) in
-    let rest : drop w (replicate w blank ++ replicate (h * w) blank) ≡ replicate (h * w) blank = drop_at (replicate w blank) (replicate (h * w) blank) w (length-replicate w blank) in
+    let first : take w (replicate w blank ++ replicate (h * w) blank) ≡ replicate w blank =
+    take_at (replicate w blank) (replicate (h * w) blank) w (length-replicate w blank) in
+    let rest : drop w (replicate w blank ++ replicate (h * w) blank) ≡ replicate (h * w) blank =
+    drop_at (replicate w blank) (replicate (h * w) blank) w (length-replicate w blank) in
     rw (split, first, rest) (whole_blanks w, rows-blank h w)
 
 -- ---- what a terminal does for a glyph
 
-effects_past : (index : ℕ) (text : List ℕ) (count n offset : ℕ) (negative : Bool) → 1 ≤ offset → glyphs_at index (glyph_columns_from text count negative offset n) ≡ []
+effects_past : (index : ℕ) (text : List ℕ) (count n offset : ℕ) (negative : Bool) → 1 ≤ offset
+    → glyphs_at index (glyph_columns_from text count negative offset n) ≡ []
 effects_past index text count zero offset negative low = refl
 effects_past index text count (suc n) offset negative low =
     let other : nat_eq offset 0 ≡ false = grind (arith, nat_tests) in

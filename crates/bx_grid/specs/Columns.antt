@@ -4,7 +4,8 @@ pub use Rattle.bx_terms.specs.Characters.{is_ascii_printable, are_ascii_printabl
 pub use Rattle.bx_terms.specs.Glyphs.{run_width, is_one_glyph}
 use Rattle.std.specs.Str.{bytes_eq}
 use Rattle.unicode_width.specs.Width.{str_width}
-use Rattle.std.specs.Prelude.{◌≡◌, replicate, ℕ, zero, suc, chars, ◌+◌, ◌-◌, ◌*◌, nat_lt, if◌then◌else◌, Bool, true, false, ◌&&◌, ◌==◌, not, List, [], ◌∷◌, ◌++◌, length, map, take, drop}
+use Rattle.std.specs.Prelude.{◌≡◌, replicate, ℕ, zero, suc, chars, ◌+◌, ◌-◌, ◌*◌, nat_lt, if◌then◌else◌, Bool, true, false, ◌&&◌, ◌==◌, not, List, [], ◌∷◌}
+use Rattle.std.specs.Prelude.{◌++◌, length, map, take, drop}
 
 pub data Col : Type 0 where
   Unknown : Col

@@ -1,8 +1,10 @@
 //! Lists of columns: filling, putting, and forgetting what is left of a glyph.
 
-ghost use Rattle.std.specs.Prelude.{◌≡◌, ℕ, ◌+◌, ◌≤◌, [], ◌∷◌, length, replicate, ◌-◌, ◌*◌, ◌<◌, true, nat_le, ◌&&◌, false, IfOk, IsOk, OnOk, OnErr, IsTrue, ◌↔◌};
+ghost use Rattle.std.specs.Prelude.{◌≡◌, ℕ, ◌+◌, ◌≤◌, [], ◌∷◌, length, replicate, ◌-◌, ◌*◌, ◌<◌, true, nat_le, ◌&&◌, false, IfOk, IsOk, OnOk, OnErr, IsTrue};
+ghost use Rattle.std.specs.Prelude.{◌↔◌};
 ghost use Rattle.std.specs.List.{list_all};
-ghost use Rattle.bx_grid.specs.Columns.{are_ascii_printable, run_width, blank, is_blank, put, paste, AreBlank, AreSameAround, put_in_row, cut_before, cut_after, columns_after, columns_before, plain_columns, glyph_columns, run_columns};
+ghost use Rattle.bx_grid.specs.Columns.{are_ascii_printable, run_width, blank, is_blank, put, paste, AreBlank, AreSameAround, put_in_row, cut_before};
+ghost use Rattle.bx_grid.specs.Columns.{cut_after, columns_after, columns_before, plain_columns, glyph_columns, run_columns};
 ghost use Rattle.bx_grid.specs.Columns as spec;
 ghost use Rattle.bx_grid.specs.Seen.{seen, all_seen};
 

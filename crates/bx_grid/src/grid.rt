@@ -1,6 +1,7 @@
 //! A grid of columns that are all known.
 
-ghost use Rattle.std.specs.Prelude.{◌≡◌, ℕ, ◌*◌, ◌+◌, ◌-◌, ◌<◌, ◌≤◌, ◌↔◌, List, ◌++◌, length, replicate, take, drop, IfOk, OnOk, OnErr, IfErr, IsErrOf, IsOk, IsTrue, true, false};
+ghost use Rattle.std.specs.Prelude.{◌≡◌, ℕ, ◌*◌, ◌+◌, ◌-◌, ◌<◌, ◌≤◌, ◌↔◌, List, ◌++◌, length, replicate, take, drop, IfOk, OnOk, OnErr, IfErr, IsErrOf, IsOk};
+ghost use Rattle.std.specs.Prelude.{IsTrue, true, false};
 ghost use Rattle.bx_grid.specs.Columns.{blank, is_one_glyph, paste, run_columns, run_width};
 ghost use Rattle.bx_grid.specs.Seen.{seen, all_seen};
 ghost use Rattle.bx_grid.specs.Picture.{GridState, HasRoom, IsGrid, IsWithin, is_size};

@@ -7,7 +7,8 @@ ghost use Rattle.bx_bytes.specs.Fate.{fate_in};
 ghost use Rattle.bx_bytes.specs.Utf8.{characters};
 ghost use Rattle.bx_grid.specs.Columns.{run_columns};
 ghost use Rattle.bx_grid.specs.Tokens.{fate};
-ghost use Rattle.bx_grid.specs.Terminal.{Terminal, all_unknown, after_move, after_clear, after_erase, after_rendition, after_command, glyphs_put, run_ended, character_read, token_read, after_first_byte, after_next_byte, byte_read, reads, after_resize};
+ghost use Rattle.bx_grid.specs.Terminal.{Terminal, all_unknown, after_move, after_clear, after_erase, after_rendition, after_command, glyphs_put, run_ended};
+ghost use Rattle.bx_grid.specs.Terminal.{character_read, token_read, after_first_byte, after_next_byte, byte_read, reads, after_resize};
 
 use crate::column::{Column, all_same};
 use crate::columns::{erase_at, fill_blank, fill_unknown, show_at, unknown_columns};

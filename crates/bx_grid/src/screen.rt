@@ -1,6 +1,7 @@
 //! The terminal, which may fail for want of memory.
 
-ghost use Rattle.std.specs.Prelude.{◌≡◌, ◌*◌, ◌↔◌, [], List, length, replicate, true, false, IsTrue, Some, None, option_map, IsSome, IfOk, OnOk, OnErr, IsErrOf};
+ghost use Rattle.std.specs.Prelude.{◌≡◌, ◌*◌, ◌↔◌, [], List, length, replicate, true, false, IsTrue, Some, None, option_map, IsSome, IfOk, OnOk, OnErr};
+ghost use Rattle.std.specs.Prelude.{IsErrOf};
 ghost use Rattle.bx_grid.specs.Columns as spec;
 ghost use Rattle.bx_grid.specs.Picture.{is_size};
 ghost use Rattle.bx_grid.specs.Terminal.{Terminal, reads, after_resize};

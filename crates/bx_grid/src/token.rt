@@ -2,7 +2,8 @@
 
 ghost use Rattle.std.specs.Prelude.{◌≡◌, ℕ, ◌+◌, ◌*◌, ◌<◌, ◌≤◌, Bool, true, false, ◌&&◌, ◌∷◌, [], ◌++◌, length, min, nat_le, option_map, take, drop};
 ghost use Rattle.std.specs.List.{list_all};
-ghost use Rattle.bx_grid.specs.Tokens.{is_param, is_intermediate, is_final, fate, escape_fate, final_fate, after_params, after_intermediates, number, command, params, is_absent_or_zero, is_only, before_semicolon, after_semicolon, command_of};
+ghost use Rattle.bx_grid.specs.Tokens.{is_param, is_intermediate, is_final, fate, escape_fate, final_fate, after_params, after_intermediates, number, command};
+ghost use Rattle.bx_grid.specs.Tokens.{params, is_absent_or_zero, is_only, before_semicolon, after_semicolon, command_of};
 ghost use Rattle.bx_grid.specs.Capped.{capped};
 
 use bx_bytes::{Fate, character_fate};

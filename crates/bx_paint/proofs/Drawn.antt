@@ -1,5 +1,6 @@
 -- A terminal that reads what is sent for the glyphs of a row.
-use Rattle.std.proofs.Common.{◌≡◌, ℕ, ◌+◌, ◌*◌, ◌<◌, ◌≤◌, Bool, true, false, ◌&&◌, List, [], ◌∷◌, ◌++◌, length, take, drop, Option, Some, refl, ap, sym, ◌∙◌, append_assoc, length-append, arith}
+use Rattle.std.proofs.Common.{◌≡◌, ℕ, ◌+◌, ◌*◌, ◌<◌, ◌≤◌, Bool, true, false, ◌&&◌, List, [], ◌∷◌, ◌++◌, length, take, drop, Option, Some, refl, ap, sym, ◌∙◌}
+use Rattle.std.proofs.Common.{append_assoc, length-append, arith}
 use Rattle.std.specs.List.{list_all, All}
 use Rattle.std.proofs.lemmas.List.{append-nil, map-append, take-append-drop, length-drop, drop-append-le, nil_from_length}
 use Rattle.std.proofs.lemmas.List.Elements.{All-head, All-tail}
@@ -22,7 +23,8 @@ use Rattle.bx_paint.specs.Changed.{glyphs_changed}
 
 -- ---- a text after a run
 
-joins_none : (negative : Bool) (half_read text : List ℕ) → half_read ≡ [] → run_columns negative (half_read ++ text) ≡ run_columns negative half_read ++ run_columns negative text
+joins_none : (negative : Bool) (half_read text : List ℕ) → half_read ≡ []
+    → run_columns negative (half_read ++ text) ≡ run_columns negative half_read ++ run_columns negative text
 joins_none negative half_read text e = rw e refl
 
 plain_more : (half_read text : List ℕ) → are_ascii_printable half_read ≡ true → is_ascii_glyph text ≡ true → are_ascii_printable (half_read ++ text) ≡ true
@@ -33,18 +35,21 @@ plain_more half_read (b ∷ c ∷ rest) h e = absurd (cc e)
 joins_near : (negative : Bool) (half_read text : List ℕ) → are_ascii_printable half_read ≡ true → is_ascii_glyph text ≡ true
     → run_columns negative (half_read ++ text) ≡ run_columns negative half_read ++ run_columns negative text
 joins_near negative half_read [] h e = absurd (cc e)
-joins_near negative half_read (b ∷ []) h e = rw (all-push is_ascii_printable half_read b h e, h, e) (map-append (λ x. Glyph (x ∷ []) 1 0 negative) half_read (b ∷ []))
+joins_near negative half_read (b ∷ []) h e = rw (all-push is_ascii_printable half_read b h e, h, e)
+    (map-append (λ x. Glyph (x ∷ []) 1 0 negative) half_read (b ∷ []))
 joins_near negative half_read (b ∷ c ∷ rest) h e = absurd (cc e)
 
 -- ---- what stands while a row is painted
 
 -- a run of characters from SPACE to TILDE may go on
-pub record Near (p : PictureState) (w : Terminal × List Effect) (negative : Bool) (above done rest below : List Col) (r c : ℕ) (all : List Effect) : Type 0 where
-  pub ready : Ready p w negative above done rest below r c all
-  pub plain : are_ascii_printable ready.half_read ≡ true
+pub record Near (p : PictureState) (w : Terminal × List Effect) (negative : Bool) (above done rest below : List Col) (r c : ℕ) (all : List Effect) : Type 0
+  where
+    pub ready : Ready p w negative above done rest below r c all
+    pub plain : are_ascii_printable ready.half_read ≡ true
 
 -- the row is done up to column c; where the column before was just sent as a character from SPACE to TILDE, its run may go on
-pub record Stands (p : PictureState) (w : Terminal × List Effect) (near negative : Bool) (above done rest below : List Col) (r c : ℕ) (all : List Effect) : Type 0 where
+pub record Stands (p : PictureState) (w : Terminal × List Effect) (near negative : Bool) (above done rest below : List Col) (r c : ℕ) (all : List Effect) : Type
+    0 where
   pub position : Option (ℕ × ℕ)
   pub leaves : Leaves p w (partly above done rest below) position negative all
   pub near_by : near ≡ true → Near p w negative above done rest below r c all
@@ -73,19 +78,22 @@ text_stands : (p : PictureState) (w : Terminal × List Effect) (g : WholeGlyph) 
     → IsGlyph g → (h : Ready p w g.negative above done rest below r c all)
     → run_columns g.negative (h.half_read ++ g.text) ≡ run_columns g.negative h.half_read ++ columns_of g → c + length (columns_of g) ≤ p.width
     → are_ascii_printable h.half_read ≡ true
-    → Stands p (run w g.text) (is_ascii_glyph g.text) g.negative above (done ++ columns_of g) (drop (length (columns_of g)) rest) below r (c + length (columns_of g))
+    → Stands p (run w g.text) (is_ascii_glyph g.text) g.negative above (done ++ columns_of g) (drop (length (columns_of g)) rest) below r
+    (c + length (columns_of g))
     (all ++ Puts (r * p.width + c) g.text g.negative ∷ [])
 text_stands p w g above done rest below r c all is h joins fits plain =
     let k = ready_text p w g above done rest below r c all is h joins fits in
     let n = length (columns_of g) in
-    let l = ready_leaves p (run w g.text) g.negative above (done ++ columns_of g) (drop n rest) below r (c + n) (all ++ Puts (r * p.width + c) g.text g.negative ∷ []) k.0 in
+    let l = ready_leaves p (run w g.text) g.negative above (done ++ columns_of g) (drop n rest) below r (c + n)
+    (all ++ Puts (r * p.width + c) g.text g.negative ∷ []) k.0 in
     record {
       position = l.0;
       leaves = l.1;
       near_by = λ e. record { ready = k.0; plain = ap (are_ascii_printable) k.1 ∙ plain_more h.half_read g.text plain e };
     }
 
-drawn_by : (t : Bool) (p : PictureState) (w : Terminal × List Effect) (near negative : Bool) (g : WholeGlyph) (above done rest below : List Col) (r c : ℕ) (all : List Effect)
+drawn_by : (t : Bool) (p : PictureState) (w : Terminal × List Effect) (near negative : Bool) (g : WholeGlyph) (above done rest below : List Col) (r c : ℕ)
+    (all : List Effect)
     → Fits p → r < p.height → IsGlyph g → IsPlace r c p.width above done rest → length (columns_of g) ≤ length rest
     → near && is_ascii_glyph g.text ≡ t → Stands p w near negative above done rest below r c all
     → Stands p (run w (glyph_bytes r c near negative g.text g.negative)) (is_ascii_glyph g.text) g.negative above (done ++ columns_of g)
@@ -93,7 +101,8 @@ drawn_by : (t : Bool) (p : PictureState) (w : Terminal × List Effect) (near neg
 drawn_by true p w near negative g above done rest below r c all fits rh is index room e s =
     let some : 1 ≤ length (columns_of g) = columns_some g is in
     let change = render_change negative g.negative in
-    let n = rendered p w negative g.negative above done rest below r c all index (omega (arith, some, room, index.wide)) (s.near_by (and_left near (is_ascii_glyph g.text) e)) in
+    let n = rendered p w negative g.negative above done rest below r c all index (omega (arith, some, room, index.wide))
+    (s.near_by (and_left near (is_ascii_glyph g.text) e)) in
     let printed : is_ascii_glyph g.text ≡ true = and_right near (is_ascii_glyph g.text) e in
     let after = text_stands p (run w change) g above done rest below r c all is n.ready (joins_near g.negative n.ready.half_read g.text n.plain printed)
     (omega (arith, room, index.wide)) n.plain in
@@ -127,7 +136,8 @@ pub come_after : (p : PictureState) (w : Terminal × List Effect) (first second 
 come_after p w first second columns negative effects h = rw (run-append w first second) h
 
 -- a glyph whose columns do not differ stands there already
-stays : (p : PictureState) (w : Terminal × List Effect) (near negative : Bool) (g : WholeGlyph) (above done before ys below : List Col) (r c d : ℕ) (all : List Effect)
+stays : (p : PictureState) (w : Terminal × List Effect) (near negative : Bool) (g : WholeGlyph) (above done before ys below : List Col) (r c d : ℕ)
+    (all : List Effect)
     → IsGlyph g → AreWhole (before ++ (columns_of g ++ ys)) → Stands p w near negative above done (columns_of g ++ ys) below r c all
     → Stands p w false negative above (done ++ columns_of g) ys below r d (all ++ [])
 stays p w near negative g above done before ys below r c d all is whole s =
@@ -143,7 +153,8 @@ stays p w near negative g above done before ys below r c d all is whole s =
       near_by = λ e. absurd (cc e);
     }
 
-stands_by : (same : Bool) (p : PictureState) (w : Terminal × List Effect) (near negative : Bool) (g : WholeGlyph) (above done before olds over below : List Col) (r c : ℕ) (all : List Effect)
+stands_by : (same : Bool) (p : PictureState) (w : Terminal × List Effect) (near negative : Bool) (g : WholeGlyph) (above done before olds over below : List Col)
+    (r c : ℕ) (all : List Effect)
     → Fits p → r < p.height → IsGlyph g → IsPlace r c p.width above done (olds ++ over) → AreWhole (before ++ (olds ++ over))
     → length (columns_of g) ≤ length olds → are_equal (take (length (columns_of g)) olds) (columns_of g) ≡ same
     → Stands p w near negative above done (olds ++ over) below r c all
@@ -154,7 +165,8 @@ stands_by true p w near negative g above done before olds over below r c all fit
     let split : olds ++ over ≡ columns_of g ++ (drop n olds ++ over) =
     ap (λ xs. xs ++ over) (sym (take-append-drop n olds) ∙ ap (λ xs. xs ++ drop n olds) (lists_are (take n olds) (columns_of g) e))
     ∙ append_assoc (columns_of g) (drop n olds) over in
-    stays p w near negative g above done before (drop n olds ++ over) below r c (c + n) all is (whole_along (before ++ (olds ++ over)) (before ++ (columns_of g ++ (drop n olds ++ over))) (ap (λ xs. before ++ xs) split) whole)
+    stays p w near negative g above done before (drop n olds ++ over) below r c (c + n) all is
+    (whole_along (before ++ (olds ++ over)) (before ++ (columns_of g ++ (drop n olds ++ over))) (ap (λ xs. before ++ xs) split) whole)
     (rw split at s)
 stands_by false p w near negative g above done before olds over below r c all fits rh is index whole room e s =
     let n = length (columns_of g) in
@@ -211,10 +223,12 @@ one_more p r above over below g xs fits rh is more olds done before w c near neg
     ∙ sym (append_assoc all (glyph_effect (r * p.width + c) alike g) (glyphs_changed (r * p.width + (c + n)) (drop n olds) xs)))
     (come_after p w sent.bytes last.bytes _ _ _ rest)
 
-glyphs_do : (p : PictureState) (r : ℕ) (above over below : List Col) (gs : List WholeGlyph) → Fits p → r < p.height → All IsGlyph gs → Goal p r above over below (all_columns gs)
+glyphs_do : (p : PictureState) (r : ℕ) (above over below : List Col) (gs : List WholeGlyph) → Fits p → r < p.height → All IsGlyph gs
+    → Goal p r above over below (all_columns gs)
 glyphs_do p r above over below [] fits rh each = no_more p r above over below
 glyphs_do p r above over below (g ∷ gs) fits rh each =
-    one_more p r above over below g (all_columns gs) fits rh (All-head IsGlyph g gs each) (glyphs_do p r above over below gs fits rh (All-tail IsGlyph g gs each))
+    one_more p r above over below g (all_columns gs) fits rh (All-head IsGlyph g gs each)
+    (glyphs_do p r above over below gs fits rh (All-tail IsGlyph g gs each))
 
 pub columns_do : (p : PictureState) (r : ℕ) (above over below news : List Col) → Fits p → r < p.height → AreWhole news → Goal p r above over below news
 columns_do p r above over below news fits rh whole = rw whole.are at (glyphs_do p r above over below whole.glyphs fits rh whole.each)

@@ -1,5 +1,6 @@
 -- How much is sent: nothing where nothing differs, and never more glyphs and erasures than columns that differ.
-use Rattle.std.proofs.Common.{◌≡◌, ℕ, ◌+◌, ◌*◌, ◌-◌, ◌≤◌, Bool, true, false, ◌&&◌, nat_eq, List, [], ◌∷◌, ◌++◌, length, take, drop, replicate, zero, suc, refl, ap, sym, ◌∙◌, length-append, arith}
+use Rattle.std.proofs.Common.{◌≡◌, ℕ, ◌+◌, ◌*◌, ◌-◌, ◌≤◌, Bool, true, false, ◌&&◌, nat_eq, List, [], ◌∷◌, ◌++◌, length, take, drop, replicate, zero, suc, refl}
+use Rattle.std.proofs.Common.{ap, sym, ◌∙◌, length-append, arith}
 use Rattle.std.specs.List.{list_all, All}
 use Rattle.std.proofs.lemmas.Bool.Decides.{nat_tests}
 use Rattle.std.proofs.lemmas.List.{take-append-drop, take_at, drop_at, length-take-le, length-drop}
@@ -10,7 +11,8 @@ use Rattle.bx_grid.specs.Glyphs.{WholeGlyph, IsGlyph, columns_of, all_columns, A
 use Rattle.bx_grid.specs.Picture.{PictureState, IsGrid}
 use Rattle.bx_grid.proofs.Blanks.{blanks_pass}
 use Rattle.bx_grid.proofs.Equal.{col_is, are_equal_refl}
-use Rattle.bx_paint.specs.Painting.{Sent, Step, nothing_sent, then_sent, before_tail, is_sent, column_sent, columns_sent, tail_sent, row_sent, rows_sent, changes_bytes}
+use Rattle.bx_paint.specs.Painting.{Sent, Step, nothing_sent, then_sent, before_tail, is_sent, column_sent, columns_sent, tail_sent, row_sent, rows_sent}
+use Rattle.bx_paint.specs.Painting.{changes_bytes}
 use Rattle.bx_paint.specs.Changed.{glyphs_changed, tail_changed, row_changed, rows_changed, changed, differing}
 use Rattle.bx_paint.proofs.Glyphs.{glyph_effect, by_glyph}
 use Rattle.bx_paint.proofs.Tails.{front_le, front_blanks, whole_front}
@@ -123,7 +125,8 @@ some_differ : (cs : List Col) → list_all is_blank cs ≡ false → 1 ≤ diffe
 some_differ [] h = absurd (cc h)
 some_differ (c ∷ cs) h = one_by (col_eq c blank) c cs refl (some_differ cs) h
 
-tail_by : (t : Bool) (index : ℕ) (olds : List Col) → list_all is_blank olds ≡ t → length (tail_changed index olds) ≤ differing olds (replicate (length olds) blank)
+tail_by : (t : Bool) (index : ℕ) (olds : List Col) → list_all is_blank olds ≡ t
+    → length (tail_changed index olds) ≤ differing olds (replicate (length olds) blank)
 tail_by true index olds e = rw e (omega arith)
 tail_by false index olds e = rw e (some_differ olds e)
 
@@ -161,7 +164,8 @@ rows_few (suc count) width index old new whole tall tall' =
     (length-drop width old ∙ omega (arith, tall, more)) (length-drop width new ∙ omega (arith, tall', more)) in
     omega (arith, both, row, rest, length-append (row_changed index olds news) (rows_changed count width (index + width) (drop width old) (drop width new)))
 
-pub few_changes : (old new : PictureState) → IsGrid old.height old.width old.columns → IsGrid new.height new.width new.columns → old.height ≡ new.height → old.width ≡ new.width
+pub few_changes : (old new : PictureState) → IsGrid old.height old.width old.columns → IsGrid new.height new.width new.columns → old.height ≡ new.height
+    → old.width ≡ new.width
     → length (changed old new) ≤ differing old.columns new.columns
 few_changes old new a b eh ew =
     rows_few new.height new.width 0 old.columns new.columns b.rows (a.sized.each ∙ rw (eh, ew) refl) b.sized.each

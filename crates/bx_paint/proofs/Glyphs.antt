@@ -14,7 +14,8 @@ use Rattle.bx_paint.specs.Changed.{glyphs_changed}
 -- ---- the columns of a glyph after its first
 
 rest_none : (r c : ℕ) (negative : Bool) (text : List ℕ) (n : ℕ) (glyph_negative : Bool) (offset count : ℕ) (olds xs : List Col) → 1 ≤ offset
-    → columns_sent r c false negative olds (glyph_columns_from text n glyph_negative offset count ++ xs) ≡ columns_sent r (c + count) false negative (drop count olds) xs
+    → columns_sent r c false negative olds (glyph_columns_from text n glyph_negative offset count ++ xs)
+    ≡ columns_sent r (c + count) false negative (drop count olds) xs
 rest_none r c negative text n glyph_negative offset zero olds xs h = ap (λ k. columns_sent r k false negative olds xs) (let e : c ≡ c + zero = omega arith in e)
 rest_none r c negative text n glyph_negative offset (suc count) olds xs h =
     let later : nat_eq offset 0 ≡ false = grind (arith, nat_tests) in
@@ -27,7 +28,8 @@ rest_none r c negative text n glyph_negative offset (suc count) olds xs h =
 
 rest_sent : (near : Bool) (r c : ℕ) (negative : Bool) (text : List ℕ) (n : ℕ) (glyph_negative : Bool) (offset count : ℕ) (olds xs : List Col) → 1 ≤ offset
     → (near ≡ true → count ≡ 0)
-    → columns_sent r c near negative olds (glyph_columns_from text n glyph_negative offset count ++ xs) ≡ columns_sent r (c + count) near negative (drop count olds) xs
+    → columns_sent r c near negative olds (glyph_columns_from text n glyph_negative offset count ++ xs)
+    ≡ columns_sent r (c + count) near negative (drop count olds) xs
 rest_sent false r c negative text n glyph_negative offset count olds xs h alone = rest_none r c negative text n glyph_negative offset count olds xs h
 rest_sent true r c negative text n glyph_negative offset count olds xs h alone =
     let none : count ≡ 0 = alone refl in
@@ -64,7 +66,8 @@ pub record IsByGlyph (same : Bool) (g : WholeGlyph) (n : ℕ) (olds xs : List Co
       (columns_sent r (c + n) (glyph_sent r c near negative same g).near (glyph_sent r c near negative same g).negative (drop n olds) xs)
   pub changed : (index : ℕ) → glyphs_changed index olds (columns_of g ++ xs) ≡ glyph_effect index same g ++ glyphs_changed (index + n) (drop n olds) xs
 
-first_sent : (same : Bool) (r c : ℕ) (near negative : Bool) (g : WholeGlyph) (n : ℕ) (olds cs : List Col) → is_sent olds (Glyph g.text n 0 g.negative ∷ cs) ≡ not same
+first_sent : (same : Bool) (r c : ℕ) (near negative : Bool) (g : WholeGlyph) (n : ℕ) (olds cs : List Col)
+    → is_sent olds (Glyph g.text n 0 g.negative ∷ cs) ≡ not same
     → columns_sent r c near negative olds (Glyph g.text n 0 g.negative ∷ cs)
     ≡ then_sent (glyph_sent r c near negative same g).bytes
     (columns_sent r (c + 1) (glyph_sent r c near negative same g).near (glyph_sent r c near negative same g).negative (drop 1 olds) cs)

@@ -1,5 +1,6 @@
 -- A terminal that reads what is sent shows the picture, and does no more than was to be done.
-use Rattle.std.proofs.Common.{◌≡◌, ℕ, ◌*◌, Bool, true, false, ◌&&◌, nat_eq, List, [], ◌∷◌, ◌++◌, length, replicate, Option, Some, None, refl, ap, sym, ◌∙◌, arith}
+use Rattle.std.proofs.Common.{◌≡◌, ℕ, ◌*◌, Bool, true, false, ◌&&◌, nat_eq, List, [], ◌∷◌, ◌++◌, length, replicate, Option, Some, None, refl, ap, sym, ◌∙◌}
+use Rattle.std.proofs.Common.{arith}
 use Rattle.std.proofs.lemmas.Bool.Decides.{nat_tests}
 use Rattle.std.proofs.lemmas.List.{length-replicate}
 use Rattle.bx_grid.specs.Columns.{Col, blank}
@@ -42,7 +43,8 @@ at_end : (p : PictureState) (w : Terminal × List Effect) (columns : List Col) (
 at_end p w columns q true all fits leaves =
     run-append w (render_bytes false) (move_bytes p.row p.column)
     ∙ ap (λ v. run v (move_bytes p.row p.column)) (renders p w columns q true false all leaves)
-    ∙ moves p (screen p columns q false [], all) columns q false all p.row p.column (plain_leaves p columns q false all) fits.row fits.column fits.height fits.width
+    ∙ moves p (screen p columns q false [], all) columns q false all p.row p.column (plain_leaves p columns q false all) fits.row fits.column fits.height
+    fits.width
 at_end p w columns q false all fits leaves =
     moves p w columns q false all p.row p.column leaves fits.row fits.column fits.height fits.width
 
@@ -66,7 +68,14 @@ painted p old w q all is size whole leaves =
     ∙ at_end p (run w s.bytes) p.columns rows.0 s.negative (all ++ rows_changed p.height p.width 0 old p.columns) (fits p is) rows.1
 
 shown : (p : PictureState) → Shows (screen p p.columns (Some (p.row, p.column)) false []) p
-shown p = record { nothing_half_read = record { no_run = refl; no_token = refl }; same_height = refl; same_width = refl; same_columns = refl; normal = refl; at_cursor = refl }
+shown p = record {
+  nothing_half_read = record { no_run = refl; no_token = refl };
+  same_height = refl;
+  same_width = refl;
+  same_columns = refl;
+  normal = refl;
+  at_cursor = refl;
+}
 
 -- ---- whole
 
@@ -95,10 +104,12 @@ whole_shows p is t idle height width =
     let blanks = replicate (p.height * p.width) blank in
     let start = 0x1B ∷ 0x5B ∷ 0x30 ∷ 0x6D ∷ 0x1B ∷ 0x5B ∷ 0x32 ∷ 0x4A ∷ [] in
     let w : Terminal × List Effect = (screen p blanks None false [], Clears ∷ []) in
-    let end : run (t, []) (whole_bytes p) ≡ (screen p p.columns (Some (p.row, p.column)) false [], (Clears ∷ []) ++ rows_changed p.height p.width 0 blanks p.columns) =
+    let end : run (t, []) (whole_bytes p)
+    ≡ (screen p p.columns (Some (p.row, p.column)) false [], (Clears ∷ []) ++ rows_changed p.height p.width 0 blanks p.columns) =
     run-append (t, []) start (ended p (columns_changed blanks p))
     ∙ ap (λ v. run v (ended p (columns_changed blanks p))) (opening p t idle height width)
-    ∙ painted p blanks w None (Clears ∷ []) is (length-replicate (p.height * p.width) blank) (rows-blank p.height p.width) (plain_leaves p blanks None false (Clears ∷ [])) in
+    ∙ painted p blanks w None (Clears ∷ []) is (length-replicate (p.height * p.width) blank) (rows-blank p.height p.width)
+    (plain_leaves p blanks None false (Clears ∷ [])) in
     let state : reads t (whole_bytes p) ≡ screen p p.columns (Some (p.row, p.column)) false [] =
     ap (λ (v : Terminal × List Effect). v.0) (sym (run_is t [] (whole_bytes p)) ∙ end) in
     rw state (shown p)
@@ -121,7 +132,8 @@ pub record Changes (old new : PictureState) (t : Terminal) (bytes : List ℕ) : 
   pub shows : Shows (reads t bytes) new
   pub sends : effects t bytes ≡ changed old new
 
-by_bytes : (old new : PictureState) (t : Terminal) (bytes : List ℕ) → run (t, []) bytes ≡ (screen new new.columns (Some (new.row, new.column)) false [], changed old new)
+by_bytes : (old new : PictureState) (t : Terminal) (bytes : List ℕ)
+    → run (t, []) bytes ≡ (screen new new.columns (Some (new.row, new.column)) false [], changed old new)
     → Changes old new t bytes
 by_bytes old new t bytes h =
     let both = sym (run_is t [] bytes) ∙ h in
@@ -155,7 +167,8 @@ leaves_after : (p : PictureState) (w : Terminal × List Effect) (bytes : List �
     → bytes ≡ [] → Leaves p (run w bytes) columns q negative all → Leaves p w columns q negative all
 leaves_after p w bytes columns q negative all e h = let none : run w bytes ≡ w = ap (run w) e in rw none at h
 
-changes_by : (old new : PictureState) (t : Terminal) (none : Bool) → IsGrid old.height old.width old.columns → IsPicture new → old.height ≡ new.height → old.width ≡ new.width → Shows t old
+changes_by : (old new : PictureState) (t : Terminal) (none : Bool) → IsGrid old.height old.width old.columns → IsPicture new → old.height ≡ new.height
+    → old.width ≡ new.width → Shows t old
     → is_none (columns_changed old.columns new).bytes && is_at_cursor_of old new ≡ none
     → Changes old new t (changes_bytes old new)
 changes_by old new t true a b eh ew h e =
@@ -164,7 +177,8 @@ changes_by old new t true a b eh ew h e =
     let size : length old.columns ≡ new.height * new.width = a.sized.each ∙ rw (eh, ew) refl in
     let whole : AreWholeRows new.height new.width old.columns = rw (← eh, ← ew) a.rows in
     let rows = all_rows new old.columns (t, []) (Some (old.row, old.column)) [] b size whole (showing old new t eh ew h) in
-    let there : Leaves new (t, []) new.columns rows.0 s.negative (changed old new) = leaves_after new (t, []) s.bytes new.columns rows.0 s.negative (changed old new) empty rows.1 in
+    let there : Leaves new (t, []) new.columns rows.0 s.negative (changed old new) =
+    leaves_after new (t, []) s.bytes new.columns rows.0 s.negative (changed old new) empty rows.1 in
     rw e (none_sent old new t rows.0 s.negative h (and_right (is_none s.bytes) (is_at_cursor_of old new) e) there)
 changes_by old new t false a b eh ew h e =
     let size : length old.columns ≡ new.height * new.width = a.sized.each ∙ rw (eh, ew) refl in
@@ -172,6 +186,7 @@ changes_by old new t false a b eh ew h e =
     rw e (by_bytes old new t (ended new (columns_changed old.columns new))
     (painted new old.columns (t, []) (Some (old.row, old.column)) [] b size whole (showing old new t eh ew h)))
 
-pub changes_show : (old new : PictureState) → IsGrid old.height old.width old.columns → IsPicture new → old.height ≡ new.height → old.width ≡ new.width → (t : Terminal) → Shows t old
+pub changes_show : (old new : PictureState) → IsGrid old.height old.width old.columns → IsPicture new → old.height ≡ new.height → old.width ≡ new.width
+    → (t : Terminal) → Shows t old
     → Changes old new t (changes_bytes old new)
 changes_show old new a b eh ew t h = changes_by old new t (is_none (columns_changed old.columns new).bytes && is_at_cursor_of old new) a b eh ew h refl

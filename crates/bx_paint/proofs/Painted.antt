@@ -1,7 +1,9 @@
 -- A terminal that reads what is sent for a row, and for all rows.
-use Rattle.std.proofs.Common.{◌≡◌, ℕ, ◌+◌, ◌*◌, ◌-◌, ◌<◌, ◌≤◌, Bool, true, false, List, [], ◌∷◌, ◌++◌, length, take, drop, replicate, Option, Some, None, zero, suc, refl, ap, sym, ◌∙◌, append_assoc, length-append, arith}
+use Rattle.std.proofs.Common.{◌≡◌, ℕ, ◌+◌, ◌*◌, ◌-◌, ◌<◌, ◌≤◌, Bool, true, false, List, [], ◌∷◌, ◌++◌, length, take, drop, replicate, Option, Some, None, zero}
+use Rattle.std.proofs.Common.{suc, refl, ap, sym, ◌∙◌, append_assoc, length-append, arith}
 use Rattle.std.specs.List.{list_all}
-use Rattle.std.proofs.lemmas.List.{append-nil, take-append-drop, length-take-le, length-drop, length-replicate, replicate-append-replicate, drop_all, nil_from_length}
+use Rattle.std.proofs.lemmas.List.{append-nil, take-append-drop, length-take-le, length-drop, length-replicate, replicate-append-replicate, drop_all}
+use Rattle.std.proofs.lemmas.List.{nil_from_length}
 use Rattle.bx_grid.specs.Columns.{Col, blank, is_blank, put, cut_after}
 use Rattle.bx_grid.specs.Effects.{Effect, Erases}
 use Rattle.bx_grid.specs.Glyphs.{AreWhole, AreWholeRows}
@@ -10,7 +12,8 @@ use Rattle.bx_grid.specs.Picture.{PictureState}
 use Rattle.bx_grid.proofs.Blanks.{blanks_are}
 use Rattle.bx_grid.proofs.Doing.{run, run-append}
 use Rattle.bx_grid.proofs.Whole.{whole-nil, whole-append, whole_along, whole_right, whole_blanks}
-use Rattle.bx_paint.specs.Painting.{then_sent, before_tail, leading_blanks, columns_sent, tail_sent, row_sent, rows_sent, move_bytes, render_change, erase_bytes}
+use Rattle.bx_paint.specs.Painting.{then_sent, before_tail, leading_blanks, columns_sent, tail_sent, row_sent, rows_sent, move_bytes, render_change}
+use Rattle.bx_paint.specs.Painting.{erase_bytes}
 use Rattle.bx_paint.specs.Changed.{glyphs_changed, tail_changed, row_changed, rows_changed}
 use Rattle.bx_paint.proofs.Rest.{partly, IsPlace, kept_blanks, put_partly}
 use Rattle.bx_paint.proofs.Tails.{blanks_first, front_le, front_blanks, whole_front}
@@ -30,7 +33,8 @@ blanks_done k above done before olds below blanks whole =
     let split : olds ≡ replicate k blank ++ drop k olds = sym (take-append-drop k olds) ∙ ap (λ xs. xs ++ drop k olds) blanks in
     ap (λ xs. above ++ (xs ++ below))
     (ap (λ xs. done ++ cut_after 0 xs) split
-    ∙ ap (λ xs. done ++ xs) (kept_blanks k before (drop k olds) (whole_along (before ++ olds) (before ++ (replicate k blank ++ drop k olds)) (ap (λ xs. before ++ xs) split) whole))
+    ∙ ap (λ xs. done ++ xs) (kept_blanks k before (drop k olds)
+    (whole_along (before ++ olds) (before ++ (replicate k blank ++ drop k olds)) (ap (λ xs. before ++ xs) split) whole))
     ∙ sym (append_assoc done (replicate k blank) (cut_after 0 (drop k olds))))
 
 -- blanks put over the rest of a tail, from its first column that is no blank
@@ -67,7 +71,8 @@ erased_at p r c negative columns w q all fits rh small leaves =
     ∙ ap (λ v. run v erase_bytes) (turned p columns (Some (r, c)) negative false all)
     ∙ erases p columns r c all
 
-erased : (p : PictureState) (r f : ℕ) (negative : Bool) (above done before olds below : List Col) (w : Terminal × List Effect) (q : Option (ℕ × ℕ)) (all : List Effect)
+erased : (p : PictureState) (r f : ℕ) (negative : Bool) (above done before olds below : List Col) (w : Terminal × List Effect) (q : Option (ℕ × ℕ))
+    (all : List Effect)
     → Fits p → r < p.height → IsPlace r f p.width above done olds → AreWhole (before ++ olds)
     → Leaves p w (partly above done olds below) q negative all → leading_blanks olds < length olds
     → run w (move_bytes r (f + leading_blanks olds) ++ (render_change negative false ++ erase_bytes))
@@ -79,7 +84,8 @@ erased p r f negative above done before olds below w q all fits rh index whole l
     erased_at p r (f + k) negative (partly above done olds below) w q all fits rh (omega (arith, some, index.wide)) leaves
     ∙ rw (put_is, next) refl
 
-tail_by : (t : Bool) (p : PictureState) (r f : ℕ) (negative : Bool) (above done before olds below : List Col) (w : Terminal × List Effect) (q : Option (ℕ × ℕ)) (all : List Effect)
+tail_by : (t : Bool) (p : PictureState) (r f : ℕ) (negative : Bool) (above done before olds below : List Col) (w : Terminal × List Effect) (q : Option (ℕ × ℕ))
+    (all : List Effect)
     → Fits p → r < p.height → IsPlace r f p.width above done olds → AreWhole (before ++ olds)
     → Leaves p w (partly above done olds below) q negative all → list_all is_blank olds ≡ t
     → Comes p (run w (tail_sent r f negative olds).bytes) (above ++ ((done ++ replicate (length olds) blank) ++ below)) (tail_sent r f negative olds).negative
@@ -98,14 +104,19 @@ tail_by true p r f negative above done before olds below w q all fits rh index w
 tail_by false p r f negative above done before olds below w q all fits rh index whole leaves e =
     let some : leading_blanks olds < length olds = omega (arith, leading_blanks_le olds, not_all_lead olds e) in
     let is = erased p r f negative above done before olds below w q all fits rh index whole leaves some in
-    rw (e, is) (None, plain_leaves p (above ++ ((done ++ replicate (length olds) blank) ++ below)) None false (all ++ Erases (r * p.width + f + leading_blanks olds) ∷ []))
+    rw (e, is) (
+      None,
+      plain_leaves p (above ++ ((done ++ replicate (length olds) blank) ++ below)) None false
+          (all ++ Erases (r * p.width + f + leading_blanks olds) ∷ []),
+    )
 
 -- ---- a row
 
 row_does : (p : PictureState) (r : ℕ) (negative : Bool) (above old new below : List Col) (w : Terminal × List Effect) (q : Option (ℕ × ℕ)) (all : List Effect)
     → Fits p → r < p.height → length above ≡ r * p.width → length old ≡ p.width → length new ≡ p.width → AreWhole old → AreWhole new
     → Leaves p w (above ++ (old ++ below)) q negative all
-    → Comes p (run w (row_sent r negative old new).bytes) ((above ++ new) ++ below) (row_sent r negative old new).negative (all ++ row_changed (r * p.width) old new)
+    → Comes p (run w (row_sent r negative old new).bytes) ((above ++ new) ++ below) (row_sent r negative old new).negative
+    (all ++ row_changed (r * p.width) old new)
 row_does p r negative above old new below w q all fits rh high wide wide' whole whole' leaves =
     let front = before_tail new in
     let f = length front in
@@ -117,18 +128,25 @@ row_does p r negative above old new below w q all fits rh high wide wide' whole 
     let split : olds ++ rest ≡ old = take-append-drop f old in
     let parts_whole : AreWhole (olds ++ rest) = whole_along old (olds ++ rest) (sym split) whole in
     let there : cut_after 0 (olds ++ rest) ≡ old = ap (cut_after 0) split ∙ whole_right 0 old whole in
-    let begin : IsPlace r 0 p.width above [] (olds ++ rest) = record { high = high; at = refl; wide = omega (arith, ap length split, wide); whole = whole-nil } in
+    let begin : IsPlace r 0 p.width above [] (olds ++ rest) =
+    record { high = high; at = refl; wide = omega (arith, ap length split, wide); whole = whole-nil } in
     let stands : Stands p w false negative above [] (olds ++ rest) below r 0 all = record {
       position = q;
-      leaves = record { no_token = leaves.no_token; effect = leaves.effect ∙ ap (λ xs. screen p (above ++ (xs ++ below)) q negative []) (sym there); told = leaves.told };
+      leaves = record {
+        no_token = leaves.no_token;
+        effect = leaves.effect ∙ ap (λ xs. screen p (above ++ (xs ++ below)) q negative []) (sym there);
+        told = leaves.told;
+      };
       near_by = λ e. absurd (cc e);
     } in
     let first = columns_do p r above rest below front fits rh (whole_front new whole') olds [] [] w 0 false negative all begin parts_whole olen stands in
     let s = columns_sent r 0 false negative olds front in
     let zero_place : r * p.width + 0 ≡ r * p.width = omega arith in
     let effects = all ++ glyphs_changed (r * p.width + 0) olds front in
-    let index : IsPlace r f p.width above front rest = record { high = high; at = refl; wide = omega (arith, rlen, fle, wide'); whole = whole_front new whole' } in
-    let second = tail_by (list_all is_blank rest) p r f s.negative above front olds rest below (run w s.bytes) first.0 effects fits rh index parts_whole first.1 refl in
+    let index : IsPlace r f p.width above front rest =
+    record { high = high; at = refl; wide = omega (arith, rlen, fle, wide'); whole = whole_front new whole' } in
+    let second = tail_by (list_all is_blank rest) p r f s.negative above front olds rest below (run w s.bytes) first.0 effects fits rh index parts_whole first.1
+    refl in
     let t = tail_sent r f s.negative rest in
     let new_is : front ++ replicate (length rest) blank ≡ new =
     ap (λ n. front ++ replicate n blank) (let e : length rest ≡ length new - f = omega (arith, rlen, wide') in e) ∙ front_blanks new in
@@ -141,7 +159,8 @@ row_does p r negative above old new below w q all fits rh high wide wide' whole 
 
 -- ---- all rows
 
-pub rows_do : (p : PictureState) (count r : ℕ) (negative : Bool) (above old new : List Col) (w : Terminal × List Effect) (q : Option (ℕ × ℕ)) (all : List Effect)
+pub rows_do : (p : PictureState) (count r : ℕ) (negative : Bool) (above old new : List Col) (w : Terminal × List Effect) (q : Option (ℕ × ℕ))
+    (all : List Effect)
     → Fits p → r + count ≤ p.height → length above ≡ r * p.width → length old ≡ count * p.width → length new ≡ count * p.width
     → AreWholeRows count p.width old → AreWholeRows count p.width new
     → Leaves p w (above ++ old) q negative all

@@ -1,6 +1,7 @@
 -- A row that is half painted: the new row's columns as far as it is done, and after them the old row's, of which those are unknown whose
 -- glyph was covered.
-use Rattle.std.proofs.Common.{◌≡◌, ℕ, ◌+◌, ◌*◌, ◌≤◌, Bool, true, false, nat_lt, List, [], ◌∷◌, ◌++◌, length, take, drop, replicate, zero, suc, refl, ap, sym, ◌∙◌, length-append, arith}
+use Rattle.std.proofs.Common.{◌≡◌, ℕ, ◌+◌, ◌*◌, ◌≤◌, Bool, true, false, nat_lt, List, [], ◌∷◌, ◌++◌, length, take, drop, replicate, zero, suc, refl, ap, sym}
+use Rattle.std.proofs.Common.{◌∙◌, length-append, arith}
 use Rattle.std.proofs.lemmas.Bool.Decides.{nat_tests}
 use Rattle.std.proofs.lemmas.List.{take_at, drop_at, drop-drop}
 use Rattle.bx_grid.specs.Columns.{Col, blank, columns_before, cut_after, put, put_in_row, glyph_columns, glyph_columns_from}
@@ -10,7 +11,8 @@ use Rattle.bx_grid.proofs.Whole.{columns_form, whole_split, whole_after, whole_l
 
 -- ---- what is left of columns after an index
 
-right_by : (t : Bool) (e d : ℕ) (x : Col) (xs : List Col) → nat_lt d (columns_before x) ≡ t → e ≤ d → cut_after (e + 1) (cut_after (d + 1) xs) ≡ cut_after (e + 1) xs
+right_by : (t : Bool) (e d : ℕ) (x : Col) (xs : List Col) → nat_lt d (columns_before x) ≡ t → e ≤ d
+    → cut_after (e + 1) (cut_after (d + 1) xs) ≡ cut_after (e + 1) xs
     → cut_after e (cut_after d (x ∷ xs)) ≡ cut_after e (x ∷ xs)
 right_by true e d x xs t h more =
     let here : nat_lt e (columns_before x) ≡ true = grind (arith, nat_tests) in
@@ -37,7 +39,8 @@ length-right d (x ∷ xs) = ap suc (length-right (d + 1) xs)
 
 -- ---- a glyph that stays
 
-kept_by : (n : ℕ) (before ys : List Col) (g : WholeGlyph) → IsGlyph g → 1 ≤ n → columns_of g ≡ glyph_columns g.text n g.negative → AreWhole (before ++ (columns_of g ++ ys))
+kept_by : (n : ℕ) (before ys : List Col) (g : WholeGlyph) → IsGlyph g → 1 ≤ n → columns_of g ≡ glyph_columns g.text n g.negative
+    → AreWhole (before ++ (columns_of g ++ ys))
     → AreWhole (columns_of g ++ ys) × AreWhole ys
 kept_by zero before ys g h some is whole = absurd (omega (arith, some))
 kept_by (suc m) before ys g h some is whole =
@@ -45,7 +48,8 @@ kept_by (suc m) before ys g h some is whole =
     let here : AreWhole (columns_of g ++ ys) = rw is parts.1 in
     (here, whole_after g ys h here)
 
-pub kept : (before ys : List Col) (g : WholeGlyph) → IsGlyph g → AreWhole (before ++ (columns_of g ++ ys)) → cut_after 0 (columns_of g ++ ys) ≡ columns_of g ++ cut_after 0 ys
+pub kept : (before ys : List Col) (g : WholeGlyph) → IsGlyph g → AreWhole (before ++ (columns_of g ++ ys))
+    → cut_after 0 (columns_of g ++ ys) ≡ columns_of g ++ cut_after 0 ys
 kept before ys g h whole =
     let form = columns_form g h in
     let parts = kept_by form.0 before ys g h form.1 form.2 whole in
@@ -53,7 +57,8 @@ kept before ys g h whole =
 
 -- ---- blanks
 
-pub kept_blanks : (k : ℕ) (before ys : List Col) → AreWhole (before ++ (replicate k blank ++ ys)) → cut_after 0 (replicate k blank ++ ys) ≡ replicate k blank ++ cut_after 0 ys
+pub kept_blanks : (k : ℕ) (before ys : List Col) → AreWhole (before ++ (replicate k blank ++ ys))
+    → cut_after 0 (replicate k blank ++ ys) ≡ replicate k blank ++ cut_after 0 ys
 kept_blanks zero before ys h = refl
 kept_blanks (suc k) before ys h =
     let here = (whole_split before (32 ∷ []) 1 false (replicate k blank ++ ys) h).1 in

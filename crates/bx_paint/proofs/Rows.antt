@@ -85,7 +85,15 @@ before_wide = refl
 -- ---- what a terminal does on them
 
 abbrev showing : PictureState → Terminal
-showing p = record { height = p.height; width = p.width; columns = p.columns; position = Some (p.row, p.column); negative = Some false; run = []; half_read = [] }
+showing p = record {
+  height = p.height;
+  width = p.width;
+  columns = p.columns;
+  position = Some (p.row, p.column);
+  negative = Some false;
+  run = [];
+  half_read = [];
+}
 
 pub shown : reads (showing xab) (changes_bytes xab ab) ≡ showing ab
 unfolding digits chars

@@ -1,5 +1,6 @@
 -- The parts of a row, and what is sent for them, one column after another.
-use Rattle.std.proofs.Common.{◌≡◌, ℕ, ◌+◌, ◌*◌, ◌-◌, ◌<◌, ◌≤◌, Bool, true, false, min, get_or, List, [], ◌∷◌, ◌++◌, length, take, drop, suc, refl, ap, sym, ◌∙◌, inl, inr, append_assoc, arith}
+use Rattle.std.proofs.Common.{◌≡◌, ℕ, ◌+◌, ◌*◌, ◌-◌, ◌<◌, ◌≤◌, Bool, true, false, min, get_or, List, [], ◌∷◌, ◌++◌, length, take, drop, suc, refl, ap, sym, ◌∙◌}
+use Rattle.std.proofs.Common.{inl, inr, append_assoc, arith}
 use Rattle.std.specs.List.{list_all}
 use Rattle.std.proofs.lemmas.Bool.{cases_lt}
 use Rattle.std.proofs.lemmas.List.{take_all, take_more, drop_more, drop-drop, drop-map, map-append}
@@ -118,7 +119,8 @@ column_more row i near negative near' negative' old new po pn out out' low ep ew
     let split : all_seen (drop i new) ≡ seen (get_or new i Unknown) ∷ all_seen (drop (i + 1) new) = ap all_seen (drop_more new i Unknown low) in
     let rest : all_seen (drop (i + 1) old) ≡ drop 1 (all_seen (drop i old)) =
     ap all_seen (sym (drop-drop 1 i old)) ∙ sym (drop-map seen 1 (drop i old)) in
-    rw (eo, en, eg, ep, ew, rest) (one_more row i near negative (all_seen (drop i old)) (all_seen (drop i new)) (all_seen (drop (i + 1) new)) (seen (get_or new i Unknown)) out split)
+    rw (eo, en, eg, ep, ew, rest) (one_more row i near negative (all_seen (drop i old)) (all_seen (drop i new)) (all_seen (drop (i + 1) new))
+    (seen (get_or new i Unknown)) out split)
 
 -- ---- a row
 
@@ -160,5 +162,6 @@ pub row_more : (height row width : ℕ) (negative negative' : Bool) (old new po 
     → then_sent out' (rows_sent (height - (row + 1)) (row + 1) width negative' (drop ((row + 1) * width) old) (drop ((row + 1) * width) new))
     ≡ then_sent out (rows_sent (height - row) row width negative (drop (row * width) old) (drop (row * width) new))
 row_more height row width negative negative' old new po pn out out' low eo en e eg =
-    rows_more height row width negative negative' (drop (row * width) old) (drop (row * width) new) (drop ((row + 1) * width) old) (drop ((row + 1) * width) new) po pn out out' low
+    rows_more height row width negative negative' (drop (row * width) old) (drop (row * width) new) (drop ((row + 1) * width) old)
+    (drop ((row + 1) * width) new) po pn out out' low
     eo en (rest_after row width old) (rest_after row width new) e eg

@@ -1,5 +1,6 @@
 -- A terminal that reads the sequences of a painting: a cell, a rendition, an erasure.
-use Rattle.std.proofs.Common.{◌≡◌, ℕ, ◌+◌, ◌*◌, ◌<◌, ◌^◌, Bool, true, false, nat_le, List, [], ◌∷◌, ◌++◌, replicate, ◌-◌, Option, Some, None, refl, ap, ◌∙◌, arith}
+use Rattle.std.proofs.Common.{◌≡◌, ℕ, ◌+◌, ◌*◌, ◌<◌, ◌^◌, Bool, true, false, nat_le, List, [], ◌∷◌, ◌++◌, replicate, ◌-◌, Option, Some, None, refl, ap, ◌∙◌}
+use Rattle.std.proofs.Common.{arith}
 use Rattle.std.specs.List.{list_all}
 use Rattle.std.proofs.lemmas.Bool.Decides.{nat_tests}
 use Rattle.std.proofs.lemmas.List.{append-nil}
@@ -53,7 +54,8 @@ pair t effects = (t, effects)
 
 moved_is : (p : PictureState) (columns : List Col) (q : Option (ℕ × ℕ)) (negative : Bool) (half_read : List ℕ) (all : List Effect) (r c : ℕ)
     → r < p.height → c < p.width
-    → pair (after_command (screen p columns q negative []) (Move (r + 1) (c + 1))) (all ++ command_effects (at (screen p columns q negative []) half_read) (Move (r + 1) (c + 1)))
+    → pair (after_command (screen p columns q negative []) (Move (r + 1) (c + 1)))
+    (all ++ command_effects (at (screen p columns q negative []) half_read) (Move (r + 1) (c + 1)))
     ≡ pair (screen p columns (Some (r, c)) negative []) all
 moved_is p columns q negative half_read all r c h w =
     let t1 : nat_le 1 (r + 1) ≡ true = grind (arith, nat_tests) in
@@ -65,7 +67,8 @@ moved_is p columns q negative half_read all r c h w =
     rw (t1, t2, t3, t4, e1, e2, append-nil all) refl
 
 -- a sequence, where a run that is half read takes effect first
-obeys : (p : PictureState) (w : Terminal × List Effect) (columns : List Col) (q : Option (ℕ × ℕ)) (negative : Bool) (all : List Effect) (ps : List ℕ) (f : ℕ) (command : Command)
+obeys : (p : PictureState) (w : Terminal × List Effect) (columns : List Col) (q : Option (ℕ × ℕ)) (negative : Bool) (all : List Effect) (ps : List ℕ) (f : ℕ)
+    (command : Command)
     → Leaves p w columns q negative all → list_all is_param ps ≡ true → IsFinal f → command_of ps f ≡ command
     → run w (0x1B ∷ 0x5B ∷ (ps ++ f ∷ []))
     ≡ (after_command (screen p columns q negative []) command, all ++ command_effects (at (screen p columns q negative []) (0x1B ∷ 0x5B ∷ ps)) command)
@@ -108,7 +111,8 @@ pub erases : (p : PictureState) (columns : List Col) (r c : ℕ) (all : List Eff
     → run (screen p columns (Some (r, c)) false [], all) erase_bytes
     ≡ (screen p (put p.width columns r c (replicate (p.width - c) blank)) None false [], all ++ Erases (r * p.width + c) ∷ [])
 erases p columns r c all =
-    obeys p (screen p columns (Some (r, c)) false [], all) columns (Some (r, c)) false all (0x30 ∷ []) 0x4B _ (plain_leaves p columns (Some (r, c)) false all) refl final_K refl
+    obeys p (screen p columns (Some (r, c)) false [], all) columns (Some (r, c)) false all (0x30 ∷ []) 0x4B _ (plain_leaves p columns (Some (r, c)) false all)
+    refl final_K refl
 
 -- the cursor has a cell, and each number of it has few digits
 pub record Fits (p : PictureState) : Type 0 where

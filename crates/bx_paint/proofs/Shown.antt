@@ -1,5 +1,6 @@
 -- A run that is half read while a row is half painted: what it does to the row, and what a glyph's text adds to it.
-use Rattle.std.proofs.Common.{◌≡◌, ℕ, ◌+◌, ◌*◌, ◌<◌, ◌≤◌, Bool, true, false, nat_le, nat_lt, nat_eq, List, [], ◌∷◌, ◌++◌, length, drop, Option, Some, refl, ap, sym, ◌∙◌, append_assoc, length-append, arith}
+use Rattle.std.proofs.Common.{◌≡◌, ℕ, ◌+◌, ◌*◌, ◌<◌, ◌≤◌, Bool, true, false, nat_le, nat_lt, nat_eq, List, [], ◌∷◌, ◌++◌, length, drop, Option, Some, refl, ap}
+use Rattle.std.proofs.Common.{sym, ◌∙◌, append_assoc, length-append, arith}
 use Rattle.std.proofs.lemmas.Bool.Decides.{nat_tests}
 use Rattle.std.proofs.lemmas.List.{append-nil, drop-drop}
 use Rattle.bx_grid.specs.Columns.{Col, Unknown, Glyph, put, run_columns}
@@ -36,9 +37,11 @@ record Flushed (p : PictureState) (t : Terminal) (columns : List Col) (r c : ℕ
   pub at_place : c < p.width → position ≡ Some (r, c)
 
 flushed : (p : PictureState) (above start over below : List Col) (r from : ℕ) (negative : Bool) (half_read : List ℕ)
-    → IsPlace r from p.width above start over → (1 ≤ length half_read → 1 ≤ length (run_columns negative half_read)) → from + length (run_columns negative half_read) ≤ p.width
+    → IsPlace r from p.width above start over → (1 ≤ length half_read → 1 ≤ length (run_columns negative half_read))
+    → from + length (run_columns negative half_read) ≤ p.width
     → Flushed p (screen p (partly above start over below) (Some (r, from)) negative half_read)
-    (partly above (start ++ run_columns negative half_read) (drop (length (run_columns negative half_read)) over) below) r (from + length (run_columns negative half_read)) negative
+    (partly above (start ++ run_columns negative half_read) (drop (length (run_columns negative half_read)) over) below) r
+    (from + length (run_columns negative half_read)) negative
     (glyphs_at (r * p.width + from) (run_columns negative half_read))
 flushed p above start over below r from negative [] index some fits = record {
   position = Some (r, from);
@@ -60,19 +63,20 @@ flushed p above start over below r from negative (b ∷ bs) index some fits =
 -- ---- the state before a text
 
 -- a run is half read, or nothing is, from an index in this row on; once it has taken effect the row is done up to column c
-pub record Ready (p : PictureState) (w : Terminal × List Effect) (negative : Bool) (above done rest below : List Col) (r c : ℕ) (all : List Effect) : Type 0 where
-  pub half_read : List ℕ
-  pub from : ℕ
-  pub start : List Col
-  pub over : List Col
-  pub is : w.0 ≡ screen p (partly above start over below) (Some (r, from)) negative half_read
-  pub index : IsPlace r from p.width above start over
-  pub some : 1 ≤ length half_read → 1 ≤ length (run_columns negative half_read)
-  pub done_is : start ++ run_columns negative half_read ≡ done
-  pub rest_is : drop (length (run_columns negative half_read)) over ≡ rest
-  pub column : from + length (run_columns negative half_read) ≡ c
-  pub fits : c ≤ p.width
-  pub told : w.1 ++ glyphs_at (r * p.width + from) (run_columns negative half_read) ≡ all
+pub record Ready (p : PictureState) (w : Terminal × List Effect) (negative : Bool) (above done rest below : List Col) (r c : ℕ) (all : List Effect) : Type 0
+  where
+    pub half_read : List ℕ
+    pub from : ℕ
+    pub start : List Col
+    pub over : List Col
+    pub is : w.0 ≡ screen p (partly above start over below) (Some (r, from)) negative half_read
+    pub index : IsPlace r from p.width above start over
+    pub some : 1 ≤ length half_read → 1 ≤ length (run_columns negative half_read)
+    pub done_is : start ++ run_columns negative half_read ≡ done
+    pub rest_is : drop (length (run_columns negative half_read)) over ≡ rest
+    pub column : from + length (run_columns negative half_read) ≡ c
+    pub fits : c ≤ p.width
+    pub told : w.1 ++ glyphs_at (r * p.width + from) (run_columns negative half_read) ≡ all
 
 pub ready_leaves : (p : PictureState) (w : Terminal × List Effect) (negative : Bool) (above done rest below : List Col) (r c : ℕ) (all : List Effect)
     → Ready p w negative above done rest below r c all

@@ -22,7 +22,8 @@ blanks_first (x ∷ xs) = blanks_by (is_blank x) x xs refl (blanks_first xs)
 
 -- ---- what stands before the tail
 
-le_by : (t : Bool) (x : Col) (xs : List Col) → list_all is_blank (x ∷ xs) ≡ t → length (before_tail xs) ≤ length xs → length (before_tail (x ∷ xs)) ≤ length (x ∷ xs)
+le_by : (t : Bool) (x : Col) (xs : List Col) → list_all is_blank (x ∷ xs) ≡ t → length (before_tail xs) ≤ length xs
+    → length (before_tail (x ∷ xs)) ≤ length (x ∷ xs)
 le_by true x xs e more = rw e (omega arith)
 le_by false x xs e more = rw e (omega (arith, more))
 

@@ -14,7 +14,8 @@ none_found : (bracket : ℕ → Option (Side × ℕ)) (j : ℕ) (cs : List ℕ) 
 none_found bracket j [] ts e = refl
 none_found bracket j (c ∷ cs) [] e = refl
 none_found bracket j (c ∷ cs) (t ∷ ts) e =
-    (elim (is_on t) as (λ b. (b || list_any is_on ts) ≡ false → search_from bracket (meet start j c (elim b as (λ x. Option (Side × ℕ)) [ true ↦ bracket c | false ↦ None ])) (j + 1) cs ts ≡ start) [
+    (elim (is_on t) as (λ b. (b || list_any is_on ts) ≡ false
+    → search_from bracket (meet start j c (elim b as (λ x. Option (Side × ℕ)) [ true ↦ bracket c | false ↦ None ])) (j + 1) cs ts ≡ start) [
       | true ↦ λ k. absurd (cc)
       | false ↦ λ k. none_found bracket (j + 1) cs ts k
     ]) e

@@ -4,7 +4,8 @@ use Rattle.std.specs.Prelude.{find, filter, cond, nat_lt, ◌==◌}
 use Rattle.bx_ucd.specs.declared.class.Class.{Class}
 use Rattle.bx_ucd.specs.declared.data.Side.{Side}
 use Rattle.bx_ucd.specs.declared.data.Side.TheVariants.{Opener, Closer}
-use Rattle.bx_brackets.specs.Pairs.{bracket_room, Search, is_on, insert_pair, is_open, open_openers, meet, meet_opener, canonical, bracket_at, search_from, pairs}
+use Rattle.bx_brackets.specs.Pairs.{bracket_room, Search, is_on, insert_pair, is_open, open_openers, meet, meet_opener, canonical, bracket_at, search_from}
+use Rattle.bx_brackets.specs.Pairs.{pairs}
 
 -- of a list of types that begins at index `j`
 abbrev pub AreOn : (ℕ → Type 0) → ℕ → List Class → Type 0
@@ -48,12 +49,14 @@ module _ (P : ℕ → Type 0) where
   ]
 
   at_opener : (j c : ℕ) (s : Search) → P j → IsOfBrackets P s → IsOfBrackets P (meet_opener s j c)
-  at_opener j c s here h = elim (nat_lt (length (open_openers s)) bracket_room) as (λ b. IsOfBrackets P (elim b as (λ x. Search) [ true ↦ record s { openers = (j, canonical c) ∷ s.openers } | false ↦ record s { is_over = true } ])) [
-    | true ↦ record { openers = (here, h.openers); pairs = h.pairs }
-    | false ↦ record { openers = h.openers; pairs = h.pairs }
-  ]
+  at_opener j c s here h = elim (nat_lt (length (open_openers s)) bracket_room) as
+      (λ b. IsOfBrackets P (elim b as (λ x. Search) [ true ↦ record s { openers = (j, canonical c) ∷ s.openers } | false ↦ record s { is_over = true } ])) [
+        | true ↦ record { openers = (here, h.openers); pairs = h.pairs }
+        | false ↦ record { openers = h.openers; pairs = h.pairs }
+      ]
 
-  closer_by : (j c : ℕ) (s : Search) (b : Option (ℕ × ℕ)) → find (λ (o : ℕ × ℕ). o.1 == canonical c) (open_openers s) ≡ b → P j → IsOfBrackets P s → IsOfBrackets P (elim b as (λ x. Search) [ None ↦ s | Some o ↦ record s { pairs = insert_pair (o.0, j) s.pairs } ])
+  closer_by : (j c : ℕ) (s : Search) (b : Option (ℕ × ℕ)) → find (λ (o : ℕ × ℕ). o.1 == canonical c) (open_openers s) ≡ b → P j → IsOfBrackets P s
+      → IsOfBrackets P (elim b as (λ x. Search) [ None ↦ s | Some o ↦ record s { pairs = insert_pair (o.0, j) s.pairs } ])
   closer_by j c s None e here h = h
   closer_by j c s (Some o) e here h =
       let low : P o.0 = opener_found (λ (x : ℕ × ℕ). x.1 == canonical c) (open_openers s) o (openers_filter (is_open s.pairs) s.openers h.openers) e in
@@ -64,13 +67,16 @@ module _ (P : ℕ → Type 0) where
   at_bracket j c s (Some (Opener, m)) here h = at_opener j m s here h
   at_bracket j c s (Some (Closer, m)) here h = closer_by j c s (find (λ (o : ℕ × ℕ). o.1 == canonical c) (open_openers s)) refl here h
 
-  at_type : (bracket : ℕ → Option (Side × ℕ)) (j c : ℕ) (s : Search) (t : Class) → (is_on t ≡ true → P j) → IsOfBrackets P s → IsOfBrackets P (meet s j c (bracket_at bracket c t))
-  at_type bracket j c s t here h = (elim (is_on t) as (λ b. (b ≡ true → P j) → IsOfBrackets P (meet s j c (elim b as (λ x. Option (Side × ℕ)) [ true ↦ bracket c | false ↦ None ]))) [
-    | true ↦ λ k. at_bracket j c s (bracket c) (k refl) h
-    | false ↦ λ k. h
-  ]) here
+  at_type : (bracket : ℕ → Option (Side × ℕ)) (j c : ℕ) (s : Search) (t : Class) → (is_on t ≡ true → P j) → IsOfBrackets P s
+      → IsOfBrackets P (meet s j c (bracket_at bracket c t))
+  at_type bracket j c s t here h =
+      (elim (is_on t) as (λ b. (b ≡ true → P j) → IsOfBrackets P (meet s j c (elim b as (λ x. Option (Side × ℕ)) [ true ↦ bracket c | false ↦ None ]))) [
+        | true ↦ λ k. at_bracket j c s (bracket c) (k refl) h
+        | false ↦ λ k. h
+      ]) here
 
-  search_ends : (bracket : ℕ → Option (Side × ℕ)) (j : ℕ) (cs : List ℕ) (ts : List Class) (s : Search) → AreOn P j ts → IsOfBrackets P s → HaveEnds P (search_from bracket s j cs ts).pairs
+  search_ends : (bracket : ℕ → Option (Side × ℕ)) (j : ℕ) (cs : List ℕ) (ts : List Class) (s : Search) → AreOn P j ts → IsOfBrackets P s
+      → HaveEnds P (search_from bracket s j cs ts).pairs
   search_ends bracket j [] ts s a h = h.pairs
   search_ends bracket j (c ∷ cs) [] s a h = h.pairs
   search_ends bracket j (c ∷ cs) (t ∷ ts) s a h =

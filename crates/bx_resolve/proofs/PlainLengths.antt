@@ -1,5 +1,6 @@
 -- A sequence has as many levels as types.
-use Rattle.std.proofs.Common.{◌≡◌, ◌<◌, ◌+◌, ◌-◌, ◌∙◌, ℕ, suc, List, [], ◌∷◌, length, drop, take, map, refl, ap, arith, Bool, true, false, Option, Some, None, length-append, length-drop}
+use Rattle.std.proofs.Common.{◌≡◌, ◌<◌, ◌+◌, ◌-◌, ◌∙◌, ℕ, suc, List, [], ◌∷◌, length, drop, take, map, refl, ap, arith, Bool, true, false, Option, Some, None}
+use Rattle.std.proofs.Common.{length-append, length-drop}
 use Rattle.std.proofs.lemmas.List.{length-take-le}
 use Rattle.bx_ucd.specs.declared.class.Class.{Class}
 use Rattle.bx_ucd.specs.declared.data.Side.{Side}
@@ -28,7 +29,8 @@ weak_length sos ts =
     let d : List Class = w4 c in
     let e : List Class = w5 d in
     let f : List Class = w6 e in
-    places_length (w7_at sos) [] f ∙ map_length w6_at e ∙ places_length w5_at [] d ∙ places_length w4_at [] c ∙ map_length w3_at b ∙ places_length (w2_at sos) [] a ∙ places_length (w1_at sos) [] ts
+    places_length (w7_at sos) [] f ∙ map_length w6_at e ∙ places_length w5_at [] d ∙ places_length w4_at [] c ∙ map_length w3_at b
+    ∙ places_length (w2_at sos) [] a ∙ places_length (w1_at sos) [] ts
 
 marks_length : (d : Class) (was : List Bool) (ts : List Class) → length (change_marks d was ts) ≡ length ts
 marks_length d [] ts = refl
@@ -41,26 +43,33 @@ change_length d was ts p h =
     let a : length (take p ts) ≡ p = length-take-le p ts (omega arith) in
     let b : length (change_marks d (drop (p + 1) was) (drop (p + 1) ts)) ≡ length (drop (p + 1) ts) = marks_length d (drop (p + 1) was) (drop (p + 1) ts) in
     let c : length (drop (p + 1) ts) ≡ length ts - (p + 1) = length-drop (p + 1) ts in
-    let e : length (change_bracket d was ts p) ≡ length (take p ts) + length (d ∷ change_marks d (drop (p + 1) was) (drop (p + 1) ts)) = length-append (take p ts) (d ∷ change_marks d (drop (p + 1) was) (drop (p + 1) ts)) in
+    let e : length (change_bracket d was ts p) ≡ length (take p ts) + length (d ∷ change_marks d (drop (p + 1) was) (drop (p + 1) ts)) =
+    length-append (take p ts) (d ∷ change_marks d (drop (p + 1) was) (drop (p + 1) ts)) in
     omega arith
 
-by_length : (was : List Bool) (p : ℕ × ℕ) (ts : List Class) (m : Option Class) → p.0 < p.1 → p.1 < length ts → length (elim m as (λ x. List Class) [ None ↦ ts | Some d ↦ change_bracket d was (change_bracket d was ts p.0) p.1 ]) ≡ length ts
+by_length : (was : List Bool) (p : ℕ × ℕ) (ts : List Class) (m : Option Class) → p.0 < p.1 → p.1 < length ts
+    → length (elim m as (λ x. List Class) [ None ↦ ts | Some d ↦ change_bracket d was (change_bracket d was ts p.0) p.1 ]) ≡ length ts
 by_length was p ts None a b = refl
 by_length was p ts (Some d) a b =
     let k : length (change_bracket d was ts p.0) ≡ length ts = change_length d was ts p.0 (omega arith) in
     change_length d was (change_bracket d was ts p.0) p.1 (omega arith) ∙ k
 
-pairs_length : (n : ℕ) (e sos : Class) (was : List Bool) (ps : List (ℕ × ℕ)) (ts : List Class) → AreInside n ps → length ts ≡ n → length (resolve_pairs e sos was ps ts) ≡ n
+pairs_length : (n : ℕ) (e sos : Class) (was : List Bool) (ps : List (ℕ × ℕ)) (ts : List Class) → AreInside n ps → length ts ≡ n
+    → length (resolve_pairs e sos was ps ts) ≡ n
 pairs_length n e sos was [] ts i l = l
 pairs_length n e sos was (p ∷ ps) ts i l =
     let low : p.0 < p.1 = i.0 in
     let high : p.1 < n = i.1 in
     let context : Class = context_of sos ts p.0 in
-    pairs_length n e sos was ps (resolve_in e context was p ts) i.2 (by_length was p ts (pair_direction e context (take (p.1 - p.0 - 1) (drop (p.0 + 1) ts))) low (omega arith) ∙ l)
+    pairs_length n e sos was ps (resolve_in e context was p ts) i.2
+    (by_length was p ts (pair_direction e context (take (p.1 - p.0 - 1) (drop (p.0 + 1) ts))) low (omega arith) ∙ l)
 
-pub levels_length : (bracket : ℕ → Option (Side × ℕ)) (level : ℕ) (sos eos : Class) (chars : List ℕ) (ts : List Class) → length (sequence_levels bracket level sos eos chars ts) ≡ length ts
+pub levels_length : (bracket : ℕ → Option (Side × ℕ)) (level : ℕ) (sos eos : Class) (chars : List ℕ) (ts : List Class)
+    → length (sequence_levels bracket level sos eos chars ts) ≡ length ts
 levels_length bracket level sos eos chars ts =
     let weak_types : List Class = weak sos ts in
     let paired : List Class = resolve_pairs (direction level) sos (map is_nsm ts) (pairs bracket chars weak_types) weak_types in
-    let l : length paired ≡ length weak_types = pairs_length (length weak_types) (direction level) sos (map is_nsm ts) (pairs bracket chars weak_types) weak_types (pairs_inside bracket chars weak_types) refl in
-    map_length (implicit_at level) (n2 (direction level) (n1 sos eos paired)) ∙ map_length (n2_at (direction level)) (n1 sos eos paired) ∙ places_length (n1_at sos eos) [] paired ∙ l ∙ weak_length sos ts
+    let l : length paired ≡ length weak_types = pairs_length (length weak_types) (direction level) sos (map is_nsm ts) (pairs bracket chars weak_types)
+    weak_types (pairs_inside bracket chars weak_types) refl in
+    map_length (implicit_at level) (n2 (direction level) (n1 sos eos paired)) ∙ map_length (n2_at (direction level)) (n1 sos eos paired)
+    ∙ places_length (n1_at sos eos) [] paired ∙ l ∙ weak_length sos ts

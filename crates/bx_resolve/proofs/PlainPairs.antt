@@ -19,10 +19,11 @@ inside_later m n (p ∷ ps) l h = let b : p.1 < m = h.1 in (h.0, omega arith, in
 
 inside_insert : (n : ℕ) (p : ℕ × ℕ) (ps : List (ℕ × ℕ)) → p.0 < p.1 → p.1 < n → AreInside n ps → AreInside n (insert_pair p ps)
 inside_insert n p [] a b h = (a, b, tt)
-inside_insert n p (q ∷ qs) a b h = elim (nat_lt p.0 q.0) as (λ v. AreInside n (elim v as (λ x. List (ℕ × ℕ)) [ true ↦ p ∷ q ∷ qs | false ↦ q ∷ insert_pair p qs ])) [
-  | true ↦ (a, b, h)
-  | false ↦ (h.0, h.1, inside_insert n p qs a b h.2)
-]
+inside_insert n p (q ∷ qs) a b h = elim (nat_lt p.0 q.0) as
+    (λ v. AreInside n (elim v as (λ x. List (ℕ × ℕ)) [ true ↦ p ∷ q ∷ qs | false ↦ q ∷ insert_pair p qs ])) [
+      | true ↦ (a, b, h)
+      | false ↦ (h.0, h.1, inside_insert n p qs a b h.2)
+    ]
 
 -- what holds of a search that has come to place `j`
 pub record IsSound (j : ℕ) (s : Search) : Type 0 where
@@ -30,23 +31,35 @@ pub record IsSound (j : ℕ) (s : Search) : Type 0 where
   pub inside : AreInside j s.pairs
 
 opener_sound : (j c : ℕ) (s : Search) → IsSound j s → IsSound (j + 1) (meet_opener s j c)
-opener_sound j c s h = elim (nat_lt (length (open_openers s)) bracket_room) as (λ b. IsSound (j + 1) (elim b as (λ x. Search) [ true ↦ record s { openers = (j, canonical c) ∷ s.openers } | false ↦ record s { is_over = true } ])) [
-  | true ↦ record { falling = (omega arith, h.falling); inside = inside_later j (j + 1) s.pairs (omega arith) h.inside }
-  | false ↦ record { falling = falling_later j (j + 1) s.openers (omega arith) h.falling; inside = inside_later j (j + 1) s.pairs (omega arith) h.inside }
-]
+opener_sound j c s h = elim (nat_lt (length (open_openers s)) bracket_room) as
+    (λ b. IsSound (j + 1) (elim b as (λ x. Search) [ true ↦ record s { openers = (j, canonical c) ∷ s.openers } | false ↦ record s { is_over = true } ])) [
+      | true ↦ record { falling = (omega arith, h.falling); inside = inside_later j (j + 1) s.pairs (omega arith) h.inside }
+      | false ↦ record { falling = falling_later j (j + 1) s.openers (omega arith) h.falling; inside = inside_later j (j + 1) s.pairs (omega arith) h.inside }
+    ]
 
-closer_by : (j c : ℕ) (s : Search) (b : Option (ℕ × ℕ)) → find (λ (o : ℕ × ℕ). o.1 == canonical c) (open_openers s) ≡ b → IsSound j s → IsSound (j + 1) (elim b as (λ x. Search) [ None ↦ s | Some o ↦ record s { pairs = insert_pair (o.0, j) s.pairs } ])
-closer_by j c s None e h = record { falling = falling_later j (j + 1) s.openers (omega arith) h.falling; inside = inside_later j (j + 1) s.pairs (omega arith) h.inside }
+closer_by : (j c : ℕ) (s : Search) (b : Option (ℕ × ℕ)) → find (λ (o : ℕ × ℕ). o.1 == canonical c) (open_openers s) ≡ b → IsSound j s
+    → IsSound (j + 1) (elim b as (λ x. Search) [ None ↦ s | Some o ↦ record s { pairs = insert_pair (o.0, j) s.pairs } ])
+closer_by j c s None e h = record {
+  falling = falling_later j (j + 1) s.openers (omega arith) h.falling;
+  inside = inside_later j (j + 1) s.pairs (omega arith) h.inside;
+}
 closer_by j c s (Some o) e h =
     let low : o.0 < j = found_below (λ (x : ℕ × ℕ). x.1 == canonical c) j (open_openers s) o (falling_filter (is_open s.pairs) j s.openers h.falling) e in
-    record { falling = falling_later j (j + 1) s.openers (omega arith) h.falling; inside = inside_insert (j + 1) (o.0, j) s.pairs low (omega arith) (inside_later j (j + 1) s.pairs (omega arith) h.inside) }
+    record {
+      falling = falling_later j (j + 1) s.openers (omega arith) h.falling;
+      inside = inside_insert (j + 1) (o.0, j) s.pairs low (omega arith) (inside_later j (j + 1) s.pairs (omega arith) h.inside);
+    }
 
 meet_sound : (j c : ℕ) (s : Search) (b : Option (Side × ℕ)) → IsSound j s → IsSound (j + 1) (meet s j c b)
-meet_sound j c s None h = record { falling = falling_later j (j + 1) s.openers (omega arith) h.falling; inside = inside_later j (j + 1) s.pairs (omega arith) h.inside }
+meet_sound j c s None h = record {
+  falling = falling_later j (j + 1) s.openers (omega arith) h.falling;
+  inside = inside_later j (j + 1) s.pairs (omega arith) h.inside;
+}
 meet_sound j c s (Some (Opener, m)) h = opener_sound j m s h
 meet_sound j c s (Some (Closer, m)) h = closer_by j c s (find (λ (o : ℕ × ℕ). o.1 == canonical c) (open_openers s)) refl h
 
-search_inside : (bracket : ℕ → Option (Side × ℕ)) (n j : ℕ) (cs : List ℕ) (ts : List Class) (s : Search) → j + length ts ≤ n → IsSound j s → AreInside n (search_from bracket s j cs ts).pairs
+search_inside : (bracket : ℕ → Option (Side × ℕ)) (n j : ℕ) (cs : List ℕ) (ts : List Class) (s : Search) → j + length ts ≤ n → IsSound j s
+    → AreInside n (search_from bracket s j cs ts).pairs
 search_inside bracket n j [] ts s l h = inside_later j n s.pairs (omega arith) h.inside
 search_inside bracket n j (c ∷ cs) [] s l h = inside_later j n s.pairs (omega arith) h.inside
 search_inside bracket n j (c ∷ cs) (t ∷ ts) s l h =
@@ -57,4 +70,5 @@ search_inside bracket n j (c ∷ cs) (t ∷ ts) s l h =
     ]
 
 pub pairs_inside : (bracket : ℕ → Option (Side × ℕ)) (cs : List ℕ) (ts : List Class) → AreInside (length ts) (pairs bracket cs ts)
-pairs_inside bracket cs ts = search_inside bracket (length ts) 0 cs ts (record { openers = []; pairs = []; is_over = false }) (omega arith) (record { falling = tt; inside = tt })
+pairs_inside bracket cs ts = search_inside bracket (length ts) 0 cs ts (record { openers = []; pairs = []; is_over = false }) (omega arith)
+    (record { falling = tt; inside = tt })

@@ -1,5 +1,6 @@
 -- A text with no formatting characters is one sequence of the paragraph level.
-use Rattle.std.proofs.Common.{◌≡◌, ◌≤◌, ◌+◌, ◌-◌, ◌∙◌, ℕ, zero, suc, List, [], ◌∷◌, ◌++◌, length, get_or, drop, map, max, refl, ap, sym, arith, Bool, true, false, Option, Some, None, append-nil}
+use Rattle.std.proofs.Common.{◌≡◌, ◌≤◌, ◌+◌, ◌-◌, ◌∙◌, ℕ, zero, suc, List, [], ◌∷◌, ◌++◌, length, get_or, drop, map, max, refl, ap, sym, arith, Bool, true}
+use Rattle.std.proofs.Common.{false, Option, Some, None, append-nil}
 use Rattle.std.specs.Prelude.{◌==◌}
 use Rattle.std.proofs.lemmas.Bool.Decides.{nat_tests}
 use Rattle.std.proofs.lemmas.List.{drop_all, take_all}
@@ -75,13 +76,15 @@ places_plain p c cs =
 after_plain : (p : ℕ) (cs : List Class) (kept : List (Option Kept)) (k : ℕ) → length kept ≤ k + 1 → level_after p cs kept k ≡ p
 after_plain p cs kept k h =
     let e : level_of_first p (drop (k + 1) kept) ≡ p = ap (level_of_first p) (drop_all (k + 1) kept h) in
-    elim (starts_with_initiator (drop k cs)) as (λ b. elim b as (λ x. ℕ) [ true ↦ p | false ↦ level_of_first p (drop (k + 1) kept) ] ≡ p) [ true ↦ refl | false ↦ e ]
+    elim (starts_with_initiator (drop k cs)) as (λ b. elim b as (λ x. ℕ) [ true ↦ p | false ↦ level_of_first p (drop (k + 1) kept) ] ≡ p)
+    [ true ↦ refl | false ↦ e ]
 
 -- a sequence over all places, of the paragraph level
 abbrev pub whole : ℕ → ℕ → RunSequence
 whole p n = record { places = places_from 0 n; level = p; sos = direction p; eos = direction p }
 
-made_whole : (p n : ℕ) (ps : List ℕ) (m : ℕ) → ps ≡ places_from 0 n → m ≡ p → record { places = ps; level = p; sos = direction (max p p); eos = direction (max p m) } ≡ whole p n
+made_whole : (p n : ℕ) (ps : List ℕ) (m : ℕ) → ps ≡ places_from 0 n → m ≡ p
+    → record { places = ps; level = p; sos = direction (max p p); eos = direction (max p m) } ≡ whole p n
 made_whole p n ps m q e =
     let same : max p p ≡ p = omega arith in
     let make : List ℕ → ℕ → ℕ → RunSequence = λ x y z. record { places = x; level = p; sos = direction y; eos = direction z } in
@@ -93,16 +96,20 @@ sequences_plain p c cs =
     let r : Run = run p 0 (0 + length cs) in
     let l : length kept ≡ length (c ∷ cs) = map_length p (c ∷ cs) in
     let a : level_after p (c ∷ cs) kept (0 + length cs) ≡ p = after_plain p (c ∷ cs) kept (0 + length cs) (omega arith) in
-    ap (sequences_from p (c ∷ cs) kept []) (runs_plain p 0 c cs) ∙ ap (λ s. s ∷ []) (made_whole p (length (c ∷ cs)) (places_of kept r ++ []) (level_after p (c ∷ cs) kept (0 + length cs)) (append-nil (places_of kept r) ∙ places_plain p c cs) a)
+    ap (sequences_from p (c ∷ cs) kept []) (runs_plain p 0 c cs)
+    ∙ ap (λ s. s ∷ []) (made_whole p (length (c ∷ cs)) (places_of kept r ++ []) (level_after p (c ∷ cs) kept (0 + length cs))
+    (append-nil (places_of kept r) ∙ places_plain p c cs) a)
 
 -- what stands at all places is the list
-drop_get : {A B : Type 0} (f : A → B) (d : A) (whole : List A) (k : ℕ) (x : A) (xs : List A) → drop k whole ≡ x ∷ xs → (get_or whole k d ≡ x) × (drop (suc k) whole ≡ xs)
+drop_get : {A B : Type 0} (f : A → B) (d : A) (whole : List A) (k : ℕ) (x : A) (xs : List A) → drop k whole ≡ x ∷ xs
+    → (get_or whole k d ≡ x) × (drop (suc k) whole ≡ xs)
 drop_get f d [] zero x xs e = absurd (cc)
 drop_get f d [] (suc k) x xs e = absurd (cc)
 drop_get f d (y ∷ ys) zero x xs e = (cc, cc)
 drop_get f d (y ∷ ys) (suc k) x xs e = drop_get f d ys k x xs e
 
-map_at : {A B : Type 0} (f : A → B) (d : A) (whole : List A) (k : ℕ) (xs : List A) → drop k whole ≡ xs → map (λ p. f (get_or whole p d)) (places_from k (length xs)) ≡ map f xs
+map_at : {A B : Type 0} (f : A → B) (d : A) (whole : List A) (k : ℕ) (xs : List A) → drop k whole ≡ xs
+    → map (λ p. f (get_or whole p d)) (places_from k (length xs)) ≡ map f xs
 map_at f d whole k [] e = refl
 map_at f d whole k (x ∷ xs) e =
     let h : get_or whole k d ≡ x = (drop_get f d whole k x xs e).0 in
@@ -122,4 +129,5 @@ pub chars_whole : (chars : List ℕ) (n : ℕ) → length chars ≡ n → chars_
 chars_whole chars n e = ap (λ k. chars_at chars (places_from 0 k)) (sym e) ∙ map_at (λ x. x) 0 chars 0 chars refl ∙ map_same chars
 
 pub types_whole : (p : ℕ) (cs : List Class) (n : ℕ) → length cs ≡ n → types_at (map (kept_as p) cs) (places_from 0 n) ≡ cs
-types_whole p cs n e = ap (λ k. types_at (map (kept_as p) cs) (places_from 0 k)) (sym (map_length p cs ∙ e)) ∙ map_at type_of None (map (kept_as p) cs) 0 (map (kept_as p) cs) refl ∙ map_kept p cs
+types_whole p cs n e = ap (λ k. types_at (map (kept_as p) cs) (places_from 0 k)) (sym (map_length p cs ∙ e))
+    ∙ map_at type_of None (map (kept_as p) cs) 0 (map (kept_as p) cs) refl ∙ map_kept p cs

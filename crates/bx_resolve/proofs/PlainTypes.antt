@@ -1,5 +1,6 @@
 -- A sequence of plain classes from left to right: what each rule leaves.
-use Rattle.std.proofs.Common.{◌≡◌, ◌<◌, ◌+◌, ◌-◌, ◌∙◌, ℕ, zero, suc, List, [], ◌∷◌, ◌++◌, length, drop, take, map, replicate, refl, ap, sym, arith, subst, Bool, true, false, Option, Some, None, ◌⊎◌, inl, inr}
+use Rattle.std.proofs.Common.{◌≡◌, ◌<◌, ◌+◌, ◌-◌, ◌∙◌, ℕ, zero, suc, List, [], ◌∷◌, ◌++◌, length, drop, take, map, replicate, refl, ap, sym, arith, subst, Bool}
+use Rattle.std.proofs.Common.{true, false, Option, Some, None, ◌⊎◌, inl, inr}
 use Rattle.std.specs.Prelude.{◌&&◌}
 use Rattle.std.specs.List.{list_any}
 use Rattle.bx_ucd.specs.declared.class.Class.{Class}
@@ -9,7 +10,8 @@ use Rattle.bx_ucd.specs.Class.{is_strong}
 use Rattle.bx_brackets.specs.Pairs.{pairs}
 use Rattle.bx_brackets.specs.Resolve.{counts_as, opposite, context_of, pair_direction, change_marks, change_bracket, resolve_in, resolve_pairs}
 use Rattle.bx_resolve.specs.Places.{places}
-use Rattle.bx_resolve.specs.Weak.{w1, w2, w3, w4, w5, w6, w1_at, w2_at, w3_at, w4_at, w5_at, w6_at, w7_at, weak, is_nsm, is_en, is_an, mark_class, nearest_that, number_after, left_number, is_left_or_right, beside, terminator_of, is_en_past}
+use Rattle.bx_resolve.specs.Weak.{w1, w2, w3, w4, w5, w6, w1_at, w2_at, w3_at, w4_at, w5_at, w6_at, w7_at, weak, is_nsm, is_en, is_an, mark_class, nearest_that}
+use Rattle.bx_resolve.specs.Weak.{number_after, left_number, is_left_or_right, beside, terminator_of, is_en_past}
 use Rattle.bx_resolve.specs.Neutral.{n1, n2, n1_at, side, agreed, implicit}
 use Rattle.bx_resolve.specs.Levels.{sequence_levels}
 use Rattle.bx_resolve.specs.Plain.{is_plain}
@@ -18,7 +20,8 @@ use Rattle.bx_resolve.proofs.PlainPairs.{AreInside, pairs_inside}
 use Rattle.bx_resolve.proofs.PlainLengths.{places_length, weak_length, change_length}
 
 -- a rule that turns each class of one kind into one of another
-module _ (p q : Class → Bool) (rule : List Class → Class → List Class → Class) (turns : (b : List Class) (t : Class) (a : List Class) → Each p b → p t ≡ true → Each p a → q (rule b t a) ≡ true) where
+module _ (p q : Class → Bool) (rule : List Class → Class → List Class → Class)
+    (turns : (b : List Class) (t : Class) (a : List Class) → Each p b → p t ≡ true → Each p a → q (rule b t a) ≡ true) where
   pub each_places : (b ts : List Class) → Each p b → Each p ts → Each q (places rule b ts)
   each_places b [] hb h = tt
   each_places b (t ∷ ts) hb h = (turns b t ts hb h.0 h.1, each_places (t ∷ b) ts (h.0, hb) h.1)
@@ -201,7 +204,8 @@ side_left (WS ∷ b) h = side_left b h.1
 side_left (ON ∷ b) h = side_left b h.1
 side_left (t ∷ b) h = let e : is_number_or_rest t ≡ true = h.0 in absurd (cc)
 
-w7_turns : (b : List Class) (t : Class) (a : List Class) → Each is_number_or_rest b → is_number_or_rest t ≡ true → Each is_number_or_rest a → is_rest (w7_at L b t a) ≡ true
+w7_turns : (b : List Class) (t : Class) (a : List Class) → Each is_number_or_rest b → is_number_or_rest t ≡ true → Each is_number_or_rest a
+    → is_rest (w7_at L b t a) ≡ true
 w7_turns b EN a hb e ha = ap (λ s. is_rest (left_number s)) (side_left b hb)
 w7_turns b L a hb e ha = refl
 w7_turns b B a hb e ha = refl
@@ -217,7 +221,8 @@ weak_plain ts h =
     let c : Each is_unmarked (w3 (w2 L (w1 L ts))) = each_map is_unmarked is_unmarked w3_at w3_turns (w2 L (w1 L ts)) b in
     let d : Each is_unmarked (w4 (w3 (w2 L (w1 L ts)))) = each_places is_unmarked is_unmarked w4_at w4_turns [] (w3 (w2 L (w1 L ts))) tt c in
     let e : Each is_unmarked (w5 (w4 (w3 (w2 L (w1 L ts))))) = each_places is_unmarked is_unmarked w5_at w5_turns [] (w4 (w3 (w2 L (w1 L ts)))) tt d in
-    let f : Each is_number_or_rest (w6 (w5 (w4 (w3 (w2 L (w1 L ts)))))) = each_map is_unmarked is_number_or_rest w6_at w6_turns (w5 (w4 (w3 (w2 L (w1 L ts))))) e in
+    let f : Each is_number_or_rest (w6 (w5 (w4 (w3 (w2 L (w1 L ts)))))) =
+    each_map is_unmarked is_number_or_rest w6_at w6_turns (w5 (w4 (w3 (w2 L (w1 L ts))))) e in
     each_places is_number_or_rest is_rest (w7_at L) w7_turns [] (w6 (w5 (w4 (w3 (w2 L (w1 L ts)))))) tt f
 
 -- N0: with no R, EN or AN inside, a pair takes L or stays
@@ -230,12 +235,23 @@ no_right (WS ∷ ts) h = no_right ts h.1
 no_right (ON ∷ ts) h = no_right ts h.1
 no_right (t ∷ ts) h = let e : is_rest t ≡ true = h.0 in absurd (cc)
 
-pair_by : (a b c : Bool) → b ≡ false → ((elim a as (λ x. Option Class) [ true ↦ Some L | false ↦ elim b as (λ x. Option Class) [ true ↦ elim c as (λ x. Option Class) [ true ↦ Some L | false ↦ Some (opposite L) ] | false ↦ None ] ]) ≡ None) ⊎ ((elim a as (λ x. Option Class) [ true ↦ Some L | false ↦ elim b as (λ x. Option Class) [ true ↦ elim c as (λ x. Option Class) [ true ↦ Some L | false ↦ Some (opposite L) ] | false ↦ None ] ]) ≡ Some L)
+pair_by : (a b c : Bool) → b ≡ false
+    → ((elim a as (λ x. Option Class) [
+      | true ↦ Some L
+      | false ↦ elim b as (λ x. Option Class)
+          [ true ↦ elim c as (λ x. Option Class) [ true ↦ Some L | false ↦ Some (opposite L) ] | false ↦ None ]
+    ]) ≡ None)
+    ⊎ ((elim a as (λ x. Option Class) [
+      | true ↦ Some L
+      | false ↦ elim b as (λ x. Option Class)
+          [ true ↦ elim c as (λ x. Option Class) [ true ↦ Some L | false ↦ Some (opposite L) ] | false ↦ None ]
+    ]) ≡ Some L)
 pair_by true b c e = inr refl
 pair_by false false c e = inl refl
 pair_by false true c e = absurd (cc)
 
-pair_left : (context : Class) (inside : List Class) → Each is_rest inside → (pair_direction L context inside ≡ None) ⊎ (pair_direction L context inside ≡ Some L)
+pair_left : (context : Class) (inside : List Class) → Each is_rest inside
+    → (pair_direction L context inside ≡ None) ⊎ (pair_direction L context inside ≡ Some L)
 pair_left context inside h = pair_by (list_any (counts_as L) inside) (list_any (counts_as (opposite L)) inside) (counts_as L context) (no_right inside h)
 
 pub each_take : (p : Class → Bool) (n : ℕ) (ts : List Class) → Each p ts → Each p (take n ts)
@@ -259,21 +275,25 @@ marks_rest (true ∷ was) [] h = tt
 marks_rest (true ∷ was) (t ∷ ts) h = (refl, marks_rest was ts h.1)
 
 change_rest : (was : List Bool) (ts : List Class) (p : ℕ) → Each is_rest ts → Each is_rest (change_bracket L was ts p)
-change_rest was ts p h = each_append is_rest (take p ts) (L ∷ change_marks L (drop (p + 1) was) (drop (p + 1) ts)) (each_take is_rest p ts h) (refl, marks_rest (drop (p + 1) was) (drop (p + 1) ts) (each_drop is_rest (p + 1) ts h))
+change_rest was ts p h = each_append is_rest (take p ts) (L ∷ change_marks L (drop (p + 1) was) (drop (p + 1) ts)) (each_take is_rest p ts h)
+    (refl, marks_rest (drop (p + 1) was) (drop (p + 1) ts) (each_drop is_rest (p + 1) ts h))
 
 -- types that rest, as many as before
 pub record IsRest (n : ℕ) (ts : List Class) : Type 0 where
   pub each : Each is_rest ts
   pub as_long : length ts ≡ n
 
-resolve_by : (n : ℕ) (was : List Bool) (p : ℕ × ℕ) (ts : List Class) (m : Option Class) → (m ≡ None) ⊎ (m ≡ Some L) → p.0 < p.1 → p.1 < n → IsRest n ts → IsRest n (elim m as (λ x. List Class) [ None ↦ ts | Some d ↦ change_bracket d was (change_bracket d was ts p.0) p.1 ])
+resolve_by : (n : ℕ) (was : List Bool) (p : ℕ × ℕ) (ts : List Class) (m : Option Class) → (m ≡ None) ⊎ (m ≡ Some L) → p.0 < p.1 → p.1 < n → IsRest n ts
+    → IsRest n (elim m as (λ x. List Class) [ None ↦ ts | Some d ↦ change_bracket d was (change_bracket d was ts p.0) p.1 ])
 resolve_by n was p ts None o a b h = h
 resolve_by n was p ts (Some d) o a b h =
     let s : d ≡ L = elim o [ inl e ↦ absurd (cc) | inr e ↦ cc ] in
     let l : length ts ≡ n = h.as_long in
-    let r : Each is_rest (change_bracket L was (change_bracket L was ts p.0) p.1) = change_rest was (change_bracket L was ts p.0) p.1 (change_rest was ts p.0 h.each) in
+    let r : Each is_rest (change_bracket L was (change_bracket L was ts p.0) p.1) =
+    change_rest was (change_bracket L was ts p.0) p.1 (change_rest was ts p.0 h.each) in
     let k : length (change_bracket L was ts p.0) ≡ length ts = change_length L was ts p.0 (omega arith) in
-    let q : length (change_bracket L was (change_bracket L was ts p.0) p.1) ≡ length (change_bracket L was ts p.0) = change_length L was (change_bracket L was ts p.0) p.1 (omega arith) in
+    let q : length (change_bracket L was (change_bracket L was ts p.0) p.1) ≡ length (change_bracket L was ts p.0) =
+    change_length L was (change_bracket L was ts p.0) p.1 (omega arith) in
     subst (λ x. IsRest n (change_bracket x was (change_bracket x was ts p.0) p.1)) (sym s) (record { each = r; as_long = q ∙ k ∙ l })
 
 pairs_rest : (n : ℕ) (was : List Bool) (ps : List (ℕ × ℕ)) (ts : List Class) → AreInside n ps → IsRest n ts → IsRest n (resolve_pairs L L was ps ts)
@@ -281,7 +301,8 @@ pairs_rest n was [] ts i h = h
 pairs_rest n was (p ∷ ps) ts i h =
     let inside : List Class = take (p.1 - p.0 - 1) (drop (p.0 + 1) ts) in
     let e : Each is_rest inside = each_take is_rest (p.1 - p.0 - 1) (drop (p.0 + 1) ts) (each_drop is_rest (p.0 + 1) ts h.each) in
-    pairs_rest n was ps (resolve_in L (context_of L ts p.0) was p ts) i.2 (resolve_by n was p ts (pair_direction L (context_of L ts p.0) inside) (pair_left (context_of L ts p.0) inside e) i.0 i.1 h)
+    pairs_rest n was ps (resolve_in L (context_of L ts p.0) was p ts) i.2
+    (resolve_by n was p ts (pair_direction L (context_of L ts p.0) inside) (pair_left (context_of L ts p.0) inside e) i.0 i.1 h)
 
 -- N1: all become L
 side_l : (b : List Class) → Each is_rest b → side L b ≡ L
@@ -310,11 +331,14 @@ levels_l [] h = refl
 levels_l (L ∷ ts) h = ap (λ ls. 0 ∷ ls) (levels_l ts h.1)
 levels_l (t ∷ ts) h = let e : is_l t ≡ true = h.0 in absurd (cc)
 
-pub plain_sequence : (bracket : ℕ → Option (Side × ℕ)) (chars : List ℕ) (ts : List Class) → Each is_plain ts → sequence_levels bracket 0 L L chars ts ≡ replicate (length ts) 0
+pub plain_sequence : (bracket : ℕ → Option (Side × ℕ)) (chars : List ℕ) (ts : List Class) → Each is_plain ts
+    → sequence_levels bracket 0 L L chars ts ≡ replicate (length ts) 0
 plain_sequence bracket chars ts h =
     let weak_types : List Class = weak L ts in
     let was : List Bool = map is_nsm ts in
-    let r : IsRest (length weak_types) (resolve_pairs L L was (pairs bracket chars weak_types) weak_types) = pairs_rest (length weak_types) was (pairs bracket chars weak_types) weak_types (pairs_inside bracket chars weak_types) (record { each = weak_plain ts h; as_long = refl }) in
+    let r : IsRest (length weak_types) (resolve_pairs L L was (pairs bracket chars weak_types) weak_types) =
+    pairs_rest (length weak_types) was (pairs bracket chars weak_types) weak_types (pairs_inside bracket chars weak_types)
+    (record { each = weak_plain ts h; as_long = refl }) in
     let paired : List Class = resolve_pairs L L was (pairs bracket chars weak_types) weak_types in
     let l : Each is_l (n1 L L paired) = each_places is_rest is_l (n1_at L L) n1_turns [] paired tt r.each in
     levels_l (n1 L L paired) l ∙ ap (λ n. replicate n 0) (places_length (n1_at L L) [] paired ∙ r.as_long ∙ weak_length L ts)

@@ -1,5 +1,6 @@
 -- In a text from right to left without L, N0, N1 and N2 change no level: numbers rise, and nothing else does.
-use Rattle.std.proofs.Common.{◌≡◌, ◌<◌, ◌+◌, ◌-◌, ◌∙◌, ℕ, zero, suc, List, [], ◌∷◌, ◌++◌, length, get_or, drop, take, map, refl, ap, sym, arith, subst, append_assoc, Bool, true, false, Option, Some, None, ◌⊎◌, inl, inr}
+use Rattle.std.proofs.Common.{◌≡◌, ◌<◌, ◌+◌, ◌-◌, ◌∙◌, ℕ, zero, suc, List, [], ◌∷◌, ◌++◌, length, get_or, drop, take, map, refl, ap, sym, arith, subst}
+use Rattle.std.proofs.Common.{append_assoc, Bool, true, false, Option, Some, None, ◌⊎◌, inl, inr}
 use Rattle.std.proofs.lemmas.List.{drop_all, drop_more, drop-map, length-map, get_or-map, get_or_at, length_push, map-append, take-append-drop}
 use Rattle.std.specs.Prelude.{◌&&◌}
 use Rattle.std.specs.List.{list_any}
@@ -9,7 +10,8 @@ use Rattle.bx_ucd.specs.declared.data.Side.{Side}
 use Rattle.bx_brackets.specs.Pairs.{is_on, pairs}
 use Rattle.bx_brackets.specs.Resolve.{counts_as, opposite, context_of, pair_direction, change_marks, change_bracket, resolve_in, resolve_pairs}
 use Rattle.bx_ucd.specs.Class.{is_strong}
-use Rattle.bx_resolve.specs.Weak.{w1, w2, w3, w4, w5, w6, w1_at, w2_at, w3_at, w4_at, w5_at, w6_at, w7_at, weak, is_nsm, is_en, is_an, is_left_or_right, mark_class, nearest_that, number_after, left_number, beside, terminator_of, is_en_past}
+use Rattle.bx_resolve.specs.Weak.{w1, w2, w3, w4, w5, w6, w1_at, w2_at, w3_at, w4_at, w5_at, w6_at, w7_at, weak, is_nsm, is_en, is_an, is_left_or_right}
+use Rattle.bx_resolve.specs.Weak.{mark_class, nearest_that, number_after, left_number, beside, terminator_of, is_en_past}
 use Rattle.bx_resolve.specs.Neutral.{n2, n1_at, n2_at, side, agreed, rise_odd, implicit, implicit_at}
 use Rattle.bx_resolve.specs.Places.{places}
 use Rattle.bx_resolve.specs.Levels.{sequence_levels}
@@ -74,7 +76,8 @@ mark_unmarked (WS ∷ b) h = refl
 mark_unmarked (ON ∷ b) h = refl
 mark_unmarked (t ∷ b) h = let e : is_from_right t ≡ true = h.0 in absurd (cc)
 
-w1_turns : (b : List Class) (t : Class) (a : List Class) → Each is_from_right b → is_from_right t ≡ true → Each is_from_right a → is_unmarked (w1_at R b t a) ≡ true
+w1_turns : (b : List Class) (t : Class) (a : List Class) → Each is_from_right b → is_from_right t ≡ true → Each is_from_right a
+    → is_unmarked (w1_at R b t a) ≡ true
 w1_turns b R a hb e ha = refl
 w1_turns b AL a hb e ha = refl
 w1_turns b EN a hb e ha = refl
@@ -130,7 +133,8 @@ cs_turns true w = refl
 cs_turns false true = refl
 cs_turns false false = refl
 
-w4_turns : (b : List Class) (t : Class) (a : List Class) → Each is_without_al b → is_without_al t ≡ true → Each is_without_al a → is_without_al (w4_at b t a) ≡ true
+w4_turns : (b : List Class) (t : Class) (a : List Class) → Each is_without_al b → is_without_al t ≡ true → Each is_without_al a
+    → is_without_al (w4_at b t a) ≡ true
 w4_turns b R a hb e ha = refl
 w4_turns b EN a hb e ha = refl
 w4_turns b AN a hb e ha = refl
@@ -148,7 +152,8 @@ et_turns true y = refl
 et_turns false true = refl
 et_turns false false = refl
 
-w5_turns : (b : List Class) (t : Class) (a : List Class) → Each is_without_al b → is_without_al t ≡ true → Each is_without_al a → is_without_al (w5_at b t a) ≡ true
+w5_turns : (b : List Class) (t : Class) (a : List Class) → Each is_without_al b → is_without_al t ≡ true → Each is_without_al a
+    → is_without_al (w5_at b t a) ≡ true
 w5_turns b R a hb e ha = refl
 w5_turns b EN a hb e ha = refl
 w5_turns b AN a hb e ha = refl
@@ -223,14 +228,19 @@ no_left (ON ∷ ts) h = no_left ts h.1
 no_left (t ∷ ts) h = let e : is_rest t ≡ true = h.0 in absurd (cc)
 
 abbrev taken_by : Bool → Bool → Bool → Option Class
-taken_by a b c = elim a as (λ x. Option Class) [ true ↦ Some R | false ↦ elim b as (λ x. Option Class) [ true ↦ elim c as (λ x. Option Class) [ true ↦ Some R | false ↦ Some (opposite R) ] | false ↦ None ] ]
+taken_by a b c = elim a as (λ x. Option Class) [
+  | true ↦ Some R
+  | false ↦ elim b as (λ x. Option Class)
+      [ true ↦ elim c as (λ x. Option Class) [ true ↦ Some R | false ↦ Some (opposite R) ] | false ↦ None ]
+]
 
 pair_by : (a b c : Bool) → b ≡ false → (taken_by a b c ≡ None) ⊎ (taken_by a b c ≡ Some R)
 pair_by true b c e = inr refl
 pair_by false false c e = inl refl
 pair_by false true c e = absurd (cc)
 
-pair_right : (context : Class) (inside : List Class) → Each is_rest inside → (pair_direction R context inside ≡ None) ⊎ (pair_direction R context inside ≡ Some R)
+pair_right : (context : Class) (inside : List Class) → Each is_rest inside
+    → (pair_direction R context inside ≡ None) ⊎ (pair_direction R context inside ≡ Some R)
 pair_right context inside h = pair_by (list_any (counts_as R) inside) (list_any (counts_as (opposite R)) inside) (counts_as R context) (no_left inside h)
 
 -- the rises of types, which N0 does not change
@@ -268,7 +278,8 @@ marks_rises (false ∷ was) ts h = refl
 marks_rises (true ∷ was) [] h = refl
 marks_rises (true ∷ was) (t ∷ ts) h = ap (λ r. r ∷ rises (change_marks R was ts)) (sym h.0) ∙ ap (λ rs. rise_odd t ∷ rs) (marks_rises was ts h.1)
 
-change_rises : (was : List Bool) (ts : List Class) (p : ℕ) → p < length ts → get_or (rises ts) p 1 ≡ 0 → AreMarksLow (drop (p + 1) was) (drop (p + 1) (rises ts)) → rises (change_bracket R was ts p) ≡ rises ts
+change_rises : (was : List Bool) (ts : List Class) (p : ℕ) → p < length ts → get_or (rises ts) p 1 ≡ 0
+    → AreMarksLow (drop (p + 1) was) (drop (p + 1) (rises ts)) → rises (change_bracket R was ts p) ≡ rises ts
 change_rises was ts p h e a =
     let later : List Class = drop (p + 1) ts in
     let low : AreMarksLow (drop (p + 1) was) (rises later) = subst (AreMarksLow (drop (p + 1) was)) (drop-map rise_odd (p + 1) ts) a in
@@ -297,14 +308,17 @@ record IsRest (was : List Bool) (rs : List ℕ) (ts : List Class) : Type 0 where
   pub each : Each is_rest ts
   pub rise : rises ts ≡ rs
 
-one_rest : (was : List Bool) (rs : List ℕ) (ts : List Class) (p : ℕ) → AreLow was rs → p < length rs → get_or rs p 1 ≡ 0 → IsRest was rs ts → IsRest was rs (change_bracket R was ts p)
+one_rest : (was : List Bool) (rs : List ℕ) (ts : List Class) (p : ℕ) → AreLow was rs → p < length rs → get_or rs p 1 ≡ 0 → IsRest was rs ts
+    → IsRest was rs (change_bracket R was ts p)
 one_rest was rs ts p a h e r =
     let long : length ts ≡ length rs = sym (length-map ts rise_odd) ∙ ap length r.rise in
     let zero_at : get_or (rises ts) p 1 ≡ 0 = ap (λ xs. get_or xs p 1) r.rise ∙ e in
-    let marks : AreMarksLow (drop (p + 1) was) (drop (p + 1) (rises ts)) = subst (λ xs. AreMarksLow (drop (p + 1) was) (drop (p + 1) xs)) (sym r.rise) (low_at was rs p a h e) in
+    let marks : AreMarksLow (drop (p + 1) was) (drop (p + 1) (rises ts)) =
+    subst (λ xs. AreMarksLow (drop (p + 1) was) (drop (p + 1) xs)) (sym r.rise) (low_at was rs p a h e) in
     record { each = change_rest was ts p r.each; rise = change_rises was ts p (omega arith) zero_at marks ∙ r.rise }
 
-resolve_by : (was : List Bool) (rs : List ℕ) (p : ℕ × ℕ) (ts : List Class) (m : Option Class) → (m ≡ None) ⊎ (m ≡ Some R) → AreLow was rs → p.0 < p.1 → p.1 < length rs → get_or rs p.0 1 ≡ 0 → get_or rs p.1 1 ≡ 0 → IsRest was rs ts
+resolve_by : (was : List Bool) (rs : List ℕ) (p : ℕ × ℕ) (ts : List Class) (m : Option Class) → (m ≡ None) ⊎ (m ≡ Some R) → AreLow was rs → p.0 < p.1
+    → p.1 < length rs → get_or rs p.0 1 ≡ 0 → get_or rs p.1 1 ≡ 0 → IsRest was rs ts
     → IsRest was rs (elim m as (λ x. List Class) [ None ↦ ts | Some d ↦ change_bracket d was (change_bracket d was ts p.0) p.1 ])
 resolve_by was rs p ts None o a h k e f r = r
 resolve_by was rs p ts (Some d) o a h k e f r =
@@ -312,13 +326,15 @@ resolve_by was rs p ts (Some d) o a h k e f r =
     let one : IsRest was rs (change_bracket R was ts p.0) = one_rest was rs ts p.0 a (omega arith) e r in
     subst (λ x. IsRest was rs (change_bracket x was (change_bracket x was ts p.0) p.1)) (sym s) (one_rest was rs (change_bracket R was ts p.0) p.1 a k f one)
 
-pairs_rest : (was : List Bool) (rs : List ℕ) (ps : List (ℕ × ℕ)) (ts : List Class) → AreLow was rs → AreInside (length rs) ps → HaveEnds (λ n. get_or rs n 1 ≡ 0) ps → IsRest was rs ts → IsRest was rs (resolve_pairs R R was ps ts)
+pairs_rest : (was : List Bool) (rs : List ℕ) (ps : List (ℕ × ℕ)) (ts : List Class) → AreLow was rs → AreInside (length rs) ps
+    → HaveEnds (λ n. get_or rs n 1 ≡ 0) ps → IsRest was rs ts → IsRest was rs (resolve_pairs R R was ps ts)
 pairs_rest was rs [] ts a i h r = r
 pairs_rest was rs (p ∷ ps) ts a i h r =
     let inside : List Class = take (p.1 - p.0 - 1) (drop (p.0 + 1) ts) in
     let e : Each is_rest inside = each_take is_rest (p.1 - p.0 - 1) (drop (p.0 + 1) ts) (each_drop is_rest (p.0 + 1) ts r.each) in
     let context : Class = context_of R ts p.0 in
-    pairs_rest was rs ps (resolve_in R context was p ts) a i.2 h.2 (resolve_by was rs p ts (pair_direction R context inside) (pair_right context inside e) a i.0 i.1 h.0 h.1 r)
+    pairs_rest was rs ps (resolve_in R context was p ts) a i.2 h.2
+    (resolve_by was rs p ts (pair_direction R context inside) (pair_right context inside e) a i.0 i.1 h.0 h.1 r)
 
 -- N1: neutrals become R
 side_r : (b : List Class) → Each is_rest b → side R b ≡ R
@@ -333,9 +349,11 @@ side_r (ON ∷ b) h = side_r b h.1
 side_r (t ∷ b) h = let e : is_rest t ≡ true = h.0 in absurd (cc)
 
 agreed_level : (t : Class) (b a : List Class) → Each is_rest b → Each is_rest a → implicit_at 1 (n2_at R (agreed t (side R b) (side R a))) ≡ 1
-agreed_level t b a hb ha = ap (λ s. implicit_at 1 (n2_at R (agreed t s (side R a)))) (side_r b hb) ∙ ap (λ s. implicit_at 1 (n2_at R (agreed t R s))) (side_r a ha)
+agreed_level t b a hb ha = ap (λ s. implicit_at 1 (n2_at R (agreed t s (side R a)))) (side_r b hb)
+    ∙ ap (λ s. implicit_at 1 (n2_at R (agreed t R s))) (side_r a ha)
 
-one_level : (b : List Class) (t : Class) (a : List Class) → Each is_rest b → is_rest t ≡ true → Each is_rest a → implicit_at 1 (n2_at R (n1_at R R b t a)) ≡ implicit_at 1 t
+one_level : (b : List Class) (t : Class) (a : List Class) → Each is_rest b → is_rest t ≡ true → Each is_rest a
+    → implicit_at 1 (n2_at R (n1_at R R b t a)) ≡ implicit_at 1 t
 one_level b R a hb e ha = refl
 one_level b EN a hb e ha = refl
 one_level b AN a hb e ha = refl
@@ -356,7 +374,8 @@ by_rises [] = refl
 by_rises (t ∷ ts) = ap (λ ls. implicit_at 1 t ∷ ls) (by_rises ts)
 
 -- the levels of a sequence without L at level 1 are told from the types after W7
-pub right_sequence : (bracket : ℕ → Option (Side × ℕ)) (chars : List ℕ) (ts : List Class) → Each is_from_right ts → sequence_levels bracket 1 R R chars ts ≡ implicit 1 (weak R ts)
+pub right_sequence : (bracket : ℕ → Option (Side × ℕ)) (chars : List ℕ) (ts : List Class) → Each is_from_right ts
+    → sequence_levels bracket 1 R R chars ts ≡ implicit 1 (weak R ts)
 right_sequence bracket chars ts h =
     let ws : List Class = weak R ts in
     let was : List Bool = map is_nsm ts in

@@ -30,7 +30,8 @@ terminator_low s u false true e = let n : rise_odd (left_number s) ≡ 1 = numbe
 terminator_low s u false false e = refl
 
 -- two of one type
-same_low : (b s u : Class) (p : Bool) (x : Class) (r : List Class) → rise_odd (after_w7 s (last_written b p x (x ∷ r))) ≡ 0 → rise_odd (after_w7 u (last_written x (past_next p (after_w4 b x (x ∷ r))) x r)) ≡ 0
+same_low : (b s u : Class) (p : Bool) (x : Class) (r : List Class) → rise_odd (after_w7 s (last_written b p x (x ∷ r))) ≡ 0
+    → rise_odd (after_w7 u (last_written x (past_next p (after_w4 b x (x ∷ r))) x r)) ≡ 0
 same_low b s u p L r e = absurd (omega arith)
 same_low b s u p AN r e = absurd (omega arith)
 same_low b s u p EN r e = let n : rise_odd (left_number s) ≡ 1 = number_rises s in absurd (omega arith)
@@ -38,15 +39,19 @@ same_low b s u p ET r e = terminator_low s u p (is_en_past r) e
 same_low b s u p _ r e = refl
 
 -- what W1 to W3 make of an NSM is the type before it, or ON
-two_low : (b s u : Class) (p : Bool) (x y : Class) (r : List Class) → (y ≡ x) ⊎ (y ≡ ON) → rise_odd (after_w7 s (last_written b p x (y ∷ r))) ≡ 0 → rise_odd (after_w7 u (last_written x (past_next p (after_w4 b x (y ∷ r))) y r)) ≡ 0
-two_low b s u p x y r (inl e) = subst (λ z. rise_odd (after_w7 s (last_written b p x (z ∷ r))) ≡ 0 → rise_odd (after_w7 u (last_written x (past_next p (after_w4 b x (z ∷ r))) z r)) ≡ 0) (sym e) (same_low b s u p x r)
-two_low b s u p x y r (inr e) = subst (λ z. rise_odd (after_w7 s (last_written b p x (z ∷ r))) ≡ 0 → rise_odd (after_w7 u (last_written x (past_next p (after_w4 b x (z ∷ r))) z r)) ≡ 0) (sym e) (λ h. refl)
+two_low : (b s u : Class) (p : Bool) (x y : Class) (r : List Class) → (y ≡ x) ⊎ (y ≡ ON) → rise_odd (after_w7 s (last_written b p x (y ∷ r))) ≡ 0
+    → rise_odd (after_w7 u (last_written x (past_next p (after_w4 b x (y ∷ r))) y r)) ≡ 0
+two_low b s u p x y r (inl e) = subst (λ z. rise_odd (after_w7 s (last_written b p x (z ∷ r))) ≡ 0
+    → rise_odd (after_w7 u (last_written x (past_next p (after_w4 b x (z ∷ r))) z r)) ≡ 0) (sym e) (same_low b s u p x r)
+two_low b s u p x y r (inr e) = subst (λ z. rise_odd (after_w7 s (last_written b p x (z ∷ r))) ≡ 0
+    → rise_odd (after_w7 u (last_written x (past_next p (after_w4 b x (z ∷ r))) z r)) ≡ 0) (sym e) (λ h. refl)
 
 marked_by : (strong mark : Class) → seen mark (strong_next strong mark) NSM ≡ seen mark strong NSM
 marked_by strong AL = refl
 marked_by strong _ = refl
 
-marked : (mark strong t : Class) → (seen (mark_next mark t) (strong_next strong (after_w1 mark t)) NSM ≡ seen mark strong t) ⊎ (seen (mark_next mark t) (strong_next strong (after_w1 mark t)) NSM ≡ ON)
+marked : (mark strong t : Class) → (seen (mark_next mark t) (strong_next strong (after_w1 mark t)) NSM ≡ seen mark strong t)
+    ⊎ (seen (mark_next mark t) (strong_next strong (after_w1 mark t)) NSM ≡ ON)
 marked mark strong NSM = inl (marked_by strong mark)
 marked mark strong LRI = inr refl
 marked mark strong RLI = inr refl
@@ -57,13 +62,15 @@ marked mark strong _ = inl refl
 abbrev State : Type 0
 State = Class × Class × Class × Bool × Class
 
-next_low : (state : State) (t : Class) (ts : List Class) → rise_odd (out_all state t (NSM ∷ ts)) ≡ 0 → rise_odd (out_all (next_all state t (NSM ∷ ts)) NSM ts) ≡ 0
+next_low : (state : State) (t : Class) (ts : List Class) → rise_odd (out_all state t (NSM ∷ ts)) ≡ 0
+    → rise_odd (out_all (next_all state t (NSM ∷ ts)) NSM ts) ≡ 0
 next_low (mark, strong, b, p, s) t ts e =
     let m : Class = mark_next mark t in
     let n : Class = strong_next strong (after_w1 mark t) in
     two_low b s (side_next s (left_all mark strong b p t (NSM ∷ ts))) p (seen mark strong t) (seen m n NSM) (rest_seen m n NSM ts) (marked mark strong t) e
 
-marks_low : (state : State) (t : Class) (ts : List Class) → rise_odd (out_all state t ts) ≡ 0 → AreMarksLow (map is_nsm ts) (map rise_odd (go next_all out_all (next_all state t ts) ts))
+marks_low : (state : State) (t : Class) (ts : List Class) → rise_odd (out_all state t ts) ≡ 0
+    → AreMarksLow (map is_nsm ts) (map rise_odd (go next_all out_all (next_all state t ts) ts))
 marks_low state t [] e = tt
 marks_low state t (NSM ∷ ts) e =
     let h : rise_odd (out_all (next_all state t (NSM ∷ ts)) NSM ts) ≡ 0 = next_low state t ts e in

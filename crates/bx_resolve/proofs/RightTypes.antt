@@ -1,5 +1,6 @@
 -- A sequence of classes that are plain from right to left: what each rule leaves.
-use Rattle.std.proofs.Common.{◌≡◌, ◌<◌, ◌+◌, ◌-◌, ◌∙◌, ℕ, List, [], ◌∷◌, length, drop, take, map, replicate, refl, ap, sym, arith, subst, Bool, true, false, Option, Some, None, ◌⊎◌, inl, inr}
+use Rattle.std.proofs.Common.{◌≡◌, ◌<◌, ◌+◌, ◌-◌, ◌∙◌, ℕ, List, [], ◌∷◌, length, drop, take, map, replicate, refl, ap, sym, arith, subst, Bool, true, false}
+use Rattle.std.proofs.Common.{Option, Some, None, ◌⊎◌, inl, inr}
 use Rattle.std.specs.Prelude.{◌&&◌}
 use Rattle.std.specs.List.{list_any}
 use Rattle.bx_ucd.specs.declared.class.Class.{Class}
@@ -7,7 +8,8 @@ use Rattle.bx_ucd.specs.declared.class.Class.TheVariants.{L, R, AL, AN, EN, ES, 
 use Rattle.bx_ucd.specs.declared.data.Side.{Side}
 use Rattle.bx_brackets.specs.Pairs.{pairs}
 use Rattle.bx_brackets.specs.Resolve.{counts_as, opposite, context_of, pair_direction, change_marks, change_bracket, resolve_in, resolve_pairs}
-use Rattle.bx_resolve.specs.Weak.{w1, w2, w3, w4, w5, w6, w1_at, w2_at, w3_at, w4_at, w5_at, w6_at, w7_at, weak, is_nsm, is_en, is_an, mark_class, beside, terminator_of, is_en_past}
+use Rattle.bx_resolve.specs.Weak.{w1, w2, w3, w4, w5, w6, w1_at, w2_at, w3_at, w4_at, w5_at, w6_at, w7_at, weak, is_nsm, is_en, is_an, mark_class, beside}
+use Rattle.bx_resolve.specs.Weak.{terminator_of, is_en_past}
 use Rattle.bx_resolve.specs.Neutral.{n1, n2, n1_at, side, agreed, implicit}
 use Rattle.bx_resolve.specs.Levels.{sequence_levels}
 use Rattle.bx_resolve.specs.Plain.{is_plain_right}
@@ -66,7 +68,8 @@ mark_unmarked (WS ∷ b) h = refl
 mark_unmarked (ON ∷ b) h = refl
 mark_unmarked (t ∷ b) h = let e : is_plain_right t ≡ true = h.0 in absurd (cc)
 
-w1_turns : (b : List Class) (t : Class) (a : List Class) → Each is_plain_right b → is_plain_right t ≡ true → Each is_plain_right a → is_unmarked (w1_at R b t a) ≡ true
+w1_turns : (b : List Class) (t : Class) (a : List Class) → Each is_plain_right b → is_plain_right t ≡ true → Each is_plain_right a
+    → is_unmarked (w1_at R b t a) ≡ true
 w1_turns b NSM a hb e ha = mark_unmarked b hb
 w1_turns b R a hb e ha = refl
 w1_turns b AL a hb e ha = refl
@@ -213,14 +216,19 @@ no_left (ON ∷ ts) h = no_left ts h.1
 no_left (t ∷ ts) h = let e : is_rest t ≡ true = h.0 in absurd (cc)
 
 abbrev taken_by : Bool → Bool → Bool → Option Class
-taken_by a b c = elim a as (λ x. Option Class) [ true ↦ Some R | false ↦ elim b as (λ x. Option Class) [ true ↦ elim c as (λ x. Option Class) [ true ↦ Some R | false ↦ Some (opposite R) ] | false ↦ None ] ]
+taken_by a b c = elim a as (λ x. Option Class) [
+  | true ↦ Some R
+  | false ↦ elim b as (λ x. Option Class)
+      [ true ↦ elim c as (λ x. Option Class) [ true ↦ Some R | false ↦ Some (opposite R) ] | false ↦ None ]
+]
 
 pair_by : (a b c : Bool) → b ≡ false → (taken_by a b c ≡ None) ⊎ (taken_by a b c ≡ Some R)
 pair_by true b c e = inr refl
 pair_by false false c e = inl refl
 pair_by false true c e = absurd (cc)
 
-pair_right : (context : Class) (inside : List Class) → Each is_rest inside → (pair_direction R context inside ≡ None) ⊎ (pair_direction R context inside ≡ Some R)
+pair_right : (context : Class) (inside : List Class) → Each is_rest inside
+    → (pair_direction R context inside ≡ None) ⊎ (pair_direction R context inside ≡ Some R)
 pair_right context inside h = pair_by (list_any (counts_as R) inside) (list_any (counts_as (opposite R)) inside) (counts_as R context) (no_left inside h)
 
 marks_rest : (was : List Bool) (ts : List Class) → Each is_rest ts → Each is_rest (change_marks R was ts)
@@ -240,7 +248,8 @@ record IsRest (n : ℕ) (ts : List Class) : Type 0 where
   pub each : Each is_rest ts
   pub as_long : length ts ≡ n
 
-resolve_by : (n : ℕ) (was : List Bool) (p : ℕ × ℕ) (ts : List Class) (m : Option Class) → (m ≡ None) ⊎ (m ≡ Some R) → p.0 < p.1 → p.1 < n → IsRest n ts → IsRest n (elim m as (λ x. List Class) [ None ↦ ts | Some d ↦ change_bracket d was (change_bracket d was ts p.0) p.1 ])
+resolve_by : (n : ℕ) (was : List Bool) (p : ℕ × ℕ) (ts : List Class) (m : Option Class) → (m ≡ None) ⊎ (m ≡ Some R) → p.0 < p.1 → p.1 < n → IsRest n ts
+    → IsRest n (elim m as (λ x. List Class) [ None ↦ ts | Some d ↦ change_bracket d was (change_bracket d was ts p.0) p.1 ])
 resolve_by n was p ts None o a b h = h
 resolve_by n was p ts (Some d) o a b h =
     let s : d ≡ R = elim o [ inl e ↦ absurd (cc) | inr e ↦ cc ] in
@@ -286,12 +295,14 @@ levels_r [] h = refl
 levels_r (R ∷ ts) h = ap (λ ls. 1 ∷ ls) (levels_r ts h.1)
 levels_r (t ∷ ts) h = let e : is_r t ≡ true = h.0 in absurd (cc)
 
-pub plain_right_sequence : (bracket : ℕ → Option (Side × ℕ)) (chars : List ℕ) (ts : List Class) → Each is_plain_right ts → sequence_levels bracket 1 R R chars ts ≡ replicate (length ts) 1
+pub plain_right_sequence : (bracket : ℕ → Option (Side × ℕ)) (chars : List ℕ) (ts : List Class) → Each is_plain_right ts
+    → sequence_levels bracket 1 R R chars ts ≡ replicate (length ts) 1
 plain_right_sequence bracket chars ts h =
     let weak_types : List Class = weak R ts in
     let was : List Bool = map is_nsm ts in
     let found : List (ℕ × ℕ) = pairs bracket chars weak_types in
     let paired : List Class = resolve_pairs R R was found weak_types in
-    let r : IsRest (length weak_types) paired = pairs_rest (length weak_types) was found weak_types (pairs_inside bracket chars weak_types) (record { each = weak_plain ts h; as_long = refl }) in
+    let r : IsRest (length weak_types) paired = pairs_rest (length weak_types) was found weak_types (pairs_inside bracket chars weak_types)
+    (record { each = weak_plain ts h; as_long = refl }) in
     let l : Each is_r (n1 R R paired) = each_places is_rest is_r (n1_at R R) n1_turns [] paired tt r.each in
     levels_r (n1 R R paired) l ∙ ap (λ n. replicate n 1) (places_length (n1_at R R) [] paired ∙ r.as_long ∙ weak_length R ts)

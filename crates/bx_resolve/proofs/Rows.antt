@@ -97,7 +97,8 @@ arabic_number_before_blank : levels Ltr (0x661 ∷ 32 ∷ 0x5d0 ∷ []) ≡ some
 arabic_number_before_blank = refl
 
 -- RLE a(b) PDF RLO U+0301 PDF: an override made the mark R, so it does not follow its bracket
-mark_under_an_override : all (0x202b ∷ 97 ∷ 40 ∷ 98 ∷ 41 ∷ 0x202c ∷ 0x202e ∷ 0x301 ∷ 0x202c ∷ []) ≡ None ∷ Some 2 ∷ Some 2 ∷ Some 2 ∷ Some 2 ∷ None ∷ None ∷ Some 1 ∷ None ∷ []
+mark_under_an_override : all (0x202b ∷ 97 ∷ 40 ∷ 98 ∷ 41 ∷ 0x202c ∷ 0x202e ∷ 0x301 ∷ 0x202c ∷ [])
+    ≡ None ∷ Some 2 ∷ Some 2 ∷ Some 2 ∷ Some 2 ∷ None ∷ None ∷ Some 1 ∷ None ∷ []
 mark_under_an_override = refl
 
 -- PDI with no initiator

@@ -1,5 +1,6 @@
 -- Levels written at their places, one after another.
-use Rattle.std.proofs.Common.{◌≡◌, ◌<◌, ◌≤◌, ◌+◌, ◌∙◌, ℕ, zero, suc, List, [], ◌∷◌, length, get_or, set, drop, min, refl, ap, sym, arith, ◌⊎◌, inl, inr, Option, Some}
+use Rattle.std.proofs.Common.{◌≡◌, ◌<◌, ◌≤◌, ◌+◌, ◌∙◌, ℕ, zero, suc, List, [], ◌∷◌, length, get_or, set, drop, min, refl, ap, sym, arith, ◌⊎◌, inl, inr, Option}
+use Rattle.std.proofs.Common.{Some}
 use Rattle.std.proofs.lemmas.List.{at_drop_more, drop_all}
 use Rattle.std.proofs.Math.ListN.{length-set}
 use Rattle.bx_ucd.specs.declared.data.Side.{Side}
@@ -9,8 +10,10 @@ use Rattle.bx_explicit.specs.Sequences.{RunSequence}
 use Rattle.bx_resolve.specs.Neutral.{implicit}
 use Rattle.bx_resolve.specs.Levels.{with_levels, with_sequences, levels_in}
 
-pub levels_more : (ps ls : List ℕ) (each : List (Option ℕ)) (i : ℕ) → i < length ps → i < length ls → with_levels (drop i ps) (drop i ls) each ≡ with_levels (drop (i + 1) ps) (drop (i + 1) ls) (set each (get_or ps i 0) (Some (get_or ls i 0)))
-levels_more ps ls each i h k = at_drop_more (λ xs. with_levels xs (drop i ls) each) ps i 0 h ∙ at_drop_more (λ xs. with_levels (get_or ps i 0 ∷ drop (i + 1) ps) xs each) ls i 0 k
+pub levels_more : (ps ls : List ℕ) (each : List (Option ℕ)) (i : ℕ) → i < length ps → i < length ls
+    → with_levels (drop i ps) (drop i ls) each ≡ with_levels (drop (i + 1) ps) (drop (i + 1) ls) (set each (get_or ps i 0) (Some (get_or ls i 0)))
+levels_more ps ls each i h k = at_drop_more (λ xs. with_levels xs (drop i ls) each) ps i 0 h
+    ∙ at_drop_more (λ xs. with_levels (get_or ps i 0 ∷ drop (i + 1) ps) xs each) ls i 0 k
 
 no_levels : (ps : List ℕ) (each : List (Option ℕ)) → with_levels ps [] each ≡ each
 no_levels [] each = refl
@@ -34,15 +37,19 @@ levels_length (p ∷ ps) [] each = refl
 levels_length (p ∷ ps) (l ∷ ls) each = levels_length ps ls (set each p (Some l)) ∙ length-set each p (Some l)
 
 module _ (bracket : ℕ → Option (Side × ℕ)) (chars : List ℕ) (kept : List (Option Kept)) where
-  pub sequences_more : (ss : List RunSequence) (each : List (Option ℕ)) (i : ℕ) (d : RunSequence) → i < length ss → with_sequences bracket chars kept (drop i ss) each ≡ with_sequences bracket chars kept (drop (i + 1) ss) (with_levels (get_or ss i d).places (levels_in bracket chars kept (get_or ss i d)) each)
+  pub sequences_more : (ss : List RunSequence) (each : List (Option ℕ)) (i : ℕ) (d : RunSequence) → i < length ss
+      → with_sequences bracket chars kept (drop i ss) each
+      ≡ with_sequences bracket chars kept (drop (i + 1) ss) (with_levels (get_or ss i d).places (levels_in bracket chars kept (get_or ss i d)) each)
   sequences_more ss each i d h = at_drop_more (λ xs. with_sequences bracket chars kept xs each) ss i d h
 
   pub sequences_all : (ss : List RunSequence) (each : List (Option ℕ)) (i : ℕ) → length ss ≤ i → with_sequences bracket chars kept (drop i ss) each ≡ each
   sequences_all ss each i h = ap (λ xs. with_sequences bracket chars kept xs each) (drop_all i ss h)
 
-written_all : (level : ℕ) (ps : List ℕ) (ts : List Class) (i : ℕ) (each : List (Option ℕ)) → length ts ≤ i → with_levels ps (implicit level (drop i ts)) each ≡ each
+written_all : (level : ℕ) (ps : List ℕ) (ts : List Class) (i : ℕ) (each : List (Option ℕ)) → length ts ≤ i
+    → with_levels ps (implicit level (drop i ts)) each ≡ each
 written_all level ps ts i each h = ap (λ xs. with_levels ps (implicit level xs) each) (drop_all i ts h) ∙ no_levels ps each
 
 -- no type is left, whatever the places are
-pub written_out : (level : ℕ) (ps rest : List ℕ) (ts : List Class) (i : ℕ) (each : List (Option ℕ)) → length ts ≤ i → with_levels ps (implicit level (drop i ts)) each ≡ with_levels rest (implicit level (drop i ts)) each
+pub written_out : (level : ℕ) (ps rest : List ℕ) (ts : List Class) (i : ℕ) (each : List (Option ℕ)) → length ts ≤ i
+    → with_levels ps (implicit level (drop i ts)) each ≡ with_levels rest (implicit level (drop i ts)) each
 written_out level ps rest ts i each h = written_all level ps ts i each h ∙ sym (written_all level rest ts i each h)

@@ -1,5 +1,6 @@
 -- The glyphs of a unit whose face is that of its text: each is one glyph, and their columns are the unit's.
-use Rattle.std.proofs.Common.{◌≡◌, ℕ, zero, suc, ◌%◌, ◌<◌, ◌≤◌, ◌==◌, nat_lt, nat_le, Bool, true, false, not, ◌&&◌, ◌||◌, List, [], ◌∷◌, length, map, sum_by, chars, Option, Some, None, All, IsAscii, refl, sym, subst, ap, ◌∙◌, arith}
+use Rattle.std.proofs.Common.{◌≡◌, ℕ, zero, suc, ◌%◌, ◌<◌, ◌≤◌, ◌==◌, nat_lt, nat_le, Bool, true, false, not, ◌&&◌, ◌||◌, List, [], ◌∷◌, length, map, sum_by}
+use Rattle.std.proofs.Common.{chars, Option, Some, None, All, IsAscii, refl, sym, subst, ap, ◌∙◌, arith}
 use Rattle.std.specs.Prelude.{⊤}
 use Rattle.std.specs.List.{list_all, list_any}
 use Rattle.std.proofs.lemmas.Bool.{and_parts, and_from, or_left, or_right}
@@ -65,19 +66,22 @@ letter-of_only class (Some c) = letter-of_class (class c)
 some-columns : (n : ℕ) → (n == 0) ≡ false → 1 ≤ n
 some-columns n d = grind (arith, nat_tests)
 
-tells-sized : (cs : List ℕ) (z o : Bool) → (columns_of cs == 0) ≡ z → list_any is_control cs ≡ false → Tells cs (elim z [ true ↦ Mark 126 | false ↦ elim o [ true ↦ Mark 35 | false ↦ Own (columns_of cs) ] ])
+tells-sized : (cs : List ℕ) (z o : Bool) → (columns_of cs == 0) ≡ z → list_any is_control cs ≡ false
+    → Tells cs (elim z [ true ↦ Mark 126 | false ↦ elim o [ true ↦ Mark 35 | false ↦ Own (columns_of cs) ] ])
 tells-sized cs true o d h = refl
 tells-sized cs false true d h = refl
 tells-sized cs false false d h = (h, refl, some-columns (columns_of cs) d)
 
-tells-by : (w : ℕ) (cs : List ℕ) (t k : Bool) (l : Option ℕ) → list_any is_control cs ≡ k → IsLetter l → Tells cs (elim t [ true ↦ Tab | false ↦ elim k [ true ↦ Mark 63 | false ↦ elim l [ Some letter ↦ Mark letter | None ↦ sized_face w (columns_of cs) ] ] ])
+tells-by : (w : ℕ) (cs : List ℕ) (t k : Bool) (l : Option ℕ) → list_any is_control cs ≡ k → IsLetter l
+    → Tells cs (elim t [ true ↦ Tab | false ↦ elim k [ true ↦ Mark 63 | false ↦ elim l [ Some letter ↦ Mark letter | None ↦ sized_face w (columns_of cs) ] ] ])
 tells-by w cs true k l d m = tt
 tells-by w cs false true l d m = refl
 tells-by w cs false false (Some x) d m = m
 tells-by w cs false false None d m = tells-sized cs (columns_of cs == 0) (nat_lt w (columns_of cs)) refl d
 
 pub tells : (class : ℕ → Class) (w : ℕ) (cs : List ℕ) → Tells cs (face_of class w cs)
-tells class w cs = tells-by w cs (is_tab (only_char cs)) (list_any is_control cs) (format_letter class (only_char cs)) refl (letter-of_only class (only_char cs))
+tells class w cs = tells-by w cs (is_tab (only_char cs)) (list_any is_control cs) (format_letter class (only_char cs)) refl
+    (letter-of_only class (only_char cs))
 
 letter-from_tells : (cs : List ℕ) (f : Face) → Tells cs f → HasLetter f
 letter-from_tells cs Tab h = tt
@@ -97,11 +101,13 @@ own-from cs n Tab h e = absurd (cc)
 own-from cs n (Mark letter) h e = absurd (cc)
 own-from cs n (Own m) h e = let same : m ≡ n = grind (arith, nat_tests) in subst (λ k. Tells cs (Own k)) same h
 
-tells-either : (class : ℕ → Class) (w n : ℕ) (text other : List ℕ) (b : Bool) → is_own n (face class w other) ≡ b → Tells (chars text) (Own n) → Tells (chars (elim b [ true ↦ other | false ↦ text ])) (Own n)
+tells-either : (class : ℕ → Class) (w n : ℕ) (text other : List ℕ) (b : Bool) → is_own n (face class w other) ≡ b → Tells (chars text) (Own n)
+    → Tells (chars (elim b [ true ↦ other | false ↦ text ])) (Own n)
 tells-either class w n text other true e h = own-from (chars other) n (face class w other) (tells class w (chars other)) e
 tells-either class w n text other false e h = h
 
-tells-shown : (class : ℕ → Class) (mirror : ℕ → Option ℕ) (w n odd : ℕ) (text : List ℕ) → Tells (chars text) (Own n) → Tells (chars (elim odd [ zero ↦ text | suc _ ↦ mirrored_within class mirror w n text ])) (Own n)
+tells-shown : (class : ℕ → Class) (mirror : ℕ → Option ℕ) (w n odd : ℕ) (text : List ℕ) → Tells (chars text) (Own n)
+    → Tells (chars (elim odd [ zero ↦ text | suc _ ↦ mirrored_within class mirror w n text ])) (Own n)
 tells-shown class mirror w n zero text h = h
 tells-shown class mirror w n (suc k) text h = tells-either class w n text (mirrored mirror text) (is_own n (face class w (mirrored mirror text))) refl h
 
@@ -116,7 +122,8 @@ letters-one (b ∷ bs) e =
     let p = and_parts (is_ascii_printable b) (are_ascii_printable bs) e in
     All-cons (λ x. is_one_glyph (x ∷ []) ≡ true) b bs (or_left (is_ascii_printable b) _ p.0) (letters-one bs p.1)
 
-no-control-by : (c : ℕ) (cs : List ℕ) (a b : Bool) → is_control c ≡ a → list_any is_control cs ≡ b → (a || b) ≡ false → (list_any is_control cs ≡ false → list_all (λ x. not (is_control x)) cs ≡ true) → (not (is_control c) && list_all (λ x. not (is_control x)) cs) ≡ true
+no-control-by : (c : ℕ) (cs : List ℕ) (a b : Bool) → is_control c ≡ a → list_any is_control cs ≡ b → (a || b) ≡ false
+    → (list_any is_control cs ≡ false → list_all (λ x. not (is_control x)) cs ≡ true) → (not (is_control c) && list_all (λ x. not (is_control x)) cs) ≡ true
 no-control-by c cs true b d f e rest = absurd (cc)
 no-control-by c cs false true d f e rest = absurd (cc)
 no-control-by c cs false false d f e rest = and_from (not (is_control c)) _ (ap not d) (rest f)
@@ -131,7 +138,8 @@ whole-one text n e h =
     or_right (is_ascii_glyph text) _
     (and_from (are_printable text && not (are_ascii_printable text)) _ (and_from (are_printable text) _ (no-control (chars text) h.0) (ap not e)) wide)
 
-text-one : (text : List ℕ) (n : ℕ) (b : Bool) → are_ascii_printable text ≡ b → Tells (chars text) (Own n) → All IsOneGlyph (elim b [ true ↦ map (λ x. glyph (x ∷ []) 1 false) text | false ↦ glyph text n false ∷ [] ])
+text-one : (text : List ℕ) (n : ℕ) (b : Bool) → are_ascii_printable text ≡ b → Tells (chars text) (Own n)
+    → All IsOneGlyph (elim b [ true ↦ map (λ x. glyph (x ∷ []) 1 false) text | false ↦ glyph text n false ∷ [] ])
 text-one text n true e h = All-map IsOneGlyph (λ x. glyph (x ∷ []) 1 false) text (letters-one text e)
 text-one text n false e h = All-cons IsOneGlyph (glyph text n false) [] (whole-one text n e h) (All-nil IsOneGlyph)
 
@@ -147,21 +155,25 @@ letters-sum : (text : List ℕ) → sum_by (λ g. g.columns) (map (λ x. glyph (
 letters-sum [] = refl
 letters-sum (b ∷ bs) = sum_by-cons (λ g. g.columns) (glyph (b ∷ []) 1 false) (map (λ x. glyph (x ∷ []) 1 false) bs) ∙ omega (arith, letters-sum bs)
 
-text-sum : (text : List ℕ) (n : ℕ) (b : Bool) → are_ascii_printable text ≡ b → Tells (chars text) (Own n) → sum_by (λ g. g.columns) (elim b [ true ↦ map (λ x. glyph (x ∷ []) 1 false) text | false ↦ glyph text n false ∷ [] ]) ≡ n
+text-sum : (text : List ℕ) (n : ℕ) (b : Bool) → are_ascii_printable text ≡ b → Tells (chars text) (Own n)
+    → sum_by (λ g. g.columns) (elim b [ true ↦ map (λ x. glyph (x ∷ []) 1 false) text | false ↦ glyph text n false ∷ [] ]) ≡ n
 text-sum text n true e h =
     letters-sum text ∙ sym (str_width-printable false text e) ∙ ap (str_width false) (sym (chars-IsAscii text (ascii-bytes text e))) ∙ h.1
 text-sum text n false e h = sum_by-cons (λ g. g.columns) (glyph text n false) [] ∙ omega arith
 
 -- ---- the glyphs of a face
 
-pub face-one : (class : ℕ → Class) (mirror : ℕ → Option ℕ) (w columns level : ℕ) (text : List ℕ) (f : Face) → Tells (chars text) f → All IsOneGlyph (face_glyphs class mirror w text f columns level)
+pub face-one : (class : ℕ → Class) (mirror : ℕ → Option ℕ) (w columns level : ℕ) (text : List ℕ) (f : Face) → Tells (chars text) f
+    → All IsOneGlyph (face_glyphs class mirror w text f columns level)
 face-one class mirror w columns level text Tab h = All-replicate IsOneGlyph columns blank refl
-face-one class mirror w columns level text (Mark letter) h = All-cons IsOneGlyph (glyph (letter ∷ []) 1 true) [] (or_left (is_ascii_printable letter) _ h) (All-nil IsOneGlyph)
+face-one class mirror w columns level text (Mark letter) h =
+    All-cons IsOneGlyph (glyph (letter ∷ []) 1 true) [] (or_left (is_ascii_printable letter) _ h) (All-nil IsOneGlyph)
 face-one class mirror w columns level text (Own n) h =
     let own = shown_text class mirror w n level text in
     text-one own n (are_ascii_printable own) refl (tells-shown class mirror w n (level % 2) text h)
 
-pub face-sum : (class : ℕ → Class) (mirror : ℕ → Option ℕ) (w c level : ℕ) (text : List ℕ) (f : Face) → Tells (chars text) f → sum_by (λ g. g.columns) (face_glyphs class mirror w text f (columns_at w c f) level) ≡ columns_at w c f
+pub face-sum : (class : ℕ → Class) (mirror : ℕ → Option ℕ) (w c level : ℕ) (text : List ℕ) (f : Face) → Tells (chars text) f
+    → sum_by (λ g. g.columns) (face_glyphs class mirror w text f (columns_at w c f) level) ≡ columns_at w c f
 face-sum class mirror w c level text Tab h = sum_by-replicate (λ g. g.columns) (columns_at w c Tab) blank ∙ omega arith
 face-sum class mirror w c level text (Mark letter) h = sum_by-cons (λ g. g.columns) (glyph (letter ∷ []) 1 true) [] ∙ omega arith
 face-sum class mirror w c level text (Own n) h =

@@ -1,5 +1,6 @@
 -- The lowest odd level and the highest bound the levels at which runs are reversed, and nothing changes at the others.
-use Rattle.std.proofs.Common.{◌≡◌, ℕ, zero, suc, ◌+◌, ◌-◌, ◌*◌, ◌/◌, ◌%◌, ◌<◌, ◌≤◌, max, List, [], ◌∷◌, map, Option, Some, None, sym, ap, ◌∙◌, subst, arith, get_or, inl, inr}
+use Rattle.std.proofs.Common.{◌≡◌, ℕ, zero, suc, ◌+◌, ◌-◌, ◌*◌, ◌/◌, ◌%◌, ◌<◌, ◌≤◌, max, List, [], ◌∷◌, map, Option, Some, None, sym, ap, ◌∙◌, subst, arith}
+use Rattle.std.proofs.Common.{get_or, inl, inr}
 use Rattle.std.specs.List.{enumerate_from}
 use Rattle.bx_rows.specs.VisualOrder.{reverse_down, highest, lower, lower_odd, lowest_odd, reversed_from, visual}
 use Rattle.bx_rows.specs.Ordered.{Every, ordered}

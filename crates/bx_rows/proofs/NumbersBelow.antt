@@ -1,5 +1,6 @@
 -- The numbers that the visual order lists: each is below the count, and each unit is listed once.
-use Rattle.std.proofs.Common.{◌≡◌, ℕ, zero, suc, ◌+◌, ◌-◌, ◌<◌, ◌≤◌, nat_le, Bool, true, false, List, [], ◌∷◌, ◌++◌, length, map, sum_by, drop, get_or, Option, Some, None, All, refl, sym, ap, ◌∙◌, arith, drop-cons}
+use Rattle.std.proofs.Common.{◌≡◌, ℕ, zero, suc, ◌+◌, ◌-◌, ◌<◌, ◌≤◌, nat_le, Bool, true, false, List, [], ◌∷◌, ◌++◌, length, map, sum_by, drop, get_or, Option}
+use Rattle.std.proofs.Common.{Some, None, All, refl, sym, ap, ◌∙◌, arith, drop-cons}
 use Rattle.std.specs.Prelude.{flat_map}
 use Rattle.std.specs.List.{enumerate_from}
 use Rattle.std.proofs.lemmas.List.Elements.{All-append, All-cons, All-nil, All-rest, All-map, All-same}
@@ -38,7 +39,8 @@ all-numbered n m (l ∷ ls) h =
 numbers-below : (levels : List ℕ) → All (λ k. k < length levels) (visual levels)
 numbers-below levels =
     All-map (λ k. k < length levels) (λ u. u.0) (reversed_from (lowest_odd levels) (highest levels) (enumerate_from 0 levels))
-    (all-reversed (λ u. u.0 < length levels) (lowest_odd levels) (highest levels) (enumerate_from 0 levels) (all-numbered 0 (length levels) levels (omega arith)))
+    (all-reversed (λ u. u.0 < length levels) (lowest_odd levels) (highest levels) (enumerate_from 0 levels)
+    (all-numbered 0 (length levels) levels (omega arith)))
 
 pub below_if_visual : (levels order : List ℕ) → order ≡ visual levels → All (λ k. k < length levels) order
 below_if_visual levels order e = All-same (λ k. k < length levels) order (visual levels) e (numbers-below levels)
@@ -71,9 +73,11 @@ sum-reversed f (Some low) high us = sum-down f low (high + 1 - low) us
 sum-chosen : {X : Type 0} (c : X → ℕ) (f : ℕ → List X) (us : List (ℕ × ℕ)) → sum_by c (flat_map f (map (λ u. u.0) us)) ≡ sum_by (λ u. sum_by c (f u.0)) us
 sum-chosen c f [] = refl
 sum-chosen c f (u ∷ us) =
-    sum_by-append c (f u.0) (flat_map f (map (λ v. v.0) us)) ∙ ap (λ n. sum_by c (f u.0) + n) (sum-chosen c f us) ∙ sym (sum_by-cons (λ v. sum_by c (f v.0)) u us)
+    sum_by-append c (f u.0) (flat_map f (map (λ v. v.0) us)) ∙ ap (λ n. sum_by c (f u.0) + n) (sum-chosen c f us)
+    ∙ sym (sum_by-cons (λ v. sum_by c (f v.0)) u us)
 
-sum-numbered : {X : Type 0} (c : X → ℕ) (pieces : List (List X)) (n : ℕ) (levels : List ℕ) → length pieces ≡ n + length levels → sum_by (λ u. sum_by c (get_or pieces u.0 [])) (enumerate_from n levels) ≡ sum_by (sum_by c) (drop n pieces)
+sum-numbered : {X : Type 0} (c : X → ℕ) (pieces : List (List X)) (n : ℕ) (levels : List ℕ) → length pieces ≡ n + length levels
+    → sum_by (λ u. sum_by c (get_or pieces u.0 [])) (enumerate_from n levels) ≡ sum_by (sum_by c) (drop n pieces)
 sum-numbered c pieces n [] e =
     let all : n ≡ length pieces = omega (arith, e) in sym (ap (sum_by (sum_by c)) (ap (λ k. drop k pieces) all ∙ Rattle.std.proofs.Math.Seq.drop-length pieces))
 sum-numbered c pieces n (l ∷ ls) e =
@@ -86,7 +90,8 @@ sum-numbered c pieces n (l ∷ ls) e =
     ∙ ap (sum_by (sum_by c)) (sym (drop-cons pieces n [] here))
 
 -- each piece is chosen once
-pub sum-visual : {X : Type 0} (c : X → ℕ) (pieces : List (List X)) (levels : List ℕ) → length pieces ≡ length levels → sum_by c (flat_map (λ k. get_or pieces k []) (visual levels)) ≡ sum_by (sum_by c) pieces
+pub sum-visual : {X : Type 0} (c : X → ℕ) (pieces : List (List X)) (levels : List ℕ) → length pieces ≡ length levels
+    → sum_by c (flat_map (λ k. get_or pieces k []) (visual levels)) ≡ sum_by (sum_by c) pieces
 sum-visual c pieces levels e =
     sum-chosen c (λ k. get_or pieces k []) (reversed_from (lowest_odd levels) (highest levels) (enumerate_from 0 levels))
     ∙ sum-reversed (λ u. sum_by c (get_or pieces u.0 [])) (lowest_odd levels) (highest levels) (enumerate_from 0 levels)

@@ -1,5 +1,6 @@
 -- A row's picture: each of its glyphs is one glyph, and their columns are the window's.
-use Rattle.std.proofs.Common.{◌≡◌, ℕ, zero, suc, ◌+◌, ◌-◌, ◌%◌, ◌≤◌, List, [], ◌∷◌, ◌++◌, length, map, replicate, sum_by, get_or, drop, Option, true, All, refl, sym, subst, ap, ◌∙◌, arith}
+use Rattle.std.proofs.Common.{◌≡◌, ℕ, zero, suc, ◌+◌, ◌-◌, ◌%◌, ◌≤◌, List, [], ◌∷◌, ◌++◌, length, map, replicate, sum_by, get_or, drop, Option, true, All, refl}
+use Rattle.std.proofs.Common.{sym, subst, ap, ◌∙◌, arith}
 use Rattle.std.specs.Prelude.{flat_map}
 use Rattle.std.specs.Cow.{cow_str_bytes}
 use Rattle.bx_terms.specs.Glyphs.{is_one_glyph}
@@ -22,22 +23,27 @@ use Rattle.bx_rows.proofs.Pieces.{pieces-length}
 
 -- ---- each glyph is one
 
-pieces-one : (class : ℕ → Class) (mirror : ℕ → Option ℕ) (w : ℕ) (body : List ℕ) (us : List Unit) (columns levels : List ℕ) (k : ℕ) → All (HasFace class w body) us → All IsOneGlyph (get_or (unit_glyphs class mirror w body us columns levels) k [])
+pieces-one : (class : ℕ → Class) (mirror : ℕ → Option ℕ) (w : ℕ) (body : List ℕ) (us : List Unit) (columns levels : List ℕ) (k : ℕ)
+    → All (HasFace class w body) us → All IsOneGlyph (get_or (unit_glyphs class mirror w body us columns levels) k [])
 pieces-one class mirror w body [] columns levels k a = All-nil IsOneGlyph
 pieces-one class mirror w body (u ∷ us) [] levels k a = All-nil IsOneGlyph
 pieces-one class mirror w body (u ∷ us) (n ∷ ns) [] k a = All-nil IsOneGlyph
-pieces-one class mirror w body (u ∷ us) (n ∷ ns) (l ∷ ls) zero a = face-one class mirror w n l (unit_text body u) u.face (tells-face class w (unit_text body u) u.face (a 0 u (omega arith)))
-pieces-one class mirror w body (u ∷ us) (n ∷ ns) (l ∷ ls) (suc k) a = pieces-one class mirror w body us ns ls k (All-rest (HasFace class w body) u us (u ∷ us) refl a)
+pieces-one class mirror w body (u ∷ us) (n ∷ ns) (l ∷ ls) zero a =
+    face-one class mirror w n l (unit_text body u) u.face (tells-face class w (unit_text body u) u.face (a 0 u (omega arith)))
+pieces-one class mirror w body (u ∷ us) (n ∷ ns) (l ∷ ls) (suc k) a =
+    pieces-one class mirror w body us ns ls k (All-rest (HasFace class w body) u us (u ∷ us) refl a)
 
 all-chosen : (f : ℕ → List Glyph) (ks : List ℕ) → ((k : ℕ) → All IsOneGlyph (f k)) → All IsOneGlyph (flat_map f ks)
 all-chosen f [] a = All-nil IsOneGlyph
 all-chosen f (k ∷ ks) a = All-append IsOneGlyph (f k) (flat_map f ks) (a k) (all-chosen f ks a)
 
-blanks-one : (odd n : ℕ) (glyphs : List Glyph) → All IsOneGlyph glyphs → All IsOneGlyph (elim odd [ zero ↦ glyphs ++ replicate n blank | suc _ ↦ replicate n blank ++ glyphs ])
+blanks-one : (odd n : ℕ) (glyphs : List Glyph) → All IsOneGlyph glyphs
+    → All IsOneGlyph (elim odd [ zero ↦ glyphs ++ replicate n blank | suc _ ↦ replicate n blank ++ glyphs ])
 blanks-one zero n glyphs a = All-append IsOneGlyph glyphs (replicate n blank) a (All-replicate IsOneGlyph n blank refl)
 blanks-one (suc k) n glyphs a = All-append IsOneGlyph (replicate n blank) glyphs (All-replicate IsOneGlyph n blank refl) a
 
-pub draw-one : (class : ℕ → Class) (mirror : ℕ → Option ℕ) (w : ℕ) (body : List ℕ) (paragraph : ℕ) (us : List Unit) (levels : List ℕ) → All (HasFace class w body) us → All IsOneGlyph (draw class mirror w body paragraph us levels)
+pub draw-one : (class : ℕ → Class) (mirror : ℕ → Option ℕ) (w : ℕ) (body : List ℕ) (paragraph : ℕ) (us : List Unit) (levels : List ℕ)
+    → All (HasFace class w body) us → All IsOneGlyph (draw class mirror w body paragraph us levels)
 draw-one class mirror w body paragraph us levels a =
     let pieces = unit_glyphs class mirror w body us (unit_columns w 0 us) levels in
     blanks-one (paragraph % 2) (w - used w us) (flat_map (λ k. get_or pieces k []) (visual levels))
@@ -48,7 +54,9 @@ draw-one class mirror w body paragraph us levels a =
 abbrev pub columns_of_glyphs : List Glyph → ℕ
 columns_of_glyphs glyphs = sum_by (λ g. g.columns) glyphs
 
-pieces-sum : (class : ℕ → Class) (mirror : ℕ → Option ℕ) (w c : ℕ) (body : List ℕ) (us : List Unit) (levels : List ℕ) → All (HasFace class w body) us → length levels ≡ length us → sum_by columns_of_glyphs (unit_glyphs class mirror w body us (unit_columns w c us) levels) ≡ sum_by (λ n. n) (unit_columns w c us)
+pieces-sum : (class : ℕ → Class) (mirror : ℕ → Option ℕ) (w c : ℕ) (body : List ℕ) (us : List Unit) (levels : List ℕ) → All (HasFace class w body) us
+    → length levels ≡ length us → sum_by columns_of_glyphs (unit_glyphs class mirror w body us (unit_columns w c us) levels)
+    ≡ sum_by (λ n. n) (unit_columns w c us)
 pieces-sum class mirror w c body [] levels a e = refl
 pieces-sum class mirror w c body (u ∷ us) [] a e = let more : suc (length us) ≡ length (u ∷ us) = refl in absurd (omega (arith, e, more))
 pieces-sum class mirror w c body (u ∷ us) (l ∷ ls) a e =
@@ -60,11 +68,13 @@ pieces-sum class mirror w c body (u ∷ us) (l ∷ ls) a e =
     ∙ ap (λ k. k + sum_by columns_of_glyphs (unit_glyphs class mirror w body us (unit_columns w (c + n) us) ls)) here
     ∙ ap (λ k. n + k) rest ∙ sym (sum_by-cons (λ m. m) n (unit_columns w (c + n) us))
 
-blanks-sum : (odd n : ℕ) (glyphs : List Glyph) → columns_of_glyphs (elim odd [ zero ↦ glyphs ++ replicate n blank | suc _ ↦ replicate n blank ++ glyphs ]) ≡ columns_of_glyphs glyphs + n
+blanks-sum : (odd n : ℕ) (glyphs : List Glyph) → columns_of_glyphs (elim odd [ zero ↦ glyphs ++ replicate n blank | suc _ ↦ replicate n blank ++ glyphs ])
+    ≡ columns_of_glyphs glyphs + n
 blanks-sum zero n glyphs = sum_by-append (λ g. g.columns) glyphs (replicate n blank) ∙ omega (arith, sum_by-replicate (λ g. g.columns) n blank)
 blanks-sum (suc k) n glyphs = sum_by-append (λ g. g.columns) (replicate n blank) glyphs ∙ omega (arith, sum_by-replicate (λ g. g.columns) n blank)
 
-pub draw-sum : (class : ℕ → Class) (mirror : ℕ → Option ℕ) (w : ℕ) (body : List ℕ) (paragraph : ℕ) (us : List Unit) (levels : List ℕ) → All (HasFace class w body) us → length levels ≡ length us → used w us ≤ w → columns_of_glyphs (draw class mirror w body paragraph us levels) ≡ w
+pub draw-sum : (class : ℕ → Class) (mirror : ℕ → Option ℕ) (w : ℕ) (body : List ℕ) (paragraph : ℕ) (us : List Unit) (levels : List ℕ)
+    → All (HasFace class w body) us → length levels ≡ length us → used w us ≤ w → columns_of_glyphs (draw class mirror w body paragraph us levels) ≡ w
 draw-sum class mirror w body paragraph us levels a e fits =
     let columns = unit_columns w 0 us in
     let pieces = unit_glyphs class mirror w body us columns levels in
@@ -81,16 +91,21 @@ one-kept : (ds : List Drawn) (gs : List Glyph) → map shown ds ≡ gs → All I
 one-kept [] gs e a = All-nil (λ d. is_one_glyph (cow_str_bytes d.text) ≡ true)
 one-kept (d ∷ ds) gs e a =
     let all = subst (All IsOneGlyph) (sym e) a in
-    All-cons (λ x. is_one_glyph (cow_str_bytes x.text) ≡ true) d ds (all 0 (shown d) (omega arith)) (one-kept ds (map shown ds) refl (All-rest IsOneGlyph (shown d) (map shown ds) (shown d ∷ map shown ds) refl all))
+    All-cons (λ x. is_one_glyph (cow_str_bytes x.text) ≡ true) d ds (all 0 (shown d) (omega arith))
+    (one-kept ds (map shown ds) refl (All-rest IsOneGlyph (shown d) (map shown ds) (shown d ∷ map shown ds) refl all))
 
 sum-kept : (ds : List Drawn) → sum_by (λ d. d.columns) ds ≡ columns_of_glyphs (map shown ds)
 sum-kept [] = refl
 sum-kept (d ∷ ds) = sum_by-cons (λ x. x.columns) d ds ∙ ap (λ n. d.columns + n) (sum-kept ds) ∙ sym (sum_by-cons (λ g. g.columns) (shown d) (map shown ds))
 
-pub one_if_drawn : (class : ℕ → Class) (mirror : ℕ → Option ℕ) (w : ℕ) (body : List ℕ) (paragraph : ℕ) (us : List Unit) (levels : List ℕ) (ds : List Drawn) → map shown ds ≡ draw class mirror w body paragraph us levels → All (HasFace class w body) us → All (λ d. is_one_glyph (cow_str_bytes d.text) ≡ true) ds
-one_if_drawn class mirror w body paragraph us levels ds e a = one-kept ds (draw class mirror w body paragraph us levels) e (draw-one class mirror w body paragraph us levels a)
+pub one_if_drawn : (class : ℕ → Class) (mirror : ℕ → Option ℕ) (w : ℕ) (body : List ℕ) (paragraph : ℕ) (us : List Unit) (levels : List ℕ) (ds : List Drawn)
+    → map shown ds ≡ draw class mirror w body paragraph us levels → All (HasFace class w body) us → All (λ d. is_one_glyph (cow_str_bytes d.text) ≡ true) ds
+one_if_drawn class mirror w body paragraph us levels ds e a =
+    one-kept ds (draw class mirror w body paragraph us levels) e (draw-one class mirror w body paragraph us levels a)
 
-pub sum_if_drawn : (class : ℕ → Class) (mirror : ℕ → Option ℕ) (w : ℕ) (body : List ℕ) (paragraph : ℕ) (us : List Unit) (levels : List ℕ) (ds : List Drawn) → map shown ds ≡ draw class mirror w body paragraph us levels → All (HasFace class w body) us → length levels ≡ length us → used w us ≤ w → sum_by (λ d. d.columns) ds ≡ w
+pub sum_if_drawn : (class : ℕ → Class) (mirror : ℕ → Option ℕ) (w : ℕ) (body : List ℕ) (paragraph : ℕ) (us : List Unit) (levels : List ℕ) (ds : List Drawn)
+    → map shown ds ≡ draw class mirror w body paragraph us levels → All (HasFace class w body) us → length levels ≡ length us → used w us ≤ w
+    → sum_by (λ d. d.columns) ds ≡ w
 sum_if_drawn class mirror w body paragraph us levels ds e a f g = sum-kept ds ∙ ap columns_of_glyphs e ∙ draw-sum class mirror w body paragraph us levels a f g
 
 -- what holds of all units holds of a row's

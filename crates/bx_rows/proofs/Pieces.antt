@@ -1,5 +1,6 @@
 -- The glyphs of one unit of a row.
-use Rattle.std.proofs.Common.{◌≡◌, ℕ, zero, suc, ◌+◌, ◌-◌, ◌%◌, ◌<◌, ◌++◌, List, [], ◌∷◌, length, get_or, map, replicate, take, refl, sym, ap, ◌∙◌, arith, append_assoc, append-nil, Option}
+use Rattle.std.proofs.Common.{◌≡◌, ℕ, zero, suc, ◌+◌, ◌-◌, ◌%◌, ◌<◌, ◌++◌, List, [], ◌∷◌, length, get_or, map, replicate, take, refl, sym, ap, ◌∙◌, arith}
+use Rattle.std.proofs.Common.{append_assoc, append-nil, Option}
 use Rattle.std.specs.Prelude.{flat_map}
 use Rattle.std.specs.List.{zip}
 use Rattle.std.proofs.lemmas.List.{get_or-map, take_more}
@@ -17,8 +18,10 @@ length-zip (x ∷ xs) [] n e f = f
 length-zip (x ∷ xs) (y ∷ ys) n e f = ap suc (length-zip xs ys (length xs) refl (omega (arith, e, f))) ∙ e
 
 -- the glyphs of unit k
-pub piece-at : (class : ℕ → Class) (mirror : ℕ → Option ℕ) (w : ℕ) (body : List ℕ) (us : List Unit) (columns levels : List ℕ) (k a b : ℕ) (d : Unit) → k < length us → length columns ≡ length us → length levels ≡ length us
-    → get_or (unit_glyphs class mirror w body us columns levels) k [] ≡ face_glyphs class mirror w (unit_text body (get_or us k d)) (get_or us k d).face (get_or columns k a) (get_or levels k b)
+pub piece-at : (class : ℕ → Class) (mirror : ℕ → Option ℕ) (w : ℕ) (body : List ℕ) (us : List Unit) (columns levels : List ℕ) (k a b : ℕ) (d : Unit)
+    → k < length us → length columns ≡ length us → length levels ≡ length us
+    → get_or (unit_glyphs class mirror w body us columns levels) k []
+    ≡ face_glyphs class mirror w (unit_text body (get_or us k d)) (get_or us k d).face (get_or columns k a) (get_or levels k b)
 piece-at class mirror w body us columns levels k a b d h e f =
     let piece : Unit × (ℕ × ℕ) → List Glyph = λ p. face_glyphs class mirror w (unit_text body p.0) p.0.face p.1.0 p.1.1 in
     let inner : length (zip columns levels) ≡ length us = length-zip columns levels (length us) e f in
@@ -28,7 +31,8 @@ piece-at class mirror w body us columns levels k a b d h e f =
     ∙ ap (λ p. (get_or us k d, p)) (get_or-zip columns levels k (a, b) (omega (arith, h, e)) (omega (arith, h, f))))
 
 -- the glyphs of one more unit are added
-pub pieces-more : (f : ℕ → List Glyph) (order : List ℕ) (i k : ℕ) (old items new piece : List Glyph) → i < length order → k ≡ get_or order i 0 → items ≡ old ++ flat_map f (take i order) → new ≡ items ++ piece → f k ≡ piece → new ≡ old ++ flat_map f (take (i + 1) order)
+pub pieces-more : (f : ℕ → List Glyph) (order : List ℕ) (i k : ℕ) (old items new piece : List Glyph) → i < length order → k ≡ get_or order i 0
+    → items ≡ old ++ flat_map f (take i order) → new ≡ items ++ piece → f k ≡ piece → new ≡ old ++ flat_map f (take (i + 1) order)
 pieces-more f order i k old items new piece h at inv pushed is =
     let own : piece ≡ flat_map f (get_or order i 0 ∷ []) = sym is ∙ ap f at ∙ sym (append-nil (f (get_or order i 0))) in
     pushed ∙ ap (λ xs. xs ++ piece) inv ∙ append_assoc old (flat_map f (take i order)) piece
@@ -41,18 +45,21 @@ map-length f [] = refl
 map-length f (x ∷ xs) = ap suc (map-length f xs)
 
 -- as many pieces as units
-pub pieces-length : (class : ℕ → Class) (mirror : ℕ → Option ℕ) (w : ℕ) (body : List ℕ) (us : List Unit) (columns levels : List ℕ) → length columns ≡ length us → length levels ≡ length us → length (unit_glyphs class mirror w body us columns levels) ≡ length us
+pub pieces-length : (class : ℕ → Class) (mirror : ℕ → Option ℕ) (w : ℕ) (body : List ℕ) (us : List Unit) (columns levels : List ℕ) → length columns ≡ length us
+    → length levels ≡ length us → length (unit_glyphs class mirror w body us columns levels) ≡ length us
 pieces-length class mirror w body us columns levels e f =
     let piece : Unit × (ℕ × ℕ) → List Glyph = λ p. face_glyphs class mirror w (unit_text body p.0) p.0.face p.1.0 p.1.1 in
     map-length piece (zip us (zip columns levels)) ∙ length-zip us (zip columns levels) (length us) refl (length-zip columns levels (length us) e f)
 
 -- ---- the blanks
 
-blanks-end : (m n : ℕ) (glyphs : List Glyph) → m ≡ 0 → glyphs ++ replicate n blank ≡ elim m [ zero ↦ glyphs ++ replicate n blank | suc _ ↦ replicate n blank ++ glyphs ]
+blanks-end : (m n : ℕ) (glyphs : List Glyph) → m ≡ 0 → glyphs ++ replicate n blank
+    ≡ elim m [ zero ↦ glyphs ++ replicate n blank | suc _ ↦ replicate n blank ++ glyphs ]
 blanks-end zero n glyphs e = refl
 blanks-end (suc m) n glyphs e = absurd (omega (arith, e))
 
-blanks-begin : (m n : ℕ) (glyphs : List Glyph) → 0 < m → replicate n blank ++ glyphs ≡ elim m [ zero ↦ glyphs ++ replicate n blank | suc _ ↦ replicate n blank ++ glyphs ]
+blanks-begin : (m n : ℕ) (glyphs : List Glyph) → 0 < m → replicate n blank ++ glyphs
+    ≡ elim m [ zero ↦ glyphs ++ replicate n blank | suc _ ↦ replicate n blank ++ glyphs ]
 blanks-begin zero n glyphs e = absurd (omega (arith, e))
 blanks-begin (suc m) n glyphs e = refl
 
@@ -60,21 +67,29 @@ blanks-begin (suc m) n glyphs e = refl
 abbrev pub in_order : (ℕ → Class) → (ℕ → Option ℕ) → ℕ → List ℕ → List Unit → List ℕ → List ℕ → List ℕ → List Glyph
 in_order class mirror w body us columns levels order = flat_map (λ k. get_or (unit_glyphs class mirror w body us columns levels) k []) order
 
-same-order : (class : ℕ → Class) (mirror : ℕ → Option ℕ) (w : ℕ) (body : List ℕ) (us : List Unit) (columns levels order : List ℕ) → columns ≡ unit_columns w 0 us → order ≡ visual levels → in_order class mirror w body us columns levels order ≡ in_order class mirror w body us (unit_columns w 0 us) levels (visual levels)
+same-order : (class : ℕ → Class) (mirror : ℕ → Option ℕ) (w : ℕ) (body : List ℕ) (us : List Unit) (columns levels order : List ℕ)
+    → columns ≡ unit_columns w 0 us → order ≡ visual levels → in_order class mirror w body us columns levels order
+    ≡ in_order class mirror w body us (unit_columns w 0 us) levels (visual levels)
 same-order class mirror w body us columns levels order e f =
     ap (λ cs. in_order class mirror w body us cs levels order) e ∙ ap (in_order class mirror w body us (unit_columns w 0 us) levels) f
 
-pub drawn-even : (class : ℕ → Class) (mirror : ℕ → Option ℕ) (w : ℕ) (body : List ℕ) (paragraph : ℕ) (us : List Unit) (levels columns order : List ℕ) (n : ℕ) (start mid new : List Glyph) → paragraph % 2 ≡ 0 → columns ≡ unit_columns w 0 us → order ≡ visual levels → n ≡ used w us → start ≡ []
-    → mid ≡ start ++ in_order class mirror w body us columns levels order → new ≡ mid ++ replicate (w - n) blank → new ≡ draw class mirror w body paragraph us levels
+pub drawn-even : (class : ℕ → Class) (mirror : ℕ → Option ℕ) (w : ℕ) (body : List ℕ) (paragraph : ℕ) (us : List Unit) (levels columns order : List ℕ) (n : ℕ)
+    (start mid new : List Glyph) → paragraph % 2 ≡ 0 → columns ≡ unit_columns w 0 us → order ≡ visual levels → n ≡ used w us → start ≡ []
+    → mid ≡ start ++ in_order class mirror w body us columns levels order → new ≡ mid ++ replicate (w - n) blank
+    → new ≡ draw class mirror w body paragraph us levels
 drawn-even class mirror w body paragraph us levels columns order n start mid new even e f h s first second =
     let all = in_order class mirror w body us (unit_columns w 0 us) levels (visual levels) in
-    let mids : mid ≡ all = first ∙ ap (λ xs. xs ++ in_order class mirror w body us columns levels order) s ∙ same-order class mirror w body us columns levels order e f in
+    let mids : mid ≡ all = first ∙ ap (λ xs. xs ++ in_order class mirror w body us columns levels order) s
+    ∙ same-order class mirror w body us columns levels order e f in
     second ∙ ap (λ xs. xs ++ replicate (w - n) blank) mids ∙ ap (λ k. all ++ replicate (w - k) blank) h ∙ blanks-end (paragraph % 2) (w - used w us) all even
 
-pub drawn-odd : (class : ℕ → Class) (mirror : ℕ → Option ℕ) (w : ℕ) (body : List ℕ) (paragraph : ℕ) (us : List Unit) (levels columns order : List ℕ) (n : ℕ) (start mid new : List Glyph) → 0 < paragraph % 2 → columns ≡ unit_columns w 0 us → order ≡ visual levels → n ≡ used w us → start ≡ []
-    → mid ≡ start ++ replicate (w - n) blank → new ≡ mid ++ in_order class mirror w body us columns levels order → new ≡ draw class mirror w body paragraph us levels
+pub drawn-odd : (class : ℕ → Class) (mirror : ℕ → Option ℕ) (w : ℕ) (body : List ℕ) (paragraph : ℕ) (us : List Unit) (levels columns order : List ℕ) (n : ℕ)
+    (start mid new : List Glyph) → 0 < paragraph % 2 → columns ≡ unit_columns w 0 us → order ≡ visual levels → n ≡ used w us → start ≡ []
+    → mid ≡ start ++ replicate (w - n) blank → new ≡ mid ++ in_order class mirror w body us columns levels order
+    → new ≡ draw class mirror w body paragraph us levels
 drawn-odd class mirror w body paragraph us levels columns order n start mid new odd e f h s first second =
     let all = in_order class mirror w body us (unit_columns w 0 us) levels (visual levels) in
     let mids : mid ≡ replicate (w - used w us) blank = first ∙ ap (λ xs. xs ++ replicate (w - n) blank) s ∙ ap (λ k. replicate (w - k) blank) h in
-    second ∙ ap (λ xs. xs ++ in_order class mirror w body us columns levels order) mids ∙ ap (λ xs. replicate (w - used w us) blank ++ xs) (same-order class mirror w body us columns levels order e f)
+    second ∙ ap (λ xs. xs ++ in_order class mirror w body us columns levels order) mids
+    ∙ ap (λ xs. replicate (w - used w us) blank ++ xs) (same-order class mirror w body us columns levels order e f)
     ∙ blanks-begin (paragraph % 2) (w - used w us) all odd

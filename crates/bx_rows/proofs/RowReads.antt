@@ -1,5 +1,6 @@
 -- Rows read from unit to unit: the starts so far, the row that is being read, and what is left.
-use Rattle.std.proofs.Common.{◌≡◌, ℕ, ◌+◌, ◌<◌, ◌≤◌, ◌⊎◌, ◌&&◌, Bool, nat_lt, nat_le, true, false, true≢false, leb-true, ltb-true, inl, inr, ⊎_elim, List, [], ◌∷◌, ◌++◌, map, length, take, drop, refl, sym, ap, subst, ◌∙◌, arith, append_assoc, append-nil}
+use Rattle.std.proofs.Common.{◌≡◌, ℕ, ◌+◌, ◌<◌, ◌≤◌, ◌⊎◌, ◌&&◌, Bool, nat_lt, nat_le, true, false, true≢false, leb-true, ltb-true, inl, inr, ⊎_elim, List, []}
+use Rattle.std.proofs.Common.{◌∷◌, ◌++◌, map, length, take, drop, refl, sym, ap, subst, ◌∙◌, arith, append_assoc, append-nil}
 use Rattle.std.specs.Str.{chars, IsUtf8}
 use Rattle.std.proofs.lemmas.Bool.{and_parts, and_from, cases_lt, lt-ltb, le-leb}
 use Rattle.std.proofs.lemmas.List.{drop-drop}
@@ -14,14 +15,17 @@ use Rattle.bx_rows.specs.declared.row_scan.Scan.{Scan}
 use Rattle.bx_rows.specs.RowStarts.{first_offset, start_of}
 use Rattle.bx_rows.specs.Wrapping.{columns_at, fitting_from, is_break, rows_from}
 use Rattle.bx_rows.specs.RowScan.{Fits, HasExtent, IsPlaced, IsRead, IsScan, Takes, new_scan}
-use Rattle.bx_rows.proofs.Scans.{none_fits, scan-new, scan-more, scan-break, drop-break, drop-read, scan-length, row-at-break, scan-at-break, row-full, row-none, row-last, row-empty}
+use Rattle.bx_rows.proofs.Scans.{none_fits, scan-new, scan-more, scan-break, drop-break, drop-read, scan-length, row-at-break, scan-at-break, row-full}
+use Rattle.bx_rows.proofs.Scans.{row-none, row-last, row-empty}
 
-first_from : (class : ℕ → Class) (w : ℕ) (at : ℕ) (gs : List (List ℕ)) → 0 < length (map (unit_at class w) (with_offsets at gs)) → first_offset (map (unit_at class w) (with_offsets at gs)) ≡ at
+first_from : (class : ℕ → Class) (w : ℕ) (at : ℕ) (gs : List (List ℕ)) → 0 < length (map (unit_at class w) (with_offsets at gs))
+    → first_offset (map (unit_at class w) (with_offsets at gs)) ≡ at
 unfolding with_offsets
 first_from class w at [] h = absurd (omega (arith, h))
 first_from class w at (g ∷ gs) h = refl
 
-pub read-new : (class : ℕ → Class) (w : ℕ) (body : List ℕ) → IsRead class w body [] (new_scan (record { offset = 0; units = 0; chars = 0 })) (units_from class w body 0)
+pub read-new : (class : ℕ → Class) (w : ℕ) (body : List ℕ)
+    → IsRead class w body [] (new_scan (record { offset = 0; units = 0; chars = 0 })) (units_from class w body 0)
 read-new class w body = record {
   scan = scan-new (is_break class body) w (units_from class w body 0);
   number = refl;
@@ -54,7 +58,15 @@ module _ (class : ℕ → Class) (w : ℕ) (body : List ℕ) (starts : List RowS
   abbrev behind : List Unit
   behind = units_from class w body s.next
 
-  pub read-more : (u : Unit) (rest : List Unit) → IsRead class w body starts s (u ∷ rest) → Fits w s.columns u → is_break class body u ≡ false → IsRead class w body starts (record { start = s.start; next = s.next; columns = s.columns + columns_at w s.columns u.face; last = s.last; count = s.count + 1; since = s.since + columns_at w s.since u.face }) rest
+  pub read-more : (u : Unit) (rest : List Unit) → IsRead class w body starts s (u ∷ rest) → Fits w s.columns u → is_break class body u ≡ false
+      → IsRead class w body starts (record {
+        start = s.start;
+        next = s.next;
+        columns = s.columns + columns_at w s.columns u.face;
+        last = s.last;
+        count = s.count + 1;
+        since = s.since + columns_at w s.since u.face;
+      }) rest
   read-more u rest r f no_break = record {
     scan = scan-more passes w here behind u rest s.columns s.last s.count s.since r.scan f no_break;
     number = r.number;
@@ -62,7 +74,16 @@ module _ (class : ℕ → Class) (w : ℕ) (body : List ℕ) (starts : List RowS
     done = r.done;
   }
 
-  pub read-break : (u : Unit) (rest : List Unit) (stop : ℕ) → units_from class w body stop ≡ rest → IsRead class w body starts s (u ∷ rest) → Fits w s.columns u → is_break class body u ≡ true → IsRead class w body starts (record { start = s.start; next = stop; columns = s.columns + columns_at w s.columns u.face; last = s.last + s.count + 1; count = 0; since = 0 }) rest
+  pub read-break : (u : Unit) (rest : List Unit) (stop : ℕ) → units_from class w body stop ≡ rest → IsRead class w body starts s (u ∷ rest) → Fits w s.columns u
+      → is_break class body u ≡ true
+      → IsRead class w body starts (record {
+        start = s.start;
+        next = stop;
+        columns = s.columns + columns_at w s.columns u.face;
+        last = s.last + s.count + 1;
+        count = 0;
+        since = 0;
+      }) rest
   read-break u rest stop e r f may_end = record {
     scan = subst (λ x. IsScan passes w here x rest (s.columns + columns_at w s.columns u.face) (s.last + s.count + 1) 0 0) (sym e)
         (scan-break passes w here behind u rest s.columns s.last s.count s.since r.scan f may_end);
@@ -72,14 +93,17 @@ module _ (class : ℕ → Class) (w : ℕ) (body : List ℕ) (starts : List RowS
   }
 
   -- the start of a row is what was kept of it
-  start-is : (rest : List Unit) (stop : ℕ) → IsRead class w body starts s rest → 0 < length here → start_of body all_units (record { start = s.start.units; stop = stop }) ≡ s.start
+  start-is : (rest : List Unit) (stop : ℕ) → IsRead class w body starts s rest → 0 < length here
+      → start_of body all_units (record { start = s.start.units; stop = stop }) ≡ s.start
   start-is rest stop r some =
       let at : first_offset (drop s.start.units all_units) ≡ s.start.offset = ap first_offset r.number ∙ first_from class w s.start.offset _ some in
       ap (λ o. record { offset = o; units = s.start.units; chars = length (chars (take o body)) }) at
       ∙ ap (λ n. record { offset = s.start.offset; units = s.start.units; chars = n }) (sym r.chars)
 
   -- one more row is done
-  row-done : (rest : List Unit) (stop i : ℕ) (left : List Unit) (new : List RowStart) → IsRead class w body starts s rest → 0 < length here → rows_from passes w s.start.units 0 here ≡ record { start = s.start.units; stop = stop } ∷ rows_from passes w i 0 left → new ≡ starts ++ s.start ∷ [] → new ++ map (start_of body all_units) (rows_from passes w i 0 left) ≡ map (start_of body all_units) (rows_from passes w 0 0 all_units)
+  row-done : (rest : List Unit) (stop i : ℕ) (left : List Unit) (new : List RowStart) → IsRead class w body starts s rest → 0 < length here
+      → rows_from passes w s.start.units 0 here ≡ record { start = s.start.units; stop = stop } ∷ rows_from passes w i 0 left → new ≡ starts ++ s.start ∷ []
+      → new ++ map (start_of body all_units) (rows_from passes w i 0 left) ≡ map (start_of body all_units) (rows_from passes w 0 0 all_units)
   row-done rest stop i left new r some row pushed =
       let later = map (start_of body all_units) (rows_from passes w i 0 left) in
       ap (λ x. x ++ later) pushed ∙ append_assoc starts (s.start ∷ []) later
@@ -92,7 +116,16 @@ module _ (class : ℕ → Class) (w : ℕ) (body : List ℕ) (starts : List RowS
   further : (n : ℕ) (rest left : List Unit) → IsRead class w body starts s rest → drop n here ≡ left → drop (s.start.units + n) all_units ≡ left
   further n rest left r e = sym (drop-drop n s.start.units all_units) ∙ ap (drop n) r.number ∙ e
 
-  pub read-at-break : (u : Unit) (rest : List Unit) (n : ℕ) (new : List RowStart) → IsRead class w body starts s (u ∷ rest) → fitting_from w s.columns (u ∷ rest) ≡ 0 → 0 < s.last → n ≡ length (chars (take s.next body)) → new ≡ starts ++ s.start ∷ [] → IsRead class w body new (record { start = record { offset = s.next; units = s.start.units + s.last; chars = n }; next = s.next; columns = s.since; last = 0; count = s.count; since = s.since }) (u ∷ rest)
+  pub read-at-break : (u : Unit) (rest : List Unit) (n : ℕ) (new : List RowStart) → IsRead class w body starts s (u ∷ rest)
+      → fitting_from w s.columns (u ∷ rest) ≡ 0 → 0 < s.last → n ≡ length (chars (take s.next body)) → new ≡ starts ++ s.start ∷ []
+      → IsRead class w body new (record {
+        start = record { offset = s.next; units = s.start.units + s.last; chars = n };
+        next = s.next;
+        columns = s.since;
+        last = 0;
+        count = s.count;
+        since = s.since;
+      }) (u ∷ rest)
   read-at-break u rest n new r full some counted pushed = record {
     scan = scan-at-break passes w here behind u rest s.columns s.last s.count s.since r.scan;
     number = further s.last (u ∷ rest) behind r (drop-break passes w here behind (u ∷ rest) s.columns s.last s.count s.since r.scan);
@@ -101,7 +134,9 @@ module _ (class : ℕ → Class) (w : ℕ) (body : List ℕ) (starts : List RowS
         (row-at-break passes w here behind u rest s.columns s.last s.count s.since r.scan full s.start.units some) pushed;
   }
 
-  pub read-full : (u : Unit) (rest : List Unit) (at n : ℕ) (new : List RowStart) → units_from class w body at ≡ u ∷ rest → IsRead class w body starts s (u ∷ rest) → fitting_from w s.columns (u ∷ rest) ≡ 0 → s.last ≡ 0 → 0 < s.count → n ≡ length (chars (take at body)) → new ≡ starts ++ s.start ∷ [] → IsRead class w body new (new_scan (record { offset = at; units = s.start.units + s.count; chars = n })) (u ∷ rest)
+  pub read-full : (u : Unit) (rest : List Unit) (at n : ℕ) (new : List RowStart) → units_from class w body at ≡ u ∷ rest
+      → IsRead class w body starts s (u ∷ rest) → fitting_from w s.columns (u ∷ rest) ≡ 0 → s.last ≡ 0 → 0 < s.count → n ≡ length (chars (take at body))
+      → new ≡ starts ++ s.start ∷ [] → IsRead class w body new (new_scan (record { offset = at; units = s.start.units + s.count; chars = n })) (u ∷ rest)
   read-full u rest at n new e r full none some counted pushed =
       let read = drop-read passes w here behind (u ∷ rest) s.columns s.last s.count s.since r.scan in
       let sum : s.last + s.count ≡ s.count = omega (arith, none) in
@@ -114,7 +149,9 @@ module _ (class : ℕ → Class) (w : ℕ) (body : List ℕ) (starts : List RowS
             ∙ ap (λ x. record { start = s.start.units; stop = s.start.units + s.count } ∷ rows_from passes w (s.start.units + s.count) 0 x) (sym e)) pushed;
       }
 
-  pub read-none : (u : Unit) (rest : List Unit) (stop n : ℕ) (new : List RowStart) → units_from class w body stop ≡ rest → IsRead class w body starts s (u ∷ rest) → fitting_from w s.columns (u ∷ rest) ≡ 0 → s.last ≡ 0 → s.count ≡ 0 → n ≡ length (chars (take stop body)) → new ≡ starts ++ s.start ∷ [] → IsRead class w body new (new_scan (record { offset = stop; units = s.start.units + 1; chars = n })) rest
+  pub read-none : (u : Unit) (rest : List Unit) (stop n : ℕ) (new : List RowStart) → units_from class w body stop ≡ rest
+      → IsRead class w body starts s (u ∷ rest) → fitting_from w s.columns (u ∷ rest) ≡ 0 → s.last ≡ 0 → s.count ≡ 0 → n ≡ length (chars (take stop body))
+      → new ≡ starts ++ s.start ∷ [] → IsRead class w body new (new_scan (record { offset = stop; units = s.start.units + 1; chars = n })) rest
   read-none u rest stop n new e r full none empty counted pushed =
       let read = drop-read passes w here behind (u ∷ rest) s.columns s.last s.count s.since r.scan in
       let sum : s.last + s.count ≡ 0 = omega (arith, none, empty) in
@@ -128,14 +165,16 @@ module _ (class : ℕ → Class) (w : ℕ) (body : List ℕ) (starts : List RowS
             ∙ ap (λ x. record { start = s.start.units; stop = s.start.units + 0 } ∷ rows_from passes w (s.start.units + 1) 0 x) (sym e)) pushed;
       }
 
-  pub read-last : (new : List RowStart) → IsRead class w body starts s [] → 0 < s.last + s.count → new ≡ starts ++ s.start ∷ [] → new ≡ map (start_of body (units class w body)) (rows_from (is_break class body) w 0 0 (units class w body))
+  pub read-last : (new : List RowStart) → IsRead class w body starts s [] → 0 < s.last + s.count → new ≡ starts ++ s.start ∷ []
+      → new ≡ map (start_of body (units class w body)) (rows_from (is_break class body) w 0 0 (units class w body))
   read-last new r some pushed =
       let size = scan-length passes w here behind [] s.columns s.last s.count s.since r.scan in
       sym (append-nil new)
       ∙ row-done [] (s.start.units + (s.last + s.count)) 0 [] new r (omega (arith, size, some))
       (row-last passes w here behind s.columns s.last s.count s.since s.start.units r.scan some) pushed
 
-  pub read-empty : IsRead class w body starts s [] → s.last ≡ 0 → s.count ≡ 0 → starts ≡ map (start_of body (units class w body)) (rows_from (is_break class body) w 0 0 (units class w body))
+  pub read-empty : IsRead class w body starts s [] → s.last ≡ 0 → s.count ≡ 0
+      → starts ≡ map (start_of body (units class w body)) (rows_from (is_break class body) w 0 0 (units class w body))
   read-empty r none empty =
       let no_unit = row-empty passes w here behind s.columns s.last s.count s.since s.start.units r.scan none empty in
       sym (append-nil starts)
@@ -150,34 +189,81 @@ fits_of w c d h =
     (less, leb-true d w p.1)
 
 fits_not : (w c d : ℕ) → (nat_lt c w && nat_le d w) ≡ false → (w ≤ c) ⊎ (w < d)
-fits_not w c d h = ⊎_elim (λ less. ⊎_elim (λ past. inr past) (λ within. absurd (true≢false (sym (and_from (nat_lt c w) (nat_le d w) (lt-ltb c w less) (le-leb d w within)) ∙ h))) (cases_lt w d)) (λ full. inl full) (cases_lt c w)
+fits_not w c d h = ⊎_elim (λ less. ⊎_elim (λ past. inr past)
+    (λ within. absurd (true≢false (sym (and_from (nat_lt c w) (nat_le d w) (lt-ltb c w less) (le-leb d w within)) ∙ h))) (cases_lt w d)) (λ full. inl full)
+    (cases_lt c w)
 
 module _ (w : ℕ) (body : List ℕ) (e : Extent) (starts : List RowStart) (s : Scan) where
-  fits_extent : (class : ℕ → Class) (u : Unit) (rest : List Unit) → HasExtent class w body e u rest → (nat_lt s.columns w && nat_le (s.columns + columns_at w s.columns e.face) w) ≡ true → Fits w s.columns u
-  fits_extent class u rest x h = subst (λ n. (s.columns < w) × (s.columns + n ≤ w)) (sym (x.columns s.columns)) (fits_of w s.columns (s.columns + columns_at w s.columns e.face) h)
+  fits_extent : (class : ℕ → Class) (u : Unit) (rest : List Unit) → HasExtent class w body e u rest
+      → (nat_lt s.columns w && nat_le (s.columns + columns_at w s.columns e.face) w) ≡ true → Fits w s.columns u
+  fits_extent class u rest x h = subst (λ n. (s.columns < w) × (s.columns + n ≤ w)) (sym (x.columns s.columns))
+      (fits_of w s.columns (s.columns + columns_at w s.columns e.face) h)
 
-  none_extent : (class : ℕ → Class) (u : Unit) (rest : List Unit) → HasExtent class w body e u rest → (nat_lt s.columns w && nat_le (s.columns + columns_at w s.columns e.face) w) ≡ false → fitting_from w s.columns (u ∷ rest) ≡ 0
-  none_extent class u rest x h = none_fits w s.columns u rest (subst (λ n. (w ≤ s.columns) ⊎ (w < s.columns + n)) (sym (x.columns s.columns)) (fits_not w s.columns (s.columns + columns_at w s.columns e.face) h))
+  none_extent : (class : ℕ → Class) (u : Unit) (rest : List Unit) → HasExtent class w body e u rest
+      → (nat_lt s.columns w && nat_le (s.columns + columns_at w s.columns e.face) w) ≡ false → fitting_from w s.columns (u ∷ rest) ≡ 0
+  none_extent class u rest x h = none_fits w s.columns u rest
+      (subst (λ n. (w ≤ s.columns) ⊎ (w < s.columns + n)) (sym (x.columns s.columns)) (fits_not w s.columns (s.columns + columns_at w s.columns e.face) h))
 
-  pub takes-more : (nat_lt s.columns w && nat_le (s.columns + columns_at w s.columns e.face) w) ≡ true → e.is_break ≡ false → Takes w body e starts s starts (record { start = s.start; next = s.next; columns = s.columns + columns_at w s.columns e.face; last = s.last; count = s.count + 1; since = s.since + columns_at w s.since e.face })
+  pub takes-more : (nat_lt s.columns w && nat_le (s.columns + columns_at w s.columns e.face) w) ≡ true → e.is_break ≡ false
+      → Takes w body e starts s starts
+      (record {
+        start = s.start;
+        next = s.next;
+        columns = s.columns + columns_at w s.columns e.face;
+        last = s.last;
+        count = s.count + 1;
+        since = s.since + columns_at w s.since e.face;
+      })
   takes-more h no_break = λ class u rest x r.
-      subst (λ n. IsRead class w body starts (record { start = s.start; next = s.next; columns = s.columns + n; last = s.last; count = s.count + 1; since = s.since + columns_at w s.since e.face }) rest) (x.columns s.columns)
-      (subst (λ n. IsRead class w body starts (record { start = s.start; next = s.next; columns = s.columns + columns_at w s.columns u.face; last = s.last; count = s.count + 1; since = s.since + n }) rest) (x.columns s.since)
+      subst (λ n. IsRead class w body starts
+      (record {
+        start = s.start;
+        next = s.next;
+        columns = s.columns + n;
+        last = s.last;
+        count = s.count + 1;
+        since = s.since + columns_at w s.since e.face;
+      }) rest) (x.columns s.columns)
+      (subst (λ n. IsRead class w body starts
+      (record {
+        start = s.start;
+        next = s.next;
+        columns = s.columns + columns_at w s.columns u.face;
+        last = s.last;
+        count = s.count + 1;
+        since = s.since + n;
+      }) rest) (x.columns s.since)
       (read-more class w body starts s u rest r (fits_extent class u rest x h) (x.breaks ∙ no_break)))
 
-  pub takes-break : (nat_lt s.columns w && nat_le (s.columns + columns_at w s.columns e.face) w) ≡ true → e.is_break ≡ true → Takes w body e starts s starts (record { start = s.start; next = e.stop; columns = s.columns + columns_at w s.columns e.face; last = s.last + s.count + 1; count = 0; since = 0 })
+  pub takes-break : (nat_lt s.columns w && nat_le (s.columns + columns_at w s.columns e.face) w) ≡ true → e.is_break ≡ true
+      → Takes w body e starts s starts
+      (record { start = s.start; next = e.stop; columns = s.columns + columns_at w s.columns e.face; last = s.last + s.count + 1; count = 0; since = 0 })
   takes-break h may_end = λ class u rest x r.
-      subst (λ n. IsRead class w body starts (record { start = s.start; next = e.stop; columns = s.columns + n; last = s.last + s.count + 1; count = 0; since = 0 }) rest) (x.columns s.columns)
+      subst (λ n. IsRead class w body starts
+      (record { start = s.start; next = e.stop; columns = s.columns + n; last = s.last + s.count + 1; count = 0; since = 0 }) rest) (x.columns s.columns)
       (read-break class w body starts s u rest e.stop x.behind r (fits_extent class u rest x h) (x.breaks ∙ may_end))
 
-  pub takes-none : (new : List RowStart) (n : ℕ) → (nat_lt s.columns w && nat_le (s.columns + columns_at w s.columns e.face) w) ≡ false → s.last ≡ 0 → s.count ≡ 0 → n ≡ length (chars (take e.stop body)) → new ≡ starts ++ s.start ∷ [] → Takes w body e starts s new (new_scan (record { offset = e.stop; units = s.start.units + 1; chars = n }))
+  pub takes-none : (new : List RowStart) (n : ℕ) → (nat_lt s.columns w && nat_le (s.columns + columns_at w s.columns e.face) w) ≡ false → s.last ≡ 0
+      → s.count ≡ 0 → n ≡ length (chars (take e.stop body)) → new ≡ starts ++ s.start ∷ []
+      → Takes w body e starts s new (new_scan (record { offset = e.stop; units = s.start.units + 1; chars = n }))
   takes-none new n h none empty counted pushed = λ class u rest x r.
       read-none class w body starts s u rest e.stop n new x.behind r (none_extent class u rest x h) none empty counted pushed
 
-  pub takes-full : (new last : List RowStart) (n : ℕ) (t : Scan) → (nat_lt s.columns w && nat_le (s.columns + columns_at w s.columns e.face) w) ≡ false → s.last ≡ 0 → 0 < s.count → n ≡ length (chars (take e.start body)) → new ≡ starts ++ s.start ∷ [] → Takes w body e new (new_scan (record { offset = e.start; units = s.start.units + s.count; chars = n })) last t → Takes w body e starts s last t
+  pub takes-full : (new last : List RowStart) (n : ℕ) (t : Scan) → (nat_lt s.columns w && nat_le (s.columns + columns_at w s.columns e.face) w) ≡ false
+      → s.last ≡ 0 → 0 < s.count → n ≡ length (chars (take e.start body)) → new ≡ starts ++ s.start ∷ []
+      → Takes w body e new (new_scan (record { offset = e.start; units = s.start.units + s.count; chars = n })) last t → Takes w body e starts s last t
   takes-full new last n t h none some counted pushed later = λ class u rest x r.
       later class u rest x (read-full class w body starts s u rest e.start n new x.here r (none_extent class u rest x h) none some counted pushed)
 
-  pub takes-at-break : (new last : List RowStart) (n : ℕ) (t : Scan) → (nat_lt s.columns w && nat_le (s.columns + columns_at w s.columns e.face) w) ≡ false → 0 < s.last → n ≡ length (chars (take s.next body)) → new ≡ starts ++ s.start ∷ [] → Takes w body e new (record { start = record { offset = s.next; units = s.start.units + s.last; chars = n }; next = s.next; columns = s.since; last = 0; count = s.count; since = s.since }) last t → Takes w body e starts s last t
+  pub takes-at-break : (new last : List RowStart) (n : ℕ) (t : Scan) → (nat_lt s.columns w && nat_le (s.columns + columns_at w s.columns e.face) w) ≡ false
+      → 0 < s.last → n ≡ length (chars (take s.next body)) → new ≡ starts ++ s.start ∷ []
+      → Takes w body e new (record {
+        start = record { offset = s.next; units = s.start.units + s.last; chars = n };
+        next = s.next;
+        columns = s.since;
+        last = 0;
+        count = s.count;
+        since = s.since;
+      }) last t → Takes w body e starts s last t
   takes-at-break new last n t h some counted pushed later = λ class u rest x r.
       later class u rest x (read-at-break class w body starts s u rest n new r (none_extent class u rest x h) some counted pushed)

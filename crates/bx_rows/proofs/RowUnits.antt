@@ -1,5 +1,6 @@
 -- The units that rows are read from, and the starts of all rows once no unit is left.
-use Rattle.std.proofs.Common.{◌≡◌, ℕ, ◌+◌, ◌<◌, ◌≤◌, Bool, true, false, nat_lt, ◌==◌, List, [], ◌∷◌, map, length, length-append, length-take-le, take, drop, slice_range, Option, Some, None, refl, sym, ap, ◌∙◌, arith}
+use Rattle.std.proofs.Common.{◌≡◌, ℕ, ◌+◌, ◌<◌, ◌≤◌, Bool, true, false, nat_lt, ◌==◌, List, [], ◌∷◌, map, length, length-append, length-take-le, take, drop}
+use Rattle.std.proofs.Common.{slice_range, Option, Some, None, refl, sym, ap, ◌∙◌, arith}
 use Rattle.std.specs.Str.{chars, IsUtf8, IsCharBoundary}
 use Rattle.std.proofs.lemmas.Str.{chars-nil, chars-append, encodes-chars, length-le-encodes, IsUtf8-take}
 use Rattle.unicode_segmentation.proofs.TextLemmas.{take_split}
@@ -41,7 +42,8 @@ no_units class w [] h = refl
 no_units class w (g ∷ gs) h = cc
 
 -- the rows of a body that is not empty
-pub starts-of-some : (class : ℕ → Class) (w : ℕ) (body : List ℕ) (starts : List RowStart) → IsUtf8 body → 0 < length body → starts ≡ map (start_of body (units class w body)) (rows_from (is_break class body) w 0 0 (units class w body)) → starts ≡ row_starts class w body
+pub starts-of-some : (class : ℕ → Class) (w : ℕ) (body : List ℕ) (starts : List RowStart) → IsUtf8 body → 0 < length body
+    → starts ≡ map (start_of body (units class w body)) (rows_from (is_break class body) w 0 0 (units class w body)) → starts ≡ row_starts class w body
 starts-of-some class w body starts u some e =
     e ∙ ap (map (start_of body (units class w body))) (rows_are (is_break class body) w (units class w body)
     (λ none. omega (arith, some, ap length (no-cluster body u (no_units class w (graphemes true body) none)))))
@@ -59,7 +61,8 @@ pub chars-few : (xs : List ℕ) → IsUtf8 xs → length (chars xs) ≤ length x
 chars-few xs u = omega (arith, length-le-encodes (chars xs), ap length (encodes-chars xs u))
 
 -- the characters before an offset, counted from an earlier one
-pub chars-behind : (body : List ℕ) (from to : ℕ) → IsUtf8 body → IsCharBoundary body from → from ≤ to → length (chars (take to body)) ≡ length (chars (take from body)) + length (chars (slice_range body from to))
+pub chars-behind : (body : List ℕ) (from to : ℕ) → IsUtf8 body → IsCharBoundary body from → from ≤ to
+    → length (chars (take to body)) ≡ length (chars (take from body)) + length (chars (slice_range body from to))
 chars-behind body from to u b le =
     ap (λ x. length (chars x)) (take_split body from to le)
     ∙ ap length (chars-append (take from body) (slice_range body from to) (IsUtf8-take body from u b))

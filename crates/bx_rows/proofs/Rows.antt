@@ -86,7 +86,8 @@ unfolding unicode_segmentation unicode_width
 two_rows_levels = refl
 
 -- its pictures
-two_rows_pictures : pictures 5 (codes "a " ++ (alef ∷ bet ∷ []) ++ codes " " ++ (gimel ∷ [])) ≡ ((codes "a " ++ (bet ∷ alef ∷ []) ++ codes " ") ∷ ((gimel ∷ []) ++ codes "    ") ∷ [])
+two_rows_pictures : pictures 5 (codes "a " ++ (alef ∷ bet ∷ []) ++ codes " " ++ (gimel ∷ []))
+    ≡ ((codes "a " ++ (bet ∷ alef ∷ []) ++ codes " ") ∷ ((gimel ∷ []) ++ codes "    ") ∷ [])
 unfolding unicode_segmentation unicode_width
 two_rows_pictures = refl
 
@@ -171,12 +172,14 @@ unfolding unicode_segmentation unicode_width
 tab_between = refl
 
 -- aB((G)Ad)
-inner_pair_levels : levels 9 (codes "a" ++ (bet ∷ []) ++ codes "((" ++ (gimel ∷ []) ++ codes ")" ++ (alef ∷ []) ++ codes "d)") ≡ ((0 ∷ 1 ∷ 0 ∷ 0 ∷ 1 ∷ 0 ∷ 1 ∷ 0 ∷ 0 ∷ []) ∷ [])
+inner_pair_levels : levels 9 (codes "a" ++ (bet ∷ []) ++ codes "((" ++ (gimel ∷ []) ++ codes ")" ++ (alef ∷ []) ++ codes "d)")
+    ≡ ((0 ∷ 1 ∷ 0 ∷ 0 ∷ 1 ∷ 0 ∷ 1 ∷ 0 ∷ 0 ∷ []) ∷ [])
 unfolding unicode_segmentation unicode_width
 inner_pair_levels = refl
 
 -- its picture
-inner_pair : pictures 9 (codes "a" ++ (bet ∷ []) ++ codes "((" ++ (gimel ∷ []) ++ codes ")" ++ (alef ∷ []) ++ codes "d)") ≡ ((codes "a" ++ (bet ∷ []) ++ codes "((" ++ (gimel ∷ []) ++ codes ")" ++ (alef ∷ []) ++ codes "d)") ∷ [])
+inner_pair : pictures 9 (codes "a" ++ (bet ∷ []) ++ codes "((" ++ (gimel ∷ []) ++ codes ")" ++ (alef ∷ []) ++ codes "d)")
+    ≡ ((codes "a" ++ (bet ∷ []) ++ codes "((" ++ (gimel ∷ []) ++ codes ")" ++ (alef ∷ []) ++ codes "d)") ∷ [])
 unfolding unicode_segmentation unicode_width
 inner_pair = refl
 

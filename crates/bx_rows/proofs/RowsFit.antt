@@ -1,5 +1,6 @@
 -- The rows of units: each is a part of them that has no more columns than the window.
-use Rattle.std.proofs.Common.{◌≡◌, ℕ, zero, suc, ◌+◌, ◌-◌, ◌≤◌, ◌==◌, nat_lt, nat_le, ◌&&◌, Bool, true, false, List, [], ◌∷◌, length, take, drop, sum_by, refl, sym, subst, ap, ◌∙◌, arith, All, leb-true, length-drop}
+use Rattle.std.proofs.Common.{◌≡◌, ℕ, zero, suc, ◌+◌, ◌-◌, ◌≤◌, ◌==◌, nat_lt, nat_le, ◌&&◌, Bool, true, false, List, [], ◌∷◌, length, take, drop, sum_by, refl}
+use Rattle.std.proofs.Common.{sym, subst, ap, ◌∙◌, arith, All, leb-true, length-drop}
 use Rattle.std.proofs.lemmas.Bool.{and_parts}
 use Rattle.std.proofs.lemmas.List.{drop-drop}
 use Rattle.std.proofs.lemmas.List.Sums.{sum_by-cons}
@@ -20,14 +21,16 @@ len-either false x n h = omega arith
 
 fit-length : (w c : ℕ) (us : List Unit) → fitting_from w c us ≤ length us
 fit-length w c [] = omega arith
-fit-length w c (u ∷ us) = len-either (nat_lt c w && nat_le (c + columns_at w c u.face) w) (fitting_from w (c + columns_at w c u.face) us) (length us) (fit-length w (c + columns_at w c u.face) us)
+fit-length w c (u ∷ us) = len-either (nat_lt c w && nat_le (c + columns_at w c u.face) w) (fitting_from w (c + columns_at w c u.face) us) (length us)
+    (fit-length w (c + columns_at w c u.face) us)
 
 abbrev total : ℕ → ℕ → List Unit → ℕ
 total w c us = sum_by (λ m. m) (unit_columns w c us)
 
 fits-by : (w c n : ℕ) (u : Unit) (us : List Unit) (b : Bool) → (nat_lt c w && nat_le (c + columns_at w c u.face) w) ≡ b
     → suc n ≤ elim b [ true ↦ suc (fitting_from w (c + columns_at w c u.face) us) | false ↦ 0 ]
-    → (c + columns_at w c u.face ≤ w → n ≤ fitting_from w (c + columns_at w c u.face) us → c + columns_at w c u.face + total w (c + columns_at w c u.face) (take n us) ≤ w)
+    → (c + columns_at w c u.face ≤ w → n ≤ fitting_from w (c + columns_at w c u.face) us
+    → c + columns_at w c u.face + total w (c + columns_at w c u.face) (take n us) ≤ w)
     → c + total w c (u ∷ take n us) ≤ w
 fits-by w c n u us true e k rest =
     let p = and_parts (nat_lt c w) (nat_le (c + columns_at w c u.face) w) e in
@@ -38,7 +41,8 @@ fits-by w c n u us false e k rest = absurd (omega (arith, k))
 fits : (w c n : ℕ) (us : List Unit) → c ≤ w → n ≤ fitting_from w c us → c + total w c (take n us) ≤ w
 fits w c zero us h k = let none : total w c [] ≡ 0 = refl in omega (arith, h, none)
 fits w c (suc n) [] h k = let none : total w c [] ≡ 0 = refl in omega (arith, h, none)
-fits w c (suc n) (u ∷ us) h k = fits-by w c n u us (nat_lt c w && nat_le (c + columns_at w c u.face) w) refl k (λ end rest. fits w (c + columns_at w c u.face) n us end rest)
+fits w c (suc n) (u ∷ us) h k = fits-by w c n u us (nat_lt c w && nat_le (c + columns_at w c u.face) w) refl k
+    (λ end rest. fits w (c + columns_at w c u.face) n us end rest)
 
 fits-used : (w n : ℕ) (us : List Unit) → n ≤ fitting w us → used w (take n us) ≤ w
 fits-used w n us k =
@@ -76,7 +80,8 @@ row-within p w us =
     let last : up_to_last p (take n us) ≤ n = omega (arith, last-length p (take n us), take-length n us) in
     len-step (n == length us) (up_to_break p n us) n (break-step (up_to_last p (take n us)) n last)
 
-row-fits : (p : Unit → Bool) (w i : ℕ) (u : Unit) (us all : List Unit) → u ∷ us ≡ drop i all → IsRowOf w all (record { start = i; stop = i + row_len p w (u ∷ us) })
+row-fits : (p : Unit → Bool) (w i : ℕ) (u : Unit) (us all : List Unit) → u ∷ us ≡ drop i all
+    → IsRowOf w all (record { start = i; stop = i + row_len p w (u ∷ us) })
 row-fits p w i u us all e =
     let n = row_len p w (u ∷ us) in
     let within : n ≤ fitting w (u ∷ us) = row-within p w (u ∷ us) in
@@ -95,10 +100,12 @@ rows-fit p w i k [] all e = All-nil (IsRowOf w all)
 rows-fit p w i (suc k) (u ∷ us) all e = rows-fit p w (suc i) k us all (rest-of i u us all e)
 rows-fit p w i zero (u ∷ us) all e =
     let n = row_len p w (u ∷ us) in
-    All-cons (IsRowOf w all) (record { start = i; stop = i + n }) (rows_from p w (suc i) (n - 1) us) (row-fits p w i u us all e) (rows-fit p w (suc i) (n - 1) us all (rest-of i u us all e))
+    All-cons (IsRowOf w all) (record { start = i; stop = i + n }) (rows_from p w (suc i) (n - 1) us) (row-fits p w i u us all e)
+    (rows-fit p w (suc i) (n - 1) us all (rest-of i u us all e))
 
 wrapped-fit : (p : Unit → Bool) (w : ℕ) (us : List Unit) → All (IsRowOf w us) (rows_of p w us)
-wrapped-fit p w [] = let none : used w [] ≡ 0 = refl in All-cons (IsRowOf w []) (record { start = 0; stop = 0 }) [] (omega arith, omega arith, omega (arith, none)) (All-nil (IsRowOf w []))
+wrapped-fit p w [] = let none : used w [] ≡ 0 = refl in All-cons (IsRowOf w []) (record { start = 0; stop = 0 }) []
+    (omega arith, omega arith, omega (arith, none)) (All-nil (IsRowOf w []))
 wrapped-fit p w (u ∷ us) = rows-fit p w 0 0 (u ∷ us) (u ∷ us) refl
 
 pub fit_if_wrapped : (class : ℕ → Class) (w : ℕ) (body : List ℕ) (us : List Unit) (rs : List Row) → rs ≡ wrap class w body us → All (IsRowOf w us) rs

@@ -1,5 +1,6 @@
 -- Wrapping from unit to unit: what is known of the row that is being read, and how it ends.
-use Rattle.std.proofs.Common.{◌≡◌, ℕ, zero, suc, ◌+◌, max, ◌<◌, ◌≤◌, ◌==◌, ◌⊎◌, Bool, true, false, List, [], ◌∷◌, ◌++◌, length, take, drop, refl, sym, ap, ◌∙◌, arith, append_assoc, length-append, eq-eqb, ⊎_elim}
+use Rattle.std.proofs.Common.{◌≡◌, ℕ, zero, suc, ◌+◌, max, ◌<◌, ◌≤◌, ◌==◌, ◌⊎◌, Bool, true, false, List, [], ◌∷◌, ◌++◌, length, take, drop, refl, sym, ap, ◌∙◌}
+use Rattle.std.proofs.Common.{arith, append_assoc, length-append, eq-eqb, ⊎_elim}
 use Rattle.std.proofs.lemmas.List.{take_at, drop_at, drop_all}
 use Rattle.std.proofs.lemmas.Bool.{cases_lt}
 use Rattle.std.proofs.lemmas.Bool.Decides.{nat_tests}
@@ -54,7 +55,9 @@ scan-new p w rest = record {
 }
 
 -- one more unit fits, and no row may end after it
-pub scan-more : (p : Unit → Bool) (w : ℕ) (here behind : List Unit) (u : Unit) (rest : List Unit) (columns last count since : ℕ) → IsScan p w here behind (u ∷ rest) columns last count since → Fits w columns u → p u ≡ false → IsScan p w here behind rest (columns + columns_at w columns u.face) last (count + 1) (since + columns_at w since u.face)
+pub scan-more : (p : Unit → Bool) (w : ℕ) (here behind : List Unit) (u : Unit) (rest : List Unit) (columns last count since : ℕ)
+    → IsScan p w here behind (u ∷ rest) columns last count since → Fits w columns u → p u ≡ false
+    → IsScan p w here behind rest (columns + columns_at w columns u.face) last (count + 1) (since + columns_at w since u.face)
 scan-more p w here behind u rest columns last count since s f no_break =
     let joined : s.back ++ u ∷ rest ≡ (s.back ++ u ∷ []) ++ rest = sym (append_assoc s.back (u ∷ []) rest) in
     let less = s.less in
@@ -77,12 +80,15 @@ scan-more p w here behind u rest columns last count since s f no_break =
     }
 
 -- one more unit fits, and a row may end after it
-pub scan-break : (p : Unit → Bool) (w : ℕ) (here behind : List Unit) (u : Unit) (rest : List Unit) (columns last count since : ℕ) → IsScan p w here behind (u ∷ rest) columns last count since → Fits w columns u → p u ≡ true → IsScan p w here rest rest (columns + columns_at w columns u.face) (last + count + 1) 0 0
+pub scan-break : (p : Unit → Bool) (w : ℕ) (here behind : List Unit) (u : Unit) (rest : List Unit) (columns last count since : ℕ)
+    → IsScan p w here behind (u ∷ rest) columns last count since → Fits w columns u → p u ≡ true
+    → IsScan p w here rest rest (columns + columns_at w columns u.face) (last + count + 1) 0 0
 scan-break p w here behind u rest columns last count since s f is_break =
     let all = s.front ++ (s.back ++ u ∷ []) in
     let joined : s.front ++ (s.back ++ u ∷ rest) ≡ all ++ rest =
     ap (λ xs. s.front ++ xs) (sym (append_assoc s.back (u ∷ []) rest)) ∙ sym (append_assoc s.front (s.back ++ u ∷ []) rest) in
-    let counted : length all ≡ last + count + 1 = omega (arith, length-append s.front (s.back ++ u ∷ []), length-append s.back (u ∷ []), s.last_is, s.count_is) in
+    let counted : length all ≡ last + count + 1 =
+    omega (arith, length-append s.front (s.back ++ u ∷ []), length-append s.back (u ∷ []), s.last_is, s.count_is) in
     let step = fit_cons w columns u rest f.0 f.1 in
     record {
       front = all;
@@ -101,21 +107,22 @@ scan-break p w here behind u rest columns last count since s f is_break =
     }
 
 -- what is left behind the break, and behind all that was read
-module _ (p : Unit → Bool) (w : ℕ) (here behind rest : List Unit) (columns last count since : ℕ) (s : IsScan p w here behind rest columns last count since) where
-  scan-size : length (s.front ++ s.back) ≡ last + count
-  scan-size = omega (arith, length-append s.front s.back, s.last_is, s.count_is)
+module _ (p : Unit → Bool) (w : ℕ) (here behind rest : List Unit) (columns last count since : ℕ) (s : IsScan p w here behind rest columns last count since)
+  where
+    scan-size : length (s.front ++ s.back) ≡ last + count
+    scan-size = omega (arith, length-append s.front s.back, s.last_is, s.count_is)
 
-  scan-joined : here ≡ (s.front ++ s.back) ++ rest
-  scan-joined = s.here_is ∙ sym (append_assoc s.front s.back rest)
+    scan-joined : here ≡ (s.front ++ s.back) ++ rest
+    scan-joined = s.here_is ∙ sym (append_assoc s.front s.back rest)
 
-  pub drop-break : drop last here ≡ behind
-  drop-break = ap (drop last) s.here_is ∙ drop_at s.front (s.back ++ rest) last (sym s.last_is) ∙ sym s.behind_is
+    pub drop-break : drop last here ≡ behind
+    drop-break = ap (drop last) s.here_is ∙ drop_at s.front (s.back ++ rest) last (sym s.last_is) ∙ sym s.behind_is
 
-  pub drop-read : drop (last + count) here ≡ rest
-  drop-read = ap (drop (last + count)) scan-joined ∙ drop_at (s.front ++ s.back) rest (last + count) scan-size
+    pub drop-read : drop (last + count) here ≡ rest
+    drop-read = ap (drop (last + count)) scan-joined ∙ drop_at (s.front ++ s.back) rest (last + count) scan-size
 
-  pub scan-length : length here ≡ last + count + length rest
-  scan-length = omega (arith, ap length scan-joined, length-append (s.front ++ s.back) rest, scan-size)
+    pub scan-length : length here ≡ last + count + length rest
+    scan-length = omega (arith, ap length scan-joined, length-append (s.front ++ s.back) rest, scan-size)
 
 -- ---- the row's end
 
@@ -138,13 +145,15 @@ some-break : (n m : ℕ) → 0 < m → len_of n m ≡ m
 some-break n zero h = absurd (omega (arith, h))
 some-break n (suc k) h = refl
 
-row-turn : (p : Unit → Bool) (w i m : ℕ) (us behind : List Unit) → 0 < length us → row_len p w us ≡ m → drop (max m 1) us ≡ behind → rows_from p w i 0 us ≡ record { start = i; stop = i + m } ∷ rows_from p w (i + max m 1) 0 behind
+row-turn : (p : Unit → Bool) (w i m : ℕ) (us behind : List Unit) → 0 < length us → row_len p w us ≡ m → drop (max m 1) us ≡ behind
+    → rows_from p w i 0 us ≡ record { start = i; stop = i + m } ∷ rows_from p w (i + max m 1) 0 behind
 row-turn p w i m us behind some len left =
     rows_turn p w i us some
     ∙ ap (λ k. record { start = i; stop = i + k } ∷ rows_from p w (i + max k 1) 0 (drop (max k 1) us)) len
     ∙ ap (λ xs. record { start = i; stop = i + m } ∷ rows_from p w (i + max m 1) 0 xs) left
 
-module _ (p : Unit → Bool) (w : ℕ) (here behind : List Unit) (u : Unit) (rest : List Unit) (columns last count since : ℕ) (s : IsScan p w here behind (u ∷ rest) columns last count since) where
+module _ (p : Unit → Bool) (w : ℕ) (here behind : List Unit) (u : Unit) (rest : List Unit) (columns last count since : ℕ)
+    (s : IsScan p w here behind (u ∷ rest) columns last count since) where
   some-here : 0 < length here
   some-here = let size = scan-length p w here behind (u ∷ rest) columns last count since s in omega (arith, size)
 
@@ -159,7 +168,8 @@ module _ (p : Unit → Bool) (w : ℕ) (here behind : List Unit) (u : Unit) (res
       ∙ break-at p n here last (ap (up_to_last p) taken ∙ none-append p s.front s.back s.none ∙ s.ends ∙ sym s.last_is)
 
   -- it ends at its last break
-  pub row-at-break : fitting_from w columns (u ∷ rest) ≡ 0 → (i : ℕ) → 0 < last → rows_from p w i 0 here ≡ record { start = i; stop = i + last } ∷ rows_from p w (i + last) 0 behind
+  pub row-at-break : fitting_from w columns (u ∷ rest) ≡ 0 → (i : ℕ) → 0 < last
+      → rows_from p w i 0 here ≡ record { start = i; stop = i + last } ∷ rows_from p w (i + last) 0 behind
   row-at-break full i some =
       let one : max last 1 ≡ last = omega (arith, some) in
       row-turn p w i last here behind some-here (len-scan full ∙ some-break (last + count) last some)
@@ -183,7 +193,8 @@ module _ (p : Unit → Bool) (w : ℕ) (here behind : List Unit) (u : Unit) (res
   }
 
   -- it has no break, and ends where it is full
-  pub row-full : fitting_from w columns (u ∷ rest) ≡ 0 → (i : ℕ) → last ≡ 0 → 0 < count → rows_from p w i 0 here ≡ record { start = i; stop = i + count } ∷ rows_from p w (i + count) 0 (u ∷ rest)
+  pub row-full : fitting_from w columns (u ∷ rest) ≡ 0 → (i : ℕ) → last ≡ 0 → 0 < count
+      → rows_from p w i 0 here ≡ record { start = i; stop = i + count } ∷ rows_from p w (i + count) 0 (u ∷ rest)
   row-full full i none some =
       let sum : last + count ≡ count = omega (arith, none) in
       let one : max count 1 ≡ last + count = omega (arith, some, none) in
@@ -193,14 +204,16 @@ module _ (p : Unit → Bool) (w : ℕ) (here behind : List Unit) (u : Unit) (res
       ∙ ap (λ n. record { start = i; stop = i + count } ∷ rows_from p w (i + n) 0 (u ∷ rest)) more
 
   -- it has no unit, and goes on behind the one that is too wide
-  pub row-none : fitting_from w columns (u ∷ rest) ≡ 0 → (i : ℕ) → last ≡ 0 → count ≡ 0 → rows_from p w i 0 here ≡ record { start = i; stop = i + 0 } ∷ rows_from p w (i + 1) 0 rest
+  pub row-none : fitting_from w columns (u ∷ rest) ≡ 0 → (i : ℕ) → last ≡ 0 → count ≡ 0
+      → rows_from p w i 0 here ≡ record { start = i; stop = i + 0 } ∷ rows_from p w (i + 1) 0 rest
   row-none full i none empty =
       let sum : last + count ≡ 0 = omega (arith, none, empty) in
       let whole : here ≡ u ∷ rest = ap (λ n. drop n here) (sym sum) ∙ drop-read p w here behind (u ∷ rest) columns last count since s in
       row-turn p w i 0 here rest some-here (len-scan full ∙ ap (len_of (last + count)) none ∙ sum) (ap (drop 1) whole)
 
 -- no unit is left: the row has all of its units
-pub row-last : (p : Unit → Bool) (w : ℕ) (here behind : List Unit) (columns last count since i : ℕ) → IsScan p w here behind [] columns last count since → 0 < last + count → rows_from p w i 0 here ≡ record { start = i; stop = i + (last + count) } ∷ []
+pub row-last : (p : Unit → Bool) (w : ℕ) (here behind : List Unit) (columns last count since i : ℕ) → IsScan p w here behind [] columns last count since
+    → 0 < last + count → rows_from p w i 0 here ≡ record { start = i; stop = i + (last + count) } ∷ []
 row-last p w here behind columns last count since i s some =
     let n = last + count in
     let size : length here ≡ n = scan-length p w here behind [] columns last count since s ∙ omega arith in
@@ -211,7 +224,8 @@ row-last p w here behind columns last count since i s some =
     row-turn p w i n here [] (omega (arith, size, some)) len (drop_all (max n 1) here (omega (arith, size)))
 
 -- and where it has none, there is no row
-pub row-empty : (p : Unit → Bool) (w : ℕ) (here behind : List Unit) (columns last count since i : ℕ) → IsScan p w here behind [] columns last count since → last ≡ 0 → count ≡ 0 → here ≡ []
+pub row-empty : (p : Unit → Bool) (w : ℕ) (here behind : List Unit) (columns last count since i : ℕ) → IsScan p w here behind [] columns last count since
+    → last ≡ 0 → count ≡ 0 → here ≡ []
 row-empty p w here behind columns last count since i s none empty =
     let sum : last + count ≡ 0 = omega (arith, none, empty) in
     ap (λ n. drop n here) (sym sum) ∙ drop-read p w here behind [] columns last count since s

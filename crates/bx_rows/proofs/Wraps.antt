@@ -1,5 +1,6 @@
 -- Steps of wrapping.
-use Rattle.std.proofs.Common.{◌≡◌, ℕ, zero, suc, ◌+◌, ◌-◌, max, ◌<◌, ◌≤◌, nat_lt, nat_le, ◌&&◌, Bool, true, false, List, [], ◌∷◌, length, get_or, drop, refl, sym, ap, ◌∙◌, arith}
+use Rattle.std.proofs.Common.{◌≡◌, ℕ, zero, suc, ◌+◌, ◌-◌, max, ◌<◌, ◌≤◌, nat_lt, nat_le, ◌&&◌, Bool, true, false, List, [], ◌∷◌, length, get_or, drop, refl}
+use Rattle.std.proofs.Common.{sym, ap, ◌∙◌, arith}
 use Rattle.std.proofs.lemmas.List.{at_drop_more}
 use Rattle.std.proofs.Math.Seq.{drop-length}
 use Rattle.std.proofs.lemmas.Bool.{lt-ltb, le-leb}
@@ -19,10 +20,13 @@ rows_taken p w i (suc k) [] = refl
 rows_taken p w i (suc k) (u ∷ us) = let e : suc i + k ≡ i + suc k = omega arith in rows_taken p w (suc i) k us ∙ ap (λ j. rows_from p w j 0 (drop k us)) e
 
 -- one step, by the answers of its two tests
-fit_step : (w c : ℕ) (u : Unit) (us : List Unit) (a b : Bool) → nat_lt c w ≡ a → nat_le (c + columns_at w c u.face) w ≡ b → fitting_from w c (u ∷ us) ≡ elim (a && b) [ true ↦ suc (fitting_from w (c + columns_at w c u.face) us) | false ↦ 0 ]
-fit_step w c u us a b d e = ap (λ t. elim t [ true ↦ suc (fitting_from w (c + columns_at w c u.face) us) | false ↦ 0 ]) (ap (λ x. x && nat_le (c + columns_at w c u.face) w) d ∙ ap (λ y. a && y) e)
+fit_step : (w c : ℕ) (u : Unit) (us : List Unit) (a b : Bool) → nat_lt c w ≡ a → nat_le (c + columns_at w c u.face) w ≡ b
+    → fitting_from w c (u ∷ us) ≡ elim (a && b) [ true ↦ suc (fitting_from w (c + columns_at w c u.face) us) | false ↦ 0 ]
+fit_step w c u us a b d e = ap (λ t. elim t [ true ↦ suc (fitting_from w (c + columns_at w c u.face) us) | false ↦ 0 ])
+    (ap (λ x. x && nat_le (c + columns_at w c u.face) w) d ∙ ap (λ y. a && y) e)
 
-pub fit_cons : (w c : ℕ) (u : Unit) (us : List Unit) → c < w → c + columns_at w c u.face ≤ w → fitting_from w c (u ∷ us) ≡ suc (fitting_from w (c + columns_at w c u.face) us)
+pub fit_cons : (w c : ℕ) (u : Unit) (us : List Unit) → c < w → c + columns_at w c u.face ≤ w
+    → fitting_from w c (u ∷ us) ≡ suc (fitting_from w (c + columns_at w c u.face) us)
 fit_cons w c u us h k = fit_step w c u us true true (lt-ltb c w h) (le-leb _ w k)
 
 fit_none : (w c : ℕ) (u : Unit) (us : List Unit) → c < w → w < c + columns_at w c u.face → fitting_from w c (u ∷ us) ≡ 0
@@ -32,7 +36,8 @@ fit_full : (w c : ℕ) (us : List Unit) → w ≤ c → fitting_from w c us ≡ 
 fit_full w c [] h = refl
 fit_full w c (u ∷ us) h = fit_step w c u us false (nat_le (c + columns_at w c u.face) w) (grind (arith, leb_tells)) refl
 
-pub fits_more : (us : List Unit) (w c i : ℕ) → i < length us → c < w → c + columns_at w c (get_or us i no_unit).face ≤ w → fitting_from w c (drop i us) ≡ 1 + fitting_from w (c + columns_at w c (get_or us i no_unit).face) (drop (i + 1) us)
+pub fits_more : (us : List Unit) (w c i : ℕ) → i < length us → c < w → c + columns_at w c (get_or us i no_unit).face ≤ w
+    → fitting_from w c (drop i us) ≡ 1 + fitting_from w (c + columns_at w c (get_or us i no_unit).face) (drop (i + 1) us)
 fits_more us w c i h k m = at_drop_more (fitting_from w c) us i no_unit h ∙ fit_cons w c (get_or us i no_unit) (drop (i + 1) us) k m ∙ omega arith
 
 pub fits_no_more : (us : List Unit) (w c i : ℕ) → i < length us → c < w → w < c + columns_at w c (get_or us i no_unit).face → fitting_from w c (drop i us) ≡ 0
@@ -45,7 +50,8 @@ pub fits_all : (us : List Unit) (w c : ℕ) → fitting_from w c (drop (length u
 fits_all us w c = rw drop-length
 
 -- the next row, and those behind it
-pub rows_turn : (p : Unit → Bool) (w i : ℕ) (us : List Unit) → 0 < length us → rows_from p w i 0 us ≡ record { start = i; stop = i + row_len p w us } ∷ rows_from p w (i + max (row_len p w us) 1) 0 (drop (max (row_len p w us) 1) us)
+pub rows_turn : (p : Unit → Bool) (w i : ℕ) (us : List Unit) → 0 < length us
+    → rows_from p w i 0 us ≡ record { start = i; stop = i + row_len p w us } ∷ rows_from p w (i + max (row_len p w us) 1) 0 (drop (max (row_len p w us) 1) us)
 rows_turn p w i [] h = absurd (omega arith)
 rows_turn p w i (u ∷ us) h =
     let n = row_len p w (u ∷ us) in

@@ -1,5 +1,6 @@
 -- What a row shows: the glyphs of its units in visual order, mirrored where the level is odd (L4), and blanks up to the edge.
-use Rattle.std.specs.Prelude.{ℕ, zero, suc, ◌+◌, ◌-◌, ◌%◌, ◌==◌, Bool, true, false, List, [], ◌∷◌, ◌++◌, map, sum, flat_map, replicate, slice_index_or, Option, unwrap_or, chars, encode_utf8_all}
+use Rattle.std.specs.Prelude.{ℕ, zero, suc, ◌+◌, ◌-◌, ◌%◌, ◌==◌, Bool, true, false, List, [], ◌∷◌, ◌++◌, map, sum, flat_map, replicate, slice_index_or, Option}
+use Rattle.std.specs.Prelude.{unwrap_or, chars, encode_utf8_all}
 use Rattle.std.specs.List.{zip}
 use Rattle.bx_terms.specs.Characters.{are_ascii_printable}
 use Rattle.bx_ucd.specs.declared.class.Class.{Class}

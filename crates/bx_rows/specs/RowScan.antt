@@ -47,7 +47,8 @@ pub record IsRead (class : ℕ → Class) (w : ℕ) (body : List ℕ) (starts : 
   pub scan : IsScan (is_break class body) w (units_from class w body s.start.offset) (units_from class w body s.next) rest s.columns s.last s.count s.since
   pub number : drop s.start.units (units class w body) ≡ units_from class w body s.start.offset
   pub chars : s.start.chars ≡ length (chars (take s.start.offset body))
-  pub done : starts ++ map (start_of body (units class w body)) (rows_from (is_break class body) w s.start.units 0 (units_from class w body s.start.offset)) ≡ map (start_of body (units class w body)) (rows_from (is_break class body) w 0 0 (units class w body))
+  pub done : starts ++ map (start_of body (units class w body)) (rows_from (is_break class body) w s.start.units 0 (units_from class w body s.start.offset))
+      ≡ map (start_of body (units class w body)) (rows_from (is_break class body) w 0 0 (units class w body))
 
 -- a row of which nothing is read
 abbrev pub new_scan : RowStart → Scan
@@ -63,7 +64,8 @@ pub record HasExtent (class : ℕ → Class) (w : ℕ) (body : List ℕ) (e : Ex
 -- the starts and the row that is being read, before and behind a unit of this extent
 abbrev pub Takes : ℕ → List ℕ → Extent → List RowStart → Scan → List RowStart → Scan → Type 0
 Takes w body e starts s new t =
-    (class : ℕ → Class) (u : Unit) (rest : List Unit) → HasExtent class w body e u rest → IsRead class w body starts s (u ∷ rest) → IsRead class w body new t rest
+    (class : ℕ → Class) (u : Unit) (rest : List Unit) → HasExtent class w body e u rest → IsRead class w body starts s (u ∷ rest)
+    → IsRead class w body new t rest
 
 -- a unit of the extent stands in a body
 pub record HasUnit (class : ℕ → Class) (w : ℕ) (body : List ℕ) (e : Extent) : Type 0 where

@@ -1,5 +1,6 @@
 -- Characters put one after another in a grid of blanks, and the rows that they make.
-use Rattle.std.proofs.Common.{◌≡◌, ℕ, ◌+◌, ◌-◌, ◌*◌, ◌/◌, ◌%◌, ◌<◌, ◌≤◌, Bool, true, false, nat_le, List, [], ◌∷◌, ◌++◌, length, take, drop, replicate, get_or, zero, suc, refl, ap, sym, ◌∙◌, append_assoc, length-append, arith, if◌then◌else◌, ◌⊎◌, inl, inr}
+use Rattle.std.proofs.Common.{◌≡◌, ℕ, ◌+◌, ◌-◌, ◌*◌, ◌/◌, ◌%◌, ◌<◌, ◌≤◌, Bool, true, false, nat_le, List, [], ◌∷◌, ◌++◌, length, take, drop, replicate, get_or}
+use Rattle.std.proofs.Common.{zero, suc, refl, ap, sym, ◌∙◌, append_assoc, length-append, arith, if◌then◌else◌, ◌⊎◌, inl, inr}
 use Rattle.std.specs.List.{list_all}
 use Rattle.std.proofs.Math.Seq.{take-add}
 use Rattle.std.proofs.Math.Nat.{div-add-mod}
@@ -31,7 +32,8 @@ next_is_blank total i k text bytes inside room at one =
     let count : length (run (take i text)) ≡ i = length-run i text (omega arith) in
     blank_next (run (take i text)) k (run_width bytes) (total - i) (at ∙ sym count) (omega (arith, one))
 
-pub drawn : (total i k : ℕ) (text bytes : List ℕ) → i < length text → length text ≤ total → k ≡ i → bytes ≡ get_or text i 0 ∷ [] → is_ascii_printable (get_or text i 0) ≡ true
+pub drawn : (total i k : ℕ) (text bytes : List ℕ) → i < length text → length text ≤ total → k ≡ i → bytes ≡ get_or text i 0 ∷ []
+    → is_ascii_printable (get_or text i 0) ≡ true
     → paste (run (take i text) ++ blanks (total - i)) k (run_columns false bytes) ≡ run (take (i + 1) text) ++ blanks (total - (i + 1))
 drawn total i k text bytes inside room at is printed =
     let b = get_or text i 0 in
@@ -77,7 +79,8 @@ joined : (a b : List ℕ) (w k : ℕ) → length a ≤ w → length b ≤ k → 
 joined a b w k fits fits' (inl full) =
     let none : w - length a ≡ 0 = omega arith in
     let rest : (w + k) - length (a ++ b) ≡ k - length b = omega (arith, length-append a b) in
-    rw (none, rest) (ap (λ xs. xs ++ (run b ++ blanks (k - length b))) (append-nil (run a)) ∙ sym (append_assoc (run a) (run b) (blanks (k - length b))) ∙ ap (λ xs. xs ++ blanks (k - length b)) (sym (map-append _ a b)))
+    rw (none, rest) (ap (λ xs. xs ++ (run b ++ blanks (k - length b))) (append-nil (run a)) ∙ sym (append_assoc (run a) (run b) (blanks (k - length b)))
+    ∙ ap (λ xs. xs ++ blanks (k - length b)) (sym (map-append _ a b)))
 joined a b w k fits fits' (inr last) =
     let rest : (w - length a) + k ≡ (w + k) - length a = omega arith in
     let whole : k - 0 ≡ k = omega arith in
@@ -102,14 +105,16 @@ rows_filled w (suc count) text =
     let more : suc count * w ≡ w + count * w = omega arith in
     rw more
     (ap (λ xs. row_columns w (take w text) ++ xs) (rows_filled w count (drop w text))
-    ∙ joined (take w text) (take (count * w) (drop w text)) w (count * w) (at_most w text) (at_most (count * w) (drop w text)) (full_or_last w (count * w) text (nat_le w (length text)) refl)
+    ∙ joined (take w text) (take (count * w) (drop w text)) w (count * w) (at_most w text) (at_most (count * w) (drop w text))
+    (full_or_last w (count * w) text (nat_le w (length text)) refl)
     ∙ ap (filled (w + count * w)) (sym (take-add w (count * w) text)))
 
 -- blank rows after them
 pub filled_more : (a b : ℕ) (text : List ℕ) → length text ≤ a → filled (a + b) text ≡ filled a text ++ blanks b
 filled_more a b text fits =
     let e : (a + b) - length text ≡ (a - length text) + b = omega arith in
-    rw e (ap (λ xs. run text ++ xs) (sym (replicate-append-replicate (a - length text) b blank)) ∙ sym (append_assoc (run text) (blanks (a - length text)) (blanks b)))
+    rw e (ap (λ xs. run text ++ xs) (sym (replicate-append-replicate (a - length text) b blank))
+    ∙ sym (append_assoc (run text) (blanks (a - length text)) (blanks b)))
 
 pub text_columns : (h t w : ℕ) (text : List ℕ) → t ≤ h
     → filled (h * w) (take (t * w) text) ≡ rows_columns w t text ++ blanks ((h - t) * w)

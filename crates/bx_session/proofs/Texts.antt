@@ -12,14 +12,16 @@ pub printable-take : (k : ℕ) (xs : List ℕ) → list_all is_ascii_printable x
 printable-take zero xs h = refl
 printable-take (suc k) [] h = refl
 printable-take (suc k) (x ∷ xs) h =
-    rw (and_left (is_ascii_printable x) (list_all is_ascii_printable xs) h) (printable-take k xs (and_right (is_ascii_printable x) (list_all is_ascii_printable xs) h))
+    rw (and_left (is_ascii_printable x) (list_all is_ascii_printable xs) h)
+    (printable-take k xs (and_right (is_ascii_printable x) (list_all is_ascii_printable xs) h))
 
 pub printable-drop : (k : ℕ) (xs : List ℕ) → list_all is_ascii_printable xs ≡ true → list_all is_ascii_printable (drop k xs) ≡ true
 printable-drop zero xs h = h
 printable-drop (suc k) [] h = refl
 printable-drop (suc k) (x ∷ xs) h = printable-drop k xs (and_right (is_ascii_printable x) (list_all is_ascii_printable xs) h)
 
-printable-append : (xs ys : List ℕ) → list_all is_ascii_printable xs ≡ true → list_all is_ascii_printable ys ≡ true → list_all is_ascii_printable (xs ++ ys) ≡ true
+printable-append : (xs ys : List ℕ) → list_all is_ascii_printable xs ≡ true → list_all is_ascii_printable ys ≡ true
+    → list_all is_ascii_printable (xs ++ ys) ≡ true
 printable-append xs ys h k = rw (list_all-append is_ascii_printable xs ys, h, k) refl
 
 pub IsEditor-typed : (e : EditorState) (b : ℕ) → IsEditor e → is_ascii_printable b ≡ true → length e.text < largest_text
@@ -29,7 +31,8 @@ IsEditor-typed e b h p room =
     record {
       inside = omega (arith, count, h.inside);
       short = omega (arith, count);
-      printable = printable-append (take e.place e.text) (b ∷ drop e.place e.text) (printable-take e.place e.text h.printable) (rw (p, printable-drop e.place e.text h.printable) refl);
+      printable = printable-append (take e.place e.text) (b ∷ drop e.place e.text) (printable-take e.place e.text h.printable)
+          (rw (p, printable-drop e.place e.text h.printable) refl);
       sized = h.sized;
     }
 
@@ -40,6 +43,7 @@ IsEditor-erased e place h before =
     record {
       inside = omega (arith, count, h.inside);
       short = omega (arith, count, h.short);
-      printable = printable-append (take place e.text) (drop (suc place) e.text) (printable-take place e.text h.printable) (printable-drop (suc place) e.text h.printable);
+      printable = printable-append (take place e.text) (drop (suc place) e.text) (printable-take place e.text h.printable)
+          (printable-drop (suc place) e.text h.printable);
       sized = h.sized;
     }

@@ -1,5 +1,6 @@
 -- Feeding, writing and reading in turns.
-use Rattle.std.proofs.Common.{◌≡◌, ◌≢◌, ℕ, ◌+◌, ◌<◌, ◌≤◌, Bool, true, false, List, [], ◌∷◌, ◌++◌, length, take, drop, Option, Some, None, Result, Ok, Err, refl, sym, ap, subst, ◌∙◌, append_assoc, if◌then◌else◌, arith}
+use Rattle.std.proofs.Common.{◌≡◌, ◌≢◌, ℕ, ◌+◌, ◌<◌, ◌≤◌, Bool, true, false, List, [], ◌∷◌, ◌++◌, length, take, drop, Option, Some, None, Result, Ok, Err, refl}
+use Rattle.std.proofs.Common.{sym, ap, subst, ◌∙◌, append_assoc, if◌then◌else◌, arith}
 use Rattle.std.specs.Io.KnownBytes.{Appends, Consumes, Keeps}
 use Rattle.std.proofs.KnownBytes.{Consumes-nil, Consumes-trans, Consumes-kept, Appends-nil, Appends-trans, Appends-kept}
 use Rattle.std.proofs.lemmas.List.{append-nil, length-append, map-append, take-append-drop, length-drop}
@@ -32,18 +33,21 @@ fed_either : (idle : Bool) (p : List ℕ) (s : SessionState) (b : ℕ)
 fed_either true p s b = refl
 fed_either false p s b = ap repainted (key_applied-prefixed p s (key_of_byte s b)) ∙ repainted-prefixed p (byte_applied s b)
 
-Feeds-prefixed : (p : List ℕ) (s : SessionState) (b : ℕ) (a : Result Status Refused) (s' : SessionState) → Feeds s b a s' → Feeds (prefixed p s) b a (prefixed p s')
+Feeds-prefixed : (p : List ℕ) (s : SessionState) (b : ℕ) (a : Result Status Refused) (s' : SessionState) → Feeds s b a s'
+    → Feeds (prefixed p s) b a (prefixed p s')
 Feeds-prefixed p s b (Ok status) s' h = (ap (prefixed p) h.0 ∙ sym (fed_either (is_idle s b) p s b), h.1)
 Feeds-prefixed p s b (Err Edit) s' h = (ap (prefixed p) h.0, h.1)
 Feeds-prefixed p s b (Err Paint) s' h =
     (ap (prefixed p) h.0 ∙ ap (λ (x : SessionState). record x { painting_owed = true }) (sym (key_applied-prefixed p s (key_of_byte s b))), h.1)
 
-FeedsAll-prefixed : (p : List ℕ) (s : SessionState) (answered : List Answered) (s' : SessionState) → FeedsAll s answered s' → FeedsAll (prefixed p s) answered (prefixed p s')
+FeedsAll-prefixed : (p : List ℕ) (s : SessionState) (answered : List Answered) (s' : SessionState) → FeedsAll s answered s'
+    → FeedsAll (prefixed p s) answered (prefixed p s')
 FeedsAll-prefixed p s [] s' h = ap (prefixed p) h
 FeedsAll-prefixed p s (a ∷ answered) s' h =
     (prefixed p h.0, h.1, Feeds-prefixed p s a.0 a.1 h.0 h.2, FeedsAll-prefixed p h.0 answered s' h.3)
 
-FeedsAll-append : (s : SessionState) (first second : List Answered) (m s' : SessionState) → FeedsAll s first m → FeedsAll m second s' → FeedsAll s (first ++ second) s'
+FeedsAll-append : (s : SessionState) (first second : List Answered) (m s' : SessionState) → FeedsAll s first m → FeedsAll m second s'
+    → FeedsAll s (first ++ second) s'
 FeedsAll-append s [] second m s' h k = subst (λ (x : SessionState). FeedsAll x second s') h k
 FeedsAll-append s (a ∷ first) second m s' h k = (h.0, h.1, h.2, FeedsAll-append h.0 first second m s' h.3 k)
 
@@ -92,7 +96,8 @@ took s s1 w w1 count buffer is written e =
     let rest : s1.pending ≡ drop count s.pending = ap (λ (x : SessionState). x.pending) e in
     record {
       writes = written;
-      order = sym (take-append-drop count s.pending) ∙ ap (λ xs. take count xs ++ drop count s.pending) (sym is) ∙ ap (λ xs. take count buffer ++ xs) (sym rest);
+      order = sym (take-append-drop count s.pending) ∙ ap (λ xs. take count xs ++ drop count s.pending) (sym is)
+          ∙ ap (λ xs. take count buffer ++ xs) (sym rest);
       session = e ∙ ap (λ (q : List ℕ). record s { pending = q }) (sym rest);
     }
 
@@ -113,13 +118,15 @@ none_dropped : (dropped : List ℕ) (ended : Bool) → (dropped ≢ [] → ended
 none_dropped [] ended h running = refl
 none_dropped (x ∷ dropped) ended h running = absurd (let e : ended ≡ true = h (λ q. absurd (cc q)) in cc e)
 
-pub turned : (old s s2 s3 : SessionState) (r r1 r2 w w1 w2 : Option (List ℕ)) (answered answered' : List Answered) (dropped dropped' written written' bytes : List ℕ) (all : SessionState)
+pub turned : (old s s2 s3 : SessionState) (r r1 r2 w w1 w2 : Option (List ℕ)) (answered answered' : List Answered)
+    (dropped dropped' written written' bytes : List ℕ) (all : SessionState)
     → HasRun old s r r1 w w1 answered dropped written all → s.pending ≡ [] → s.editor.ended ≡ false → Consumes r1 r2 bytes
     → FedUntilEnd s bytes s2 answered' dropped' → Sent s2 s3 w1 w2 written'
     → HasRun old s3 r r2 w w2 (answered ++ answered') dropped' (written ++ written') (prefixed all.pending s2)
 turned old s s2 s3 r r1 r2 w w1 w2 answered answered' dropped dropped' written written' bytes all run empty running reads feeds sends =
     let same : prefixed all.pending s ≡ all =
-    ap (prefixed all.pending) run.session ∙ ap (λ (q : List ℕ). record all { pending = all.pending ++ q }) empty ∙ ap (λ (q : List ℕ). record all { pending = q }) (append-nil all.pending) in
+    ap (prefixed all.pending) run.session ∙ ap (λ (q : List ℕ). record all { pending = all.pending ++ q }) empty
+    ∙ ap (λ (q : List ℕ). record all { pending = q }) (append-nil all.pending) in
     let none : dropped ≡ [] = none_dropped dropped s.editor.ended (λ some. ap (λ (x : SessionState). x.editor.ended) run.session ∙ run.drops some) running in
     let read : (bytes_of answered ++ dropped) ++ bytes ≡ bytes_of (answered ++ answered') ++ dropped' =
     ap (λ xs. (bytes_of answered ++ xs) ++ bytes) none

@@ -1,6 +1,7 @@
 -- The editor's state, and what each key makes of it: one line of characters from SPACE to TILDE.
 pub use Rattle.bx_terms.specs.Sizes.{largest_text}
-use Rattle.std.specs.Prelude.{ℕ, ◌+◌, ◌-◌, ◌≡◌, ◌≤◌, Bool, true, false, not, ◌||◌, nat_lt, ◌==◌, List, length, insert, remove, Option, Some, None, if◌then◌else◌}
+use Rattle.std.specs.Prelude.{ℕ, ◌+◌, ◌-◌, ◌≡◌, ◌≤◌, Bool, true, false, not, ◌||◌, nat_lt, ◌==◌, List, length, insert, remove, Option, Some, None}
+use Rattle.std.specs.Prelude.{if◌then◌else◌}
 use Rattle.std.specs.List.{list_all}
 use Rattle.bx_grid.specs.Columns.{is_ascii_printable}
 use Rattle.bx_grid.specs.Picture.{is_size}

@@ -1,7 +1,7 @@
 //! Worked rows of the three files, printed texts, and Unicode's own lines.
 
-use bx_ucd::{BidiData, Cause, Class, Side, Tables, UcdFile};
-use std::alloc::Global;
+use bx_ucd::{BidiData, Cause, Class, Side, Tables, UcdError, UcdFile};
+use std::alloc::{AllocError, Global};
 use std::test::Fail;
 
 /// The answer of `class` through the trait.

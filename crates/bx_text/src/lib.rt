@@ -13,4 +13,3 @@ pub use change::Change;
 pub use error::TextError;
 pub use slices::Slices;
 pub use text::Text;
-

@@ -19,15 +19,19 @@ none_by : {V : Type 0} (same : Bool) (v : V) (old : Option V) → same ≡ false
 none_by true v old e n = absurd (cc)
 none_by false v old e n = n
 
-other : (noted : List Bool) (bracket code : ℕ) (b : Bool) → (bracket == code) ≡ b → bracket % 8192 < length noted → get_or (set noted (bracket % 8192) true) (code % 8192) true ≡ false → b ≡ false
+other : (noted : List Bool) (bracket code : ℕ) (b : Bool) → (bracket == code) ≡ b → bracket % 8192 < length noted
+    → get_or (set noted (bracket % 8192) true) (code % 8192) true ≡ false → b ≡ false
 other noted bracket code true e h f =
     let s : bracket ≡ code = eqb-true bracket code e in
     let put : get_or (set noted (bracket % 8192) true) (bracket % 8192) true ≡ true = get_or-set_same noted (bracket % 8192) true true h in
-    let here : get_or (set noted (bracket % 8192) true) (code % 8192) true ≡ true = ap (λ n. get_or (set noted (bracket % 8192) true) (n % 8192) true) (sym s) ∙ put in
+    let here : get_or (set noted (bracket % 8192) true) (code % 8192) true ≡ true = ap (λ n. get_or (set noted (bracket % 8192) true) (n % 8192) true) (sym s)
+    ∙ put in
     absurd (cc)
 other noted bracket code false e h f = refl
 
-pub noted_more : {V : Type 0} (noted : List Bool) (bracket code : ℕ) (v : V) (old new : Option V) → length noted ≡ 8192 → new ≡ cond (is_eq (nat_cmp bracket code)) (Some v) old → (get_or noted (code % 8192) true ≡ false → old ≡ None) → get_or (set noted (bracket % 8192) true) (code % 8192) true ≡ false → new ≡ None
+pub noted_more : {V : Type 0} (noted : List Bool) (bracket code : ℕ) (v : V) (old new : Option V) → length noted ≡ 8192
+    → new ≡ cond (is_eq (nat_cmp bracket code)) (Some v) old → (get_or noted (code % 8192) true ≡ false → old ≡ None)
+    → get_or (set noted (bracket % 8192) true) (code % 8192) true ≡ false → new ≡ None
 noted_more noted bracket code v old new l e h f =
     let low : code % 8192 < length noted = omega arith in
     let in_range : bracket % 8192 < length noted = omega arith in

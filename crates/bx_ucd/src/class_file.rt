@@ -3,7 +3,8 @@
 ghost use Rattle.std.specs.Prelude.{◌≡◌, ◌||◌, bytes_eq};
 ghost use Rattle.std.specs.Option.{option_copied};
 ghost use Rattle.bx_ucd.specs.Lines.{fields};
-ghost use Rattle.bx_ucd.specs.ClassFile.{class_among, strong_names, weak_names, neutral_names, formatting_names, class_named, class_range, after_prefix, missing, default_of, class_line};
+ghost use Rattle.bx_ucd.specs.ClassFile.{class_among, strong_names, weak_names, neutral_names, formatting_names, class_named, class_range, after_prefix};
+ghost use Rattle.bx_ucd.specs.ClassFile.{missing, default_of, class_line};
 
 use crate::class::Class;
 use crate::codes::{Range, range_of};

@@ -44,5 +44,6 @@ pub loop-line-preserved : goal.loop-line-preserved
 loop-line-preserved c = record {
   tall = c.loop-column.invariant.tall;
   wide = c.loop-column.invariant.wide;
-  laid = laid_below c.loop-line.line c.loop-column.column c.loop-column.grid.columns c.loop-column.invariant.low (omega (arith, c.loop-column.invariant.right)) c.loop-column.invariant.laid;
+  laid = laid_below c.loop-line.line c.loop-column.column c.loop-column.grid.columns c.loop-column.invariant.low (omega (arith, c.loop-column.invariant.right))
+      c.loop-column.invariant.laid;
 }

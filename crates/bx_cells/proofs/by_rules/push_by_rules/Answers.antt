@@ -9,14 +9,16 @@ loop-cluster-preserved g c =
     let class = g.D.BidiData.class_of c.args.source.now in
     let from = i.from in
     let left = graphemes_left c.next.new.self in
-    let next = next-cluster class c.args.w c.args.body.now c.loop-cluster.start c.in-Some.cluster.now left c.utf8.body i.boundary (sym i.left ∙ c.in-Some.ensures.steps) in
+    let next = next-cluster class c.args.w c.args.body.now c.loop-cluster.start c.in-Some.cluster.now left c.utf8.body i.boundary
+    (sym i.left ∙ c.in-Some.ensures.steps) in
     record {
       can = tt;
       finite = tt;
       from = omega arith;
       boundary = next.boundary;
       left = next.own;
-      all = unit-added class c.args.w c.args.body.now c.loop-cluster.start c.in-Some.cluster.now left c.face.result c.loop-cluster.units.items _ _ next c.face.ensures c.in_ok-push.ensures.items i.all;
+      all = unit-added class c.args.w c.args.body.now c.loop-cluster.start c.in-Some.cluster.now left c.face.result c.loop-cluster.units.items _ _ next
+          c.face.ensures c.in_ok-push.ensures.items i.all;
     }
 
 pub returns-clause-further : goal.returns-clause-further

@@ -13,7 +13,8 @@ pub returns-clause-units : goal.returns-clause-units
 returns-clause-units g c =
     let class = g.D.BidiData.class_of c.args.source.now in
     let left = c.graphemes.ensures.left ∙ ap (graphemes true) c.range_from.ensures.value in
-    let next = next-cluster class c.args.w c.args.body.now c.args.at c.in-Some.cluster.now _ c.utf8.body c.requires.start (sym left ∙ c.in-Some.ensures.steps) in
+    let next = next-cluster class c.args.w c.args.body.now c.args.at c.in-Some.cluster.now _ c.utf8.body c.requires.start
+    (sym left ∙ c.in-Some.ensures.steps) in
     unit-next class c.args.w c.args.body.now c.args.at c.in-Some.cluster.now _ c.face.result next c.face.ensures
 
 pub returns-clause-stop : goal.returns-clause-stop

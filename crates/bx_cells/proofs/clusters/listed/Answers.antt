@@ -13,5 +13,6 @@ loop-at-init g c = record {
 pub returns : goal.returns
 returns g c =
     sym (append-nil c.loop-at.units.items)
-    ∙ ap (λ xs. c.loop-at.units.items ++ xs) (sym (none-behind (g.D.BidiData.class_of c.args.source.now) c.args.w c.args.body.now c.loop-at.at c.loop-at-test.false))
+    ∙ ap (λ xs. c.loop-at.units.items ++ xs)
+    (sym (none-behind (g.D.BidiData.class_of c.args.source.now) c.args.w c.args.body.now c.loop-at.at c.loop-at-test.false))
     ∙ c.loop-at.invariant.all

@@ -11,7 +11,8 @@ returns-in-Begins-simple_kind c =
     let within = i.within in
     let stop = length body - length rest in
     let e : stop + length rest ≡ length body = omega arith in
-    at-next body c.args.at c.in_ok-first.first c.chars.is_marked rest c.utf8.body c.requires i.cluster stop c.in-Some.c c.in-Begins.columns c.in-Some.behind.now e c.in-Some.ensures.0 c.in-Begins-simple_kind.ensures.0 c.in-Begins.ensures.1
+    at-next body c.args.at c.in_ok-first.first c.chars.is_marked rest c.utf8.body c.requires i.cluster stop c.in-Some.c c.in-Begins.columns c.in-Some.behind.now
+    e c.in-Some.ensures.0 c.in-Begins-simple_kind.ensures.0 c.in-Begins.ensures.1
 
 pub chars-preserved : goal.chars-preserved
 chars-preserved c =
@@ -28,4 +29,5 @@ chars-preserved c =
 pub returns : goal.returns
 returns c =
     let i = c.chars.invariant in
-    at-last c.args.body.now c.args.at c.in_ok-first.first c.chars.is_marked c.chars.rest.now c.utf8.body c.requires i.cluster (length c.args.body.now) c.in-Begins.columns refl c.in_default-first_char.ensures c.in-Begins.ensures.1
+    at-last c.args.body.now c.args.at c.in_ok-first.first c.chars.is_marked c.chars.rest.now c.utf8.body c.requires i.cluster (length c.args.body.now)
+    c.in-Begins.columns refl c.in_default-first_char.ensures c.in-Begins.ensures.1

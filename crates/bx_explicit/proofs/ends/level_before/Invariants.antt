@@ -3,7 +3,11 @@ use Rattle.bx_explicit.specs.Sequences.{level_of_first}
 use Rattle.bx_explicit.proofs.ends.level_before.Given as goal
 
 abbrev pub invariant-loop-k : goal.invariant-loop-k
-invariant-loop-k l = record { within : l.k ≤ length l.kept; same : level_of_first l.paragraph (reverse l.kept) ≡ level_of_first l.paragraph (reverse (take l.k l.kept)) }
+invariant-loop-k l = record {
+  within : l.k ≤ length l.kept;
+  same : level_of_first l.paragraph (reverse l.kept)
+      ≡ level_of_first l.paragraph (reverse (take l.k l.kept));
+}
 
 abbrev pub decreases-loop-k : goal.decreases-loop-k
 decreases-loop-k l = l.k

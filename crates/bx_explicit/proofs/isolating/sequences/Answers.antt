@@ -12,21 +12,26 @@ pub returns-clause-sequences : goal.returns-clause-sequences
 returns-clause-sequences c =
     let e : Explicit = c.args.explicit.now in
     let found : List RunSequence = c.sort_by_key.new.self.items in
-    let rises : IsNonDecreasingBy first_place found = IsNonDecreasingBy-from_sort_by_key first_place _ c.in_ok-sort_by_key.ensures.sorted (λ a r q k. search rules) in
+    let rises : IsNonDecreasingBy first_place found =
+    IsNonDecreasingBy-from_sort_by_key first_place _ c.in_ok-sort_by_key.ensures.sorted (λ a r q k. search rules) in
     sorted e.level e.classes.items e.kept.items c.in_ok-all.all.items found c.in_ok-all.ensures c.in_ok-sort_by_key.ensures.permutation rises
 
 pub returns-clause-low : goal.returns-clause-low
 returns-clause-low c =
     let e : Explicit = c.args.explicit.now in
     let found : List RunSequence = c.sort_by_key.new.self.items in
-    let rises : IsNonDecreasingBy first_place found = IsNonDecreasingBy-from_sort_by_key first_place _ c.in_ok-sort_by_key.ensures.sorted (λ a r q k. search rules) in
-    let is : found ≡ sequences e.level e.classes.items e.kept.items = sorted e.level e.classes.items e.kept.items c.in_ok-all.all.items found c.in_ok-all.ensures c.in_ok-sort_by_key.ensures.permutation rises in
+    let rises : IsNonDecreasingBy first_place found =
+    IsNonDecreasingBy-from_sort_by_key first_place _ c.in_ok-sort_by_key.ensures.sorted (λ a r q k. search rules) in
+    let is : found ≡ sequences e.level e.classes.items e.kept.items =
+    sorted e.level e.classes.items e.kept.items c.in_ok-all.all.items found c.in_ok-all.ensures c.in_ok-sort_by_key.ensures.permutation rises in
     subst (All (λ (s : RunSequence). s.level ≤ 125)) (sym is) (sequences_low e.level e.classes.items e.kept.items e.low)
 
 pub returns-clause-within : goal.returns-clause-within
 returns-clause-within c =
     let e : Explicit = c.args.explicit.now in
     let found : List RunSequence = c.sort_by_key.new.self.items in
-    let rises : IsNonDecreasingBy first_place found = IsNonDecreasingBy-from_sort_by_key first_place _ c.in_ok-sort_by_key.ensures.sorted (λ a r q k. search rules) in
-    let is : found ≡ sequences e.level e.classes.items e.kept.items = sorted e.level e.classes.items e.kept.items c.in_ok-all.all.items found c.in_ok-all.ensures c.in_ok-sort_by_key.ensures.permutation rises in
+    let rises : IsNonDecreasingBy first_place found =
+    IsNonDecreasingBy-from_sort_by_key first_place _ c.in_ok-sort_by_key.ensures.sorted (λ a r q k. search rules) in
+    let is : found ≡ sequences e.level e.classes.items e.kept.items =
+    sorted e.level e.classes.items e.kept.items c.in_ok-all.all.items found c.in_ok-all.ensures c.in_ok-sort_by_key.ensures.permutation rises in
     subst (All (λ (s : RunSequence). All (λ p. p < length e.kept.items) s.places)) (sym is) (sequences_below e.level e.classes.items e.kept.items)

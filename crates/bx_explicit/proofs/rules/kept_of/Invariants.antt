@@ -5,4 +5,8 @@ use Rattle.bx_explicit.proofs.Steps.{total}
 use Rattle.bx_explicit.proofs.rules.kept_of.Given as goal
 
 abbrev pub invariant-loop-i : goal.invariant-loop-i
-invariant-loop-i l = record { few : total l.state ≤ l.i; kept : explicit_levels l.fn.level l.classes ≡ l.kept.items ++ explicit_from l.state (drop l.i l.classes) }
+invariant-loop-i l = record {
+  few : total l.state ≤ l.i;
+  kept : explicit_levels l.fn.level l.classes
+      ≡ l.kept.items ++ explicit_from l.state (drop l.i l.classes);
+}

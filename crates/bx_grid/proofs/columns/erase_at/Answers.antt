@@ -9,6 +9,7 @@ pub returns : goal.returns
 returns c =
     let s = c.args.row * c.args.width in
     let part = take ((s + c.args.width) - s) (drop s c.args.columns.now) in
-    let len : length part ≡ c.args.width = omega (arith, length-take-le ((s + c.args.width) - s) (drop s c.args.columns.now) (omega (arith, length-drop s c.args.columns.now, c.requires.rows))) in
+    let len : length part ≡ c.args.width =
+    omega (arith, length-take-le ((s + c.args.width) - s) (drop s c.args.columns.now) (omega (arith, length-drop s c.args.columns.now, c.requires.rows))) in
     placed c.args.columns.now c.erase_in_row.new.row c.args.width c.args.row c.args.from (replicate (c.args.width - c.args.from) blank)
     (c.erase_in_row.ensures ∙ ap (λ n. put_in_row (all_seen part) c.args.from (replicate (n - c.args.from) blank)) len)

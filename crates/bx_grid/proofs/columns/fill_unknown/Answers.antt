@@ -8,7 +8,8 @@ use Rattle.bx_grid.proofs.columns.fill_unknown.Goals as goal
 
 pub loop-column-preserved : goal.loop-column-preserved
 loop-column-preserved c =
-    filled_more c.loop-column.columns (all_seen c.args.columns.now) 0 c.loop-column.column-index c.loop-column.column-index (c.loop-column.column-index + 1) Unknown column.Unknown
+    filled_more c.loop-column.columns (all_seen c.args.columns.now) 0 c.loop-column.column-index c.loop-column.column-index (c.loop-column.column-index + 1)
+    Unknown column.Unknown
     (omega arith) (omega arith)
     (omega (arith, length-map c.args.columns.now seen)) c.loop-column.invariant refl
 

@@ -10,13 +10,15 @@ pub returns-then-intermediate : goal.returns-then-intermediate
 returns-then-intermediate c = rw (stays c.args.body.now c.args.byte c.requires (sym c.intermediate.ensures ∙ c.if-intermediate.true)) refl
 
 pub returns-then-are_params : goal.returns-then-are_params
-returns-then-are_params c = rw (param_stays c.args.body.now c.args.byte (sym c.are_params.ensures ∙ c.if-are_params.true) (sym c.param.ensures ∙ c.if-param.true)) refl
+returns-then-are_params c = rw
+    (param_stays c.args.body.now c.args.byte (sym c.are_params.ensures ∙ c.if-are_params.true) (sym c.param.ensures ∙ c.if-param.true)) refl
 
 pub returns-else-param : goal.returns-else-param
 returns-else-param c =
     let f = sym c.last.ensures ∙ c.if-last.false in
     let i = sym c.intermediate.ensures ∙ c.if-intermediate.false in
     elim c.else-param.branch [
-      | else-param-via-then-param+else-are_params w ↦ breaks_at c.args.body.now c.args.byte c.requires f i (inr (sym w.are_params.ensures ∙ w.if-are_params.false))
+      | else-param-via-then-param+else-are_params w ↦ breaks_at c.args.body.now c.args.byte c.requires f i
+          (inr (sym w.are_params.ensures ∙ w.if-are_params.false))
       | else-param-via-else-param w ↦ breaks_at c.args.body.now c.args.byte c.requires f i (inl (sym c.param.ensures ∙ w.if-param.false))
     ]

@@ -8,5 +8,6 @@ returns-then-not-is_ascii_digit c =
 
 pub loop-digit-preserved : goal.loop-digit-preserved
 loop-digit-preserved c =
-    number_more c.args.digits.now c.loop-digit.digit-index c.loop-digit.n c.min-n.result c.loop-digit-test.true c.loop-digit.invariant.0 c.loop-digit.invariant.1
+    number_more c.args.digits.now c.loop-digit.digit-index c.loop-digit.n c.min-n.result c.loop-digit-test.true c.loop-digit.invariant.0
+    c.loop-digit.invariant.1
     (sym c.is_ascii_digit.ensures.value ∙ c.if-not-is_ascii_digit.false) (omega (arith, c.min-n.ensures, c.from.ensures))

@@ -7,7 +7,8 @@ use Rattle.bx_paint.proofs.Law.{Changes, changes_show}
 use Rattle.bx_paint.proofs.Few.{no_changes, few_changes}
 use Rattle.bx_paint.proofs.painting.changes.Goals as goal
 
-changed_by : (c : goal.In_ok-write_changes) (t : Terminal) → Shows t c.args.old.now → Changes c.args.old.now c.args.new.now t (changes_bytes c.args.old.now c.args.new.now)
+changed_by : (c : goal.In_ok-write_changes) (t : Terminal) → Shows t c.args.old.now
+    → Changes c.args.old.now c.args.new.now t (changes_bytes c.args.old.now c.args.new.now)
 changed_by c t h =
     let sent = c.in_ok-write_changes.ensures in
     changes_show c.args.old.now c.args.new.now sent.old sent.new c.requires.height c.requires.width t h

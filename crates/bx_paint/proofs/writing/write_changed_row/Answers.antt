@@ -8,8 +8,10 @@ use Rattle.bx_paint.proofs.writing.write_changed_row.Goals as goal
 
 -- the row's definition, at the parts that the code takes
 parts : (c : goal.After-write_tail) → row_sent c.args.row c.args.negative (all_seen c.args.old.now) (all_seen c.args.new.now)
-    ≡ tail_after c.args.row c.front_len-front.result (all_seen (take (length c.args.old.now - c.front_len-front.result) (drop c.front_len-front.result c.args.old.now)))
-    (columns_sent c.args.row 0 false c.args.negative (all_seen (take c.front_len-front.result c.args.old.now)) (all_seen (take c.front_len-front.result c.args.new.now)))
+    ≡ tail_after c.args.row c.front_len-front.result
+    (all_seen (take (length c.args.old.now - c.front_len-front.result) (drop c.front_len-front.result c.args.old.now)))
+    (columns_sent c.args.row 0 false c.args.negative (all_seen (take c.front_len-front.result c.args.old.now))
+    (all_seen (take c.front_len-front.result c.args.new.now)))
 parts c =
     let old = c.args.old.now in
     let new = c.args.new.now in

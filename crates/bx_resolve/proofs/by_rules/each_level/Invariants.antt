@@ -4,4 +4,8 @@ use Rattle.bx_resolve.specs.Levels.{with_sequences}
 use Rattle.bx_resolve.proofs.by_rules.each_level.Given as goal
 
 abbrev pub invariant-loop-sequence : goal.invariant-loop-sequence
-invariant-loop-sequence g l = record { as_long : length l.each.items ≡ length l.chars; written : with_sequences (g.D.BidiData.bracket_of l.source) l.chars l.explicit.kept.items l.sequence-items (replicate (length l.chars) None) ≡ with_sequences (g.D.BidiData.bracket_of l.source) l.chars l.explicit.kept.items (drop l.sequence-index l.sequence-items) l.each.items }
+invariant-loop-sequence g l = record {
+  as_long : length l.each.items ≡ length l.chars;
+  written : with_sequences (g.D.BidiData.bracket_of l.source) l.chars l.explicit.kept.items l.sequence-items (replicate (length l.chars) None)
+      ≡ with_sequences (g.D.BidiData.bracket_of l.source) l.chars l.explicit.kept.items (drop l.sequence-index l.sequence-items) l.each.items;
+}

@@ -9,7 +9,9 @@ invariant-loop-walk g l = record {
   own : l.walk.explicit ≡ l.explicit;
   text : l.room.letters.text.chars ≡ chars l.body;
   all : length l.each.items ≡ length (chars l.body);
-  written : with_sequences (g.D.BidiData.bracket_of l.source) (chars l.body) l.explicit.kept.items (sequences l.explicit.level l.explicit.classes.items l.explicit.kept.items) (replicate (length (chars l.body)) None) ≡ with_sequences (g.D.BidiData.bracket_of l.source) (chars l.body) l.explicit.kept.items l.walk.left l.each.items;
+  written : with_sequences (g.D.BidiData.bracket_of l.source) (chars l.body) l.explicit.kept.items
+      (sequences l.explicit.level l.explicit.classes.items l.explicit.kept.items) (replicate (length (chars l.body)) None)
+      ≡ with_sequences (g.D.BidiData.bracket_of l.source) (chars l.body) l.explicit.kept.items l.walk.left l.each.items;
 }
 
 abbrev pub decreases-loop-walk : goal.decreases-loop-walk

@@ -5,4 +5,5 @@ use Rattle.bx_resolve.specs.Levels.{chars_at}
 use Rattle.bx_resolve.proofs.formatted.gather_sequence.Given as goal
 
 abbrev pub invariant-loop-first : goal.invariant-loop-first
-invariant-loop-first l = chars_at l.chars (places_from l.level l.kept l.firsts) ≡ l.found.items ++ chars_at l.chars (places_from l.level l.kept (drop l.first-index l.firsts))
+invariant-loop-first l = chars_at l.chars (places_from l.level l.kept l.firsts)
+    ≡ l.found.items ++ chars_at l.chars (places_from l.level l.kept (drop l.first-index l.firsts))

@@ -6,4 +6,8 @@ use Rattle.bx_resolve.proofs.Fused.{out_taken}
 use Rattle.bx_resolve.proofs.neutral.n1_n2.Given as goal
 
 abbrev pub invariant-loop-i : goal.invariant-loop-i
-invariant-loop-i l = record { done : n2 l.embedding (n1 l.fn.sos l.eos l.fn.types) ≡ take l.i l.types ++ run next_neutral (out_taken l.embedding l.eos) l.before (drop l.i l.types); known_is : MatchOption l.known (Unit {0}) (λ a. a ≡ side l.eos (drop l.i l.types)) }
+invariant-loop-i l = record {
+  done : n2 l.embedding (n1 l.fn.sos l.eos l.fn.types)
+      ≡ take l.i l.types ++ run next_neutral (out_taken l.embedding l.eos) l.before (drop l.i l.types);
+  known_is : MatchOption l.known (Unit {0}) (λ a. a ≡ side l.eos (drop l.i l.types));
+}

@@ -6,4 +6,8 @@ use Rattle.bx_resolve.proofs.Fused.{go, next_all, out_all}
 use Rattle.bx_resolve.proofs.weak.weak_in_one_pass.Given as goal
 
 abbrev pub invariant-loop-i : goal.invariant-loop-i
-invariant-loop-i l = record { done : weak l.fn.sos l.fn.types ≡ take l.i l.types ++ go next_all out_all (l.mark, l.strong, l.before, l.past, l.side) (drop l.i l.types); known_is : MatchOption l.known (Unit {0}) (λ a. a ≡ is_en_past (rest_after_w3 l.mark l.strong (drop l.i l.types))) }
+invariant-loop-i l = record {
+  done : weak l.fn.sos l.fn.types ≡ take l.i l.types
+      ++ go next_all out_all (l.mark, l.strong, l.before, l.past, l.side) (drop l.i l.types);
+  known_is : MatchOption l.known (Unit {0}) (λ a. a ≡ is_en_past (rest_after_w3 l.mark l.strong (drop l.i l.types)));
+}

@@ -7,11 +7,14 @@ use Rattle.bx_rows.proofs.glyphs.mirrored.Goals as goal
 
 pub loop-c-preserved : goal.loop-c-preserved
 loop-c-preserved g c =
-    let t = YieldsList-turn (YieldsList-from_chars c.args.text.now c.utf8.text cc) c.loop-c.yielded _ c.loop-c.yielded_by _ _ c.in-Some.c c.in-Some.is c.next.ensures.steps in
-    mirrored-more (g.D.BidiData.mirror_of c.args.source.now) (chars c.args.text.now) (length c.loop-c.yielded) _ c.in-Some.c c.mirror.result c.unwrap_or.result _ _ t (length_push c.loop-c.yielded c.in-Some.c) c.mirror.ensures c.unwrap_or.ensures c.loop-c.invariant c.in_ok-push.ensures.bytes
+    let t = YieldsList-turn (YieldsList-from_chars c.args.text.now c.utf8.text cc) c.loop-c.yielded _ c.loop-c.yielded_by _ _ c.in-Some.c c.in-Some.is
+    c.next.ensures.steps in
+    mirrored-more (g.D.BidiData.mirror_of c.args.source.now) (chars c.args.text.now) (length c.loop-c.yielded) _ c.in-Some.c c.mirror.result c.unwrap_or.result
+    _ _ t (length_push c.loop-c.yielded c.in-Some.c) c.mirror.ensures c.unwrap_or.ensures c.loop-c.invariant c.in_ok-push.ensures.bytes
 
 pub returns : goal.returns
 returns g c =
     let cs = chars c.args.text.now in
-    let t = YieldsList-end (YieldsList-from_chars c.args.text.now c.utf8.text cc) c.loop-c.yielded _ c.loop-c.yielded_by _ _ c.in-None.is c.next.ensures.steps in
+    let t = YieldsList-end (YieldsList-from_chars c.args.text.now c.utf8.text cc) c.loop-c.yielded _ c.loop-c.yielded_by _ _ c.in-None.is
+    c.next.ensures.steps in
     mirrored-all (g.D.BidiData.mirror_of c.args.source.now) cs (length c.loop-c.yielded) _ c.loop-c.invariant (omega (arith, t.1))

@@ -4,4 +4,5 @@ use Rattle.std.specs.Prelude.{encode_utf8_all, unwrap_or}
 use Rattle.bx_rows.proofs.glyphs.mirrored.Given as goal
 
 abbrev pub invariant-loop-c : goal.invariant-loop-c
-invariant-loop-c g l = string_bytes l.other ≡ encode_utf8_all (map (λ c. unwrap_or (g.D.BidiData.mirror_of l.source c) c) (take (length l.yielded) (chars l.text)))
+invariant-loop-c g l = string_bytes l.other
+    ≡ encode_utf8_all (map (λ c. unwrap_or (g.D.BidiData.mirror_of l.source c) c) (take (length l.yielded) (chars l.text)))

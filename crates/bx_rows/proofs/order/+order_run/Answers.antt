@@ -24,9 +24,11 @@ loop-i-preserved t c =
       after = omega (arith, c.loop-i.invariant.after, c.in_ok-after.ensures.within);
       within = omega (arith, c.in_ok-after.ensures.within);
       grown =
-          level_more c.args.levels.now c.args.low c.loop-i.i c.in_ok-after.stop (drop c.args.from units) c.loop-i.run.items c.in_ok-after.after.items c.in_ok-run.run'.items
+          level_more c.args.levels.now c.args.low c.loop-i.i c.in_ok-after.stop (drop c.args.from units) c.loop-i.run.items c.in_ok-after.after.items
+          c.in_ok-run.run'.items
           c.loop-i-test.true fits (omega (arith, same, c.if-from-low.false)) c.loop-i.invariant.grown
-          (subst (λ (n : ℕ). IsRun (n + 1) (drop (c.loop-i.i + 1) units) c.in_ok-after.after.items (drop c.in_ok-after.stop units)) same' c.in_ok-after.ensures.run)
+          (subst (λ (n : ℕ). IsRun (n + 1) (drop (c.loop-i.i + 1) units) c.in_ok-after.after.items (drop c.in_ok-after.stop units)) same'
+          c.in_ok-after.ensures.run)
           c.in_ok-run.ensures;
     }
 

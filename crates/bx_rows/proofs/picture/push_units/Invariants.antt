@@ -8,4 +8,5 @@ use Rattle.bx_rows.proofs.picture.push_units.Given as goal
 abbrev pub invariant-loop-number : goal.invariant-loop-number
 invariant-loop-number g l =
     map shown l.glyphs.items ≡ map shown l.initial.glyphs.items
-    ++ flat_map (λ k. slice_index_or (unit_glyphs (g.D.BidiData.class_of l.source) (g.D.BidiData.mirror_of l.source) l.w l.body l.units l.columns l.levels) k []) (take l.number-index l.order)
+    ++ flat_map (λ k. slice_index_or (unit_glyphs (g.D.BidiData.class_of l.source) (g.D.BidiData.mirror_of l.source) l.w l.body l.units l.columns l.levels) k
+    []) (take l.number-index l.order)

@@ -8,4 +8,5 @@ returns-clause-takes c = λ class u rest x r.
     let body = c.args.body.now in
     let new = c.push.new.self.items in
     subst (λ t. IsRead class c.args.w body new t rest) (sym (c.new_scan.ensures ∙ ap new_scan c.start_behind-start.ensures))
-    (takes-none c.args.w body c.args.unit c.args.starts.now.items c.args.scan new (length (chars (take c.args.unit.stop body))) c.requires.full c.requires.unbroken c.requires.empty refl c.in_ok-push.ensures.items class u rest x r)
+    (takes-none c.args.w body c.args.unit c.args.starts.now.items c.args.scan new (length (chars (take c.args.unit.stop body))) c.requires.full
+    c.requires.unbroken c.requires.empty refl c.in_ok-push.ensures.items class u rest x r)

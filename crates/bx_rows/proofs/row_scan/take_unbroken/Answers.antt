@@ -26,7 +26,8 @@ returns-clause-takes c =
     let body = c.args.body.now in
     let new = c.push.new.self.items in
     let last = c.pass-2.new.starts.items in
-    IfOk-weaker c.pass-2.result (λ t. Takes c.args.w body c.args.unit new c.new_scan-scan.result last t) (λ t. Takes c.args.w body c.args.unit c.args.starts.now.items c.args.scan last t)
+    IfOk-weaker c.pass-2.result (λ t. Takes c.args.w body c.args.unit new c.new_scan-scan.result last t)
+    (λ t. Takes c.args.w body c.args.unit c.args.starts.now.items c.args.scan last t)
     (λ t h. takes-full c.args.w body c.args.unit c.args.starts.now.items c.args.scan new last (length (chars (take c.args.unit.start body))) t
     (sym c.fits.ensures ∙ c.if-fits.false) c.requires.unbroken (some-if c.args.scan.count c.if-scan-eq0.false) refl c.in_ok-push.ensures.items
     (subst (λ s. Takes c.args.w body c.args.unit new s last t) (c.new_scan-scan.ensures ∙ ap new_scan c.start_behind-start.ensures) h))

@@ -33,7 +33,8 @@ loop-at-init g c =
       placed = subst (λ s. IsPlaced w body s 0) (sym c.new_scan-scan.ensures) (placed-new w body c.utf8.body);
       boundary = IsCharBoundary-start body c.utf8.body;
       read = subst (λ s. IsRead class w body c.new-starts.result.items s (units_from class w body 0)) (sym c.new_scan-scan.ensures)
-          (subst (λ xs. IsRead class w body xs (new_scan (record { offset = 0; units = 0; chars = 0 })) (units_from class w body 0)) (sym c.new-starts.ensures.items)
+          (subst (λ xs. IsRead class w body xs (new_scan (record { offset = 0; units = 0; chars = 0 })) (units_from class w body 0))
+          (sym c.new-starts.ensures.items)
           (read-new class w body));
     }
 
@@ -73,4 +74,5 @@ returns g c =
     let i = c.loop-at.invariant in
     let all = subst (λ r. IsRead class w body starts c.loop-at.scan r) (none-behind class w body c.loop-at.at c.loop-at-test.false) i.read in
     starts-of-some class w body c.push-2.new.self.items c.utf8.body (is_some (length body) c.if-is_empty.ensures)
-    (read-last class w body starts c.loop-at.scan c.push-2.new.self.items all (some-if (c.loop-at.scan.last + c.loop-at.scan.count) c.if-scan-eq0.false) c.in_ok-push-2.ensures.items)
+    (read-last class w body starts c.loop-at.scan c.push-2.new.self.items all (some-if (c.loop-at.scan.last + c.loop-at.scan.count) c.if-scan-eq0.false)
+    c.in_ok-push-2.ensures.items)

@@ -15,7 +15,19 @@ returns-clause-ok c =
     let row : c.cursor_cell.result.line - 1 ≡ row_of e.width e.text e.place - c.args.top = omega (arith, c.cursor_cell.ensures.line) in
     let column : c.cursor_cell.result.column - 1 ≡ column_of e.width e.text e.place = omega (arith, c.cursor_cell.ensures.column) in
     c.new-2.ensures
-    ∙ ap (λ (g : GridState). record { height = g.height; width = g.width; columns = g.columns; row = c.cursor_cell.result.line - 1; column = c.cursor_cell.result.column - 1 }) grid
-    ∙ rw (row, column) (ap (λ (cs : List Col). record { height = e.height; width = e.width; columns = cs; row = row_of e.width e.text e.place - c.args.top; column = column_of e.width e.text e.place })
+    ∙ ap (λ (g : GridState). record {
+      height = g.height;
+      width = g.width;
+      columns = g.columns;
+      row = c.cursor_cell.result.line - 1;
+      column = c.cursor_cell.result.column - 1;
+    }) grid
+    ∙ rw (row, column) (ap (λ (cs : List Col). record {
+      height = e.height;
+      width = e.width;
+      columns = cs;
+      row = row_of e.width e.text e.place - c.args.top;
+      column = column_of e.width e.text e.place;
+    })
     (text_columns e.height t e.width text (shown_fits e.height (size_is e.height e.width c.text-text.ensures.facts.sized).height_low)))
     ∙ not_ended e c.args.top (sym c.ended.ensures ∙ c.if-ended.false)

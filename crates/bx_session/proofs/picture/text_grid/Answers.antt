@@ -14,7 +14,8 @@ spelled c =
     c.encode_utf8.ensures.value ∙ encode_ascii (get_or text c.loop-i.i 0) (ascii (get_or text c.loop-i.i 0) printed)
 
 plain : (c : goal.After-encode_utf8) → is_ascii_glyph c.encode_utf8.result.now ≡ true
-plain c = plain_text (get_or c.args.text.now c.loop-i.i 0) c.encode_utf8.result.now (spelled c) (printable_at c.args.text.now c.loop-i.i c.requires.printable (omega arith))
+plain c = plain_text (get_or c.args.text.now c.loop-i.i 0) c.encode_utf8.result.now (spelled c)
+    (printable_at c.args.text.now c.loop-i.i c.requires.printable (omega arith))
 
 pub put-requires-clause-glyph : goal.put-requires-clause-glyph
 put-requires-clause-glyph c = plain_glyph c.encode_utf8.result.now (plain c)
@@ -41,7 +42,12 @@ loop-i-preserved c =
     let bytes = c.encode_utf8.result.now in
     let printed = printable_at text i c.requires.printable (omega arith) in
     c.in_ok-put.ensures.ok
-    ∙ ap (λ (g : GridState). record { height = g.height; width = g.width; columns = paste g.columns ((i / w + 1 - 1) * g.width + (i % w + 1 - 1)) (run_columns false bytes) }) c.loop-i.invariant
+    ∙ ap (λ (g : GridState). record {
+      height = g.height;
+      width = g.width;
+      columns = paste g.columns ((i / w + 1 - 1) * g.width + (i % w + 1 - 1)) (run_columns false bytes);
+    }) c.loop-i.invariant
     ∙ ap (λ (cs : List Col). record { height = c.args.height; width = w; columns = cs })
-    (drawn (c.args.height * w) i ((i / w + 1 - 1) * w + (i % w + 1 - 1)) text bytes (omega arith) c.requires.room (cell_at i w (size_is c.args.height w c.requires.sized).width_low)
+    (drawn (c.args.height * w) i ((i / w + 1 - 1) * w + (i % w + 1 - 1)) text bytes (omega arith) c.requires.room
+    (cell_at i w (size_is c.args.height w c.requires.sized).width_low)
     (c.encode_utf8.ensures.value ∙ encode_ascii (get_or text i 0) (ascii (get_or text i 0) printed)) printed)

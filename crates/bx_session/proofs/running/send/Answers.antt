@@ -12,14 +12,16 @@ returns-in-Ok-eq0-clause-sent g c =
 
 pub writes-smaller : goal.writes-smaller
 writes-smaller g c =
-    fewer c.writes.session c.taken.new.self c.in-Ok.count c.in-Ok.count-test.1 (omega (arith, c.in-Ok.ensures.bound, ap length c.pending-in-writes.ensures)) c.taken.ensures
+    fewer c.writes.session c.taken.new.self c.in-Ok.count c.in-Ok.count-test.1 (omega (arith, c.in-Ok.ensures.bound, ap length c.pending-in-writes.ensures))
+    c.taken.ensures
 
 pub writes-preserved : goal.writes-preserved
 writes-preserved g c =
     let h = c.writes.invariant in (
       h.0 ++ take c.in-Ok.count c.pending-in-writes.result.now,
       sent_more _ _ _ _ _ _ h.0 (take c.in-Ok.count c.pending-in-writes.result.now) h.1
-          (took c.writes.session c.taken.new.self _ _ c.in-Ok.count c.pending-in-writes.result.now c.pending-in-writes.ensures c.in-Ok.ensures.bytes c.taken.ensures),
+          (took c.writes.session c.taken.new.self _ _ c.in-Ok.count c.pending-in-writes.result.now c.pending-in-writes.ensures c.in-Ok.ensures.bytes
+          c.taken.ensures),
     )
 
 pub returns-in-Err-clause-sent : goal.returns-in-Err-clause-sent

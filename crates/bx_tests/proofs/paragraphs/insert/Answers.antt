@@ -5,6 +5,7 @@ use Rattle.bx_tests.proofs.paragraphs.insert.Goals as goal
 
 pub edited-requires-clause-room : goal.edited-requires-clause-room
 edited-requires-clause-room g c =
-    room_for_bytes (g.D.BidiData.class_of c.args.source.now) c.args.text.now.edited.text c.in_ok-change.change c.insert.new.self.edited.text c.len-utf8.ensures.utf8 c.len-still.ensures.utf8
+    room_for_bytes (g.D.BidiData.class_of c.args.source.now) c.args.text.now.edited.text c.in_ok-change.change c.insert.new.self.edited.text
+    c.len-utf8.ensures.utf8 c.len-still.ensures.utf8
     c.in_ok-change.ensures.leads c.ready.new.self.room (length c.args.added.now) c.in_ok-ready.ensures.ok
     (omega (arith, ap (λ (x : Change). x.added) c.in_ok-change.ensures.change))

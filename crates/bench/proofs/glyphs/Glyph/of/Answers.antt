@@ -3,7 +3,8 @@ use Rattle.std.proofs.Common.{refl}
 use Rattle.std.specs.Str.{chars}
 use Rattle.unicode_width.proofs.Computing.{unicode_width}
 use Rattle.bench.proofs.glyphs.Glyph.of.Goals as goal
-use Rattle.bench.proofs.glyphs.Glyph.of.Goals.{in-Ascii-true, in-Ascii-false, in-Hebrew-true, in-Hebrew-false, in-Arabic-true, in-Arabic-false, in-Wide-true, in-Wide-false, in-Marked-true, in-Marked-false}
+use Rattle.bench.proofs.glyphs.Glyph.of.Goals.{in-Ascii-true, in-Ascii-false, in-Hebrew-true, in-Hebrew-false, in-Arabic-true, in-Arabic-false, in-Wide-true}
+use Rattle.bench.proofs.glyphs.Glyph.of.Goals.{in-Wide-false, in-Marked-true, in-Marked-false}
 
 pub returns-clause-glyph : goal.returns-clause-glyph
 unfolding chars unicode_width

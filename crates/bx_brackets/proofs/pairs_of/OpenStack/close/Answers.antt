@@ -11,7 +11,8 @@ invariant_of-self c =
     let closes = is_for c.args.closer in
     let lent : c.deref.result.now ≡ old = c.deref.ensures.0 in
     let now : reverse c.truncate.new.self.items ≡ below_first closes (reverse old) =
-    ap reverse c.truncate.ensures.items ∙ ap (λ xs. reverse (take c.in-Some.k xs)) (sym lent) ∙ sym c.in-Some.ensures.left ∙ ap (λ xs. below_first closes (reverse xs)) lent in
+    ap reverse c.truncate.ensures.items ∙ ap (λ xs. reverse (take c.in-Some.k xs)) (sym lent) ∙ sym c.in-Some.ensures.left
+    ∙ ap (λ xs. below_first closes (reverse xs)) lent in
     subst (AreMissed c.self.inside.missed) (sym now) (missed_below c.self.inside.missed (reverse old) closes c.self.invariant)
 
 pub invariant_of-self-in-None : goal.invariant_of-self-in-None

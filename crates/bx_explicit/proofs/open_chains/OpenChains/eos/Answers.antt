@@ -21,4 +21,5 @@ returns c =
     let rest : List OpenChain = reverse (take (length c.deref.result.now - 1) c.deref.result.now) in
     let o : OpenChain = c.newest-newest.result in
     let e : os ≡ o ∷ rest = ap reverse (sym c.deref.ensures.value) ∙ c.newest-newest.ensures in
-    c.end_class.ensures ∙ eos_is x os rest o c.self.inside.firsts.items e c.self.invariant (run o.level c.index.result.now o.last) refl refl ∙ ap (λ (v : OpenRuns). (newest_sequence v).eos) c.self.view_is
+    c.end_class.ensures ∙ eos_is x os rest o c.self.inside.firsts.items e c.self.invariant (run o.level c.index.result.now o.last) refl refl
+    ∙ ap (λ (v : OpenRuns). (newest_sequence v).eos) c.self.view_is

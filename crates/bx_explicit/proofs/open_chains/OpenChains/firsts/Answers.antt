@@ -15,7 +15,8 @@ returns c =
     let o : OpenChain = c.newest-newest.result in
     let ps : List ℕ = c.self.inside.firsts.items in
     let e : os ≡ o ∷ rest = ap reverse (sym c.deref.ensures.value) ∙ c.newest-newest.ensures in
-    let firsts : take (length c.deref-2.result.now - o.begin) (drop o.begin c.deref-2.result.now) ≡ drop o.begin ps = take_rest c.deref-2.result.now o.begin ∙ ap (drop o.begin) c.deref-2.ensures.value in
+    let firsts : take (length c.deref-2.result.now - o.begin) (drop o.begin c.deref-2.result.now) ≡ drop o.begin ps = take_rest c.deref-2.result.now o.begin
+    ∙ ap (drop o.begin) c.deref-2.ensures.value in
     let given : List ℕ = take (length c.deref-2.result.now - o.begin) (drop o.begin c.deref-2.result.now) in
     ap (λ (v : OpenRuns). places_from (newest_sequence v).level v.explicit.kept.items given) (sym c.self.view_is)
     ∙ ap (λ l. places_from l x.kept.items given) (sym (level_is x os rest o ps e c.self.invariant))

@@ -13,7 +13,8 @@ returns-clause-value c =
     let os : List OpenChain = reverse c.self.inside.chains.items in
     let rest : List OpenChain = reverse (take (length c.deref.result.now - 1) c.deref.result.now) in
     let e : os ≡ c.newest.result ∷ rest = ap reverse (sym c.deref.ensures.value) ∙ c.newest.ensures in
-    subst (λ (v : OpenRuns). c.newest.result.level ≡ (newest_sequence v).level) c.self.view_is (level_is x os rest c.newest.result c.self.inside.firsts.items e c.self.invariant)
+    subst (λ (v : OpenRuns). c.newest.result.level ≡ (newest_sequence v).level) c.self.view_is
+    (level_is x os rest c.newest.result c.self.inside.firsts.items e c.self.invariant)
 
 pub returns-clause-low : goal.returns-clause-low
 returns-clause-low c =
@@ -22,5 +23,6 @@ returns-clause-low c =
     let rest : List OpenChain = reverse (take (length c.deref.result.now - 1) c.deref.result.now) in
     let ps : List ℕ = c.self.inside.firsts.items in
     let e : os ≡ c.newest.result ∷ rest = ap reverse (sym c.deref.ensures.value) ∙ c.newest.ensures in
-    let b : BeginsRun x.kept.items c.newest.result.level (newest_place ps) = last_begins x.kept.items c.newest.result ps (opened x.kept.items os rest c.newest.result ps e c.self.invariant) in
+    let b : BeginsRun x.kept.items c.newest.result.level (newest_place ps) =
+    last_begins x.kept.items c.newest.result ps (opened x.kept.items os rest c.newest.result ps e c.self.invariant) in
     subst (λ l. l ≤ 125) b.of_level (level_low x.kept.items (newest_place ps) x.low)

@@ -31,4 +31,5 @@ returns c =
     let e : os ≡ o ∷ rest = ap reverse (sym c.deref.ensures.value) ∙ c.newest-newest.ensures in
     let w : IsOpenChain x.kept.items o ps = opened x.kept.items os rest o ps e c.self.invariant in
     let read : c.index.result.now ≡ get_or ps o.begin 0 = c.index.ensures ∙ get_or_default ps o.begin c.index.result.now 0 w.begun in
-    c.start_class.ensures ∙ sos_is x os rest o ps e c.self.invariant (run o.level c.index.result.now o.last) refl read ∙ ap (λ (v : OpenRuns). (newest_sequence v).sos) c.self.view_is
+    c.start_class.ensures ∙ sos_is x os rest o ps e c.self.invariant (run o.level c.index.result.now o.last) refl read
+    ∙ ap (λ (v : OpenRuns). (newest_sequence v).sos) c.self.view_is

@@ -14,7 +14,9 @@ returns-clause-given c =
     let e : Explicit = c.args.explicit.now in
     let kept : List (Option Kept) = e.kept.items in
     let o : Option Run = c.next_run.result in
-    let found : runs_to_come c.deref.result.now o ≡ runs_from 0 (drop 0 c.deref.result.now) = come_is c.deref.result.now 0 o c.next_run.ensures.none c.next_run.ensures.some in
+    let found : runs_to_come c.deref.result.now o ≡ runs_from 0 (drop 0 c.deref.result.now) =
+    come_is c.deref.result.now 0 o c.next_run.ensures.none c.next_run.ensures.some in
     let runs : runs_to_come kept o ≡ runs_from 0 kept = subst (λ g. runs_to_come g o ≡ runs_from 0 g) c.deref.ensures.value found in
-    let none : ending e.level e.classes.items kept [] (runs_to_come kept o) ≡ ending e.level e.classes.items kept c.new.result.chains (runs_to_come kept o) = ap (λ cs. ending e.level e.classes.items kept cs (runs_to_come kept o)) (sym c.new.ensures.none) in
+    let none : ending e.level e.classes.items kept [] (runs_to_come kept o) ≡ ending e.level e.classes.items kept c.new.result.chains (runs_to_come kept o) =
+    ap (λ cs. ending e.level e.classes.items kept cs (runs_to_come kept o)) (sym c.new.ensures.none) in
     subst (λ g. AreGiven g (sequences e.level e.classes.items kept)) none (all_given e (runs_to_come kept o) e.by_rules e.paragraph runs)

@@ -8,7 +8,8 @@ pub returns : goal.returns
 returns c =
     let g : GridState = record { height = c.self.inside.height; width = c.self.inside.width; columns = all_seen c.self.inside.columns.items } in
     let cell = c.args.cell in
-    let inside : IsWithin g.height g.width cell.line cell.column = subst (λ (x : GridState). IsWithin x.height x.width cell.line cell.column) (sym c.self.view_is) c.requires.inside in
+    let inside : IsWithin g.height g.width cell.line cell.column =
+    subst (λ (x : GridState). IsWithin x.height x.width cell.line cell.column) (sym c.self.view_is) c.requires.inside in
     subst (λ (x : GridState). IsTrue c.are_blank.result ↔ HasRoom x cell.line cell.column c.args.count) c.self.view_is
     (room_told c.are_blank.result g c.self.inside.columns.items cell.line cell.column c.args.count refl c.self.invariant.0 inside
     (omega (arith, c.if-count-width.false, inside))

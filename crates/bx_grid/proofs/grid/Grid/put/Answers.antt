@@ -19,9 +19,11 @@ invariant_of-self c =
     let can : CanPut g cell.line cell.column text = can_along g c.args.self.now cell.line cell.column text c.self.view_is
     (record { inside = c.requires.inside; glyph = c.requires.glyph; utf8 = c.utf8.text; room = c.requires.room }) in (
       subst (λ (cs : List Col). IsGrid g.height g.width cs)
-          (sym (plain_seen g c.self.inside.columns.items c.of_byte.result cell.line cell.column text c.in-Some.byte c.args.negative refl c.of_byte.ensures c.in-Some.ensures.0 c.in-Some.ensures.1 c.self.invariant.0 can))
+          (sym (plain_seen g c.self.inside.columns.items c.of_byte.result cell.line cell.column text c.in-Some.byte c.args.negative refl c.of_byte.ensures
+          c.in-Some.ensures.0 c.in-Some.ensures.1 c.self.invariant.0 can))
           (put_kept g cell.line cell.column text c.args.negative c.self.invariant.0 can),
-      code_set c.self.inside.columns.items c.self.inside.codes.items c.of_byte.result (Glyph (c.in-Some.byte ∷ []) 1 0 c.args.negative) _ c.byte_code-code.result c.byte_code-code.ensures c.of_byte.ensures c.self.invariant.1,
+      code_set c.self.inside.columns.items c.self.inside.codes.items c.of_byte.result (Glyph (c.in-Some.byte ∷ []) 1 0 c.args.negative) _
+          c.byte_code-code.result c.byte_code-code.ensures c.of_byte.ensures c.self.invariant.1,
     )
 
 pub returns-in-Some-clause-ok : goal.returns-in-Some-clause-ok
@@ -32,8 +34,13 @@ returns-in-Some-clause-ok c =
     let can : CanPut g cell.line cell.column text = can_along g c.args.self.now cell.line cell.column text c.self.view_is
     (record { inside = c.requires.inside; glyph = c.requires.glyph; utf8 = c.utf8.text; room = c.requires.room }) in
     ap (λ (cs : List Col). record { height = g.height; width = g.width; columns = cs })
-    (plain_seen g c.self.inside.columns.items c.of_byte.result cell.line cell.column text c.in-Some.byte c.args.negative refl c.of_byte.ensures c.in-Some.ensures.0 c.in-Some.ensures.1 c.self.invariant.0 can)
-    ∙ ap (λ (x : GridState). record { height = x.height; width = x.width; columns = paste x.columns ((cell.line - 1) * x.width + (cell.column - 1)) (run_columns c.args.negative text) }) c.self.view_is
+    (plain_seen g c.self.inside.columns.items c.of_byte.result cell.line cell.column text c.in-Some.byte c.args.negative refl c.of_byte.ensures
+    c.in-Some.ensures.0 c.in-Some.ensures.1 c.self.invariant.0 can)
+    ∙ ap (λ (x : GridState). record {
+      height = x.height;
+      width = x.width;
+      columns = paste x.columns ((cell.line - 1) * x.width + (cell.column - 1)) (run_columns c.args.negative text);
+    }) c.self.view_is
 
 -- ---- any other glyph
 
@@ -51,10 +58,12 @@ invariant_of-self-2 c =
     let columns = take_at c.put_over_blanks.new.columns _ c.self.inside.columns.len (c.put_over_blanks.auto.columns ∙ c.as_mut_slice.ensures.len) in
     let now = ap all_seen columns ∙ new in
     let count : length news ≡ c.run_width-count.result = run_length c.args.negative text ∙ sym c.run_width-count.ensures in
-    let fits : index + c.run_width-count.result ≤ length g.columns = put_fits g cell.line cell.column text c.run_width-count.result c.self.invariant.0 can c.run_width-count.ensures in (
+    let fits : index + c.run_width-count.result ≤ length g.columns =
+    put_fits g cell.line cell.column text c.run_width-count.result c.self.invariant.0 can c.run_width-count.ensures in (
       subst (λ (cs : List Col). IsGrid g.height g.width cs) (sym now) (put_kept g cell.line cell.column text c.args.negative c.self.invariant.0 can),
       take_at c.note_codes.new.codes _ c.self.inside.codes.len (c.note_codes.auto.codes ∙ c.as_mut_slice-2.ensures.len)
-          ∙ noted g.columns (all_seen c.deref.result.now) news c.as_mut_slice-2.result.now c.note_codes.new.codes index (index + c.run_width-count.result) c.run_width-count.result
+          ∙ noted g.columns (all_seen c.deref.result.now) news c.as_mut_slice-2.result.now c.note_codes.new.codes index (index + c.run_width-count.result)
+          c.run_width-count.result
           (c.as_mut_slice-2.ensures.value ∙ c.self.invariant.1) (ap all_seen c.deref.ensures.value ∙ now) count (omega arith) fits c.note_codes.ensures
           ∙ ap (λ cs. codes_of (all_seen cs)) c.deref.ensures.value,
     )

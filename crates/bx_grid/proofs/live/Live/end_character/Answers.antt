@@ -15,5 +15,6 @@ returns-in_ok-push c =
     let bs : List ℕ = u.half_read ++ c.args.byte ∷ [] in
     let ends : fate_in characters bs ≡ Ends = ap (λ (t : Terminal). fate_in characters (t.half_read ++ c.args.byte ∷ [])) c.self.view_is ∙ c.requires in
     let spells : chars bs ≡ c.character-c.result ∷ [] = ap (λ xs. chars (xs ++ c.args.byte ∷ [])) (sym c.as_slice.ensures.value) ∙ c.character-c.ensures in
-    character_is u bs c.character-c.result _ _ spells (sym c.if-is_control.ensures) (spelled bs c.character-c.result ends spells) c.in_ok-push.ensures.bytes c.clear.ensures.items
+    character_is u bs c.character-c.result _ _ spells (sym c.if-is_control.ensures) (spelled bs c.character-c.result ends spells) c.in_ok-push.ensures.bytes
+    c.clear.ensures.items
     ∙ ap (λ (t : Terminal). character_read t (t.half_read ++ c.args.byte ∷ [])) c.self.view_is

@@ -23,7 +23,8 @@ pub returns-in-Some-negative : goal.returns-in-Some-negative
 returns-in-Some-negative c =
     let t = c.args.self.now in
     on_ok c.put_run.result _ _
-    (λ e. e ∙ sym (ends_put t (c.in-Some.row, c.in-Some.column) c.in-Some-negative.negative (sym (ap (λ (x : Terminal). x.position) c.self.view_is) ∙ c.in-Some.is)
+    (λ e. e ∙ sym (ends_put t (c.in-Some.row, c.in-Some.column) c.in-Some-negative.negative
+    (sym (ap (λ (x : Terminal). x.position) c.self.view_is) ∙ c.in-Some.is)
     (sym (ap (λ (x : Terminal). x.negative) c.self.view_is) ∙ c.in-Some-negative.is)
     (some (terminal_of c.self.inside) t c.as_bytes.result.now c.self.view_is c.as_bytes.ensures.value c.if-is_empty.ensures)))
     c.put_run.ensures

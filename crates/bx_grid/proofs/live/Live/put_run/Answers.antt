@@ -9,7 +9,8 @@ use Rattle.bx_grid.specs.Live.{terminal_of}
 use Rattle.bx_grid.proofs.Puts.{run_length}
 use Rattle.bx_grid.proofs.RunEnds.{no_room, put_is, within_at, within_past}
 use Rattle.bx_grid.proofs.live.Live.put_run.Goals as goal
-use Rattle.bx_grid.proofs.live.Live.put_run.Goals.{then-count-lt1-via-then-count-lt1, then-count-lt1-via-else-count-lt1+then-count-self, then-end-self, else-end-self}
+use Rattle.bx_grid.proofs.live.Live.put_run.Goals.{then-count-lt1-via-then-count-lt1, then-count-lt1-via-else-count-lt1+then-count-self, then-end-self}
+use Rattle.bx_grid.proofs.live.Live.put_run.Goals.{else-end-self}
 
 pub returns-then-count-lt1 : goal.returns-then-count-lt1
 returns-then-count-lt1 c =
@@ -43,5 +44,6 @@ returns c =
       | else-end-self w ↦ w.self-is ∙ sym (within_past u.width c.args.row (c.args.column + count) w.if-end-self.false)
     ] in
     ap with_columns (take_at c.show_at.new.columns _ c.self.inside.columns.len (c.show_at.auto.columns ∙ c.as_mut_slice.ensures.len))
-    ∙ put_is u c.args.row c.args.column count c.args.negative _ _ _ counted c.if-count-lt1.false (omega (arith, c.if-count-self.false)) columns position c.clear.ensures.bytes
+    ∙ put_is u c.args.row c.args.column count c.args.negative _ _ _ counted c.if-count-lt1.false (omega (arith, c.if-count-self.false)) columns position
+    c.clear.ensures.bytes
     ∙ ap (λ (t : Terminal). glyphs_put t (c.args.row, c.args.column) (run_columns c.args.negative t.run)) c.self.view_is

@@ -11,7 +11,9 @@ pub loop-entry-preserved : goal.loop-entry-preserved
 loop-entry-preserved c = record {
   answers = λ code.
       c.loop-entry.invariant.answers code
-      ∙ put_more (λ e. e.bracket) (λ e. (e.side, e.paired)) c.args.entries.now c.loop-entry.entry-index _ code (get nat_cmp c.loop-entry.each code) (get nat_cmp c.insert.new.self code) c.loop-entry-test.true (c.in_ok-insert.ensures.updates.0 code);
+      ∙ put_more (λ e. e.bracket) (λ e. (e.side, e.paired)) c.args.entries.now c.loop-entry.entry-index _ code (get nat_cmp c.loop-entry.each code)
+      (get nat_cmp c.insert.new.self code) c.loop-entry-test.true (c.in_ok-insert.ensures.updates.0 code);
   complete = length-set c.loop-entry.remainders.items _ _ ∙ c.loop-entry.invariant.complete;
-  noted = λ code. noted_more c.loop-entry.remainders.items _ code _ (get nat_cmp c.loop-entry.each code) (get nat_cmp c.insert.new.self code) c.loop-entry.invariant.complete (c.in_ok-insert.ensures.updates.0 code) (c.loop-entry.invariant.noted code);
+  noted = λ code. noted_more c.loop-entry.remainders.items _ code _ (get nat_cmp c.loop-entry.each code) (get nat_cmp c.insert.new.self code)
+      c.loop-entry.invariant.complete (c.in_ok-insert.ensures.updates.0 code) (c.loop-entry.invariant.noted code);
 }
