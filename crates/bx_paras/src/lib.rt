@@ -13,4 +13,3 @@ mod splices;
 
 pub use error::ParasError;
 pub use index::Index;
-

@@ -11,4 +11,3 @@ mod tree;
 pub use piece::{Buffer, Piece};
 pub use pieces::Pieces;
 pub use spares::Spares;
-
