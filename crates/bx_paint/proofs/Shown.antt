@@ -86,7 +86,7 @@ ready_leaves p w negative above done rest below r c all h =
     let f = flushed p above h.start h.over below r h.from negative h.pending h.index h.some (omega (arith, h.column, h.fits)) in (
       f.position,
       record {
-        no_token = ap (λ (u : Terminal). u.pending) h.is;
+        no_token = ap (λ (u : Terminal). u.half_read) h.is;
         effect =
             ap run_ended h.is ∙ f.effect
             ∙ ap (λ xs. screen p (partly above xs (drop (length new) h.over) below) f.position negative []) h.done_is
@@ -146,8 +146,8 @@ ready_text p w g above done rest below r c all is h joins fits =
     let a = run_columns g.negative h.pending in
     let b = columns_of g in
     let index = r * p.width + h.from in
-    let idle : w.0.pending ≡ [] = ap (λ (u : Terminal). u.pending) h.is in
-    let next : run w g.text ≡ (record (w.0) { run = w.0.run ++ g.text; pending = [] }, w.1) =
+    let idle : w.0.half_read ≡ [] = ap (λ (u : Terminal). u.half_read) h.is in
+    let next : run w g.text ≡ (record (w.0) { run = w.0.run ++ g.text; half_read = [] }, w.1) =
     glyph_does w.0 w.1 g is idle in
     let count : length (run_columns g.negative (h.pending ++ g.text)) ≡ length a + length b = ap length joins ∙ length-append a b in
     let end : index + length a ≡ r * p.width + c = omega (arith, h.column) in
@@ -157,7 +157,7 @@ ready_text p w g above done rest below r c all is h joins fits =
         from = h.from;
         start = h.start;
         over = h.over;
-        is = ap (λ (v : Terminal × List Effect). v.0) next ∙ ap (λ (u : Terminal). record u { run = u.run ++ g.text; pending = [] }) h.is;
+        is = ap (λ (v : Terminal × List Effect). v.0) next ∙ ap (λ (u : Terminal). record u { run = u.run ++ g.text; half_read = [] }) h.is;
         index = h.index;
         some = λ _. omega (arith, count, some);
         done_is = ap (λ xs. h.start ++ xs) joins ∙ sym (append_assoc h.start a b) ∙ ap (λ xs. xs ++ b) h.done_is;

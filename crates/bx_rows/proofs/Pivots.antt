@@ -19,15 +19,15 @@ from_level m us b h =
     from_odds m us b (every_map (λ l. 2 * m ≤ l) (λ l. (i : ℕ) → l ≡ 1 + 2 * i → m ≤ i) us (λ l k i e. omega (arith, k, e)) h)
 
 -- a unit between two lists of units that are at its level or higher
-around : (P : ℕ → Type 0) (xs : List (ℕ × ℕ)) (u : ℕ × ℕ) (ys : List (ℕ × ℕ)) → P u.1 → Every P xs → Every P ys → Every P (xs ++ u ∷ ys)
-around P xs u ys p a b = every_append P xs (u ∷ ys) a (p, b)
+every_around : (P : ℕ → Type 0) (xs : List (ℕ × ℕ)) (u : ℕ × ℕ) (ys : List (ℕ × ℕ)) → P u.1 → Every P xs → Every P ys → Every P (xs ++ u ∷ ys)
+every_around P xs u ys p a b = every_append P xs (u ∷ ys) a (p, b)
 
 even_pivot : (m : ℕ) (xs : List (ℕ × ℕ)) (u : ℕ × ℕ) (ys : List (ℕ × ℕ)) → 2 * m ≤ 256 → u.1 ≡ 2 * m → Every (λ l. 2 * m ≤ l) xs
     → Every (λ l. 2 * m ≤ l) ys → order_of (xs ++ u ∷ ys) ≡ order_of xs ++ u ∷ order_of ys
 even_pivot m xs u ys b e a c =
     let p : 2 * m ≤ u.1 = omega (arith, e) in
     let k : u.1 < 1 + 2 * m = omega (arith, e) in
-    from_level m (xs ++ u ∷ ys) b (around (λ l. 2 * m ≤ l) xs u ys p a c) ∙ split_down (1 + 2 * m) (256 - 2 * m) xs u ys k
+    from_level m (xs ++ u ∷ ys) b (every_around (λ l. 2 * m ≤ l) xs u ys p a c) ∙ split_down (1 + 2 * m) (256 - 2 * m) xs u ys k
     ∙ ap (λ r. r ++ u ∷ reverse_down (1 + 2 * m) (256 - 2 * m) ys) (sym (from_level m xs b a))
     ∙ ap (λ r. order_of xs ++ u ∷ r) (sym (from_level m ys b c))
 
@@ -47,7 +47,7 @@ odd_pivot m xs u ys b e a c =
     let p : 1 + 2 * m ≤ u.1 = omega (arith, e) in
     let k : u.1 < 1 + 2 * m + 1 = omega (arith, e) in
     let back : List (ℕ × ℕ) → List (ℕ × ℕ) = λ us. reverse_down (1 + 2 * m + 1) (255 - 2 * m) us in
-    from_odd m (xs ++ u ∷ ys) b (around (λ l. 1 + 2 * m ≤ l) xs u ys p a c) ∙ ap reverse (split_down (1 + 2 * m + 1) (255 - 2 * m) xs u ys k)
+    from_odd m (xs ++ u ∷ ys) b (every_around (λ l. 1 + 2 * m ≤ l) xs u ys p a c) ∙ ap reverse (split_down (1 + 2 * m + 1) (255 - 2 * m) xs u ys k)
     ∙ reverse_around (back xs) u (back ys)
     ∙ ap (λ r. r ++ u ∷ reverse (back xs)) (sym (from_odd m ys b c))
     ∙ ap (λ r. order_of ys ++ u ∷ r) (sym (from_odd m xs b a))
