@@ -20,7 +20,7 @@ less_or_not j zero = inr (omega arith)
 less_or_not zero (suc k) = inl (omega arith)
 less_or_not (suc j) (suc k) = elim (less_or_not j k) [ inl l ↦ inl (omega arith) | inr l ↦ inr (omega arith) ]
 
--- one place more is clear
+-- one index more is clear
 pub clear_more : (d : Class) (ts : List Class) (a n : ℕ) → ((k : ℕ) → a ≤ k → k < n → counts_as d (get_or ts k L) ≡ false) → counts_as d (get_or ts n L) ≡ false
     → (k : ℕ) → a ≤ k → k < n + 1 → counts_as d (get_or ts k L) ≡ false
 clear_more d ts a n old new k low high = elim (less_or_not k n) [

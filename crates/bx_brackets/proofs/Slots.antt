@@ -13,7 +13,7 @@ use Rattle.bx_ucd.specs.declared.data.Side.{Side}
 use Rattle.bx_ucd.specs.declared.data.Side.TheVariants.{Opener, Closer}
 use Rattle.bx_brackets.specs.Pairs.{bracket_room, insert_pair, bracket_at, canonical}
 use Rattle.bx_brackets.specs.Resolve.{IsPairWithin}
-use Rattle.bx_brackets.specs.Search.{below_first, is_for, place_of, left_by, ends_search, open_after, is_closed, slot, with_closer, slots_after, is_opener}
+use Rattle.bx_brackets.specs.Search.{below_first, is_for, index_of, left_by, ends_search, open_after, is_closed, slot, with_closer, slots_after, is_opener}
 use Rattle.bx_brackets.specs.Search.{pairs_from, IsFalling, IsSlotWithin}
 use Rattle.bx_brackets.proofs.Stack.{stack_run, stack_turn, rest_by_stack, found_below, falling_later}
 
@@ -148,7 +148,7 @@ falling_below p j (x ∷ xs) o h e =
       | false ↦ λ k. ih k
     ]) e
 
--- what holds before place `j`
+-- what holds before index `j`
 pub record IsKept (j : ℕ) (os ss : List (ℕ × ℕ)) : Type 0 where
   pub falling : IsFalling (length ss) os
   pub rising : AreRising 0 ss
@@ -196,7 +196,7 @@ module _ (j c : ℕ) where
   opener_kept m os ss false w = record { falling = w.falling; rising = w.rising; within = slots_later j (j + 1) ss (omega arith) w.within; opens = w.opens }
 
   closer_kept : (os ss : List (ℕ × ℕ)) (b : Option (ℕ × ℕ)) → find (is_for (canonical c)) os ≡ b → IsKept j os ss
-      → IsKept (j + 1) (left_by b (canonical c) os) (with_closer (place_of b) j ss)
+      → IsKept (j + 1) (left_by b (canonical c) os) (with_closer (index_of b) j ss)
   closer_kept os ss None e w = record { falling = w.falling; rising = w.rising; within = slots_later j (j + 1) ss (omega arith) w.within; opens = w.opens }
   closer_kept os ss (Some o) e w =
       let p : ℕ × ℕ → Bool = is_for (canonical c) in
@@ -268,7 +268,7 @@ module _ (k : List (ℕ × ℕ) → List (ℕ × ℕ) → List (ℕ × ℕ)) (j 
 
   closer_goes : (m : ℕ) (os ss : List (ℕ × ℕ)) (b : Option (ℕ × ℕ)) → find (is_for (canonical c)) os ≡ b → IsKept j os ss
       → stack_turn k (map (opener_in ss) os) (closed ss) j c (Some (Closer, m))
-      ≡ k (map (opener_in (with_closer (place_of b) j ss)) (left_by b (canonical c) os)) (closed (with_closer (place_of b) j ss))
+      ≡ k (map (opener_in (with_closer (index_of b) j ss)) (left_by b (canonical c) os)) (closed (with_closer (index_of b) j ss))
   closer_goes m os ss None e w = closer_turn_of m (map (opener_in ss) os) (closed ss) None (find_in ss (canonical c) os ∙ ap (opt_map (opener_in ss)) e)
   closer_goes m os ss (Some o) e w =
       let p : ℕ × ℕ → Bool = is_for (canonical c) in

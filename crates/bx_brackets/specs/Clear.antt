@@ -1,4 +1,4 @@
--- What the walk over the pairs knows to be clear of a direction, so that it looks at no place again.
+-- What the walk over the pairs knows to be clear of a direction, so that it looks at no index again.
 use Rattle.std.specs.Prelude.{◌≡◌, ◌≤◌, ◌<◌, ℕ, false, true, List, slice_index_or, max, min}
 use Rattle.bx_ucd.specs.declared.class.Class.{Class}
 use Rattle.bx_ucd.specs.declared.class.Class.TheVariants.{L}
@@ -14,7 +14,7 @@ pub record AreClear (embedding : Class) (ts : List Class) (c : Clears) : Type 0 
   pub embedding_is : IsClear embedding ts c.embedding
   pub other_is : IsClear (opposite embedding) ts c.other
 
--- two lists are the same from a place on
+-- two lists are the same from an index on
 abbrev pub AreSameFrom : ℕ → List Class → List Class → Type 0
 AreSameFrom n old new = (k : ℕ) → n ≤ k → slice_index_or new k L ≡ slice_index_or old k L
 

@@ -20,7 +20,7 @@ abbrev pub insert_pair : ℕ × ℕ → List (ℕ × ℕ) → List (ℕ × ℕ)
 insert_pair p [] = p ∷ []
 insert_pair p (q ∷ qs) = elim (nat_lt p.0 q.0) [ true ↦ p ∷ q ∷ qs | false ↦ q ∷ insert_pair p qs ]
 
--- the openers so far, the latest first, each its place and its closer; the pairs found so far, ordered by their openers;
+-- the openers so far, the latest first, each its index and its closer; the pairs found so far, ordered by their openers;
 -- and whether the search has ended for want of room
 pub record Search : Type 0 where
   pub openers : List (ℕ × ℕ)
@@ -38,14 +38,14 @@ open_openers s = filter (is_open s.pairs) s.openers
 abbrev pub bracket_room : ℕ
 bracket_room = 63
 
--- BD16: an opener at place `j` is taken where there is room for it, and else ends the search
+-- BD16: an opener at index `j` is taken where there is room for it, and else ends the search
 abbrev pub meet_opener : Search → ℕ → ℕ → Search
 meet_opener s j closer = elim (nat_lt (length (open_openers s)) bracket_room) [
   | true ↦ record s { openers = (j, canonical closer) ∷ s.openers }
   | false ↦ record s { is_over = true }
 ]
 
--- BD16: a closer at place `j` makes a pair with the nearest open opener that it matches
+-- BD16: a closer at index `j` makes a pair with the nearest open opener that it matches
 abbrev pub meet_closer : Search → ℕ → ℕ → Search
 meet_closer s j c = elim (find (λ o. o.1 == canonical c) (open_openers s)) [
   | None ↦ s
@@ -69,6 +69,6 @@ search_from bracket s j (c ∷ cs) (t ∷ ts) = elim (s.is_over) [
   | false ↦ search_from bracket (meet s j c (bracket_at bracket c t)) (j + 1) cs ts
 ]
 
--- the bracket pairs of a sequence, each the places of its opener and its closer
+-- the bracket pairs of a sequence, each the indexes of its opener and its closer
 abbrev pub pairs : (ℕ → Option (Side × ℕ)) → List ℕ → List Class → List (ℕ × ℕ)
 pairs bracket cs ts = (search_from bracket (record { openers = []; pairs = []; is_over = false }) 0 cs ts).pairs

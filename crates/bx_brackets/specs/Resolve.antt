@@ -58,7 +58,7 @@ resolve_in embedding context was pq ts = elim (pair_direction embedding context 
   | Some d ↦ change_bracket d was (change_bracket d was ts pq.0) pq.1
 ]
 
--- the context of a place
+-- the context of an index
 abbrev pub context_of : Class → List Class → ℕ → Class
 context_of sos ts p = nearest sos (reverse (take p ts))
 

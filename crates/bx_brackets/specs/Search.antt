@@ -23,10 +23,10 @@ opener_at os (Some k) = Some (slice_index_or os k (0, 0))
 abbrev pub AreMissed : List (Option ℕ) → List (ℕ × ℕ) → Type 0
 AreMissed missed os = (k c : ℕ) → slice_index_or missed k None ≡ Some c → (c % 31 ≡ k) × (find (is_for c) os ≡ None)
 
--- the place of the opener that a closer meets
-abbrev pub place_of : Option (ℕ × ℕ) → Option ℕ
-place_of None = None
-place_of (Some o) = Some o.0
+-- the index of the opener that a closer meets
+abbrev pub index_of : Option (ℕ × ℕ) → Option ℕ
+index_of None = None
+index_of (Some o) = Some o.0
 
 abbrev pub is_opener : Option (Side × ℕ) → Bool
 is_opener None = false
@@ -49,7 +49,7 @@ open_after j c None os = os
 open_after j c (Some (Opener, m)) os = elim (nat_lt (length os) bracket_room) [ true ↦ (j, canonical m) ∷ os | false ↦ os ]
 open_after j c (Some (Closer, m)) os = left_by (find (is_for (canonical c)) os) (canonical c) os
 
--- the slot of an opener has its place and that of its closer, or its own place twice while it has none
+-- the slot of an opener has its index and that of its closer, or its own index twice while it has none
 abbrev pub is_closed : ℕ × ℕ → Bool
 is_closed s = nat_lt s.0 s.1
 
@@ -63,7 +63,7 @@ with_closer (Some k) j ss = slice_set ss k ((slot ss k).0, j)
 abbrev pub slots_after : ℕ → ℕ → Option (Side × ℕ) → List (ℕ × ℕ) → List (ℕ × ℕ) → List (ℕ × ℕ)
 slots_after j c None os ss = ss
 slots_after j c (Some (Opener, m)) os ss = elim (nat_lt (length os) bracket_room) [ true ↦ ss ++ (j, j) ∷ [] | false ↦ ss ]
-slots_after j c (Some (Closer, m)) os ss = with_closer (place_of (find (is_for (canonical c)) os)) j ss
+slots_after j c (Some (Closer, m)) os ss = with_closer (index_of (find (is_for (canonical c)) os)) j ss
 
 -- each opener stands before `j`, and before those above it
 abbrev pub IsFalling : ℕ → List (ℕ × ℕ) → Type 0
@@ -75,6 +75,6 @@ pub record IsSlotWithin (n : ℕ) (s : ℕ × ℕ) : Type 0 where
   pub ordered : s.0 ≤ s.1
   pub ends : s.1 < n
 
--- the pairs that a search finds from place `j` on, where none is open before it
+-- the pairs that a search finds from index `j` on, where none is open before it
 abbrev pub pairs_from : (ℕ → Option (Side × ℕ)) → ℕ → List ℕ → List Class → List (ℕ × ℕ)
 pairs_from bracket j cs ts = (search_from bracket (record { openers = []; pairs = []; is_over = false }) j cs ts).pairs

@@ -1,6 +1,6 @@
 //! Bracket pairs (BD14 to BD16).
 ghost use Rattle.std.specs.Prelude.{◌≡◌, ℕ, ◌<◌, ◌≤◌, drop, All, IfOk, OnOk, IfSome, length, List, [], ◌∷◌, reverse, take, not, nat_lt, find, filter};
-ghost use Rattle.bx_brackets.specs.Search.{AreMissed, below_first, opener_at, is_for, place_of, left_by, ends_search, open_after, with_closer, slots_after};
+ghost use Rattle.bx_brackets.specs.Search.{AreMissed, below_first, opener_at, is_for, index_of, left_by, ends_search, open_after, with_closer, slots_after};
 ghost use Rattle.bx_brackets.specs.Search.{is_closed, is_opener, pairs_from, IsFalling};
 ghost use Rattle.bx_brackets.specs.Resolve.{IsPairWithin};
 ghost use Rattle.bx_brackets.specs.Search.{IsSlotWithin};
@@ -106,17 +106,17 @@ impl OpenStack {
     }
 
     /// Adds an opener.
-    fn push(&mut self, place: usize, closer: char)
+    fn push(&mut self, index: usize, closer: char)
         requires { length self.old < bracket_room }
-        ensures { self.new ≡ (place, closer) ∷ self.old }
+        ensures { self.new ≡ (index, closer) ∷ self.old }
     {
         self.missed[closer as usize % REMAINDERS] = None;
-        self.openers.push((place, closer));
+        self.openers.push((index, closer));
     }
 
     /// Takes off the last opener that the closer meets, with what stands above it.
     fn close(&mut self, closer: char) -> Option<usize>
-        ensures place { result ≡ place_of (find (is_for closer) self.old) }
+        ensures index { result ≡ index_of (find (is_for closer) self.old) }
         ensures left { self.new ≡ left_by (find (is_for closer) self.old) closer self.old }
     {
         let remainder = closer as usize % REMAINDERS;
@@ -163,14 +163,14 @@ fn make_room(slots: &mut Vec<(usize, usize)>) -> Result<(), AllocError>
 fn meet(
     open: &mut OpenStack,
     slots: &mut Vec<(usize, usize)>,
-    place: usize,
+    index: usize,
     c: char,
     bracket: Option<(Side, char)>,
 ) -> Result<bool, AllocError>
     requires within { IsFalling (length slots.old.items) «open».old }
     ensures over { IfOk result (λ r. r ≡ ends_search bracket «open».old) }
     ensures left { OnOk result («open».new ≡ open_after (length slots.old.items) c bracket «open».old) }
-    ensures slots { OnOk result (slots.new.items ≡ slots_after place c bracket «open».old slots.old.items) }
+    ensures slots { OnOk result (slots.new.items ≡ slots_after index c bracket «open».old slots.old.items) }
 {
     match bracket {
         None => Ok(false),
@@ -180,13 +180,13 @@ fn meet(
             }
             let slot = slots.len();
             make_room(slots)?;
-            slots.push((place, place))?;
+            slots.push((index, index))?;
             open.push(slot, canonical(closer));
             Ok(false)
         }
         Some((Side::Closer, _)) => {
             let slot = open.close(canonical(c));
-            note_closer(slots, slot, place);
+            note_closer(slots, slot, index);
             Ok(false)
         }
     }
@@ -206,7 +206,7 @@ fn first_opener<D: BidiData>(chars: &[char], types: &[Class], source: &D) -> usi
     i
 }
 
-/// Makes a slot for each opener from place `start` on, with its closer if it has one.
+/// Makes a slot for each opener from index `start` on, with its closer if it has one.
 fn search<D: BidiData>(
     open: &mut OpenStack,
     slots: &mut Vec<(usize, usize)>,
@@ -265,7 +265,7 @@ impl PairSearch {
         }
     }
 
-    /// The pairs found last: the places of the opener and the closer in the sequence, ordered by openers.
+    /// The pairs found last: the indexes of the opener and the closer in the sequence, ordered by openers.
     pub fn pairs(&self) -> &[(usize, usize)]
         ensures { result.now ≡ self.now }
     {
@@ -302,7 +302,7 @@ impl PairSearch {
     }
 }
 
-/// The bracket pairs of a sequence (BD14 to BD16) from its characters and their current types: the places of the opener
+/// The bracket pairs of a sequence (BD14 to BD16) from its characters and their current types: the indexes of the opener
 /// and the closer in the sequence, ordered by openers. It takes memory, and is refused only where there is none.
 pub fn pairs<D: BidiData>(
     alloc: Global,

@@ -36,7 +36,7 @@ fn counts_as(d: Class, t: Class) -> bool
     }
 }
 
-/// A range of places that is known to have no type of a direction.
+/// A range of indexes that is known to have no type of a direction.
 #[derive(Clone, Copy, PartialEq, Eq, Debug)]
 struct Clear {
     from: usize,
@@ -50,7 +50,7 @@ struct Clears {
     other: Clear,
 }
 
-/// Whether a type in a range counts as the direction, and what is then known to be clear of it. Places that are known
+/// Whether a type in a range counts as the direction, and what is then known to be clear of it. Indexes that are known
 /// to be clear are not looked at again.
 fn has(d: Class, clear: Clear, types: &[Class], from: usize, to: usize) -> (bool, Clear)
     requires within { to ≤ length types.now }
@@ -96,18 +96,18 @@ fn nearest(sos: Class, types: &[Class]) -> Class
     sos
 }
 
-/// The context of a place: the nearest direction before it, where that of an earlier place is known.
+/// The context of an index: the nearest direction before it, where that of an earlier index is known.
 #[tactic(auto, using(crate::proofs::Context::context_later))]
-fn context(sos: Class, known: (usize, Class), types: &[Class], place: usize) -> Class
-    requires within { place ≤ length types.now }
+fn context(sos: Class, known: (usize, Class), types: &[Class], index: usize) -> Class
+    requires within { index ≤ length types.now }
     requires known { known.1 ≡ context_of sos types.now known.0 }
-    ensures { result ≡ context_of sos types.now place }
+    ensures { result ≡ context_of sos types.now index }
 {
     let (start, before) = known;
-    if start <= place {
-        nearest(before, &types[start..place])
+    if start <= index {
+        nearest(before, &types[start..index])
     } else {
-        nearest(sos, &types[..place])
+        nearest(sos, &types[..index])
     }
 }
 

@@ -1,4 +1,4 @@
--- A loop that goes down through the places of a list: from place `i` to place `j`, the one before it.
+-- A loop that goes down through the indexes of a list: from index `i` to index `j`, the one before it.
 use Rattle.std.proofs.Common.{◌≡◌, ◌≢◌, ◌<◌, ◌≤◌, ◌+◌, ◌∙◌, ℕ, zero, suc, List, length, get_or, set, drop, refl, ap, sym, arith, ◌⊎◌, inl, inr}
 use Rattle.std.proofs.lemmas.List.{get_or-set_same, get_or-set_other}
 use Rattle.bx_ucd.specs.declared.class.Class.{Class}

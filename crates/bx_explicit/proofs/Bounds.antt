@@ -1,4 +1,4 @@
--- What bounds the levels and the places of the sequences.
+-- What bounds the levels and the indexes of the sequences.
 use Rattle.std.proofs.Common.{◌<◌, ◌≤◌, ◌+◌, ◌-◌, ℕ, List, [], ◌∷◌, ◌++◌, length, drop, take, arith, true, false, Option, Some, None}
 use Rattle.std.specs.Prelude.{All, ◌==◌}
 use Rattle.std.proofs.lemmas.List.{length-take}
@@ -13,8 +13,8 @@ use Rattle.bx_explicit.specs.Role.{role_of}
 use Rattle.bx_explicit.specs.Kept.{level_or_0}
 use Rattle.bx_explicit.specs.Stack.{IsRising}
 use Rattle.bx_explicit.specs.Explicit.{next_state, kept_by, start, explicit_from, explicit_levels}
-use Rattle.bx_explicit.specs.Runs.{run, join_run, runs_from, kept_places, places_of, IsRunWithin}
-use Rattle.bx_explicit.specs.Sequences.{RunSequence, is_joined, followers, follows, chain_places, sequence_of, sequences_from, sequences}
+use Rattle.bx_explicit.specs.Runs.{run, join_run, runs_from, kept_indexes, indexes_of, IsRunWithin}
+use Rattle.bx_explicit.specs.Sequences.{RunSequence, is_joined, followers, follows, chain_indexes, sequence_of, sequences_from, sequences}
 use Rattle.bx_explicit.proofs.Rising.{rising_top}
 use Rattle.bx_explicit.proofs.Steps.{rising_next}
 use Rattle.bx_explicit.proofs.LevelRuns.{all_within}
@@ -91,25 +91,25 @@ pub sequences_low : (paragraph : ℕ) (cs : List Class) (kept : List (Option Kep
 sequences_low paragraph cs kept a = sequences_each paragraph cs kept (λ s. s.level ≤ 125) IsLowRun (λ r fs h t. h) (followers_each cs IsLowRun) []
     (runs_from 0 kept) (runs_low 0 kept a)
 
--- the places of a run lie in it
-kept_below : (n k : ℕ) (g : List (Option Kept)) → k + length g ≤ n → All (λ p. p < n) (kept_places k g)
+-- the indexes of a run lie in it
+kept_below : (n k : ℕ) (g : List (Option Kept)) → k + length g ≤ n → All (λ p. p < n) (kept_indexes k g)
 kept_below n k [] h = All-nil (λ p. p < n)
 kept_below n k (None ∷ g) h = kept_below n (k + 1) g (omega arith)
-kept_below n k (Some c ∷ g) h = All-cons (λ p. p < n) k (kept_places (k + 1) g) (omega arith) (kept_below n (k + 1) g (omega arith))
+kept_below n k (Some c ∷ g) h = All-cons (λ p. p < n) k (kept_indexes (k + 1) g) (omega arith) (kept_below n (k + 1) g (omega arith))
 
-places_below : (n : ℕ) (kept : List (Option Kept)) (r : Run) → IsRunWithin 0 n r → All (λ p. p < n) (places_of kept r)
-places_below n kept r w =
+indexes_below : (n : ℕ) (kept : List (Option Kept)) (r : Run) → IsRunWithin 0 n r → All (λ p. p < n) (indexes_of kept r)
+indexes_below n kept r w =
     let t : length (take (r.last + 1 - r.first) (drop r.first kept)) ≤ r.last + 1 - r.first =
     omega (arith, length-take (r.last + 1 - r.first) (drop r.first kept)) in
     kept_below n r.first (take (r.last + 1 - r.first) (drop r.first kept)) (omega (arith, w.ordered, w.ends))
 
-chain_below : (n : ℕ) (kept : List (Option Kept)) (rs : List Run) → All (IsRunWithin 0 n) rs → All (λ p. p < n) (chain_places kept rs)
+chain_below : (n : ℕ) (kept : List (Option Kept)) (rs : List Run) → All (IsRunWithin 0 n) rs → All (λ p. p < n) (chain_indexes kept rs)
 chain_below n kept [] a = All-nil (λ p. p < n)
-chain_below n kept (r ∷ rs) a = All-append (λ p. p < n) (places_of kept r) (chain_places kept rs) (places_below n kept r (All-head (IsRunWithin 0 n) r rs a))
+chain_below n kept (r ∷ rs) a = All-append (λ p. p < n) (indexes_of kept r) (chain_indexes kept rs) (indexes_below n kept r (All-head (IsRunWithin 0 n) r rs a))
     (chain_below n kept rs (All-tail (IsRunWithin 0 n) r rs a))
 
 pub sequences_below : (paragraph : ℕ) (cs : List Class) (kept : List (Option Kept))
-    → All (λ s. All (λ p. p < length kept) s.places) (sequences paragraph cs kept)
-sequences_below paragraph cs kept = sequences_each paragraph cs kept (λ s. All (λ p. p < length kept) s.places) (IsRunWithin 0 (length kept))
+    → All (λ s. All (λ p. p < length kept) s.indexes) (sequences paragraph cs kept)
+sequences_below paragraph cs kept = sequences_each paragraph cs kept (λ s. All (λ p. p < length kept) s.indexes) (IsRunWithin 0 (length kept))
     (λ r fs h t. chain_below (length kept) kept (r ∷ fs) (All-cons (IsRunWithin 0 (length kept)) r fs h t)) (followers_each cs (IsRunWithin 0 (length kept))) []
     (runs_from 0 kept) (all_within kept)

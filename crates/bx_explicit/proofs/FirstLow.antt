@@ -73,7 +73,7 @@ resumed_runs l k (Some c ∷ ks) =
     ∙ ap (pick (nat_lt l c.level) (c.level == l) (further k (one_more (resumes_at l ks)))) here
     ∙ sym (further_pick k (nat_lt l c.level) (c.level == l) (one_more (resumes_at l ks)) (Some 0))
 
--- a place, if there is one, is the place `f`
+-- an index, if there is one, is the index `f`
 abbrev pub begins_at : Option ℕ → ℕ → Bool
 begins_at o f = elim o [ None ↦ false | Some p ↦ p == f ]
 

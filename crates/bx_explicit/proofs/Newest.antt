@@ -11,22 +11,22 @@ use Rattle.bx_explicit.specs.declared.entry.Explicit.{Explicit}
 use Rattle.bx_explicit.specs.declared.entry.Kept.{Kept}
 use Rattle.bx_explicit.specs.declared.open_chains.OpenChain.{OpenChain}
 use Rattle.bx_explicit.specs.declared.runs.Run.{Run}
-use Rattle.bx_explicit.specs.LevelPlaces.{level_places, places_from}
+use Rattle.bx_explicit.specs.LevelIndexes.{level_indexes, indexes_from}
 use Rattle.bx_explicit.specs.OpenChains.{OpenRuns, run_at, is_over, newest, newest_sequence, sequence_of_runs}
-use Rattle.bx_explicit.specs.Sequences.{RunSequence, chain_places, direction, level_of_first, level_after, start_class, end_class, last_run, sequence_of}
+use Rattle.bx_explicit.specs.Sequences.{RunSequence, chain_indexes, direction, level_of_first, level_after, start_class, end_class, last_run, sequence_of}
 use Rattle.bx_explicit.specs.Sequences.{starts_with_initiator}
 use Rattle.bx_explicit.specs.Stacked.{BeginsRun, IsOpenChain, AreOpen, chains_of}
 use Rattle.std.proofs.lemmas.List.Elements.{All-head, All-tail}
-use Rattle.bx_explicit.proofs.RunWalk.{places_walked, last_below}
+use Rattle.bx_explicit.proofs.RunWalk.{indexes_walked, last_below}
 
-abbrev pub newest_place : List ℕ → ℕ
-newest_place ps = get_or ps (length ps - 1) 0
+abbrev pub newest_index : List ℕ → ℕ
+newest_index ps = get_or ps (length ps - 1) 0
 
 -- a chain, its newest run first
 abbrev pub older : List (Option Kept) → ℕ → List ℕ → List Run
 older kept b ps = reverse (map (run_at kept) (take (length ps - b - 1) (drop b ps)))
 
-split_last : (b : ℕ) (ps : List ℕ) → b < length ps → drop b ps ≡ take (length ps - b - 1) (drop b ps) ++ newest_place ps ∷ []
+split_last : (b : ℕ) (ps : List ℕ) → b < length ps → drop b ps ≡ take (length ps - b - 1) (drop b ps) ++ newest_index ps ∷ []
 split_last b ps h =
     let n : ℕ = length ps - b - 1 in
     let l : length (drop b ps) ≤ n + 1 = omega (arith, length-drop b ps) in
@@ -36,13 +36,13 @@ split_last b ps h =
     ∙ ap (λ p. take n (drop b ps) ++ p ∷ []) (get_or-drop b ps n 0 ∙ ap (λ i. get_or ps i 0) k)
 
 pub newest_first : (kept : List (Option Kept)) (b : ℕ) (ps : List ℕ) → b < length ps
-    → reverse (map (run_at kept) (drop b ps)) ≡ run_at kept (newest_place ps) ∷ older kept b ps
+    → reverse (map (run_at kept) (drop b ps)) ≡ run_at kept (newest_index ps) ∷ older kept b ps
 newest_first kept b ps h =
     let qs : List ℕ = take (length ps - b - 1) (drop b ps) in
-    ap (λ xs. reverse (map (run_at kept) xs)) (split_last b ps h) ∙ ap reverse (map_push (run_at kept) qs (newest_place ps))
-    ∙ reverse-append (map (run_at kept) qs) (run_at kept (newest_place ps) ∷ [])
+    ap (λ xs. reverse (map (run_at kept) xs)) (split_last b ps h) ∙ ap reverse (map_push (run_at kept) qs (newest_index ps))
+    ∙ reverse-append (map (run_at kept) qs) (run_at kept (newest_index ps) ∷ [])
 
--- each run of the newest chain begins at its place
+-- each run of the newest chain begins at its index
 run_begins : (kept : List (Option Kept)) (o : OpenChain) (ps : List ℕ) → IsOpenChain kept o ps → (i : ℕ) → o.begin ≤ i → i < length ps
     → BeginsRun kept o.level (get_or ps i 0)
 run_begins kept o ps w i l h =
@@ -53,7 +53,7 @@ run_begins kept o ps w i l h =
 pub first_begins : (kept : List (Option Kept)) (o : OpenChain) (ps : List ℕ) → IsOpenChain kept o ps → BeginsRun kept o.level (get_or ps o.begin 0)
 first_begins kept o ps w = run_begins kept o ps w o.begin (omega arith) w.begun
 
-pub last_begins : (kept : List (Option Kept)) (o : OpenChain) (ps : List ℕ) → IsOpenChain kept o ps → BeginsRun kept o.level (newest_place ps)
+pub last_begins : (kept : List (Option Kept)) (o : OpenChain) (ps : List ℕ) → IsOpenChain kept o ps → BeginsRun kept o.level (newest_index ps)
 last_begins kept o ps w = let h : o.begin < length ps = w.begun in run_begins kept o ps w (length ps - 1) (omega arith) (omega arith)
 
 pub opened : (kept : List (Option Kept)) (os rest : List OpenChain) (o : OpenChain) (ps : List ℕ) → os ≡ o ∷ rest → AreOpen kept os ps → IsOpenChain kept o ps
@@ -63,16 +63,16 @@ pub ends_below : (kept : List (Option Kept)) (os rest : List OpenChain) (o : Ope
     → o.last < length kept
 ends_below kept os rest o ps e a =
     let w : IsOpenChain kept o ps = opened kept os rest o ps e a in
-    subst (λ l. l < length kept) w.ends (last_below kept (newest_place ps) (last_begins kept o ps w).within)
+    subst (λ l. l < length kept) w.ends (last_below kept (newest_index ps) (last_begins kept o ps w).within)
 
 -- whether it ends before a run
 pub over_is : (cs : List Class) (kept : List (Option Kept)) (os rest : List OpenChain) (o : OpenChain) (ps : List ℕ) (q : Run) → os ≡ o ∷ rest
     → AreOpen kept os ps → is_over cs (chains_of kept os ps) q ≡ (nat_lt q.level o.level || not (starts_with_initiator (drop o.last cs)))
 over_is cs kept os rest o ps q e a =
     let w : IsOpenChain kept o ps = opened kept os rest o ps e a in
-    let b : BeginsRun kept o.level (newest_place ps) = last_begins kept o ps w in
+    let b : BeginsRun kept o.level (newest_index ps) = last_begins kept o ps w in
     ap (λ xs. is_over cs (chains_of kept xs ps) q) e ∙ ap (λ c. is_over cs (c ∷ chains_of kept rest (take o.begin ps)) q) (newest_first kept o.begin ps w.begun)
-    ∙ ap (λ l. nat_lt q.level l || not (starts_with_initiator (drop (run_at kept (newest_place ps)).last cs))) b.of_level
+    ∙ ap (λ l. nat_lt q.level l || not (starts_with_initiator (drop (run_at kept (newest_index ps)).last cs))) b.of_level
     ∙ ap (λ l. nat_lt q.level o.level || not (starts_with_initiator (drop l cs))) w.ends
 
 pub over_higher : (m n : ℕ) (b : Bool) → m < n → nat_lt m n ≡ (nat_lt m n || b)
@@ -118,7 +118,7 @@ module _ (x : Explicit) (os rest : List OpenChain) (o : OpenChain) (ps : List �
   last_run_map p [] = refl
   last_run_map p (q ∷ qs) = last_run_map q qs
 
-  last_is : last_run (run_at kept (get_or ps o.begin 0)) (map (run_at kept) (drop (o.begin + 1) ps)) ≡ run_at kept (newest_place ps)
+  last_is : last_run (run_at kept (get_or ps o.begin 0)) (map (run_at kept) (drop (o.begin + 1) ps)) ≡ run_at kept (newest_index ps)
   last_is =
       let h : o.begin < length ps = w.begun in
       let k : o.begin + length (drop (o.begin + 1) ps) ≡ length ps - 1 = omega (arith, length-drop (o.begin + 1) ps) in
@@ -128,21 +128,21 @@ module _ (x : Explicit) (os rest : List OpenChain) (o : OpenChain) (ps : List �
 
   pub eos_is : (r : Run) → r.level ≡ o.level → r.last ≡ o.last → end_class x.level x.classes.items kept r ≡ (newest_sequence stacked).eos
   eos_is r l f =
-      let b : BeginsRun kept o.level (newest_place ps) = last_begins kept o ps w in
-      let q : Run = run_at kept (newest_place ps) in
+      let b : BeginsRun kept o.level (newest_index ps) = last_begins kept o ps w in
+      let q : Run = run_at kept (newest_index ps) in
       let m : r.level ≡ q.level = l ∙ sym b.of_level in
       let n : r.last ≡ q.last = f ∙ sym w.ends in
       ap (λ k. direction (max k (level_after x.level x.classes.items kept r.last))) m
       ∙ ap (λ k. direction (max q.level (level_after x.level x.classes.items kept k))) n ∙ ap (end_class x.level x.classes.items kept) (sym last_is)
       ∙ sym (ap (λ (s : RunSequence). s.eos) sequence_is)
 
-  walked_all : (qs : List ℕ) → All (BeginsRun kept o.level) qs → chain_places kept (map (run_at kept) qs) ≡ places_from o.level kept qs
+  walked_all : (qs : List ℕ) → All (BeginsRun kept o.level) qs → chain_indexes kept (map (run_at kept) qs) ≡ indexes_from o.level kept qs
   walked_all [] h = refl
   walked_all (q ∷ qs) h =
-      ap (λ xs. xs ++ chain_places kept (map (run_at kept) qs)) (places_walked kept o.level q (All-head (BeginsRun kept o.level) q qs h))
-      ∙ ap (λ ys. level_places o.level q (drop q kept) ++ ys) (walked_all qs (All-tail (BeginsRun kept o.level) q qs h))
+      ap (λ xs. xs ++ chain_indexes kept (map (run_at kept) qs)) (indexes_walked kept o.level q (All-head (BeginsRun kept o.level) q qs h))
+      ∙ ap (λ ys. level_indexes o.level q (drop q kept) ++ ys) (walked_all qs (All-tail (BeginsRun kept o.level) q qs h))
 
-  pub places_is : places_from o.level kept (drop o.begin ps) ≡ (newest_sequence stacked).places
-  places_is =
-      sym (ap (λ (s : RunSequence). s.places) sequence_is ∙ ap (λ qs. chain_places kept (map (run_at kept) qs)) (sym (drop_more ps o.begin 0 w.begun))
+  pub indexes_is : indexes_from o.level kept (drop o.begin ps) ≡ (newest_sequence stacked).indexes
+  indexes_is =
+      sym (ap (λ (s : RunSequence). s.indexes) sequence_is ∙ ap (λ qs. chain_indexes kept (map (run_at kept) qs)) (sym (drop_more ps o.begin 0 w.begun))
       ∙ walked_all (drop o.begin ps) w.runs)

@@ -1,5 +1,5 @@
 -- The law of the walk: the sequences come in the order in which their chains end, and one that comes earlier than the
--- order of first places wants it lies apart from those that it overtakes.
+-- order of first indexes wants it lies apart from those that it overtakes.
 use Rattle.std.proofs.Common.{◌≡◌, ◌≢◌, ◌<◌, ◌≤◌, ◌+◌, ◌∙◌, ℕ, suc, List, [], ◌∷◌, ◌++◌, append_assoc, append-nil, length, get_or, drop, reverse, refl, ap, sym}
 use Rattle.std.proofs.Common.{subst, arith, Bool, true, false, not, ◌==◌, Option, nat_lt, ltb-false, eqb-true}
 use Rattle.std.specs.Prelude.{All}
@@ -22,7 +22,7 @@ use Rattle.bx_explicit.proofs.RunEnd.{EndsAt, run_ends}
 use Rattle.bx_explicit.proofs.Spans.{Spans, each_of_chain, all_reverse, spans_in}
 use Rattle.bx_explicit.proofs.Unjoined.{AreResumed, IsAlone, StandFor, over_alone, resumed, followed, alone, head_over, head_new}
 use Rattle.bx_explicit.proofs.Waits.{heads, IsWaiting, AreWaiting, completed, waiting, ungiven, widen_all, begins_low, wait_before, wait_over, lower_all}
-use Rattle.bx_explicit.proofs.Waits.{none_joined, wait_on, places_of_runs, waiting_out}
+use Rattle.bx_explicit.proofs.Waits.{none_joined, wait_on, indexes_of_runs, waiting_out}
 use Rattle.bx_explicit.proofs.Ending.{ending_over, ending_open}
 
 -- the sequences of the runs to come
@@ -69,11 +69,11 @@ module _ (paragraph : ℕ) (cs : List Class) (kept : List (Option Kept)) where
   completed_alone r rs rest a = ap (λ fs. sequence_of_runs paragraph cs kept (reverse (r ∷ rs) ++ fs)) (alone cs r rest a)
       ∙ ap (sequence_of_runs paragraph cs kept) (append-nil (reverse (r ∷ rs)))
 
--- the runs that begin at a place or after it
+-- the runs that begin at an index or after it
 abbrev pub runs_after : List (Option Kept) → ℕ → List Run
 runs_after kept from = runs_from from (drop from kept)
 
--- the runs before the place `from` are met, and the chains wait
+-- the runs before the index `from` are met, and the chains wait
 pub record IsMet (cs : List Class) (kept : List (Option Kept)) (done : List Run) (chains : List (List Run)) (from : ℕ) : Type 0 where
   pub split : runs_from 0 kept ≡ done ++ runs_after kept from
   pub waits : AreWaiting done chains from
@@ -83,7 +83,7 @@ pub record IsMet (cs : List Class) (kept : List (Option Kept)) (done : List Run)
 next_runs : (kept : List (Option Kept)) (from : ℕ) (q : Run) (rest : List Run) → runs_after kept from ≡ q ∷ rest → runs_after kept (q.last + 1) ≡ rest
 next_runs kept from q rest e =
     let w : EndsAt from (drop from kept) q rest = run_ends from (drop from kept) [] q rest e in
-    let n : from + suc w.skipped ≡ q.last + 1 = omega (arith, w.place) in
+    let n : from + suc w.skipped ≡ q.last + 1 = omega (arith, w.index) in
     let d : drop (suc w.skipped) (drop from kept) ≡ drop (q.last + 1) kept = drop-drop (suc w.skipped) from kept ∙ ap (λ k. drop k kept) n in
     ap (runs_from (q.last + 1)) (sym d) ∙ ap (λ k. runs_from k (drop (suc w.skipped) (drop from kept))) (sym n) ∙ w.later
 
@@ -117,11 +117,11 @@ module _ (paragraph : ℕ) (cs : List Class) (kept : List (Option Kept)) (law : 
       let spans : Run → Type 0 = Spans (IsIn low from) in
       let own : All spans (r ∷ rs) = λ k d h. spans_in low from (get_or (r ∷ rs) k d) (c.within k d h) in
       let each : All (IsIn low from) _ = each_of_chain (IsIn low from) kept (reverse (r ∷ rs)) (all_reverse spans (r ∷ rs) own) in
-      let ins : All (IsIn low from) s.places = subst (All (IsIn low from)) (places_of_runs paragraph cs kept (reverse (r ∷ rs))) each in
+      let ins : All (IsIn low from) s.indexes = subst (All (IsIn low from)) (indexes_of_runs paragraph cs kept (reverse (r ∷ rs))) each in
       let older : List RunSequence = waiting paragraph cs kept chains rest in
       let later : List RunSequence = sequences_from paragraph cs kept done rest in
       let top : ℕ = from + length (drop from kept) in
-      let outs : All (λ (u : RunSequence). All (IsOut low from) u.places) older =
+      let outs : All (λ (u : RunSequence). All (IsOut low from) u.indexes) older =
       waiting_out paragraph cs kept done chains rest low low from top (omega arith) w.waits.2 (rest_within from) in (
         older,
         later,

@@ -27,7 +27,7 @@ use Rattle.bx_explicit.proofs.RunEnd.{IsUnlike, EndsAt, run_ends}
 use Rattle.bx_explicit.proofs.Inside.{IsInside, out_at}
 use Rattle.bx_explicit.proofs.Overflown.{no_other_run}
 
--- the place of a match, from what stands before it
+-- the index of a match, from what stands before it
 matched : (i : ℕ) (b : Option ℕ) → further (i + 1) b ≡ elim b [ None ↦ None | Some k ↦ Some (i + 1 + k) ]
 matched i None = refl
 matched i (Some k) = refl
@@ -104,7 +104,7 @@ module _ (t : Run) (between : List Run) (q : Run) (after : List Run) where
     joined_at [] e = absurd (cc)
     joined_at (c ∷ cs) e = joined_after c cs (cc) (cc)
 
--- what is kept from a place on
+-- what is kept from an index on
 levels_drop : (p : ℕ) (s : State) (cs : List Class) → drop p (explicit_from s cs) ≡ explicit_from (state_at p cs s) (drop p cs)
 levels_drop zero s cs = refl
 levels_drop (suc p) s [] = refl
@@ -116,8 +116,8 @@ pub joined_by_level : (paragraph : ℕ) (cs : List Class) → paragraph ≤ 1 �
 joined_by_level paragraph cs h before t between q after e =
     let all : List (Option Kept) = explicit_levels paragraph cs in
     let w : EndsAt 0 all t (between ++ q ∷ after) = run_ends 0 all before t (between ++ q ∷ after) (e ∙ append_assoc before (t ∷ between) (q ∷ after)) in
-    let p : w.skipped ≡ t.last = omega (arith, w.place) in
-    let n : 0 + suc w.skipped ≡ t.last + 1 = omega (arith, w.place) in
+    let p : w.skipped ≡ t.last = omega (arith, w.index) in
+    let n : 0 + suc w.skipped ≡ t.last + 1 = omega (arith, w.index) in
     let ks : List (Option Kept) = drop (suc w.skipped) all in
     let here : explicit_from (state_at t.last cs (start paragraph)) (drop t.last cs) ≡ Some w.char ∷ ks = sym (levels_drop t.last (start paragraph) cs)
     ∙ ap (λ i. drop i all) (sym p) ∙ w.here in

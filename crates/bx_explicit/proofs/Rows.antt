@@ -9,7 +9,7 @@ use Rattle.bx_explicit.specs.Explicit.{explicit_levels}
 use Rattle.bx_explicit.specs.Sequences.{sequences, RunSequence}
 
 abbrev sequence : List ℕ → ℕ → Class → Class → RunSequence
-sequence places level sos eos = record { places = places; level = level; sos = sos; eos = eos }
+sequence indexes level sos eos = record { indexes = indexes; level = level; sos = sos; eos = eos }
 
 abbrev sequences_of : List Class → List RunSequence
 sequences_of cs = sequences (paragraph_level cs) cs (explicit_levels (paragraph_level cs) cs)

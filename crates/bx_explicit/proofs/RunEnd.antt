@@ -11,11 +11,11 @@ abbrev pub IsUnlike : ℕ → List Run → Type 0
 IsUnlike l [] = Unit {0}
 IsUnlike l (r ∷ rs) = r.level ≢ l
 
--- of the characters `ks` from place `k` on, the run `t` ends at one of its level, and `rest` are the runs after it
+-- of the characters `ks` from index `k` on, the run `t` ends at one of its level, and `rest` are the runs after it
 pub record EndsAt (k : ℕ) (ks : List (Option Kept)) (t : Run) (rest : List Run) : Type 0 where
   pub skipped : ℕ
   pub char : Kept
-  pub place : t.last ≡ k + skipped
+  pub index : t.last ≡ k + skipped
   pub here : drop skipped ks ≡ Some char ∷ drop (suc skipped) ks
   pub level : char.level ≡ t.level
   pub later : runs_from (k + suc skipped) (drop (suc skipped) ks) ≡ rest
@@ -27,7 +27,7 @@ end_more k o ks t rest w =
     record {
       skipped = suc w.skipped;
       char = w.char;
-      place = omega (arith, w.place);
+      index = omega (arith, w.index);
       here = w.here;
       level = w.level;
       later = ap (λ n. runs_from n (drop (suc w.skipped) ks)) e ∙ w.later;
@@ -41,7 +41,7 @@ end_joined k c ks r rest e v =
     record {
       skipped = w.skipped;
       char = w.char;
-      place = w.place;
+      index = w.index;
       here = w.here;
       level = w.level ∙ e;
       later = w.later;
@@ -50,7 +50,7 @@ end_joined k c ks r rest e v =
 
 end_here : (k : ℕ) (c : Kept) (ks : List (Option Kept)) (rest : List Run) → runs_from (k + 1) ks ≡ rest → IsUnlike c.level rest
     → EndsAt k (Some c ∷ ks) (run c.level k k) rest
-end_here k c ks rest e u = record { skipped = 0; char = c; place = omega arith; here = refl; level = refl; later = e; unlike = u }
+end_here k c ks rest e u = record { skipped = 0; char = c; index = omega arith; here = refl; level = refl; later = e; unlike = u }
 
 no_run : (bs : List Run) (t : Run) (rest : List Run) → [] ≡ bs ++ t ∷ rest → ⊥
 no_run [] t rest e = absurd (cc)

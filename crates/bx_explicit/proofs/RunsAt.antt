@@ -1,4 +1,4 @@
--- The run that begins at a place: what a character more does to it.
+-- The run that begins at an index: what a character more does to it.
 use Rattle.std.proofs.Common.{◌≡◌, ◌≢◌, ◌<◌, ◌≤◌, ◌+◌, ◌-◌, ◌∙◌, ℕ, suc, List, [], ◌∷◌, ◌++◌, length, get_or, drop, refl, ap, sym, subst, arith, Bool, true}
 use Rattle.std.proofs.Common.{false, Option, Some, None, length-append}
 use Rattle.std.specs.Prelude.{All, ◌==◌}
@@ -10,7 +10,7 @@ use Rattle.bx_explicit.specs.Kept.{HasLevel}
 use Rattle.bx_explicit.specs.Runs.{run, join_run, runs_from, IsRunWithin}
 use Rattle.bx_explicit.proofs.LevelRuns.{runs_some, runs_within}
 
--- a run that reaches the place `last`, before the runs after it
+-- a run that reaches the index `last`, before the runs after it
 abbrev pub extend : ℕ → ℕ → ℕ → List Run → List Run
 extend level first last [] = run level first last ∷ []
 extend level first last (r ∷ rs) = elim (r.level == level) [ true ↦ run level first r.last ∷ rs | false ↦ run level first last ∷ r ∷ rs ]
@@ -89,9 +89,9 @@ pub level_of_some : (o : Option Kept) (c : Kept) → o ≡ Some c → HasLevel c
 level_of_some None c e = absurd (cc)
 level_of_some (Some d) c e = cc
 
--- the runs from the first place of one of them on
-place_in : (k n : ℕ) (before : List Run) (r : Run) (rest rs : List Run) → rs ≡ before ++ (r ∷ rest) → All (IsRunWithin k n) rs → k ≤ r.first
-place_in k n before r rest rs e a =
+-- the runs from the first index of one of them on
+index_in : (k n : ℕ) (before : List Run) (r : Run) (rest rs : List Run) → rs ≡ before ++ (r ∷ rest) → All (IsRunWithin k n) rs → k ≤ r.first
+index_in k n before r rest rs e a =
     let w : IsRunWithin k n r = subst (IsRunWithin k n) (get_or_at before r rest r (length before) refl)
     (subst (All (IsRunWithin k n)) e a (length before) r (omega (arith, length-append before (r ∷ rest)))) in
     w.starts
@@ -121,7 +121,7 @@ runs_there : (g : List (Option Kept)) (k : ℕ) (before : List Run) (r : Run) (r
 runs_there [] k [] r rest e = absurd (cc)
 runs_there [] k (b ∷ before) r rest e = absurd (cc)
 runs_there (None ∷ g) k before r rest e =
-    let l : k + 1 ≤ r.first = place_in (k + 1) (k + 1 + length g) before r rest (runs_from (k + 1) g) e (runs_within (k + 1) g) in
+    let l : k + 1 ≤ r.first = index_in (k + 1) (k + 1 + length g) before r rest (runs_from (k + 1) g) e (runs_within (k + 1) g) in
     let m : r.first - k ≡ suc (r.first - (k + 1)) = omega arith in
     ap (λ n. runs_from r.first (drop n (None ∷ g))) m ∙ runs_there g (k + 1) before r rest e
 runs_there (Some c ∷ g) k [] r rest e =
@@ -130,6 +130,6 @@ runs_there (Some c ∷ g) k [] r rest e =
     ap (λ n. runs_from r.first (drop n (Some c ∷ g))) z ∙ ap (λ n. runs_from n (Some c ∷ g)) f ∙ e
 runs_there (Some c ∷ g) k (b ∷ before) r rest e =
     let (xs, f) = stays_later k c.level (runs_from (k + 1) g) b before r rest e in
-    let l : k + 1 ≤ r.first = place_in (k + 1) (k + 1 + length g) xs r rest (runs_from (k + 1) g) f (runs_within (k + 1) g) in
+    let l : k + 1 ≤ r.first = index_in (k + 1) (k + 1 + length g) xs r rest (runs_from (k + 1) g) f (runs_within (k + 1) g) in
     let m : r.first - k ≡ suc (r.first - (k + 1)) = omega arith in
     ap (λ n. runs_from r.first (drop n (Some c ∷ g))) m ∙ runs_there g (k + 1) xs r rest f

@@ -81,7 +81,7 @@ until_cons n c cs (suc m) e h = rw (e, before_pdi) (until_step m c cs (before_pd
 pub until_none : (n : ℕ) (c : Class) (cs : List Class) → count_after n c ≡ 0 → until_pdi n (c ∷ cs) ≡ 0
 until_none n c cs e = rw (e, before_pdi)
 
--- a place, `k` further on
+-- an index, `k` further on
 abbrev pub further : ℕ → Option ℕ → Option ℕ
 further k None = None
 further k (Some n) = Some (k + n)

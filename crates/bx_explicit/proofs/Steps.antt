@@ -184,7 +184,7 @@ never_deep level k cs h = let r : IsRising (state_at k cs (start level)).stack =
     rising_length (state_at k cs (start level)).stack r in let b : (top_of (state_at k cs (start level)).stack).level ≤ 125 =
     rising_top (state_at k cs (start level)).stack r in omega arith
 
--- so the levels at other places do not matter
+-- so the levels at other indexes do not matter
 for_fsi : (c : Class) (first n : ℕ) (s : State) → (is_fsi c ≡ true → first ≡ n) → state_after (role_of c) first s ≡ state_after (role_of c) n s
 for_fsi FSI first n s h = ap (λ m. state_after (role_of FSI) m s) (h refl)
 for_fsi _ first n s h = refl

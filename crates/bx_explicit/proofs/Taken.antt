@@ -10,7 +10,7 @@ use Rattle.bx_explicit.specs.declared.open_chains.OpenChain.{OpenChain}
 use Rattle.bx_explicit.specs.declared.runs.Run.{Run}
 use Rattle.bx_explicit.specs.OpenChains.{run_at, with_run}
 use Rattle.bx_explicit.specs.Stacked.{open_chain, open_with, BeginsRun, IsOpenChain, AreOpen, chains_of}
-use Rattle.bx_explicit.proofs.Newest.{newest_place, newest_first, older, last_begins}
+use Rattle.bx_explicit.proofs.Newest.{newest_index, newest_first, older, last_begins}
 
 pub chains_length : (kept : List (Option Kept)) (os : List OpenChain) (ps : List ℕ) → length (chains_of kept os ps) ≡ length os
 chains_length kept [] ps = refl
@@ -51,7 +51,7 @@ module _ (kept : List (Option Kept)) (ps : List ℕ) (q : Run) (own : q ≡ run_
   taken_chains [] a = begun_alone []
   taken_chains (o ∷ os) a =
       let w : IsOpenChain kept o ps = a.0 in
-      let r : Run = run_at kept (newest_place ps) in
+      let r : Run = run_at kept (newest_index ps) in
       let c : List (List Run) = chains_of kept os (take o.begin ps) in
       let n : reverse (map (run_at kept) (drop o.begin ps)) ≡ r ∷ older kept o.begin ps = newest_first kept o.begin ps w.begun in
       let l : r.level ≡ o.level = (last_begins kept o ps w).of_level in
@@ -66,14 +66,14 @@ module _ (kept : List (Option Kept)) (ps : List ℕ) (q : Run) (own : q ≡ run_
             ∙ sym (right false t)
       ] refl
 
-  newest_is : newest_place more ≡ q.first
+  newest_is : newest_index more ≡ q.first
   newest_is = let k : length ps ≡ length more - 1 = omega (arith, length_push ps q.first) in get_or_push ps q.first 0 (length more - 1) k
 
   module _ (within : q.first < length kept) where
     begins : BeginsRun kept q.level q.first
     begins = record { within = within; here = ap (λ (r : Run). r.first) (sym own); of_level = ap (λ (r : Run). r.level) (sym own) }
 
-    ends_there : (run_at kept (newest_place more)).last ≡ q.last
+    ends_there : (run_at kept (newest_index more)).last ≡ q.last
     ends_there = ap (λ p. (run_at kept p).last) newest_is ∙ ap (λ (r : Run). r.last) (sym own)
 
     open_alone : (os : List OpenChain) → AreOpen kept os ps → AreOpen kept (open_chain q.level q.last (length ps) ∷ os) more

@@ -6,7 +6,7 @@ use Rattle.bx_ucd.specs.declared.class.Class.{Class}
 use Rattle.bx_explicit.specs.declared.entry.Kept.{Kept}
 use Rattle.bx_explicit.specs.declared.runs.Run.{Run}
 use Rattle.bx_explicit.specs.Runs.{IsRunWithin}
-use Rattle.bx_explicit.specs.Sequences.{RunSequence, is_joined, followers, chain_places, sequences_from}
+use Rattle.bx_explicit.specs.Sequences.{RunSequence, is_joined, followers, chain_indexes, sequences_from}
 use Rattle.bx_explicit.specs.OpenChains.{all_above, first_run_of, sequence_of_runs}
 use Rattle.bx_explicit.specs.Walk.{IsOut}
 use Rattle.bx_explicit.proofs.Spans.{Spans, each_of_chain, all_reverse, spans_before, spans_after}
@@ -17,7 +17,7 @@ abbrev pub heads : List (List Run) → List Run
 heads [] = []
 heads (c ∷ chains) = first_run_of c ∷ heads chains
 
--- a chain lies between two places, all runs since its newest one are above that, and older chains end lower
+-- a chain lies between two indexes, all runs since its newest one are above that, and older chains end lower
 pub record IsWaiting (done : List Run) (r : Run) (rs older : List Run) (low high : ℕ) : Type 0 where
   pub before : List Run
   pub between : List Run
@@ -26,7 +26,7 @@ pub record IsWaiting (done : List Run) (r : Run) (rs older : List Run) (low high
   pub lower : All (λ (u : Run). u.level < r.level) older
   pub within : All (IsRunWithin low high) (r ∷ rs)
 
--- the same of each chain, one behind the other before a place
+-- the same of each chain, one behind the other before an index
 abbrev pub AreWaiting : List Run → List (List Run) → ℕ → Type 0
 AreWaiting done [] high = Unit {0}
 AreWaiting done ([] ∷ chains) high = ⊥
@@ -55,7 +55,7 @@ widen_all low high bottom top rs b t a = λ k d h. widen low high bottom top (ge
 pub begins_low : (low high : ℕ) (r : Run) (rs : List Run) → All (IsRunWithin low high) (r ∷ rs) → low ≤ high
 begins_low low high r rs a = let w : IsRunWithin low high r = All-head (IsRunWithin low high) r rs a in omega (arith, w.starts, w.ordered, w.ends)
 
--- the chains may be looked at from a later place
+-- the chains may be looked at from a later index
 pub wait_before : (done : List Run) (chains : List (List Run)) (low high : ℕ) → low ≤ high → AreWaiting done chains low → AreWaiting done chains high
 wait_before done [] low high h w = tt
 wait_before done ([] ∷ chains) low high h w = w
@@ -120,9 +120,9 @@ module _ (paragraph : ℕ) (cs : List Class) (kept : List (Option Kept)) where
       ∙ ap (λ fs. waiting paragraph cs kept chains rest ++ sequence_of_runs paragraph cs kept (reverse c ++ fs) ∷ [])
       (not_followed cs u q rest (All-head (λ x. is_joined cs x q ≡ false) u (heads chains) a))
 
-  pub places_of_runs : (rs : List Run) → chain_places kept rs ≡ (sequence_of_runs paragraph cs kept rs).places
-  places_of_runs [] = refl
-  places_of_runs (r ∷ rs) = refl
+  pub indexes_of_runs : (rs : List Run) → chain_indexes kept rs ≡ (sequence_of_runs paragraph cs kept rs).indexes
+  indexes_of_runs [] = refl
+  indexes_of_runs (r ∷ rs) = refl
 
   followers_each : (Q : Run → Type 0) (r : Run) (rs : List Run) → All Q rs → All Q (followers cs r rs)
   followers_each Q r [] a = All-nil Q
@@ -132,23 +132,23 @@ module _ (paragraph : ℕ) (cs : List Class) (kept : List (Option Kept)) where
         | false ↦ followers_each Q r qs (All-tail Q q qs a)
       ]
 
-  -- the sequences of chains before a place, which go on after another
-  pub waiting_out : (done : List Run) (chains : List (List Run)) (rest : List Run) (place low high top : ℕ) → place ≤ low → AreWaiting done chains place
-      → All (IsRunWithin high top) rest → All (λ (s : RunSequence). All (IsOut low high) s.places) (waiting paragraph cs kept chains rest)
-  waiting_out done [] rest place low high top h w a = All-nil (λ (s : RunSequence). All (IsOut low high) s.places)
-  waiting_out done ([] ∷ chains) rest place low high top h w a = absurd w
-  waiting_out done ((r ∷ rs) ∷ chains) rest place low high top h w a =
-      let outs : RunSequence → Type 0 = λ (s : RunSequence). All (IsOut low high) s.places in
+  -- the sequences of chains before an index, which go on after another
+  pub waiting_out : (done : List Run) (chains : List (List Run)) (rest : List Run) (index low high top : ℕ) → index ≤ low → AreWaiting done chains index
+      → All (IsRunWithin high top) rest → All (λ (s : RunSequence). All (IsOut low high) s.indexes) (waiting paragraph cs kept chains rest)
+  waiting_out done [] rest index low high top h w a = All-nil (λ (s : RunSequence). All (IsOut low high) s.indexes)
+  waiting_out done ([] ∷ chains) rest index low high top h w a = absurd w
+  waiting_out done ((r ∷ rs) ∷ chains) rest index low high top h w a =
+      let outs : RunSequence → Type 0 = λ (s : RunSequence). All (IsOut low high) s.indexes in
       let spans : Run → Type 0 = Spans (IsOut low high) in
-      let c : IsWaiting done r rs (heads chains) w.0 place = w.1 in
-      let own : All (IsRunWithin w.0 low) (r ∷ rs) = widen_all w.0 place w.0 low (r ∷ rs) (omega arith) h c.within in
+      let c : IsWaiting done r rs (heads chains) w.0 index = w.1 in
+      let own : All (IsRunWithin w.0 low) (r ∷ rs) = widen_all w.0 index w.0 low (r ∷ rs) (omega arith) h c.within in
       let first : All spans (reverse (r ∷ rs)) = all_reverse spans (r ∷ rs) (λ k d i. spans_before low high w.0 (get_or (r ∷ rs) k d) (own k d i)) in
       let later : All spans (followers cs r rest) = followers_each spans r rest (λ k d i. spans_after low high top (get_or rest k d) (a k d i)) in
       let runs : List Run = reverse (r ∷ rs) ++ followers cs r rest in
       let here : outs (completed paragraph cs kept (r ∷ rs) rest) =
-      subst (All (IsOut low high)) (places_of_runs runs)
+      subst (All (IsOut low high)) (indexes_of_runs runs)
       (each_of_chain (IsOut low high) kept runs (All-append spans (reverse (r ∷ rs)) (followers cs r rest) first later)) in
-      let begins : w.0 ≤ place = begins_low w.0 place r rs c.within in
+      let begins : w.0 ≤ index = begins_low w.0 index r rs c.within in
       All-append outs (waiting paragraph cs kept chains rest) (completed paragraph cs kept (r ∷ rs) rest ∷ [])
       (waiting_out done chains rest w.0 low high top (omega arith) w.2 a)
       (All-cons outs (completed paragraph cs kept (r ∷ rs) rest) [] here (All-nil outs))

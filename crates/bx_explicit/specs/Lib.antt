@@ -9,5 +9,5 @@ pub mod Sequences
 pub mod TextLevels
 pub mod OpenChains
 pub mod Stacked
-pub mod LevelPlaces
+pub mod LevelIndexes
 pub mod Walk

@@ -23,7 +23,7 @@ abbrev pub before_pdi : ℕ → List Class → Option ℕ
 before_pdi n [] = None
 before_pdi n (c ∷ cs) = elim (count_after n c) [ zero ↦ Some 0 | suc m ↦ one_more (before_pdi (suc m) cs) ]
 
--- a place in a list, or its end
+-- an index in a list, or its end
 abbrev pub or_end : Option ℕ → List Class → ℕ
 or_end None cs = length cs
 or_end (Some k) cs = k
@@ -32,7 +32,7 @@ or_end (Some k) cs = k
 abbrev pub isolated : List Class → ℕ
 isolated cs = or_end (before_pdi 1 cs) cs
 
--- the place of the matching PDI of the initiator at place `i`
+-- the index of the matching PDI of the initiator at index `i`
 abbrev pub match_after : ℕ → List Class → Option ℕ
 match_after i [] = None
 match_after i (c ∷ cs) = elim (is_initiator c) [ false ↦ None | true ↦ elim (before_pdi 1 cs) [ None ↦ None | Some k ↦ Some (i + 1 + k) ] ]

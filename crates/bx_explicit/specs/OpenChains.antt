@@ -9,7 +9,7 @@ use Rattle.bx_explicit.specs.declared.runs.Run.{Run}
 use Rattle.bx_explicit.specs.Runs.{run, runs_from}
 use Rattle.bx_explicit.specs.Sequences.{RunSequence, starts_with_initiator, sequence_of}
 
--- the run that begins at a place
+-- the run that begins at an index
 abbrev pub first_run_of : List Run → Run
 first_run_of [] = run 0 0 0
 first_run_of (r ∷ rs) = r
@@ -52,7 +52,7 @@ others (c ∷ chains) = chains
 
 -- the sequence of the runs of a chain, in order
 abbrev pub sequence_of_runs : ℕ → List Class → List (Option Kept) → List Run → RunSequence
-sequence_of_runs paragraph cs kept [] = record { places = []; level = 0; sos = L; eos = L }
+sequence_of_runs paragraph cs kept [] = record { indexes = []; level = 0; sos = L; eos = L }
 sequence_of_runs paragraph cs kept (r ∷ rs) = sequence_of paragraph cs kept r rs
 
 -- what a paragraph body and its chains give

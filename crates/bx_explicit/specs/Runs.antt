@@ -6,28 +6,28 @@ use Rattle.bx_explicit.specs.declared.runs.Run.{Run}
 abbrev pub run : ℕ → ℕ → ℕ → Run
 run level first last = record { level = level; first = first; last = last }
 
--- a kept character at place `k` joins the run after it, if that has its level
+-- a kept character at index `k` joins the run after it, if that has its level
 abbrev pub join_run : ℕ → ℕ → List Run → List Run
 join_run k level [] = run level k k ∷ []
 join_run k level (r ∷ rs) = elim (r.level == level) [ true ↦ run level k r.last ∷ rs | false ↦ run level k k ∷ r ∷ rs ]
 
--- the level runs of the characters from place `k` on, removed ones between not counting
+-- the level runs of the characters from index `k` on, removed ones between not counting
 abbrev pub runs_from : ℕ → List (Option Kept) → List Run
 runs_from k [] = []
 runs_from k (None ∷ cs) = runs_from (k + 1) cs
 runs_from k (Some c ∷ cs) = join_run k c.level (runs_from (k + 1) cs)
 
--- the places of the kept characters of a list whose first place is `k`
-abbrev pub kept_places : ℕ → List (Option Kept) → List ℕ
-kept_places k [] = []
-kept_places k (None ∷ cs) = kept_places (k + 1) cs
-kept_places k (Some c ∷ cs) = k ∷ kept_places (k + 1) cs
+-- the indexes of the kept characters of a list whose first index is `k`
+abbrev pub kept_indexes : ℕ → List (Option Kept) → List ℕ
+kept_indexes k [] = []
+kept_indexes k (None ∷ cs) = kept_indexes (k + 1) cs
+kept_indexes k (Some c ∷ cs) = k ∷ kept_indexes (k + 1) cs
 
--- the places of a run
-abbrev pub places_of : List (Option Kept) → Run → List ℕ
-places_of kept r = kept_places r.first (take (r.last + 1 - r.first) (drop r.first kept))
+-- the indexes of a run
+abbrev pub indexes_of : List (Option Kept) → Run → List ℕ
+indexes_of kept r = kept_indexes r.first (take (r.last + 1 - r.first) (drop r.first kept))
 
--- a run lies between two places
+-- a run lies between two indexes
 pub record IsRunWithin (low high : ℕ) (r : Run) : Type 0 where
   pub starts : low ≤ r.first
   pub ordered : r.first ≤ r.last

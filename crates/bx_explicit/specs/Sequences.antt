@@ -9,12 +9,12 @@ use Rattle.bx_ucd.specs.Class.{is_initiator}
 use Rattle.bx_explicit.specs.declared.entry.Kept.{Kept}
 use Rattle.bx_explicit.specs.declared.runs.Run.{Run}
 use Rattle.bx_explicit.specs.Matching.{match_of}
-use Rattle.bx_explicit.specs.Runs.{runs_from, places_of}
+use Rattle.bx_explicit.specs.Runs.{runs_from, indexes_of}
 
--- an isolating run sequence: the places of its characters, their level, and the types before its first (sos) and after
+-- an isolating run sequence: the indexes of its characters, their level, and the types before its first (sos) and after
 -- its last character (eos)
 pub record RunSequence : Type 0 where
-  pub places : List ℕ
+  pub indexes : List ℕ
   pub level : ℕ
   pub sos : Class
   pub eos : Class
@@ -32,10 +32,10 @@ abbrev pub followers : List Class → Run → List Run → List Run
 followers cs r [] = []
 followers cs r (q ∷ qs) = elim (is_joined cs r q) [ true ↦ q ∷ followers cs q qs | false ↦ followers cs r qs ]
 
--- the places of all runs of a chain
-abbrev pub chain_places : List (Option Kept) → List Run → List ℕ
-chain_places kept [] = []
-chain_places kept (r ∷ rs) = places_of kept r ++ chain_places kept rs
+-- the indexes of all runs of a chain
+abbrev pub chain_indexes : List (Option Kept) → List Run → List ℕ
+chain_indexes kept [] = []
+chain_indexes kept (r ∷ rs) = indexes_of kept r ++ chain_indexes kept rs
 
 -- the last run of a chain that begins with `r`
 abbrev pub last_run : Run → List Run → Run
@@ -56,7 +56,7 @@ abbrev pub starts_with_initiator : List Class → Bool
 starts_with_initiator [] = false
 starts_with_initiator (c ∷ cs) = is_initiator c
 
--- the level of the kept character after the place `p`, or the paragraph level, also where `p` holds an initiator
+-- the level of the kept character after the index `p`, or the paragraph level, also where `p` holds an initiator
 abbrev pub level_after : ℕ → List Class → List (Option Kept) → ℕ → ℕ
 level_after paragraph cs kept p = elim (starts_with_initiator (drop p cs)) [
   | true ↦ paragraph
@@ -70,7 +70,7 @@ end_class paragraph cs kept r = direction (max r.level (level_after paragraph cs
 -- the sequence of the chain of a run and its followers
 abbrev pub sequence_of : ℕ → List Class → List (Option Kept) → Run → List Run → RunSequence
 sequence_of paragraph cs kept r rs = record {
-  places = chain_places kept (r ∷ rs);
+  indexes = chain_indexes kept (r ∷ rs);
   level = r.level;
   sos = start_class paragraph kept r;
   eos = end_class paragraph cs kept (last_run r rs);
@@ -87,10 +87,10 @@ sequences_from paragraph cs kept before (r ∷ rs) = elim (follows cs before r) 
 abbrev pub sequences : ℕ → List Class → List (Option Kept) → List RunSequence
 sequences paragraph cs kept = sequences_from paragraph cs kept [] (runs_from 0 kept)
 
--- the first place of a sequence, or 0
+-- the first index of a sequence, or 0
 abbrev pub first_or_0 : List ℕ → ℕ
 first_or_0 [] = 0
 first_or_0 (p ∷ ps) = p
 
-abbrev pub first_place : RunSequence → ℕ
-first_place s = first_or_0 s.places
+abbrev pub first_index : RunSequence → ℕ
+first_index s = first_or_0 s.indexes

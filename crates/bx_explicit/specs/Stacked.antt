@@ -1,5 +1,5 @@
--- How the chains that may go on are kept: for each chain its level, the last place of its newest run and the number of
--- runs before it, the newest chain first; and the first places of all runs, the oldest first.
+-- How the chains that may go on are kept: for each chain its level, the last index of its newest run and the number of
+-- runs before it, the newest chain first; and the first indexes of all runs, the oldest first.
 use Rattle.std.specs.Prelude.{◌≡◌, ◌<◌, ◌==◌, ◌-◌, ℕ, true, false, List, [], ◌∷◌, Option, All, length, take, drop, map, reverse, slice_index_or}
 use Rattle.bx_explicit.specs.declared.entry.Kept.{Kept}
 use Rattle.bx_explicit.specs.declared.open_chains.OpenChain.{OpenChain}
@@ -14,7 +14,7 @@ abbrev pub chains_of : List (Option Kept) → List OpenChain → List ℕ → Li
 chains_of kept [] ps = []
 chains_of kept (o ∷ os) ps = reverse (map (run_at kept) (drop o.begin ps)) ∷ chains_of kept os (take o.begin ps)
 
--- a run of a level begins at a place
+-- a run of a level begins at an index
 pub record BeginsRun (kept : List (Option Kept)) (level p : ℕ) : Type 0 where
   pub within : p < length kept
   pub here : (run_at kept p).first ≡ p

@@ -29,19 +29,19 @@ ending paragraph cs kept chains [] = sequences_of paragraph cs kept chains
 ending paragraph cs kept chains (q ∷ rest) = sequences_of paragraph cs kept (over_before cs chains q)
     ++ ending paragraph cs kept (with_run (still_open cs chains q) q) rest
 
--- a place lies between two places, or it does not
+-- an index lies between two indexes, or it does not
 abbrev pub IsIn : ℕ → ℕ → ℕ → Type 0
 IsIn low high p = (low ≤ p) × (p < high)
 
 abbrev pub IsOut : ℕ → ℕ → ℕ → Type 0
 IsOut low high p = (p < low) ⊎ (high ≤ p)
 
--- a sequence lies between two places, where no other of some sequences has a place
+-- a sequence lies between two indexes, where no other of some sequences has an index
 pub record IsApart (s : RunSequence) (others : List RunSequence) : Type 0 where
   pub low : ℕ
   pub high : ℕ
-  pub inside : All (IsIn low high) s.places
-  pub outside : All (λ (u : RunSequence). All (IsOut low high) u.places) others
+  pub inside : All (IsIn low high) s.indexes
+  pub outside : All (λ (u : RunSequence). All (IsOut low high) u.indexes) others
 
 -- the sequences `given` are those of `all` in another order: one that comes earlier than in `all` lies apart from those
 -- that it overtakes

@@ -1,7 +1,7 @@
-//! Isolating run sequences, each with its places (BD13, X10).
+//! Isolating run sequences, each with its indexes (BD13, X10).
 ghost use Rattle.std.specs.Prelude.{◌≡◌, ◌<◌, ◌≤◌, ◌++◌, IfOk, OnOk, All, drop, length, true};
-ghost use Rattle.bx_explicit.specs.LevelPlaces.{level_places, places_from};
-ghost use Rattle.bx_explicit.specs.Sequences.{RunSequence, first_place, sequences};
+ghost use Rattle.bx_explicit.specs.LevelIndexes.{level_indexes, indexes_from};
+ghost use Rattle.bx_explicit.specs.Sequences.{RunSequence, first_index, sequences};
 ghost use Rattle.bx_explicit.specs.Stack.{max_depth};
 ghost use Rattle.bx_explicit.specs.Walk.{AreGiven};
 
@@ -13,13 +13,13 @@ use smallvec::SmallVec;
 use std::alloc::{AllocError, Global};
 use std::marker::Model;
 
-/// The places of a sequence, of which a few need no allocation.
-type Places = SmallVec<usize, 8>;
+/// The indexes of a sequence, of which a few need no allocation.
+type Indexes = SmallVec<usize, 8>;
 
 /// An isolating run sequence.
 #[derive(Drop)]
 pub struct Sequence {
-    places: Places,
+    indexes: Indexes,
     level: u8,
     sos: Class,
     eos: Class,
@@ -28,15 +28,15 @@ pub struct Sequence {
 impl Model for Sequence {
     ghost Value = { RunSequence };
 
-    ghost view = { λ s. record { places = s.places.items; level = s.level; sos = s.sos; eos = s.eos } };
+    ghost view = { λ s. record { indexes = s.indexes.items; level = s.level; sos = s.sos; eos = s.eos } };
 }
 
 impl Sequence {
-    /// The places of its characters in the paragraph, in order.
-    pub fn places(&self) -> &[usize]
-        ensures { result.now ≡ self.now.places }
+    /// The indexes of its characters in the paragraph, in order.
+    pub fn indexes(&self) -> &[usize]
+        ensures { result.now ≡ self.now.indexes }
     {
-        self.places.as_slice()
+        self.indexes.as_slice()
     }
 
     /// The level of its characters.
@@ -60,25 +60,25 @@ impl Sequence {
         self.eos
     }
 
-    /// Its first place.
-    fn first_place(&self) -> usize
-        ensures { result ≡ first_place self.now }
+    /// Its first index.
+    fn first_index(&self) -> usize
+        ensures { result ≡ first_index self.now }
     {
-        match self.places.as_slice() {
+        match self.indexes.as_slice() {
             [] => 0,
             [first, ..] => *first,
         }
     }
 }
 
-/// Adds the places of a run of a level, from its first place on.
+/// Adds the indexes of a run of a level, from its first index on.
 fn add_run(
-    places: &mut Places,
+    indexes: &mut Indexes,
     kept: &[Option<Kept>],
     level: u8,
     first: usize,
 ) -> Result<(), AllocError>
-    ensures { OnOk result (places.new.items ≡ places.old.items ++ level_places level first (drop first kept.now)) }
+    ensures { OnOk result (indexes.new.items ≡ indexes.old.items ++ level_indexes level first (drop first kept.now)) }
 {
     let mut k = first;
     while k < kept.len() {
@@ -86,30 +86,30 @@ fn add_run(
             if c.level != level {
                 return Ok(());
             }
-            places.push(k)?;
+            indexes.push(k)?;
         }
         k += 1;
     }
     Ok(())
 }
 
-/// The places of runs of a level, from the first place of each.
-fn places_from(
+/// The indexes of runs of a level, from the first index of each.
+fn indexes_from(
     alloc: Global,
     kept: &[Option<Kept>],
     level: u8,
     firsts: &[usize],
-) -> Result<Places, AllocError>
-    ensures { IfOk result (λ v. v.items ≡ places_from level kept.now firsts.now) }
+) -> Result<Indexes, AllocError>
+    ensures { IfOk result (λ v. v.items ≡ indexes_from level kept.now firsts.now) }
 {
-    let mut places = SmallVec::new(alloc);
+    let mut indexes = SmallVec::new(alloc);
     for first in firsts {
-        add_run(&mut places, kept, level, *first)?;
+        add_run(&mut indexes, kept, level, *first)?;
     }
-    Ok(places)
+    Ok(indexes)
 }
 
-/// The sequence that a walk lends, with all its places.
+/// The sequence that a walk lends, with all its indexes.
 fn lent_sequence(
     alloc: Global,
     walk: &SequenceWalk<'_>,
@@ -121,7 +121,7 @@ fn lent_sequence(
 {
     let level = walk.level();
     Ok(Sequence {
-        places: places_from(alloc, kept, level, walk.firsts())?,
+        indexes: indexes_from(alloc, kept, level, walk.firsts())?,
         level,
         sos: walk.sos(),
         eos: walk.eos(),
@@ -140,14 +140,14 @@ fn ended_sequences(alloc: Global, explicit: &Explicit) -> Result<Vec<Sequence>, 
     Ok(all)
 }
 
-/// The isolating run sequences of a paragraph body, ordered by their first places, with the types at their ends (BD13,
+/// The isolating run sequences of a paragraph body, ordered by their first indexes, with the types at their ends (BD13,
 /// X10). It takes memory, and is refused only where there is none.
 pub fn sequences(alloc: Global, explicit: &Explicit) -> Result<Vec<Sequence>, ExplicitError>
     ensures sequences { IfOk result (λ v. v.items ≡ sequences explicit.now.level explicit.now.classes.items explicit.now.kept.items) }
     ensures low { IfOk result (λ v. All (λ s. s.level ≤ max_depth) v.items) }
-    ensures within { IfOk result (λ v. All (λ s. All (λ p. p < length explicit.now.kept.items) s.places) v.items) }
+    ensures within { IfOk result (λ v. All (λ s. All (λ p. p < length explicit.now.kept.items) s.indexes) v.items) }
 {
     let mut all = ended_sequences(alloc, explicit)?;
-    all.sort_by_key(|s| s.first_place())?;
+    all.sort_by_key(|s| s.first_index())?;
     Ok(all)
 }

@@ -1,6 +1,6 @@
 //! The chains of level runs that may go on (BD13), as the runs are met in order.
 ghost use Rattle.std.specs.Prelude.{◌≡◌, ◌==◌, ◌<◌, ◌≤◌, ◌-◌, ◌++◌, [], ◌∷◌, OnOk, OnErr, length, reverse, take};
-ghost use Rattle.bx_explicit.specs.LevelPlaces.{places_from};
+ghost use Rattle.bx_explicit.specs.LevelIndexes.{indexes_from};
 ghost use Rattle.bx_explicit.specs.OpenChains.{run_at, is_over, with_run, others, OpenRuns, newest_sequence};
 ghost use Rattle.bx_explicit.specs.Stack.{max_depth};
 ghost use Rattle.bx_explicit.specs.Stacked.{open_with, chains_of, AreOpen};
@@ -18,7 +18,7 @@ use std::marker::Model;
 #[derive(Clone, Copy, PartialEq, Eq, Debug)]
 pub struct OpenChain {
     pub level: u8,
-    /// The last place of its newest run.
+    /// The last index of its newest run.
     pub last: usize,
     /// How many runs are kept before its own.
     pub begin: usize,
@@ -56,7 +56,7 @@ fn join_chain(chains: &mut Vec<OpenChain>, run: Run, begin: usize) -> Result<(),
     Ok(())
 }
 
-/// The same, and its first place.
+/// The same, and its first index.
 fn take_run(
     chains: &mut Vec<OpenChain>,
     firsts: &mut Vec<usize>,
@@ -73,11 +73,11 @@ fn take_run(
     Ok(())
 }
 
-/// The chains of the level runs met so far that may go on: of each run its first place alone is kept.
+/// The chains of the level runs met so far that may go on: of each run its first index alone is kept.
 #[derive(Drop)]
 pub struct OpenChains<'e> {
     explicit: &'e Explicit,
-    /// The first places of all runs, the oldest first.
+    /// The first indexes of all runs, the oldest first.
     firsts: Vec<usize>,
     chains: Vec<OpenChain>,
 }
@@ -182,10 +182,10 @@ impl<'e> OpenChains<'e> {
         end_class(self.explicit, run)
     }
 
-    /// The first place of each run of the newest chain, in order.
+    /// The first index of each run of the newest chain, in order.
     pub fn firsts(&self) -> &[usize]
         requires { 0 < length self.now.chains }
-        ensures { places_from (newest_sequence self.now).level self.now.explicit.kept.items result.now ≡ (newest_sequence self.now).places }
+        ensures { indexes_from (newest_sequence self.now).level self.now.explicit.kept.items result.now ≡ (newest_sequence self.now).indexes }
     {
         let newest = newest(&self.chains);
         &self.firsts[newest.begin..]

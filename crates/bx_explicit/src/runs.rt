@@ -30,7 +30,7 @@ pub fn make_room<T>(items: &mut Vec<T>) -> Result<(), AllocError>
     Ok(())
 }
 
-/// The last place of the run of a level that begins at a place.
+/// The last index of the run of a level that begins at an index.
 #[tactic(auto, using(crate::proofs::RunsAt::begins_at, crate::proofs::RunsAt::goes_on, crate::proofs::RunsAt::ends_before, crate::proofs::RunsAt::ends_last, crate::proofs::LevelRuns::runs_none))]
 fn last_of_run(kept: &[Option<Kept>], first: usize, level: u8) -> usize
     requires within { first < length kept.now }
@@ -53,7 +53,7 @@ fn last_of_run(kept: &[Option<Kept>], first: usize, level: u8) -> usize
     last
 }
 
-/// The first level run of the characters from a place on.
+/// The first level run of the characters from an index on.
 #[tactic(auto, using(crate::proofs::LevelRuns::runs_none, crate::proofs::RunsAt::no_more, crate::proofs::RunsAt::level_of_some))]
 pub fn next_run(kept: &[Option<Kept>], from: usize) -> Option<Run>
     requires { from ≤ length kept.now }

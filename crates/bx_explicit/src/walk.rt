@@ -1,6 +1,6 @@
 //! A walk over the isolating run sequences of a paragraph body, in the order in which they end (BD13).
 ghost use Rattle.std.specs.Prelude.{◌≡◌, ◌<◌, ◌∷◌, [], ◌≤◌, OnErr, IfOk, length, true, false};
-ghost use Rattle.bx_explicit.specs.LevelPlaces.{places_from};
+ghost use Rattle.bx_explicit.specs.LevelIndexes.{indexes_from};
 ghost use Rattle.bx_explicit.specs.OpenChains.{others, newest_sequence};
 ghost use Rattle.bx_explicit.specs.Sequences.{sequences};
 ghost use Rattle.bx_explicit.specs.Stack.{max_depth};
@@ -40,7 +40,7 @@ fn end_newest(
 }
 
 /// The isolating run sequences of a paragraph body, lent one after another: inner isolates come before what is around
-/// them, and of each sequence the first place of each of its runs is kept.
+/// them, and of each sequence the first index of each of its runs is kept.
 #[derive(Drop)]
 pub struct SequenceWalk<'e> {
     explicit: &'e Explicit,
@@ -124,11 +124,11 @@ impl<'e> SequenceWalk<'e> {
         self.chains.eos()
     }
 
-    /// The first place of each of its runs, in order. The places of a run are the kept characters of its level from there
+    /// The first index of each of its runs, in order. The indexes of a run are the kept characters of its level from there
     /// on, up to a kept one of another level.
     pub fn firsts(&self) -> &[usize]
         requires { self.now.has_current ≡ true }
-        ensures { places_from self.now.current.level self.now.explicit.kept.items result.now ≡ self.now.current.places }
+        ensures { indexes_from self.now.current.level self.now.explicit.kept.items result.now ≡ self.now.current.indexes }
     {
         self.chains.firsts()
     }

@@ -23,21 +23,21 @@ use Rattle.bx_paint.specs.Changed.{glyphs_changed}
 
 -- ---- a text after a run
 
-joins_none : (negative : Bool) (half_read text : List ℕ) → half_read ≡ []
-    → run_columns negative (half_read ++ text) ≡ run_columns negative half_read ++ run_columns negative text
-joins_none negative half_read text e = rw e refl
+joins_none : (negative : Bool) (pending text : List ℕ) → pending ≡ []
+    → run_columns negative (pending ++ text) ≡ run_columns negative pending ++ run_columns negative text
+joins_none negative pending text e = rw e refl
 
-plain_more : (half_read text : List ℕ) → are_ascii_printable half_read ≡ true → is_ascii_glyph text ≡ true → are_ascii_printable (half_read ++ text) ≡ true
-plain_more half_read [] h e = absurd (cc e)
-plain_more half_read (b ∷ []) h e = all-push is_ascii_printable half_read b h e
-plain_more half_read (b ∷ c ∷ rest) h e = absurd (cc e)
+plain_more : (pending text : List ℕ) → are_ascii_printable pending ≡ true → is_ascii_glyph text ≡ true → are_ascii_printable (pending ++ text) ≡ true
+plain_more pending [] h e = absurd (cc e)
+plain_more pending (b ∷ []) h e = all-push is_ascii_printable pending b h e
+plain_more pending (b ∷ c ∷ rest) h e = absurd (cc e)
 
-joins_near : (negative : Bool) (half_read text : List ℕ) → are_ascii_printable half_read ≡ true → is_ascii_glyph text ≡ true
-    → run_columns negative (half_read ++ text) ≡ run_columns negative half_read ++ run_columns negative text
-joins_near negative half_read [] h e = absurd (cc e)
-joins_near negative half_read (b ∷ []) h e = rw (all-push is_ascii_printable half_read b h e, h, e)
-    (map-append (λ x. Glyph (x ∷ []) 1 0 negative) half_read (b ∷ []))
-joins_near negative half_read (b ∷ c ∷ rest) h e = absurd (cc e)
+joins_near : (negative : Bool) (pending text : List ℕ) → are_ascii_printable pending ≡ true → is_ascii_glyph text ≡ true
+    → run_columns negative (pending ++ text) ≡ run_columns negative pending ++ run_columns negative text
+joins_near negative pending [] h e = absurd (cc e)
+joins_near negative pending (b ∷ []) h e = rw (all-push is_ascii_printable pending b h e, h, e)
+    (map-append (λ x. Glyph (x ∷ []) 1 0 negative) pending (b ∷ []))
+joins_near negative pending (b ∷ c ∷ rest) h e = absurd (cc e)
 
 -- ---- what stands while a row is painted
 
@@ -45,7 +45,7 @@ joins_near negative half_read (b ∷ c ∷ rest) h e = absurd (cc e)
 pub record Near (p : PictureState) (w : Terminal × List Effect) (negative : Bool) (above done rest below : List Col) (r c : ℕ) (all : List Effect) : Type 0
   where
     pub ready : Ready p w negative above done rest below r c all
-    pub plain : are_ascii_printable ready.half_read ≡ true
+    pub plain : are_ascii_printable ready.pending ≡ true
 
 -- the row is done up to column c; where the column before was just sent as a character from SPACE to TILDE, its run may go on
 pub record Stands (p : PictureState) (w : Terminal × List Effect) (near negative : Bool) (above done rest below : List Col) (r c : ℕ) (all : List Effect) : Type
@@ -76,8 +76,8 @@ rendered p w false false above done rest below r c all index small n = n
 
 text_stands : (p : PictureState) (w : Terminal × List Effect) (g : WholeGlyph) (above done rest below : List Col) (r c : ℕ) (all : List Effect)
     → IsGlyph g → (h : Ready p w g.negative above done rest below r c all)
-    → run_columns g.negative (h.half_read ++ g.text) ≡ run_columns g.negative h.half_read ++ columns_of g → c + length (columns_of g) ≤ p.width
-    → are_ascii_printable h.half_read ≡ true
+    → run_columns g.negative (h.pending ++ g.text) ≡ run_columns g.negative h.pending ++ columns_of g → c + length (columns_of g) ≤ p.width
+    → are_ascii_printable h.pending ≡ true
     → Stands p (run w g.text) (is_ascii_glyph g.text) g.negative above (done ++ columns_of g) (drop (length (columns_of g)) rest) below r
     (c + length (columns_of g))
     (all ++ Puts (r * p.width + c) g.text g.negative ∷ [])
@@ -89,7 +89,7 @@ text_stands p w g above done rest below r c all is h joins fits plain =
     record {
       position = l.0;
       leaves = l.1;
-      near_by = λ e. record { ready = k.0; plain = ap (are_ascii_printable) k.1 ∙ plain_more h.half_read g.text plain e };
+      near_by = λ e. record { ready = k.0; plain = ap (are_ascii_printable) k.1 ∙ plain_more h.pending g.text plain e };
     }
 
 drawn_by : (t : Bool) (p : PictureState) (w : Terminal × List Effect) (near negative : Bool) (g : WholeGlyph) (above done rest below : List Col) (r c : ℕ)
@@ -104,7 +104,7 @@ drawn_by true p w near negative g above done rest below r c all fits rh is index
     let n = rendered p w negative g.negative above done rest below r c all index (omega (arith, some, room, index.wide))
     (s.near_by (and_left near (is_ascii_glyph g.text) e)) in
     let printed : is_ascii_glyph g.text ≡ true = and_right near (is_ascii_glyph g.text) e in
-    let after = text_stands p (run w change) g above done rest below r c all is n.ready (joins_near g.negative n.ready.half_read g.text n.plain printed)
+    let after = text_stands p (run w change) g above done rest below r c all is n.ready (joins_near g.negative n.ready.pending g.text n.plain printed)
     (omega (arith, room, index.wide)) n.plain in
     rw (e, run-append w change g.text) after
 drawn_by false p w near negative g above done rest below r c all fits rh is index room e s =
@@ -116,7 +116,7 @@ drawn_by false p w near negative g above done rest below r c all fits rh is inde
     ap (λ v. run v change) (moves p w columns s.position negative all r c s.leaves rh (omega (arith, some, room, index.wide)) fits.height fits.width)
     ∙ turned p columns (Some (r, c)) negative g.negative all in
     let h = place_ready p (run (run w move) change) g.negative above done rest below r c all index there in
-    let after = text_stands p (run (run w move) change) g above done rest below r c all is h.0 (joins_none g.negative h.0.half_read g.text h.1)
+    let after = text_stands p (run (run w move) change) g above done rest below r c all is h.0 (joins_none g.negative h.0.pending g.text h.1)
     (omega (arith, room, index.wide)) (ap (are_ascii_printable) h.1) in
     rw (e, run-append w move (change ++ g.text), run-append (run w move) change g.text) after
 

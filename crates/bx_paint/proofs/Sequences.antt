@@ -17,13 +17,13 @@ use Rattle.bx_paint.specs.Painting.{move_bytes, render_bytes, render_change, era
 
 -- a terminal of the picture's size, of which at most a run is half read
 abbrev pub screen : PictureState → List Col → Option (ℕ × ℕ) → Bool → List ℕ → Terminal
-screen p columns position negative half_read = record {
+screen p columns position negative pending = record {
   height = p.height;
   width = p.width;
   columns = columns;
   position = position;
   negative = Some negative;
-  run = half_read;
+  run = pending;
   half_read = [];
 }
 

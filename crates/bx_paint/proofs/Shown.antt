@@ -36,13 +36,13 @@ record Flushed (p : PictureState) (t : Terminal) (columns : List Col) (r c : ℕ
   pub effects_are : pending_effects t ≡ effects
   pub at_place : c < p.width → position ≡ Some (r, c)
 
-flushed : (p : PictureState) (above start over below : List Col) (r from : ℕ) (negative : Bool) (half_read : List ℕ)
-    → IsPlace r from p.width above start over → (1 ≤ length half_read → 1 ≤ length (run_columns negative half_read))
-    → from + length (run_columns negative half_read) ≤ p.width
-    → Flushed p (screen p (partly above start over below) (Some (r, from)) negative half_read)
-    (partly above (start ++ run_columns negative half_read) (drop (length (run_columns negative half_read)) over) below) r
-    (from + length (run_columns negative half_read)) negative
-    (glyphs_at (r * p.width + from) (run_columns negative half_read))
+flushed : (p : PictureState) (above start over below : List Col) (r from : ℕ) (negative : Bool) (pending : List ℕ)
+    → IsPlace r from p.width above start over → (1 ≤ length pending → 1 ≤ length (run_columns negative pending))
+    → from + length (run_columns negative pending) ≤ p.width
+    → Flushed p (screen p (partly above start over below) (Some (r, from)) negative pending)
+    (partly above (start ++ run_columns negative pending) (drop (length (run_columns negative pending)) over) below) r
+    (from + length (run_columns negative pending)) negative
+    (glyphs_at (r * p.width + from) (run_columns negative pending))
 flushed p above start over below r from negative [] index some fits = record {
   position = Some (r, from);
   effect = ap (λ xs. screen p (partly above xs over below) (Some (r, from)) negative []) (sym (append-nil start));
@@ -65,25 +65,25 @@ flushed p above start over below r from negative (b ∷ bs) index some fits =
 -- a run is half read, or nothing is, from an index in this row on; once it has taken effect the row is done up to column c
 pub record Ready (p : PictureState) (w : Terminal × List Effect) (negative : Bool) (above done rest below : List Col) (r c : ℕ) (all : List Effect) : Type 0
   where
-    pub half_read : List ℕ
+    pub pending : List ℕ
     pub from : ℕ
     pub start : List Col
     pub over : List Col
-    pub is : w.0 ≡ screen p (partly above start over below) (Some (r, from)) negative half_read
+    pub is : w.0 ≡ screen p (partly above start over below) (Some (r, from)) negative pending
     pub index : IsPlace r from p.width above start over
-    pub some : 1 ≤ length half_read → 1 ≤ length (run_columns negative half_read)
-    pub done_is : start ++ run_columns negative half_read ≡ done
-    pub rest_is : drop (length (run_columns negative half_read)) over ≡ rest
-    pub column : from + length (run_columns negative half_read) ≡ c
+    pub some : 1 ≤ length pending → 1 ≤ length (run_columns negative pending)
+    pub done_is : start ++ run_columns negative pending ≡ done
+    pub rest_is : drop (length (run_columns negative pending)) over ≡ rest
+    pub column : from + length (run_columns negative pending) ≡ c
     pub fits : c ≤ p.width
-    pub told : w.1 ++ glyphs_at (r * p.width + from) (run_columns negative half_read) ≡ all
+    pub told : w.1 ++ glyphs_at (r * p.width + from) (run_columns negative pending) ≡ all
 
 pub ready_leaves : (p : PictureState) (w : Terminal × List Effect) (negative : Bool) (above done rest below : List Col) (r c : ℕ) (all : List Effect)
     → Ready p w negative above done rest below r c all
     → (q : Option (ℕ × ℕ)) × Leaves p w (partly above done rest below) q negative all × (c < p.width → q ≡ Some (r, c))
 ready_leaves p w negative above done rest below r c all h =
-    let new = run_columns negative h.half_read in
-    let f = flushed p above h.start h.over below r h.from negative h.half_read h.index h.some (omega (arith, h.column, h.fits)) in (
+    let new = run_columns negative h.pending in
+    let f = flushed p above h.start h.over below r h.from negative h.pending h.index h.some (omega (arith, h.column, h.fits)) in (
       f.position,
       record {
         no_token = ap (λ (u : Terminal). u.half_read) h.is;
@@ -99,10 +99,10 @@ ready_leaves p w negative above done rest below r c all h =
 -- nothing is half read
 pub place_ready : (p : PictureState) (w : Terminal × List Effect) (negative : Bool) (above done rest below : List Col) (r c : ℕ) (all : List Effect)
     → IsPlace r c p.width above done rest → w ≡ (screen p (partly above done rest below) (Some (r, c)) negative [], all)
-    → (h : Ready p w negative above done rest below r c all) × (h.half_read ≡ [])
+    → (h : Ready p w negative above done rest below r c all) × (h.pending ≡ [])
 place_ready p w negative above done rest below r c all index is = (
   record {
-    half_read = [];
+    pending = [];
     from = c;
     start = done;
     over = rest;
@@ -139,21 +139,21 @@ glyphs_at-append index (Glyph text columns offset negative ∷ xs) ys =
 
 pub ready_text : (p : PictureState) (w : Terminal × List Effect) (g : WholeGlyph) (above done rest below : List Col) (r c : ℕ) (all : List Effect)
     → IsGlyph g → (h : Ready p w g.negative above done rest below r c all)
-    → run_columns g.negative (h.half_read ++ g.text) ≡ run_columns g.negative h.half_read ++ columns_of g → c + length (columns_of g) ≤ p.width
+    → run_columns g.negative (h.pending ++ g.text) ≡ run_columns g.negative h.pending ++ columns_of g → c + length (columns_of g) ≤ p.width
     → (k : Ready p (run w g.text) g.negative above (done ++ columns_of g) (drop (length (columns_of g)) rest) below r (c + length (columns_of g))
-    (all ++ Puts (r * p.width + c) g.text g.negative ∷ [])) × (k.half_read ≡ h.half_read ++ g.text)
+    (all ++ Puts (r * p.width + c) g.text g.negative ∷ [])) × (k.pending ≡ h.pending ++ g.text)
 ready_text p w g above done rest below r c all is h joins fits =
-    let a = run_columns g.negative h.half_read in
+    let a = run_columns g.negative h.pending in
     let b = columns_of g in
     let index = r * p.width + h.from in
     let idle : w.0.half_read ≡ [] = ap (λ (u : Terminal). u.half_read) h.is in
     let next : run w g.text ≡ (record (w.0) { run = w.0.run ++ g.text; half_read = [] }, w.1) =
     glyph_does w.0 w.1 g is idle in
-    let count : length (run_columns g.negative (h.half_read ++ g.text)) ≡ length a + length b = ap length joins ∙ length-append a b in
+    let count : length (run_columns g.negative (h.pending ++ g.text)) ≡ length a + length b = ap length joins ∙ length-append a b in
     let end : index + length a ≡ r * p.width + c = omega (arith, h.column) in
     let some : 1 ≤ length b = columns_some g is in (
       record {
-        half_read = h.half_read ++ g.text;
+        pending = h.pending ++ g.text;
         from = h.from;
         start = h.start;
         over = h.over;
@@ -165,7 +165,7 @@ ready_text p w g above done rest below r c all is h joins fits =
         column = omega (arith, count, h.column);
         fits = fits;
         told =
-            ap (λ (v : Terminal × List Effect). v.1 ++ glyphs_at index (run_columns g.negative (h.half_read ++ g.text))) next
+            ap (λ (v : Terminal × List Effect). v.1 ++ glyphs_at index (run_columns g.negative (h.pending ++ g.text))) next
             ∙ ap (λ xs. w.1 ++ glyphs_at index xs) joins
             ∙ ap (λ ds. w.1 ++ ds) (glyphs_at-append index a b)
             ∙ sym (append_assoc w.1 (glyphs_at index a) (glyphs_at (index + length a) b))

@@ -1,4 +1,4 @@
--- Sequences of places that lie apart may be written in either order.
+-- Sequences of indexes that lie apart may be written in either order.
 use Rattle.std.proofs.Common.{◌≡◌, ◌≢◌, ◌<◌, ◌≤◌, ◌∙◌, ℕ, List, [], ◌∷◌, ◌++◌, set, refl, ap, arith, inl, inr, Option, Some}
 use Rattle.std.specs.Prelude.{All}
 use Rattle.std.proofs.lemmas.List.{set_comm}
@@ -30,15 +30,15 @@ levels_comm low high ps ls (q ∷ qs) (m ∷ ms) each a b = levels_comm low high
 
 -- so one of several sequences may be written first
 module _ (bracket : ℕ → Option (Side × ℕ)) (chars : List ℕ) (kept : List (Option Kept)) (low high : ℕ) where
-  written_first : (ss rest : List RunSequence) (s : RunSequence) (each : List (Option ℕ)) → All (λ (u : RunSequence). All (IsOut low high) u.places) ss
-      → All (IsIn low high) s.places → with_sequences bracket chars kept (ss ++ s ∷ rest) each
-      ≡ with_sequences bracket chars kept (ss ++ rest) (with_levels s.places (levels_in bracket chars kept s) each)
+  written_first : (ss rest : List RunSequence) (s : RunSequence) (each : List (Option ℕ)) → All (λ (u : RunSequence). All (IsOut low high) u.indexes) ss
+      → All (IsIn low high) s.indexes → with_sequences bracket chars kept (ss ++ s ∷ rest) each
+      ≡ with_sequences bracket chars kept (ss ++ rest) (with_levels s.indexes (levels_in bracket chars kept s) each)
   written_first [] rest s each o a = refl
   written_first (u ∷ ss) rest s each o a =
-      let outs : RunSequence → Type 0 = λ (x : RunSequence). All (IsOut low high) x.places in
-      written_first ss rest s (with_levels u.places (levels_in bracket chars kept u) each) (All-tail outs u ss o) a
+      let outs : RunSequence → Type 0 = λ (x : RunSequence). All (IsOut low high) x.indexes in
+      written_first ss rest s (with_levels u.indexes (levels_in bracket chars kept u) each) (All-tail outs u ss o) a
       ∙ ap (with_sequences bracket chars kept (ss ++ rest))
-      (levels_comm low high s.places (levels_in bracket chars kept s) u.places (levels_in bracket chars kept u) each a (All-head outs u ss o))
+      (levels_comm low high s.indexes (levels_in bracket chars kept s) u.indexes (levels_in bracket chars kept u) each a (All-head outs u ss o))
 
 -- the sequences in the order in which they are given write the same
 module _ (bracket : ℕ → Option (Side × ℕ)) (chars : List ℕ) (kept : List (Option Kept)) where
@@ -49,7 +49,7 @@ module _ (bracket : ℕ → Option (Side × ℕ)) (chars : List ℕ) (kept : Lis
       let before : List RunSequence = a.0 in
       let after : List RunSequence = a.1 in
       let v : IsApart s before = a.3 in
-      let now : List (Option ℕ) = with_levels s.places (levels_in bracket chars kept s) each in
+      let now : List (Option ℕ) = with_levels s.indexes (levels_in bracket chars kept s) each in
       ap (λ ss. with_sequences bracket chars kept ss each) a.2
       ∙ written_first bracket chars kept v.low v.high before after s each v.outside v.inside
       ∙ given_written given (before ++ after) now a.4

@@ -7,15 +7,15 @@ use Rattle.bx_ucd.specs.declared.data.Side.{Side}
 use Rattle.bx_brackets.specs.Pairs.{pairs}
 use Rattle.bx_brackets.specs.Resolve.{context_of, pair_direction, change_marks, change_bracket, resolve_in, resolve_pairs}
 use Rattle.bx_explicit.specs.Sequences.{direction}
-use Rattle.bx_resolve.specs.Places.{places}
+use Rattle.bx_resolve.specs.AtEach.{at_each}
 use Rattle.bx_resolve.specs.Weak.{w1, w2, w3, w4, w5, w6, w1_at, w2_at, w3_at, w4_at, w5_at, w6_at, w7_at, weak, is_nsm}
 use Rattle.bx_resolve.specs.Neutral.{n1, n2, n1_at, n2_at, implicit_at}
 use Rattle.bx_resolve.specs.Levels.{sequence_levels}
 use Rattle.bx_resolve.proofs.PlainPairs.{AreInside, pairs_inside}
 
-pub places_length : (rule : List Class → Class → List Class → Class) (b ts : List Class) → length (places rule b ts) ≡ length ts
-places_length rule b [] = refl
-places_length rule b (t ∷ ts) = ap (λ n. suc n) (places_length rule (t ∷ b) ts)
+pub at_each_length : (rule : List Class → Class → List Class → Class) (b ts : List Class) → length (at_each rule b ts) ≡ length ts
+at_each_length rule b [] = refl
+at_each_length rule b (t ∷ ts) = ap (λ n. suc n) (at_each_length rule (t ∷ b) ts)
 
 map_length : {B : Type 0} (f : Class → B) (ts : List Class) → length (map f ts) ≡ length ts
 map_length f [] = refl
@@ -29,8 +29,8 @@ weak_length sos ts =
     let d : List Class = w4 c in
     let e : List Class = w5 d in
     let f : List Class = w6 e in
-    places_length (w7_at sos) [] f ∙ map_length w6_at e ∙ places_length w5_at [] d ∙ places_length w4_at [] c ∙ map_length w3_at b
-    ∙ places_length (w2_at sos) [] a ∙ places_length (w1_at sos) [] ts
+    at_each_length (w7_at sos) [] f ∙ map_length w6_at e ∙ at_each_length w5_at [] d ∙ at_each_length w4_at [] c ∙ map_length w3_at b
+    ∙ at_each_length (w2_at sos) [] a ∙ at_each_length (w1_at sos) [] ts
 
 marks_length : (d : Class) (was : List Bool) (ts : List Class) → length (change_marks d was ts) ≡ length ts
 marks_length d [] ts = refl
@@ -72,4 +72,4 @@ levels_length bracket level sos eos chars ts =
     let l : length paired ≡ length weak_types = pairs_length (length weak_types) (direction level) sos (map is_nsm ts) (pairs bracket chars weak_types)
     weak_types (pairs_inside bracket chars weak_types) refl in
     map_length (implicit_at level) (n2 (direction level) (n1 sos eos paired)) ∙ map_length (n2_at (direction level)) (n1 sos eos paired)
-    ∙ places_length (n1_at sos eos) [] paired ∙ l ∙ weak_length sos ts
+    ∙ at_each_length (n1_at sos eos) [] paired ∙ l ∙ weak_length sos ts

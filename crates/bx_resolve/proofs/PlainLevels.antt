@@ -14,7 +14,7 @@ use Rattle.bx_brackets.specs.Resolve.{resolve_pairs}
 use Rattle.bx_resolve.specs.Weak.{weak, is_nsm}
 use Rattle.bx_resolve.specs.Neutral.{n1, n2, implicit_at}
 use Rattle.bx_resolve.specs.Plain.{is_plain, is_plain_right, is_from_right, is_unformatted, all_pass}
-use Rattle.bx_resolve.proofs.PlainRuns.{Each, kept_as, explicit_plain, sequences_plain, whole, places_from, chars_whole, types_whole}
+use Rattle.bx_resolve.proofs.PlainRuns.{Each, kept_as, explicit_plain, sequences_plain, whole, indexes_from, chars_whole, types_whole}
 use Rattle.bx_resolve.proofs.PlainLengths.{levels_length}
 use Rattle.bx_resolve.proofs.PlainTypes.{plain_sequence}
 use Rattle.bx_resolve.proofs.RightTypes.{plain_right_sequence}
@@ -39,22 +39,22 @@ one_longer [] y n e = omega arith
 one_longer (x ∷ xs) y zero e = absurd (omega arith)
 one_longer (x ∷ xs) y (suc n) e = let h : length (xs ++ y ∷ []) ≡ n + 1 = one_longer xs y n (omega arith) in omega arith
 
--- levels written from place `k` on, after those before it
+-- levels written from index `k` on, after those before it
 write_all : (ls : List ℕ) (ys : List (Option ℕ)) (k : ℕ) → length ys ≡ k
-    → with_levels (places_from k (length ls)) ls (ys ++ replicate (length ls) None) ≡ ys ++ map found ls
+    → with_levels (indexes_from k (length ls)) ls (ys ++ replicate (length ls) None) ≡ ys ++ map found ls
 write_all [] ys k e = refl
 write_all (l ∷ ls) ys k e =
     let rest : List (Option ℕ) = replicate (length ls) None in
-    ap (with_levels (places_from (k + 1) (length ls)) ls) (set_seam ys None (found l) rest k e ∙ append_one ys (found l) rest)
+    ap (with_levels (indexes_from (k + 1) (length ls)) ls) (set_seam ys None (found l) rest k e ∙ append_one ys (found l) rest)
     ∙ write_all ls (ys ++ found l ∷ []) (k + 1) (one_longer ys (found l) k e) ∙ sym (append_one ys (found l) (map found ls))
 
 levels_whole : (bracket : ℕ → Option (Side × ℕ)) (p : ℕ) (chars : List ℕ) (cs : List Class) (n : ℕ) → length chars ≡ n → length cs ≡ n
     → levels_in bracket chars (map (kept_as p) cs) (whole p n) ≡ sequence_levels bracket p (direction p) (direction p) chars cs
-levels_whole bracket p chars cs n e f = ap (λ xs. sequence_levels bracket p (direction p) (direction p) xs (types_at (map (kept_as p) cs) (places_from 0 n)))
+levels_whole bracket p chars cs n e f = ap (λ xs. sequence_levels bracket p (direction p) (direction p) xs (types_at (map (kept_as p) cs) (indexes_from 0 n)))
     (chars_whole chars n e) ∙ ap (sequence_levels bracket p (direction p) (direction p) chars) (types_whole p cs n f)
 
-written : (n : ℕ) (ls : List ℕ) → length ls ≡ n → with_levels (places_from 0 n) ls (replicate n None) ≡ map found ls
-written n ls e = ap (λ k. with_levels (places_from 0 k) ls (replicate k None)) (sym e) ∙ write_all ls [] 0 refl
+written : (n : ℕ) (ls : List ℕ) → length ls ≡ n → with_levels (indexes_from 0 n) ls (replicate n None) ≡ map found ls
+written n ls e = ap (λ k. with_levels (indexes_from 0 k) ls (replicate k None)) (sym e) ∙ write_all ls [] 0 refl
 
 by_classes : (bracket : ℕ → Option (Side × ℕ)) (p : ℕ) (chars : List ℕ) (cs : List Class) (n : ℕ) → length chars ≡ n → length cs ≡ n
     → with_sequences bracket chars (map (kept_as p) cs) (sequences p cs (map (kept_as p) cs)) (replicate n None)
@@ -67,7 +67,7 @@ by_classes bracket p chars (c ∷ cs) n e f =
     let levels : List ℕ = sequence_levels bracket p (direction p) (direction p) chars (c ∷ cs) in
     let s : sequences p (c ∷ cs) kept ≡ whole p n ∷ [] = sequences_plain p c cs ∙ ap (λ k. whole p k ∷ []) f in
     ap (λ ss. with_sequences bracket chars kept ss (replicate n None)) s
-    ∙ ap (λ ls. with_levels (places_from 0 n) ls (replicate n None)) (levels_whole bracket p chars (c ∷ cs) n e f)
+    ∙ ap (λ ls. with_levels (indexes_from 0 n) ls (replicate n None)) (levels_whole bracket p chars (c ∷ cs) n e f)
     ∙ written n levels (levels_length bracket p (direction p) (direction p) chars (c ∷ cs) ∙ f)
 
 each_pass : (p : Class → Bool) (cs : List Class) → all_pass p cs ≡ true → Each p cs

@@ -25,7 +25,7 @@ inside_insert n p (q ∷ qs) a b h = elim (nat_lt p.0 q.0) as
       | false ↦ (h.0, h.1, inside_insert n p qs a b h.2)
     ]
 
--- what holds of a search that has come to place `j`
+-- what holds of a search that has come to index `j`
 pub record IsSound (j : ℕ) (s : Search) : Type 0 where
   pub falling : IsFalling j s.openers
   pub inside : AreInside j s.pairs

@@ -9,7 +9,7 @@ use Rattle.bx_ucd.specs.declared.class.Class.TheVariants.{L, R, AL, EN, ES, ET, 
 use Rattle.bx_explicit.specs.declared.entry.Kept.{Kept}
 use Rattle.bx_explicit.specs.declared.runs.Run.{Run}
 use Rattle.bx_explicit.specs.Explicit.{explicit_from, explicit_levels, start}
-use Rattle.bx_explicit.specs.Runs.{run, join_run, runs_from, kept_places, places_of}
+use Rattle.bx_explicit.specs.Runs.{run, join_run, runs_from, kept_indexes, indexes_of}
 use Rattle.bx_explicit.specs.Sequences.{RunSequence, direction, level_of_first, level_after, starts_with_initiator, sequences, sequences_from}
 use Rattle.bx_resolve.specs.Levels.{type_of, types_at, chars_at}
 use Rattle.bx_resolve.specs.Plain.{is_unformatted}
@@ -54,12 +54,12 @@ runs_plain p k c (d ∷ cs) =
     let e : k + 1 + length cs ≡ k + suc (length cs) = omega arith in
     ap (join_run k p) (runs_plain p (k + 1) d cs) ∙ join_same p k (k + 1) (k + 1 + length cs) ∙ ap (λ n. run p k n ∷ []) e
 
--- the places from `k` on
-abbrev pub places_from : ℕ → ℕ → List ℕ
-places_from k zero = []
-places_from k (suc n) = k ∷ places_from (k + 1) n
+-- the indexes from `k` on
+abbrev pub indexes_from : ℕ → ℕ → List ℕ
+indexes_from k zero = []
+indexes_from k (suc n) = k ∷ indexes_from (k + 1) n
 
-kept_plain : (p k : ℕ) (cs : List Class) → kept_places k (map (kept_as p) cs) ≡ places_from k (length cs)
+kept_plain : (p k : ℕ) (cs : List Class) → kept_indexes k (map (kept_as p) cs) ≡ indexes_from k (length cs)
 kept_plain p k [] = refl
 kept_plain p k (c ∷ cs) = ap (λ ps. k ∷ ps) (kept_plain p (k + 1) cs)
 
@@ -67,11 +67,11 @@ map_length : (p : ℕ) (cs : List Class) → length (map (kept_as p) cs) ≡ len
 map_length p [] = refl
 map_length p (c ∷ cs) = ap (λ n. suc n) (map_length p cs)
 
-places_plain : (p : ℕ) (c : Class) (cs : List Class) → places_of (map (kept_as p) (c ∷ cs)) (run p 0 (0 + length cs)) ≡ places_from 0 (length (c ∷ cs))
-places_plain p c cs =
+indexes_plain : (p : ℕ) (c : Class) (cs : List Class) → indexes_of (map (kept_as p) (c ∷ cs)) (run p 0 (0 + length cs)) ≡ indexes_from 0 (length (c ∷ cs))
+indexes_plain p c cs =
     let l : length (map (kept_as p) (c ∷ cs)) ≡ length (c ∷ cs) = map_length p (c ∷ cs) in
     let h : length (map (kept_as p) (c ∷ cs)) ≤ 0 + length cs + 1 - 0 = omega arith in
-    ap (kept_places 0) (take_all (0 + length cs + 1 - 0) (map (kept_as p) (c ∷ cs)) h) ∙ kept_plain p 0 (c ∷ cs)
+    ap (kept_indexes 0) (take_all (0 + length cs + 1 - 0) (map (kept_as p) (c ∷ cs)) h) ∙ kept_plain p 0 (c ∷ cs)
 
 after_plain : (p : ℕ) (cs : List Class) (kept : List (Option Kept)) (k : ℕ) → length kept ≤ k + 1 → level_after p cs kept k ≡ p
 after_plain p cs kept k h =
@@ -79,16 +79,16 @@ after_plain p cs kept k h =
     elim (starts_with_initiator (drop k cs)) as (λ b. elim b as (λ x. ℕ) [ true ↦ p | false ↦ level_of_first p (drop (k + 1) kept) ] ≡ p)
     [ true ↦ refl | false ↦ e ]
 
--- a sequence over all places, of the paragraph level
+-- a sequence over all indexes, of the paragraph level
 abbrev pub whole : ℕ → ℕ → RunSequence
-whole p n = record { places = places_from 0 n; level = p; sos = direction p; eos = direction p }
+whole p n = record { indexes = indexes_from 0 n; level = p; sos = direction p; eos = direction p }
 
-made_whole : (p n : ℕ) (ps : List ℕ) (m : ℕ) → ps ≡ places_from 0 n → m ≡ p
-    → record { places = ps; level = p; sos = direction (max p p); eos = direction (max p m) } ≡ whole p n
+made_whole : (p n : ℕ) (ps : List ℕ) (m : ℕ) → ps ≡ indexes_from 0 n → m ≡ p
+    → record { indexes = ps; level = p; sos = direction (max p p); eos = direction (max p m) } ≡ whole p n
 made_whole p n ps m q e =
     let same : max p p ≡ p = omega arith in
-    let make : List ℕ → ℕ → ℕ → RunSequence = λ x y z. record { places = x; level = p; sos = direction y; eos = direction z } in
-    ap (λ x. make x (max p p) (max p m)) q ∙ ap (λ y. make (places_from 0 n) y (max p m)) same ∙ ap (make (places_from 0 n) p) (ap (max p) e ∙ same)
+    let make : List ℕ → ℕ → ℕ → RunSequence = λ x y z. record { indexes = x; level = p; sos = direction y; eos = direction z } in
+    ap (λ x. make x (max p p) (max p m)) q ∙ ap (λ y. make (indexes_from 0 n) y (max p m)) same ∙ ap (make (indexes_from 0 n) p) (ap (max p) e ∙ same)
 
 pub sequences_plain : (p : ℕ) (c : Class) (cs : List Class) → sequences p (c ∷ cs) (map (kept_as p) (c ∷ cs)) ≡ whole p (length (c ∷ cs)) ∷ []
 sequences_plain p c cs =
@@ -97,10 +97,10 @@ sequences_plain p c cs =
     let l : length kept ≡ length (c ∷ cs) = map_length p (c ∷ cs) in
     let a : level_after p (c ∷ cs) kept (0 + length cs) ≡ p = after_plain p (c ∷ cs) kept (0 + length cs) (omega arith) in
     ap (sequences_from p (c ∷ cs) kept []) (runs_plain p 0 c cs)
-    ∙ ap (λ s. s ∷ []) (made_whole p (length (c ∷ cs)) (places_of kept r ++ []) (level_after p (c ∷ cs) kept (0 + length cs))
-    (append-nil (places_of kept r) ∙ places_plain p c cs) a)
+    ∙ ap (λ s. s ∷ []) (made_whole p (length (c ∷ cs)) (indexes_of kept r ++ []) (level_after p (c ∷ cs) kept (0 + length cs))
+    (append-nil (indexes_of kept r) ∙ indexes_plain p c cs) a)
 
--- what stands at all places is the list
+-- what stands at all indexes is the list
 drop_get : {A B : Type 0} (f : A → B) (d : A) (whole : List A) (k : ℕ) (x : A) (xs : List A) → drop k whole ≡ x ∷ xs
     → (get_or whole k d ≡ x) × (drop (suc k) whole ≡ xs)
 drop_get f d [] zero x xs e = absurd (cc)
@@ -109,13 +109,13 @@ drop_get f d (y ∷ ys) zero x xs e = (cc, cc)
 drop_get f d (y ∷ ys) (suc k) x xs e = drop_get f d ys k x xs e
 
 map_at : {A B : Type 0} (f : A → B) (d : A) (whole : List A) (k : ℕ) (xs : List A) → drop k whole ≡ xs
-    → map (λ p. f (get_or whole p d)) (places_from k (length xs)) ≡ map f xs
+    → map (λ p. f (get_or whole p d)) (indexes_from k (length xs)) ≡ map f xs
 map_at f d whole k [] e = refl
 map_at f d whole k (x ∷ xs) e =
     let h : get_or whole k d ≡ x = (drop_get f d whole k x xs e).0 in
     let s : k + 1 ≡ suc k = omega arith in
     let t : drop (k + 1) whole ≡ xs = ap (λ n. drop n whole) s ∙ (drop_get f d whole k x xs e).1 in
-    ap (λ y. f y ∷ map (λ p. f (get_or whole p d)) (places_from (k + 1) (length xs))) h ∙ ap (λ ys. f x ∷ ys) (map_at f d whole (k + 1) xs t)
+    ap (λ y. f y ∷ map (λ p. f (get_or whole p d)) (indexes_from (k + 1) (length xs))) h ∙ ap (λ ys. f x ∷ ys) (map_at f d whole (k + 1) xs t)
 
 map_same : (xs : List ℕ) → map (λ x. x) xs ≡ xs
 map_same [] = refl
@@ -125,9 +125,9 @@ map_kept : (p : ℕ) (cs : List Class) → map type_of (map (kept_as p) cs) ≡ 
 map_kept p [] = refl
 map_kept p (c ∷ cs) = ap (λ ds. c ∷ ds) (map_kept p cs)
 
-pub chars_whole : (chars : List ℕ) (n : ℕ) → length chars ≡ n → chars_at chars (places_from 0 n) ≡ chars
-chars_whole chars n e = ap (λ k. chars_at chars (places_from 0 k)) (sym e) ∙ map_at (λ x. x) 0 chars 0 chars refl ∙ map_same chars
+pub chars_whole : (chars : List ℕ) (n : ℕ) → length chars ≡ n → chars_at chars (indexes_from 0 n) ≡ chars
+chars_whole chars n e = ap (λ k. chars_at chars (indexes_from 0 k)) (sym e) ∙ map_at (λ x. x) 0 chars 0 chars refl ∙ map_same chars
 
-pub types_whole : (p : ℕ) (cs : List Class) (n : ℕ) → length cs ≡ n → types_at (map (kept_as p) cs) (places_from 0 n) ≡ cs
-types_whole p cs n e = ap (λ k. types_at (map (kept_as p) cs) (places_from 0 k)) (sym (map_length p cs ∙ e))
+pub types_whole : (p : ℕ) (cs : List Class) (n : ℕ) → length cs ≡ n → types_at (map (kept_as p) cs) (indexes_from 0 n) ≡ cs
+types_whole p cs n e = ap (λ k. types_at (map (kept_as p) cs) (indexes_from 0 k)) (sym (map_length p cs ∙ e))
     ∙ map_at type_of None (map (kept_as p) cs) 0 (map (kept_as p) cs) refl ∙ map_kept p cs

@@ -9,7 +9,7 @@ use Rattle.bx_ucd.specs.declared.data.Side.{Side}
 use Rattle.bx_ucd.specs.Class.{is_strong}
 use Rattle.bx_brackets.specs.Pairs.{pairs}
 use Rattle.bx_brackets.specs.Resolve.{counts_as, opposite, context_of, pair_direction, change_marks, change_bracket, resolve_in, resolve_pairs}
-use Rattle.bx_resolve.specs.Places.{places}
+use Rattle.bx_resolve.specs.AtEach.{at_each}
 use Rattle.bx_resolve.specs.Weak.{w1, w2, w3, w4, w5, w6, w1_at, w2_at, w3_at, w4_at, w5_at, w6_at, w7_at, weak, is_nsm, is_en, is_an, mark_class, nearest_that}
 use Rattle.bx_resolve.specs.Weak.{number_after, left_number, is_left_or_right, beside, terminator_of, is_en_past}
 use Rattle.bx_resolve.specs.Neutral.{n1, n2, n1_at, side, agreed, implicit}
@@ -17,14 +17,14 @@ use Rattle.bx_resolve.specs.Levels.{sequence_levels}
 use Rattle.bx_resolve.specs.Plain.{is_plain}
 use Rattle.bx_resolve.proofs.PlainRuns.{Each}
 use Rattle.bx_resolve.proofs.PlainPairs.{AreInside, pairs_inside}
-use Rattle.bx_resolve.proofs.PlainLengths.{places_length, weak_length, change_length}
+use Rattle.bx_resolve.proofs.PlainLengths.{at_each_length, weak_length, change_length}
 
 -- a rule that turns each class of one kind into one of another
 module _ (p q : Class → Bool) (rule : List Class → Class → List Class → Class)
     (turns : (b : List Class) (t : Class) (a : List Class) → Each p b → p t ≡ true → Each p a → q (rule b t a) ≡ true) where
-  pub each_places : (b ts : List Class) → Each p b → Each p ts → Each q (places rule b ts)
-  each_places b [] hb h = tt
-  each_places b (t ∷ ts) hb h = (turns b t ts hb h.0 h.1, each_places (t ∷ b) ts (h.0, hb) h.1)
+  pub each_by_rule : (b ts : List Class) → Each p b → Each p ts → Each q (at_each rule b ts)
+  each_by_rule b [] hb h = tt
+  each_by_rule b (t ∷ ts) hb h = (turns b t ts hb h.0 h.1, each_by_rule (t ∷ b) ts (h.0, hb) h.1)
 
 pub each_map : (p q : Class → Bool) (f : Class → Class) → ((t : Class) → p t ≡ true → q (f t) ≡ true) → (ts : List Class) → Each p ts → Each q (map f ts)
 each_map p q f turns [] h = tt
@@ -216,14 +216,14 @@ w7_turns b _ a hb e ha = absurd (cc)
 
 weak_plain : (ts : List Class) → Each is_plain ts → Each is_rest (weak L ts)
 weak_plain ts h =
-    let a : Each is_unmarked (w1 L ts) = each_places is_plain is_unmarked (w1_at L) w1_turns [] ts tt h in
-    let b : Each is_unmarked (w2 L (w1 L ts)) = each_places is_unmarked is_unmarked (w2_at L) w2_turns [] (w1 L ts) tt a in
+    let a : Each is_unmarked (w1 L ts) = each_by_rule is_plain is_unmarked (w1_at L) w1_turns [] ts tt h in
+    let b : Each is_unmarked (w2 L (w1 L ts)) = each_by_rule is_unmarked is_unmarked (w2_at L) w2_turns [] (w1 L ts) tt a in
     let c : Each is_unmarked (w3 (w2 L (w1 L ts))) = each_map is_unmarked is_unmarked w3_at w3_turns (w2 L (w1 L ts)) b in
-    let d : Each is_unmarked (w4 (w3 (w2 L (w1 L ts)))) = each_places is_unmarked is_unmarked w4_at w4_turns [] (w3 (w2 L (w1 L ts))) tt c in
-    let e : Each is_unmarked (w5 (w4 (w3 (w2 L (w1 L ts))))) = each_places is_unmarked is_unmarked w5_at w5_turns [] (w4 (w3 (w2 L (w1 L ts)))) tt d in
+    let d : Each is_unmarked (w4 (w3 (w2 L (w1 L ts)))) = each_by_rule is_unmarked is_unmarked w4_at w4_turns [] (w3 (w2 L (w1 L ts))) tt c in
+    let e : Each is_unmarked (w5 (w4 (w3 (w2 L (w1 L ts))))) = each_by_rule is_unmarked is_unmarked w5_at w5_turns [] (w4 (w3 (w2 L (w1 L ts)))) tt d in
     let f : Each is_number_or_rest (w6 (w5 (w4 (w3 (w2 L (w1 L ts)))))) =
     each_map is_unmarked is_number_or_rest w6_at w6_turns (w5 (w4 (w3 (w2 L (w1 L ts))))) e in
-    each_places is_number_or_rest is_rest (w7_at L) w7_turns [] (w6 (w5 (w4 (w3 (w2 L (w1 L ts)))))) tt f
+    each_by_rule is_number_or_rest is_rest (w7_at L) w7_turns [] (w6 (w5 (w4 (w3 (w2 L (w1 L ts)))))) tt f
 
 -- N0: with no R, EN or AN inside, a pair takes L or stays
 no_right : (ts : List Class) → Each is_rest ts → list_any (counts_as R) ts ≡ false
@@ -340,5 +340,5 @@ plain_sequence bracket chars ts h =
     pairs_rest (length weak_types) was (pairs bracket chars weak_types) weak_types (pairs_inside bracket chars weak_types)
     (record { each = weak_plain ts h; as_long = refl }) in
     let paired : List Class = resolve_pairs L L was (pairs bracket chars weak_types) weak_types in
-    let l : Each is_l (n1 L L paired) = each_places is_rest is_l (n1_at L L) n1_turns [] paired tt r.each in
-    levels_l (n1 L L paired) l ∙ ap (λ n. replicate n 0) (places_length (n1_at L L) [] paired ∙ r.as_long ∙ weak_length L ts)
+    let l : Each is_l (n1 L L paired) = each_by_rule is_rest is_l (n1_at L L) n1_turns [] paired tt r.each in
+    levels_l (n1 L L paired) l ∙ ap (λ n. replicate n 0) (at_each_length (n1_at L L) [] paired ∙ r.as_long ∙ weak_length L ts)

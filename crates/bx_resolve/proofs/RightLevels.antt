@@ -13,12 +13,12 @@ use Rattle.bx_ucd.specs.Class.{is_strong}
 use Rattle.bx_resolve.specs.Weak.{w1, w2, w3, w4, w5, w6, w1_at, w2_at, w3_at, w4_at, w5_at, w6_at, w7_at, weak, is_nsm, is_en, is_an, is_left_or_right}
 use Rattle.bx_resolve.specs.Weak.{mark_class, nearest_that, number_after, left_number, beside, terminator_of, is_en_past}
 use Rattle.bx_resolve.specs.Neutral.{n2, n1_at, n2_at, side, agreed, rise_odd, implicit, implicit_at}
-use Rattle.bx_resolve.specs.Places.{places}
+use Rattle.bx_resolve.specs.AtEach.{at_each}
 use Rattle.bx_resolve.specs.Levels.{sequence_levels}
 use Rattle.bx_resolve.specs.Plain.{is_from_right}
 use Rattle.bx_resolve.proofs.PlainRuns.{Each}
 use Rattle.bx_resolve.proofs.PlainPairs.{AreInside, pairs_inside}
-use Rattle.bx_resolve.proofs.PlainTypes.{each_places, each_map, each_take, each_drop, each_append}
+use Rattle.bx_resolve.proofs.PlainTypes.{each_by_rule, each_map, each_take, each_drop, each_append}
 use Rattle.bx_resolve.proofs.PairTypes.{AreOn, HaveEnds, pairs_ends}
 use Rattle.bx_resolve.proofs.RightMarks.{AreMarksLow, AreLow, weak_low}
 
@@ -207,13 +207,13 @@ weak_rest ts h =
     let t3 : List Class = w3 t2 in
     let t4 : List Class = w4 t3 in
     let t5 : List Class = w5 t4 in
-    let a : Each is_unmarked t1 = each_places is_from_right is_unmarked (w1_at R) w1_turns [] ts tt h in
-    let b : Each is_unmarked t2 = each_places is_unmarked is_unmarked (w2_at R) w2_turns [] t1 tt a in
+    let a : Each is_unmarked t1 = each_by_rule is_from_right is_unmarked (w1_at R) w1_turns [] ts tt h in
+    let b : Each is_unmarked t2 = each_by_rule is_unmarked is_unmarked (w2_at R) w2_turns [] t1 tt a in
     let c : Each is_without_al t3 = each_map is_unmarked is_without_al w3_at w3_turns t2 b in
-    let d : Each is_without_al t4 = each_places is_without_al is_without_al w4_at w4_turns [] t3 tt c in
-    let e : Each is_without_al t5 = each_places is_without_al is_without_al w5_at w5_turns [] t4 tt d in
+    let d : Each is_without_al t4 = each_by_rule is_without_al is_without_al w4_at w4_turns [] t3 tt c in
+    let e : Each is_without_al t5 = each_by_rule is_without_al is_without_al w5_at w5_turns [] t4 tt d in
     let f : Each is_rest (w6 t5) = each_map is_without_al is_rest w6_at w6_turns t5 e in
-    each_places is_rest is_rest (w7_at R) w7_turns [] (w6 t5) tt f
+    each_by_rule is_rest is_rest (w7_at R) w7_turns [] (w6 t5) tt f
 
 -- N0: with no L inside, a pair takes R or stays
 no_left : (ts : List Class) → Each is_rest ts → list_any (counts_as L) ts ≡ false
@@ -363,10 +363,10 @@ one_level b WS a hb e ha = agreed_level WS b a hb ha
 one_level b ON a hb e ha = agreed_level ON b a hb ha
 one_level b _ a hb e ha = absurd (cc)
 
-same_levels : (b ts : List Class) → Each is_rest b → Each is_rest ts → implicit 1 (n2 R (places (n1_at R R) b ts)) ≡ implicit 1 ts
+same_levels : (b ts : List Class) → Each is_rest b → Each is_rest ts → implicit 1 (n2 R (at_each (n1_at R R) b ts)) ≡ implicit 1 ts
 same_levels b [] hb h = refl
 same_levels b (t ∷ ts) hb h =
-    ap (λ l. l ∷ implicit 1 (n2 R (places (n1_at R R) (t ∷ b) ts))) (one_level b t ts hb h.0 h.1)
+    ap (λ l. l ∷ implicit 1 (n2 R (at_each (n1_at R R) (t ∷ b) ts))) (one_level b t ts hb h.0 h.1)
     ∙ ap (λ ls. implicit_at 1 t ∷ ls) (same_levels (t ∷ b) ts (h.0, hb) h.1)
 
 by_rises : (ts : List Class) → implicit 1 ts ≡ map (λ n. 1 + n) (rises ts)

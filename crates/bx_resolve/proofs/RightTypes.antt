@@ -15,8 +15,8 @@ use Rattle.bx_resolve.specs.Levels.{sequence_levels}
 use Rattle.bx_resolve.specs.Plain.{is_plain_right}
 use Rattle.bx_resolve.proofs.PlainRuns.{Each}
 use Rattle.bx_resolve.proofs.PlainPairs.{AreInside, pairs_inside}
-use Rattle.bx_resolve.proofs.PlainLengths.{places_length, weak_length, change_length}
-use Rattle.bx_resolve.proofs.PlainTypes.{each_places, each_map, each_take, each_drop, each_append}
+use Rattle.bx_resolve.proofs.PlainLengths.{at_each_length, weak_length, change_length}
+use Rattle.bx_resolve.proofs.PlainTypes.{each_by_rule, each_map, each_take, each_drop, each_append}
 
 -- the plain classes but NSM; those that W3 leaves; those that W6 leaves
 abbrev is_unmarked : Class → Bool
@@ -197,13 +197,13 @@ weak_plain ts h =
     let t3 : List Class = w3 t2 in
     let t4 : List Class = w4 t3 in
     let t5 : List Class = w5 t4 in
-    let a : Each is_unmarked t1 = each_places is_plain_right is_unmarked (w1_at R) w1_turns [] ts tt h in
-    let b : Each is_unmarked t2 = each_places is_unmarked is_unmarked (w2_at R) w2_turns [] t1 tt a in
+    let a : Each is_unmarked t1 = each_by_rule is_plain_right is_unmarked (w1_at R) w1_turns [] ts tt h in
+    let b : Each is_unmarked t2 = each_by_rule is_unmarked is_unmarked (w2_at R) w2_turns [] t1 tt a in
     let c : Each is_weak t3 = each_map is_unmarked is_weak w3_at w3_turns t2 b in
-    let d : Each is_weak t4 = each_places is_weak is_weak w4_at w4_turns [] t3 tt c in
-    let e : Each is_weak t5 = each_places is_weak is_weak w5_at w5_turns [] t4 tt d in
+    let d : Each is_weak t4 = each_by_rule is_weak is_weak w4_at w4_turns [] t3 tt c in
+    let e : Each is_weak t5 = each_by_rule is_weak is_weak w5_at w5_turns [] t4 tt d in
     let f : Each is_rest (w6 t5) = each_map is_weak is_rest w6_at w6_turns t5 e in
-    each_places is_rest is_rest (w7_at R) w7_turns [] (w6 t5) tt f
+    each_by_rule is_rest is_rest (w7_at R) w7_turns [] (w6 t5) tt f
 
 -- N0: with no L inside, a pair takes R or stays
 no_left : (ts : List Class) → Each is_rest ts → list_any (counts_as L) ts ≡ false
@@ -304,5 +304,5 @@ plain_right_sequence bracket chars ts h =
     let paired : List Class = resolve_pairs R R was found weak_types in
     let r : IsRest (length weak_types) paired = pairs_rest (length weak_types) was found weak_types (pairs_inside bracket chars weak_types)
     (record { each = weak_plain ts h; as_long = refl }) in
-    let l : Each is_r (n1 R R paired) = each_places is_rest is_r (n1_at R R) n1_turns [] paired tt r.each in
-    levels_r (n1 R R paired) l ∙ ap (λ n. replicate n 1) (places_length (n1_at R R) [] paired ∙ r.as_long ∙ weak_length R ts)
+    let l : Each is_r (n1 R R paired) = each_by_rule is_rest is_r (n1_at R R) n1_turns [] paired tt r.each in
+    levels_r (n1 R R paired) l ∙ ap (λ n. replicate n 1) (at_each_length (n1_at R R) [] paired ∙ r.as_long ∙ weak_length R ts)

@@ -1,4 +1,4 @@
--- Levels written at their places, one after another.
+-- Levels written at their indexes, one after another.
 use Rattle.std.proofs.Common.{◌≡◌, ◌<◌, ◌≤◌, ◌+◌, ◌∙◌, ℕ, zero, suc, List, [], ◌∷◌, length, get_or, set, drop, min, refl, ap, sym, arith, ◌⊎◌, inl, inr, Option}
 use Rattle.std.proofs.Common.{Some}
 use Rattle.std.proofs.lemmas.List.{at_drop_more, drop_all}
@@ -39,7 +39,7 @@ levels_length (p ∷ ps) (l ∷ ls) each = levels_length ps ls (set each p (Some
 module _ (bracket : ℕ → Option (Side × ℕ)) (chars : List ℕ) (kept : List (Option Kept)) where
   pub sequences_more : (ss : List RunSequence) (each : List (Option ℕ)) (i : ℕ) (d : RunSequence) → i < length ss
       → with_sequences bracket chars kept (drop i ss) each
-      ≡ with_sequences bracket chars kept (drop (i + 1) ss) (with_levels (get_or ss i d).places (levels_in bracket chars kept (get_or ss i d)) each)
+      ≡ with_sequences bracket chars kept (drop (i + 1) ss) (with_levels (get_or ss i d).indexes (levels_in bracket chars kept (get_or ss i d)) each)
   sequences_more ss each i d h = at_drop_more (λ xs. with_sequences bracket chars kept xs each) ss i d h
 
   pub sequences_all : (ss : List RunSequence) (each : List (Option ℕ)) (i : ℕ) → length ss ≤ i → with_sequences bracket chars kept (drop i ss) each ≡ each
@@ -49,7 +49,7 @@ written_all : (level : ℕ) (ps : List ℕ) (ts : List Class) (i : ℕ) (each : 
     → with_levels ps (implicit level (drop i ts)) each ≡ each
 written_all level ps ts i each h = ap (λ xs. with_levels ps (implicit level xs) each) (drop_all i ts h) ∙ no_levels ps each
 
--- no type is left, whatever the places are
+-- no type is left, whatever the indexes are
 pub written_out : (level : ℕ) (ps rest : List ℕ) (ts : List Class) (i : ℕ) (each : List (Option ℕ)) → length ts ≤ i
     → with_levels ps (implicit level (drop i ts)) each ≡ with_levels rest (implicit level (drop i ts)) each
 written_out level ps rest ts i each h = written_all level ps ts i each h ∙ sym (written_all level rest ts i each h)

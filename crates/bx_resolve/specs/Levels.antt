@@ -17,7 +17,7 @@ abbrev pub type_of : Option Kept → Class
 type_of None = ON
 type_of (Some k) = k.class
 
--- the characters at places, and their types after overrides
+-- the characters at indexes, and their types after overrides
 abbrev pub chars_at : List ℕ → List ℕ → List ℕ
 chars_at chars ps = map (λ p. slice_index_or chars p 0) ps
 
@@ -38,22 +38,22 @@ sequence_levels bracket level sos eos chars ts = implicit level (sequence_types 
 
 -- the same of a sequence of a paragraph
 abbrev pub levels_in : (ℕ → Option (Side × ℕ)) → List ℕ → List (Option Kept) → RunSequence → List ℕ
-levels_in bracket chars kept s = sequence_levels bracket s.level s.sos s.eos (chars_at chars s.places) (types_at kept s.places)
+levels_in bracket chars kept s = sequence_levels bracket s.level s.sos s.eos (chars_at chars s.indexes) (types_at kept s.indexes)
 
--- levels written at their places
+-- levels written at their indexes
 abbrev pub with_levels : List ℕ → List ℕ → List (Option ℕ) → List (Option ℕ)
 with_levels [] ls each = each
 with_levels (p ∷ ps) [] each = each
 with_levels (p ∷ ps) (l ∷ ls) each = with_levels ps ls (slice_set each p (Some l))
 
--- levels are written at the places `ps`: what is left of them goes on from there
+-- levels are written at the indexes `ps`: what is left of them goes on from there
 abbrev pub WritesRun : List ℕ → List ℕ → List (Option ℕ) → List ℕ → List (Option ℕ) → Type 0
 WritesRun ps levels each left new_each = (rest : List ℕ) → with_levels (ps ++ rest) levels each ≡ with_levels rest left new_each
 
 -- those of all sequences
 abbrev pub with_sequences : (ℕ → Option (Side × ℕ)) → List ℕ → List (Option Kept) → List RunSequence → List (Option ℕ) → List (Option ℕ)
 with_sequences bracket chars kept [] each = each
-with_sequences bracket chars kept (s ∷ ss) each = with_sequences bracket chars kept ss (with_levels s.places (levels_in bracket chars kept s) each)
+with_sequences bracket chars kept (s ∷ ss) each = with_sequences bracket chars kept ss (with_levels s.indexes (levels_in bracket chars kept s) each)
 
 -- each character's level, or nothing where X9 removes it, in a paragraph of a level
 abbrev pub paragraph_levels : (ℕ → Class) → (ℕ → Option (Side × ℕ)) → ℕ → List ℕ → List (Option ℕ)

@@ -1,4 +1,4 @@
-pub mod Places
+pub mod AtEach
 pub mod Body
 pub mod Weak
 pub mod Turns

@@ -4,7 +4,7 @@ use Rattle.std.proofs.Common.{zero, suc}
 use Rattle.bx_ucd.specs.declared.class.Class.{Class}
 use Rattle.bx_ucd.specs.declared.class.Class.TheVariants.{L, R, EN, AN}
 use Rattle.bx_ucd.specs.Class.{is_neutral}
-use Rattle.bx_resolve.specs.Places.{places}
+use Rattle.bx_resolve.specs.AtEach.{at_each}
 
 -- the direction that a type counts as beside neutrals: EN and AN are R
 abbrev pub side_of : Class → Class
@@ -27,7 +27,7 @@ abbrev pub n1_at : Class → Class → List Class → Class → List Class → C
 n1_at sos eos before t after = elim (is_neutral t) [ true ↦ agreed t (side sos before) (side eos after) | false ↦ t ]
 
 abbrev pub n1 : Class → Class → List Class → List Class
-n1 sos eos ts = places (n1_at sos eos) [] ts
+n1 sos eos ts = at_each (n1_at sos eos) [] ts
 
 -- N2: the others take the embedding direction
 abbrev pub n2_at : Class → Class → Class

@@ -3,7 +3,7 @@ use Rattle.std.specs.Prelude.{◌&&◌, Bool, true, false, List, [], ◌∷◌, 
 use Rattle.bx_ucd.specs.declared.class.Class.{Class}
 use Rattle.bx_ucd.specs.declared.class.Class.TheVariants.{L, R, AL, EN, ES, ET, AN, CS, NSM, B, S, WS, ON, LRI, RLI, FSI, PDI}
 use Rattle.bx_ucd.specs.Class.{is_strong}
-use Rattle.bx_resolve.specs.Places.{places}
+use Rattle.bx_resolve.specs.AtEach.{at_each}
 
 abbrev pub is_nsm : Class → Bool
 is_nsm NSM = true
@@ -70,7 +70,7 @@ abbrev pub w3_at : Class → Class
 w3_at AL = R
 w3_at t = t
 
--- the type beside a place, or ON at the sequence's end
+-- the type beside an index, or ON at the sequence's end
 abbrev pub beside : List Class → Class
 beside [] = ON
 beside (t ∷ ts) = t
@@ -115,25 +115,25 @@ w7_at sos before t after = elim (is_en t) [ true ↦ left_number (nearest_that i
 
 -- each rule over the whole list
 abbrev pub w1 : Class → List Class → List Class
-w1 sos ts = places (w1_at sos) [] ts
+w1 sos ts = at_each (w1_at sos) [] ts
 
 abbrev pub w2 : Class → List Class → List Class
-w2 sos ts = places (w2_at sos) [] ts
+w2 sos ts = at_each (w2_at sos) [] ts
 
 abbrev pub w3 : List Class → List Class
 w3 ts = map w3_at ts
 
 abbrev pub w4 : List Class → List Class
-w4 ts = places w4_at [] ts
+w4 ts = at_each w4_at [] ts
 
 abbrev pub w5 : List Class → List Class
-w5 ts = places w5_at [] ts
+w5 ts = at_each w5_at [] ts
 
 abbrev pub w6 : List Class → List Class
 w6 ts = map w6_at ts
 
 abbrev pub w7 : Class → List Class → List Class
-w7 sos ts = places (w7_at sos) [] ts
+w7 sos ts = at_each (w7_at sos) [] ts
 
 -- each to the list after the one before
 abbrev pub weak : Class → List Class → List Class

@@ -17,40 +17,40 @@ use bx_ucd::class::direction;
 use bx_ucd::{BidiData, Class};
 use std::alloc::{AllocError, Global};
 
-/// The type of the character at a place, after overrides.
-pub fn type_at(kept: &[Option<Kept>], place: usize) -> Class
-    requires { place < length kept.now }
-    ensures { result ≡ type_of (slice_index_or kept.now place None) }
+/// The type of the character at an index, after overrides.
+pub fn type_at(kept: &[Option<Kept>], index: usize) -> Class
+    requires { index < length kept.now }
+    ensures { result ≡ type_of (slice_index_or kept.now index None) }
 {
-    match kept[place] {
+    match kept[index] {
         Some(k) => k.class,
         None => Class::ON,
     }
 }
 
-/// The types of the characters at places, after overrides.
+/// The types of the characters at indexes, after overrides.
 fn types_at(
     alloc: Global,
     kept: &[Option<Kept>],
-    places: &[usize],
+    indexes: &[usize],
 ) -> Result<Vec<Class>, AllocError>
-    requires { All (λ p. p < length kept.now) places.now }
-    ensures { IfOk result (λ v. v.items ≡ types_at kept.now places.now) }
+    requires { All (λ p. p < length kept.now) indexes.now }
+    ensures { IfOk result (λ v. v.items ≡ types_at kept.now indexes.now) }
 {
-    let mut types = Vec::with_capacity(alloc, places.len())?;
-    for p in places {
+    let mut types = Vec::with_capacity(alloc, indexes.len())?;
+    for p in indexes {
         types.push(type_at(kept, *p))?;
     }
     Ok(types)
 }
 
-/// The characters at places.
-fn chars_at(alloc: Global, chars: &[char], places: &[usize]) -> Result<Vec<char>, AllocError>
-    requires { All (λ p. p < length chars.now) places.now }
-    ensures { IfOk result (λ v. v.items ≡ chars_at chars.now places.now) }
+/// The characters at indexes.
+fn chars_at(alloc: Global, chars: &[char], indexes: &[usize]) -> Result<Vec<char>, AllocError>
+    requires { All (λ p. p < length chars.now) indexes.now }
+    ensures { IfOk result (λ v. v.items ≡ chars_at chars.now indexes.now) }
 {
-    let mut found = Vec::with_capacity(alloc, places.len())?;
-    for p in places {
+    let mut found = Vec::with_capacity(alloc, indexes.len())?;
+    for p in indexes {
         found.push(chars[*p])?;
     }
     Ok(found)
@@ -83,13 +83,13 @@ fn levels_in<D: BidiData>(
     sequence: &Sequence,
 ) -> Result<Vec<u8>, ResolveError>
     requires low { sequence.now.level ≤ max_depth }
-    requires within { All (λ p. p < length kept.now) sequence.now.places }
+    requires within { All (λ p. p < length kept.now) sequence.now.indexes }
     requires as_long { length chars.now ≡ length kept.now }
     ensures { IfOk result (λ v. v.items ≡ levels_in (D.bracket_of source.now) chars.now kept.now sequence.now) }
 {
     let (level, sos, eos) = (sequence.level(), sequence.sos(), sequence.eos());
-    let chars = chars_at(alloc, chars, sequence.places())?;
-    let mut types = types_at(alloc, kept, sequence.places())?;
+    let chars = chars_at(alloc, chars, sequence.indexes())?;
+    let mut types = types_at(alloc, kept, sequence.indexes())?;
     let was_nsm = marks(alloc, &types)?;
     weak(&mut types, sos);
     let found = pairs(alloc, &chars, &types, source)?;
@@ -99,18 +99,18 @@ fn levels_in<D: BidiData>(
     Ok(implicit(alloc, &types, level)?)
 }
 
-/// Writes levels at their places.
-fn write_levels(each: &mut Vec<Option<u8>>, places: &[usize], levels: &[u8])
-    requires { All (λ p. p < length each.old.items) places.now }
-    ensures { each.new.items ≡ with_levels places.now levels.now each.old.items }
+/// Writes levels at their indexes.
+fn write_levels(each: &mut Vec<Option<u8>>, indexes: &[usize], levels: &[u8])
+    requires { All (λ p. p < length each.old.items) indexes.now }
+    ensures { each.new.items ≡ with_levels indexes.now levels.now each.old.items }
 {
-    let count = places.len().min(levels.len());
+    let count = indexes.len().min(levels.len());
     for i in 0..count {
-        each[places[i]] = Some(levels[i]);
+        each[indexes[i]] = Some(levels[i]);
     }
 }
 
-/// The levels of all sequences' characters, each at its place.
+/// The levels of all sequences' characters, each at its index.
 fn each_level<D: BidiData>(
     alloc: Global,
     chars: &[char],
@@ -124,7 +124,7 @@ fn each_level<D: BidiData>(
     let mut each = vec![in alloc; None; chars.len()]?;
     for sequence in &found {
         let levels = levels_in(alloc, source, chars, &explicit.kept, sequence)?;
-        write_levels(&mut each, sequence.places(), &levels);
+        write_levels(&mut each, sequence.indexes(), &levels);
     }
     Ok(each)
 }

@@ -4,7 +4,7 @@ ghost use Rattle.bx_ucd.specs.Class.{direction};
 ghost use Rattle.bx_brackets.specs.Pairs.{pairs};
 ghost use Rattle.bx_brackets.specs.Resolve.{resolve_pairs};
 ghost use Rattle.bx_explicit.specs.Stack.{max_depth};
-ghost use Rattle.bx_explicit.specs.LevelPlaces.{level_places, places_from};
+ghost use Rattle.bx_explicit.specs.LevelIndexes.{level_indexes, indexes_from};
 ghost use Rattle.bx_explicit.specs.Sequences.{sequences};
 ghost use Rattle.bx_resolve.specs.Neutral.{implicit};
 ghost use Rattle.bx_resolve.specs.Levels.{chars_at, types_at, levels_in, with_levels, with_sequences, paragraph_levels};
@@ -38,7 +38,7 @@ fn gather_types(
     level: u8,
     first: usize,
 ) -> Result<(), AllocError>
-    ensures { OnOk result (types.new.items ≡ types.old.items ++ types_at kept.now (level_places level first (drop first kept.now))) }
+    ensures { OnOk result (types.new.items ≡ types.old.items ++ types_at kept.now (level_indexes level first (drop first kept.now))) }
 {
     let mut k = first;
     while k < kept.len() {
@@ -63,7 +63,7 @@ fn gather_chars(
     first: usize,
 ) -> Result<(), AllocError>
     requires as_long { length chars.now ≡ length kept.now }
-    ensures { OnOk result (found.new.items ≡ found.old.items ++ chars_at chars.now (level_places level first (drop first kept.now))) }
+    ensures { OnOk result (found.new.items ≡ found.old.items ++ chars_at chars.now (level_indexes level first (drop first kept.now))) }
 {
     let mut k = first;
     while k < kept.len() {
@@ -88,7 +88,7 @@ fn gather_sequence(
     count: usize,
 ) -> Result<(), AllocError>
     requires as_long { length chars.now ≡ length kept.now }
-    ensures { OnOk result (found.new.items ≡ chars_at chars.now (places_from level kept.now firsts.now)) }
+    ensures { OnOk result (found.new.items ≡ chars_at chars.now (indexes_from level kept.now firsts.now)) }
 {
     found.clear();
     found.reserve_exact(count)?;
@@ -105,7 +105,7 @@ fn sequence_types(
     firsts: &[usize],
     level: u8,
 ) -> Result<(), AllocError>
-    ensures { OnOk result (types.new.items ≡ types_at kept.now (places_from level kept.now firsts.now)) }
+    ensures { OnOk result (types.new.items ≡ types_at kept.now (indexes_from level kept.now firsts.now)) }
 {
     types.clear();
     for first in firsts {
@@ -141,7 +141,7 @@ impl<'t> Letters<'t> {
         count: usize,
     ) -> Result<(), AllocError>
         requires as_long { length self.old.text.chars ≡ length kept.now }
-        ensures chars { OnOk result (self.new.chars.items ≡ chars_at self.old.text.chars (places_from level kept.now firsts.now)) }
+        ensures chars { OnOk result (self.new.chars.items ≡ chars_at self.old.text.chars (indexes_from level kept.now firsts.now)) }
         ensures text { self.new.text.chars ≡ self.old.text.chars }
     {
         self.text.read()?;
@@ -168,9 +168,9 @@ fn resolve_brackets_in<D: BidiData>(
     ends: Ends,
 ) -> Result<(), ResolveError>
     requires as_long { length letters.old.text.chars ≡ length kept.now }
-    requires types { length types.old ≡ length (places_from ends.level kept.now firsts.now) }
+    requires types { length types.old ≡ length (indexes_from ends.level kept.now firsts.now) }
     requires marks { length scratch.old.marks.items ≡ length types.old }
-    ensures types { OnOk result (types.new ≡ resolve_pairs (direction ends.level) ends.sos scratch.old.marks.items (pairs (D.bracket_of source.now) (chars_at letters.old.text.chars (places_from ends.level kept.now firsts.now)) types.old) types.old) }
+    ensures types { OnOk result (types.new ≡ resolve_pairs (direction ends.level) ends.sos scratch.old.marks.items (pairs (D.bracket_of source.now) (chars_at letters.old.text.chars (indexes_from ends.level kept.now firsts.now)) types.old) types.old) }
     ensures text { letters.new.text.chars ≡ letters.old.text.chars }
 {
     if !may_have_brackets(types) {
@@ -180,7 +180,7 @@ fn resolve_brackets_in<D: BidiData>(
     scratch.resolve_brackets(source, &letters.chars, types, ends)
 }
 
-/// Writes the levels of a run's resolved types, from its first place on, where so many types are written already. It
+/// Writes the levels of a run's resolved types, from its first index on, where so many types are written already. It
 /// says how many are written then.
 fn write_run(
     each: &mut Vec<Option<u8>>,
@@ -193,7 +193,7 @@ fn write_run(
     requires low { level ≤ max_depth }
     requires all { length each.old.items ≡ length kept.now }
     ensures all { length each.new.items ≡ length kept.now }
-    ensures written { WritesRun (level_places level first (drop first kept.now)) (implicit level (drop written types.now)) each.old.items (implicit level (drop result types.now)) each.new.items }
+    ensures written { WritesRun (level_indexes level first (drop first kept.now)) (implicit level (drop written types.now)) each.old.items (implicit level (drop result types.now)) each.new.items }
 {
     let mut written = written;
     let mut k = first;
@@ -210,7 +210,7 @@ fn write_run(
     written
 }
 
-/// Writes the levels of resolved types at the places of runs that begin at some places.
+/// Writes the levels of resolved types at the indexes of runs that begin at some indexes.
 fn write_levels(
     each: &mut Vec<Option<u8>>,
     kept: &[Option<Kept>],
@@ -220,7 +220,7 @@ fn write_levels(
 )
     requires low { level ≤ max_depth }
     requires all { length each.old.items ≡ length kept.now }
-    ensures { each.new.items ≡ with_levels (places_from level kept.now firsts.now) (implicit level types.now) each.old.items }
+    ensures { each.new.items ≡ with_levels (indexes_from level kept.now firsts.now) (implicit level types.now) each.old.items }
 {
     let mut written = 0;
     for first in firsts {
@@ -228,7 +228,7 @@ fn write_levels(
     }
 }
 
-/// Writes the levels of the lent sequence's characters, of these types, at their places.
+/// Writes the levels of the lent sequence's characters, of these types, at their indexes.
 fn write_sequence<D: BidiData>(
     each: &mut Vec<Option<u8>>,
     scratch: &mut Scratch,
@@ -241,9 +241,9 @@ fn write_sequence<D: BidiData>(
     requires lent { walk.now.has_current ≡ true }
     requires same { kept.now ≡ walk.now.explicit.kept.items }
     requires as_long { length letters.old.text.chars ≡ length kept.now }
-    requires types { types.old ≡ types_at kept.now walk.now.current.places }
+    requires types { types.old ≡ types_at kept.now walk.now.current.indexes }
     requires all { length each.old.items ≡ length kept.now }
-    ensures written { OnOk result (each.new.items ≡ with_levels walk.now.current.places (levels_in (D.bracket_of source.now) letters.old.text.chars kept.now walk.now.current) each.old.items) }
+    ensures written { OnOk result (each.new.items ≡ with_levels walk.now.current.indexes (levels_in (D.bracket_of source.now) letters.old.text.chars kept.now walk.now.current) each.old.items) }
     ensures text { letters.new.text.chars ≡ letters.old.text.chars }
 {
     let ends = Ends {
@@ -279,7 +279,7 @@ fn write_lent<D: BidiData>(
     requires same { kept.now ≡ walk.now.explicit.kept.items }
     requires as_long { length room.old.letters.text.chars ≡ length kept.now }
     requires all { length each.old.items ≡ length kept.now }
-    ensures written { OnOk result (each.new.items ≡ with_levels walk.now.current.places (levels_in (D.bracket_of source.now) room.old.letters.text.chars kept.now walk.now.current) each.old.items) }
+    ensures written { OnOk result (each.new.items ≡ with_levels walk.now.current.indexes (levels_in (D.bracket_of source.now) room.old.letters.text.chars kept.now walk.now.current) each.old.items) }
     ensures text { room.new.letters.text.chars ≡ room.old.letters.text.chars }
 {
     sequence_types(&mut room.types, kept, walk.firsts(), walk.level())?;
@@ -294,7 +294,7 @@ fn write_lent<D: BidiData>(
     )
 }
 
-/// The levels of all characters, each at its place, one sequence after another.
+/// The levels of all characters, each at its index, one sequence after another.
 #[tactic(auto, using(crate::proofs::Apart::given_written, crate::proofs::Written::levels_length))]
 fn each_level<D: BidiData>(
     alloc: Global,

@@ -18,7 +18,7 @@ use Rattle.bx_ucd.specs.declared.class.Class.TheVariants.{L, R, AL, EN, ES, ET, 
 use Rattle.bx_cells.specs.declared.unit.Face.{Face}
 use Rattle.bx_cells.specs.declared.unit.Face.TheVariants.{Tab, Mark, Own}
 use Rattle.bx_cells.specs.Faces.{face, face_of, only_char, is_tab, letter_of, format_letter, sized_face, columns_of}
-use Rattle.bx_rows.specs.RowPicture.{Glyph, glyph, blank, mirrored, is_own, mirrored_within, shown_text, face_glyphs}
+use Rattle.bx_rows.specs.RowPicture.{Glyph, glyph, blank, mirror_image, is_own, mirror_image_within, shown_text, face_glyphs}
 use Rattle.bx_rows.specs.Wrapping.{columns_at}
 use Rattle.bx_rows.specs.Shown.{HasLetter}
 
@@ -107,9 +107,9 @@ tells-either class w n text other true e h = own-from (chars other) n (face clas
 tells-either class w n text other false e h = h
 
 tells-shown : (class : ℕ → Class) (mirror : ℕ → Option ℕ) (w n odd : ℕ) (text : List ℕ) → Tells (chars text) (Own n)
-    → Tells (chars (elim odd [ zero ↦ text | suc _ ↦ mirrored_within class mirror w n text ])) (Own n)
+    → Tells (chars (elim odd [ zero ↦ text | suc _ ↦ mirror_image_within class mirror w n text ])) (Own n)
 tells-shown class mirror w n zero text h = h
-tells-shown class mirror w n (suc k) text h = tells-either class w n text (mirrored mirror text) (is_own n (face class w (mirrored mirror text))) refl h
+tells-shown class mirror w n (suc k) text h = tells-either class w n text (mirror_image mirror text) (is_own n (face class w (mirror_image mirror text))) refl h
 
 -- ---- the glyphs of own text
 

@@ -2,8 +2,8 @@
 use Rattle.std.proofs.Common.{◌≡◌, ℕ, zero, suc, ◌+◌, ◌-◌, ◌*◌, ◌/◌, ◌%◌, ◌<◌, ◌≤◌, max, List, [], ◌∷◌, map, Option, Some, None, sym, ap, ◌∙◌, subst, arith}
 use Rattle.std.proofs.Common.{get_or, inl, inr}
 use Rattle.std.specs.List.{enumerate_from}
-use Rattle.bx_rows.specs.VisualOrder.{reverse_down, highest, lower, lower_odd, lowest_odd, reversed_from, visual}
-use Rattle.bx_rows.specs.Ordered.{Every, ordered}
+use Rattle.bx_rows.specs.VisualOrder.{reverse_down, highest, lower, lower_odd, lowest_odd, reversals_from, visual}
+use Rattle.bx_rows.specs.Ordered.{Every, order_of}
 use Rattle.bx_rows.proofs.Cancels.{every_map, top_same}
 use Rattle.bx_rows.proofs.Pivots.{parity, from_odds}
 
@@ -80,7 +80,7 @@ every_highest n (l ∷ ls) =
     (here, every_map (λ k. k ≤ highest ls) (λ k. k ≤ max l (highest ls)) (enumerate_from (n + 1) ls) (λ k h. omega (arith, h)) (every_highest (n + 1) ls))
 
 same_order : (o : Option ℕ) (high : ℕ) (us : List (ℕ × ℕ)) → high ≤ 255 → IsOdd o → IsUpTo high o → Every (IsOddFrom o) us → Every (λ l. l ≤ high) us
-    → ordered us ≡ reversed_from o high us
+    → order_of us ≡ reversals_from o high us
 same_order None high us b odd up from h =
     from_odds 128 us (omega arith) (every_map (λ l. l % 2 ≡ 0) (λ l. (i : ℕ) → l ≡ 1 + 2 * i → 128 ≤ i) us (λ l k i e. absurd (omega (arith, k, e))) from)
 same_order (Some low) high us b odd up from h =
@@ -94,8 +94,8 @@ same_order (Some low) high us b odd up from h =
     ∙ top_same (1 + 2 * m) c (256 - high) us (every_map (λ k. k ≤ high) (λ k. k < 1 + 2 * m + c) us (λ k s. omega (arith, s, l, up)) h)
     ∙ ap (λ k. reverse_down k c us) (sym l)
 
-pub visual_ordered : (ls : List ℕ) → highest ls ≤ 255 → visual ls ≡ map (λ u. u.0) (ordered (enumerate_from 0 ls))
-visual_ordered ls b =
+pub visual_order_of : (ls : List ℕ) → highest ls ≤ 255 → visual ls ≡ map (λ u. u.0) (order_of (enumerate_from 0 ls))
+visual_order_of ls b =
     ap (map (λ u. u.0)) (sym (same_order (lowest_odd ls) (highest ls) (enumerate_from 0 ls) b (lowest_is_odd ls)
     (lowest_up_to ls) (every_from 0 ls) (every_highest 0 ls)))
 

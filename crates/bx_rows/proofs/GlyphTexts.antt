@@ -19,10 +19,10 @@ abbrev pub mirror_or : (ℕ → Option ℕ) → ℕ → ℕ
 mirror_or mirror c = unwrap_or (mirror c) c
 
 -- one more character is mirrored
-pub mirrored-more : (mirror : ℕ → Option ℕ) (cs : List ℕ) (k n c : ℕ) (m : Option ℕ) (x : ℕ) (old new : List ℕ) → (k < length cs) × (c ≡ get_or cs k c)
+pub mirror_image-more : (mirror : ℕ → Option ℕ) (cs : List ℕ) (k n c : ℕ) (m : Option ℕ) (x : ℕ) (old new : List ℕ) → (k < length cs) × (c ≡ get_or cs k c)
     → n ≡ k + 1 → m ≡ mirror c → x ≡ unwrap_or m c → old ≡ encode_utf8_all (map (mirror_or mirror) (take k cs)) → new ≡ old ++ encode_utf8 x
     → new ≡ encode_utf8_all (map (mirror_or mirror) (take n cs))
-mirrored-more mirror cs k n c m x old new at one e f i pushed =
+mirror_image-more mirror cs k n c m x old new at one e f i pushed =
     let f' = mirror_or mirror in
     let own : x ≡ f' (get_or cs k c) = f ∙ ap (λ o. unwrap_or o c) e ∙ ap f' at.1 in
     let last : encode_utf8 x ≡ encode_utf8_all (f' (get_or cs k c) ∷ []) = ap encode_utf8 own ∙ sym (append-nil (encode_utf8 (f' (get_or cs k c)))) in
@@ -32,9 +32,9 @@ mirrored-more mirror cs k n c m x old new at one e f i pushed =
     ∙ ap (λ ys. encode_utf8_all (map f' ys)) (sym (take_more cs k c at.0))
     ∙ ap (λ j. encode_utf8_all (map f' (take j cs))) (sym one)
 
-pub mirrored-all : (mirror : ℕ → Option ℕ) (cs : List ℕ) (k : ℕ) (text : List ℕ) → text ≡ encode_utf8_all (map (mirror_or mirror) (take k cs)) → length cs ≤ k
+pub mirror_image-all : (mirror : ℕ → Option ℕ) (cs : List ℕ) (k : ℕ) (text : List ℕ) → text ≡ encode_utf8_all (map (mirror_or mirror) (take k cs)) → length cs ≤ k
     → text ≡ encode_utf8_all (map (mirror_or mirror) cs)
-mirrored-all mirror cs k text i all = i ∙ ap (λ ys. encode_utf8_all (map (mirror_or mirror) ys)) (take_all k cs all)
+mirror_image-all mirror cs k text i all = i ∙ ap (λ ys. encode_utf8_all (map (mirror_or mirror) ys)) (take_all k cs all)
 
 -- ---- the characters from SPACE to TILDE, one after another
 

@@ -5,7 +5,7 @@ use Rattle.std.proofs.lemmas.List.FromFn.{get_or-enumerate_from, length-enumerat
 use Rattle.std.proofs.Math.Seq.{drop-length}
 use Rattle.std.specs.List.{enumerate_from}
 use Rattle.bx_rows.specs.VisualOrder.{reverse_down}
-use Rattle.bx_rows.specs.Ordered.{Every, ordered, joined, BeginsBelow, IsRun}
+use Rattle.bx_rows.specs.Ordered.{Every, order_of, around, BeginsBelow, IsRun}
 use Rattle.bx_rows.proofs.Cancels.{every_map, every_append}
 use Rattle.bx_rows.proofs.Pivots.{pivot}
 
@@ -19,30 +19,30 @@ pub record IsGrown (low : ℕ) (us items rest : List (ℕ × ℕ)) : Type 0 wher
   pub run : List (ℕ × ℕ)
   pub split : us ≡ run ++ rest
   pub high : Every (λ l. low ≤ l) run
-  pub order : items ≡ ordered run
+  pub order : items ≡ order_of run
   pub over : IsOver rest run
 
 down_nil : (n c : ℕ) → reverse_down n c [] ≡ []
 down_nil n zero = refl
 down_nil n (suc c) = down_nil n c
 
-ordered_nil : ordered [] ≡ []
-unfolding ordered
-ordered_nil = down_nil 1 256
+order_of_nil : order_of [] ≡ []
+unfolding order_of
+order_of_nil = down_nil 1 256
 
 over_nil : (us : List (ℕ × ℕ)) → IsOver us []
 over_nil [] = tt
 over_nil (u ∷ us) = tt
 
 pub grown_start : (low : ℕ) (us : List (ℕ × ℕ)) → IsGrown low us [] us
-grown_start low us = record { run = []; split = refl; high = tt; order = sym ordered_nil; over = over_nil us }
+grown_start low us = record { run = []; split = refl; high = tt; order = sym order_of_nil; over = over_nil us }
 
 below_over : (n : ℕ) (rest run : List (ℕ × ℕ)) → BeginsBelow (n + 1) rest → Every (λ l. n ≤ l) run → IsOver rest run
 below_over n [] run b h = tt
 below_over n (u ∷ us) run b h = every_map (λ l. n ≤ l) (λ l. u.1 ≤ l) run (λ l k. omega (arith, k, b)) h
 
 pub grown_more : (low : ℕ) (u : ℕ × ℕ) (us mid before after items rest : List (ℕ × ℕ)) → u.1 ≤ 255 → low ≤ u.1 → IsGrown low us before (u ∷ mid)
-    → IsRun (u.1 + 1) mid after rest → items ≡ joined u before after → IsGrown low us items rest
+    → IsRun (u.1 + 1) mid after rest → items ≡ around u before after → IsGrown low us items rest
 grown_more low u us mid before after items rest b k g r e =
     let higher : Every (λ l. u.1 ≤ l) r.run = every_map (λ l. u.1 + 1 ≤ l) (λ l. u.1 ≤ l) r.run (λ l h. omega (arith, h)) r.high in
     let here : u.1 ≤ u.1 = omega arith in
@@ -51,7 +51,7 @@ grown_more low u us mid before after items rest b k g r e =
       run = g.run ++ u ∷ r.run;
       split = g.split ∙ ap (λ t. g.run ++ u ∷ t) r.split ∙ sym (append_assoc g.run (u ∷ r.run) rest);
       high = every_map (λ l. u.1 ≤ l) (λ l. low ≤ l) (g.run ++ u ∷ r.run) (λ l h. omega (arith, h, k)) all;
-      order = e ∙ ap (λ x. joined u x after) g.order ∙ ap (joined u (ordered g.run)) r.order ∙ sym (pivot g.run u r.run b g.over higher);
+      order = e ∙ ap (λ x. around u x after) g.order ∙ ap (around u (order_of g.run)) r.order ∙ sym (pivot g.run u r.run b g.over higher);
       over = below_over u.1 rest (g.run ++ u ∷ r.run) r.next all;
     }
 
@@ -63,9 +63,9 @@ nothing_left [] b = refl
 nothing_left (u ∷ us) b = absurd (omega (arith, b))
 
 -- the run at level 0 or higher is the whole
-pub whole : (us items rest : List (ℕ × ℕ)) → IsRun 0 us items rest → items ≡ ordered us
+pub whole : (us items rest : List (ℕ × ℕ)) → IsRun 0 us items rest → items ≡ order_of us
 whole us items rest r =
-    r.order ∙ ap ordered (sym (append-nil r.run)) ∙ ap (λ t. ordered (r.run ++ t)) (sym (nothing_left rest r.next)) ∙ ap ordered (sym r.split)
+    r.order ∙ ap order_of (sym (append-nil r.run)) ∙ ap (λ t. order_of (r.run ++ t)) (sym (nothing_left rest r.next)) ∙ ap order_of (sym r.split)
 
 -- ---- the units of a list of levels
 
@@ -80,7 +80,7 @@ rest_at ls i h =
 pub level_more : (ls : List ℕ) (low i stop : ℕ) (us before after items : List (ℕ × ℕ)) → i < length ls → get_or ls i 0 ≤ 255 → low ≤ get_or ls i 0
     → IsGrown low us before (drop i (enumerate_from 0 ls))
     → IsRun (get_or ls i 0 + 1) (drop (i + 1) (enumerate_from 0 ls)) after (drop stop (enumerate_from 0 ls))
-    → items ≡ joined (i, get_or ls i 0) before after → IsGrown low us items (drop stop (enumerate_from 0 ls))
+    → items ≡ around (i, get_or ls i 0) before after → IsGrown low us items (drop stop (enumerate_from 0 ls))
 level_more ls low i stop us before after items h b k g r e =
     grown_more low (i, get_or ls i 0) us (drop (i + 1) (enumerate_from 0 ls)) before after items (drop stop (enumerate_from 0 ls)) b k
     (subst (λ (rest : List (ℕ × ℕ)). IsGrown low us before rest) (rest_at ls i h) g) r e

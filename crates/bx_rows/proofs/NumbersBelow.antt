@@ -5,7 +5,7 @@ use Rattle.std.specs.Prelude.{flat_map}
 use Rattle.std.specs.List.{enumerate_from}
 use Rattle.std.proofs.lemmas.List.Elements.{All-append, All-cons, All-nil, All-rest, All-map, All-same}
 use Rattle.std.proofs.lemmas.List.Sums.{sum_by-append, sum_by-cons}
-use Rattle.bx_rows.specs.VisualOrder.{reverse_runs, reverse_down, reversed_from, lowest_odd, highest, visual}
+use Rattle.bx_rows.specs.VisualOrder.{reverse_runs, reverse_down, reversals_from, lowest_odd, highest, visual}
 
 -- ---- a fact of each unit stays
 
@@ -26,7 +26,7 @@ all-down : (P : ℕ × ℕ → Type 0) (low count : ℕ) (us : List (ℕ × ℕ)
 all-down P low zero us a = a
 all-down P low (suc count) us a = all-down P low count (reverse_runs (low + count) [] us) (all-runs P (low + count) [] us (All-nil P) a)
 
-all-reversed : (P : ℕ × ℕ → Type 0) (low : Option ℕ) (high : ℕ) (us : List (ℕ × ℕ)) → All P us → All P (reversed_from low high us)
+all-reversed : (P : ℕ × ℕ → Type 0) (low : Option ℕ) (high : ℕ) (us : List (ℕ × ℕ)) → All P us → All P (reversals_from low high us)
 all-reversed P None high us a = a
 all-reversed P (Some low) high us a = all-down P low (high + 1 - low) us a
 
@@ -38,7 +38,7 @@ all-numbered n m (l ∷ ls) h =
 
 numbers-below : (levels : List ℕ) → All (λ k. k < length levels) (visual levels)
 numbers-below levels =
-    All-map (λ k. k < length levels) (λ u. u.0) (reversed_from (lowest_odd levels) (highest levels) (enumerate_from 0 levels))
+    All-map (λ k. k < length levels) (λ u. u.0) (reversals_from (lowest_odd levels) (highest levels) (enumerate_from 0 levels))
     (all-reversed (λ u. u.0 < length levels) (lowest_odd levels) (highest levels) (enumerate_from 0 levels)
     (all-numbered 0 (length levels) levels (omega arith)))
 
@@ -65,7 +65,7 @@ sum-down f low (suc count) us =
     let none : sum_by f [] ≡ 0 = refl in
     omega (arith, sum-down f low count (reverse_runs (low + count) [] us), sum-runs f (low + count) [] us, none)
 
-sum-reversed : (f : ℕ × ℕ → ℕ) (low : Option ℕ) (high : ℕ) (us : List (ℕ × ℕ)) → sum_by f (reversed_from low high us) ≡ sum_by f us
+sum-reversed : (f : ℕ × ℕ → ℕ) (low : Option ℕ) (high : ℕ) (us : List (ℕ × ℕ)) → sum_by f (reversals_from low high us) ≡ sum_by f us
 sum-reversed f None high us = refl
 sum-reversed f (Some low) high us = sum-down f low (high + 1 - low) us
 
@@ -93,6 +93,6 @@ sum-numbered c pieces n (l ∷ ls) e =
 pub sum-visual : {X : Type 0} (c : X → ℕ) (pieces : List (List X)) (levels : List ℕ) → length pieces ≡ length levels
     → sum_by c (flat_map (λ k. get_or pieces k []) (visual levels)) ≡ sum_by (sum_by c) pieces
 sum-visual c pieces levels e =
-    sum-chosen c (λ k. get_or pieces k []) (reversed_from (lowest_odd levels) (highest levels) (enumerate_from 0 levels))
+    sum-chosen c (λ k. get_or pieces k []) (reversals_from (lowest_odd levels) (highest levels) (enumerate_from 0 levels))
     ∙ sum-reversed (λ u. sum_by c (get_or pieces u.0 [])) (lowest_odd levels) (highest levels) (enumerate_from 0 levels)
     ∙ sum-numbered c pieces 0 levels (omega (arith, e))

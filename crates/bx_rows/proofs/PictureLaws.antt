@@ -5,7 +5,7 @@ use Rattle.std.specs.Prelude.{flat_map}
 use Rattle.std.specs.Cow.{cow_str_bytes}
 use Rattle.bx_terms.specs.Glyphs.{is_one_glyph}
 use Rattle.bx_rows.specs.declared.drawn.Drawn.{Drawn}
-use Rattle.bx_rows.specs.Shown.{shown}
+use Rattle.bx_rows.specs.Shown.{glyph_of}
 use Rattle.std.proofs.lemmas.List.Elements.{All-append, All-cons, All-nil, All-rest, All-replicate, All-take, All-drop}
 use Rattle.std.proofs.lemmas.List.Sums.{sum_by-append, sum_by-cons}
 use Rattle.std.proofs.lemmas.List.Folds.{sum_by-replicate}
@@ -14,7 +14,7 @@ use Rattle.bx_cells.specs.declared.unit.Unit.{Unit}
 use Rattle.bx_cells.specs.Units.{unit_text, HasFace}
 use Rattle.bx_rows.specs.declared.row.Row.{Row}
 use Rattle.bx_rows.specs.Wrapping.{columns_at, row_units}
-use Rattle.bx_rows.specs.RowPicture.{Glyph, blank, face_glyphs, unit_columns, unit_glyphs, used, draw}
+use Rattle.bx_rows.specs.RowPicture.{Glyph, blank, face_glyphs, unit_columns, unit_glyphs, columns_used, draw}
 use Rattle.bx_rows.specs.VisualOrder.{visual}
 use Rattle.bx_rows.proofs.FaceGlyphs.{IsOneGlyph, tells-face, face-one, face-sum}
 use Rattle.bx_rows.proofs.NumbersBelow.{sum-visual}
@@ -46,7 +46,7 @@ pub draw-one : (class : ℕ → Class) (mirror : ℕ → Option ℕ) (w : ℕ) (
     → All (HasFace class w body) us → All IsOneGlyph (draw class mirror w body paragraph us levels)
 draw-one class mirror w body paragraph us levels a =
     let pieces = unit_glyphs class mirror w body us (unit_columns w 0 us) levels in
-    blanks-one (paragraph % 2) (w - used w us) (flat_map (λ k. get_or pieces k []) (visual levels))
+    blanks-one (paragraph % 2) (w - columns_used w us) (flat_map (λ k. get_or pieces k []) (visual levels))
     (all-chosen (λ k. get_or pieces k []) (visual levels) (λ k. pieces-one class mirror w body us (unit_columns w 0 us) levels k a))
 
 -- ---- the columns
@@ -74,37 +74,37 @@ blanks-sum zero n glyphs = sum_by-append (λ g. g.columns) glyphs (replicate n b
 blanks-sum (suc k) n glyphs = sum_by-append (λ g. g.columns) (replicate n blank) glyphs ∙ omega (arith, sum_by-replicate (λ g. g.columns) n blank)
 
 pub draw-sum : (class : ℕ → Class) (mirror : ℕ → Option ℕ) (w : ℕ) (body : List ℕ) (paragraph : ℕ) (us : List Unit) (levels : List ℕ)
-    → All (HasFace class w body) us → length levels ≡ length us → used w us ≤ w → columns_of_glyphs (draw class mirror w body paragraph us levels) ≡ w
+    → All (HasFace class w body) us → length levels ≡ length us → columns_used w us ≤ w → columns_of_glyphs (draw class mirror w body paragraph us levels) ≡ w
 draw-sum class mirror w body paragraph us levels a e fits =
     let columns = unit_columns w 0 us in
     let pieces = unit_glyphs class mirror w body us columns levels in
     let count : length pieces ≡ length levels =
     pieces-length class mirror w body us columns levels (columns-length w 0 us) e ∙ sym e in
     let chosen = sum-visual (λ g. g.columns) pieces levels count ∙ pieces-sum class mirror w 0 body us levels a e in
-    let total : sum_by (λ n. n) columns ≡ used w us = sum_by-same columns in
-    let all = blanks-sum (paragraph % 2) (w - used w us) (flat_map (λ k. get_or pieces k []) (visual levels)) in
+    let total : sum_by (λ n. n) columns ≡ columns_used w us = sum_by-same columns in
+    let all = blanks-sum (paragraph % 2) (w - columns_used w us) (flat_map (λ k. get_or pieces k []) (visual levels)) in
     omega (arith, all, chosen, total, fits)
 
 -- ---- the same of the glyphs as they are kept
 
-one-kept : (ds : List Drawn) (gs : List Glyph) → map shown ds ≡ gs → All IsOneGlyph gs → All (λ d. is_one_glyph (cow_str_bytes d.text) ≡ true) ds
+one-kept : (ds : List Drawn) (gs : List Glyph) → map glyph_of ds ≡ gs → All IsOneGlyph gs → All (λ d. is_one_glyph (cow_str_bytes d.text) ≡ true) ds
 one-kept [] gs e a = All-nil (λ d. is_one_glyph (cow_str_bytes d.text) ≡ true)
 one-kept (d ∷ ds) gs e a =
     let all = subst (All IsOneGlyph) (sym e) a in
-    All-cons (λ x. is_one_glyph (cow_str_bytes x.text) ≡ true) d ds (all 0 (shown d) (omega arith))
-    (one-kept ds (map shown ds) refl (All-rest IsOneGlyph (shown d) (map shown ds) (shown d ∷ map shown ds) refl all))
+    All-cons (λ x. is_one_glyph (cow_str_bytes x.text) ≡ true) d ds (all 0 (glyph_of d) (omega arith))
+    (one-kept ds (map glyph_of ds) refl (All-rest IsOneGlyph (glyph_of d) (map glyph_of ds) (glyph_of d ∷ map glyph_of ds) refl all))
 
-sum-kept : (ds : List Drawn) → sum_by (λ d. d.columns) ds ≡ columns_of_glyphs (map shown ds)
+sum-kept : (ds : List Drawn) → sum_by (λ d. d.columns) ds ≡ columns_of_glyphs (map glyph_of ds)
 sum-kept [] = refl
-sum-kept (d ∷ ds) = sum_by-cons (λ x. x.columns) d ds ∙ ap (λ n. d.columns + n) (sum-kept ds) ∙ sym (sum_by-cons (λ g. g.columns) (shown d) (map shown ds))
+sum-kept (d ∷ ds) = sum_by-cons (λ x. x.columns) d ds ∙ ap (λ n. d.columns + n) (sum-kept ds) ∙ sym (sum_by-cons (λ g. g.columns) (glyph_of d) (map glyph_of ds))
 
 pub one_if_drawn : (class : ℕ → Class) (mirror : ℕ → Option ℕ) (w : ℕ) (body : List ℕ) (paragraph : ℕ) (us : List Unit) (levels : List ℕ) (ds : List Drawn)
-    → map shown ds ≡ draw class mirror w body paragraph us levels → All (HasFace class w body) us → All (λ d. is_one_glyph (cow_str_bytes d.text) ≡ true) ds
+    → map glyph_of ds ≡ draw class mirror w body paragraph us levels → All (HasFace class w body) us → All (λ d. is_one_glyph (cow_str_bytes d.text) ≡ true) ds
 one_if_drawn class mirror w body paragraph us levels ds e a =
     one-kept ds (draw class mirror w body paragraph us levels) e (draw-one class mirror w body paragraph us levels a)
 
 pub sum_if_drawn : (class : ℕ → Class) (mirror : ℕ → Option ℕ) (w : ℕ) (body : List ℕ) (paragraph : ℕ) (us : List Unit) (levels : List ℕ) (ds : List Drawn)
-    → map shown ds ≡ draw class mirror w body paragraph us levels → All (HasFace class w body) us → length levels ≡ length us → used w us ≤ w
+    → map glyph_of ds ≡ draw class mirror w body paragraph us levels → All (HasFace class w body) us → length levels ≡ length us → columns_used w us ≤ w
     → sum_by (λ d. d.columns) ds ≡ w
 sum_if_drawn class mirror w body paragraph us levels ds e a f g = sum-kept ds ∙ ap columns_of_glyphs e ∙ draw-sum class mirror w body paragraph us levels a f g
 

@@ -9,7 +9,7 @@ use Rattle.std.proofs.lemmas.Slice.Zip.{get_or-zip}
 use Rattle.bx_ucd.specs.declared.class.Class.{Class}
 use Rattle.bx_cells.specs.declared.unit.Unit.{Unit}
 use Rattle.bx_cells.specs.Units.{unit_text}
-use Rattle.bx_rows.specs.RowPicture.{Glyph, blank, face_glyphs, unit_columns, unit_glyphs, used, draw}
+use Rattle.bx_rows.specs.RowPicture.{Glyph, blank, face_glyphs, unit_columns, unit_glyphs, columns_used, draw}
 use Rattle.bx_rows.specs.VisualOrder.{visual}
 
 length-zip : {A B : Type 0} → (xs : List A) (ys : List B) (n : ℕ) → length xs ≡ n → length ys ≡ n → length (zip xs ys) ≡ n
@@ -74,22 +74,22 @@ same-order class mirror w body us columns levels order e f =
     ap (λ cs. in_order class mirror w body us cs levels order) e ∙ ap (in_order class mirror w body us (unit_columns w 0 us) levels) f
 
 pub drawn-even : (class : ℕ → Class) (mirror : ℕ → Option ℕ) (w : ℕ) (body : List ℕ) (paragraph : ℕ) (us : List Unit) (levels columns order : List ℕ) (n : ℕ)
-    (start mid new : List Glyph) → paragraph % 2 ≡ 0 → columns ≡ unit_columns w 0 us → order ≡ visual levels → n ≡ used w us → start ≡ []
+    (start mid new : List Glyph) → paragraph % 2 ≡ 0 → columns ≡ unit_columns w 0 us → order ≡ visual levels → n ≡ columns_used w us → start ≡ []
     → mid ≡ start ++ in_order class mirror w body us columns levels order → new ≡ mid ++ replicate (w - n) blank
     → new ≡ draw class mirror w body paragraph us levels
 drawn-even class mirror w body paragraph us levels columns order n start mid new even e f h s first second =
     let all = in_order class mirror w body us (unit_columns w 0 us) levels (visual levels) in
     let mids : mid ≡ all = first ∙ ap (λ xs. xs ++ in_order class mirror w body us columns levels order) s
     ∙ same-order class mirror w body us columns levels order e f in
-    second ∙ ap (λ xs. xs ++ replicate (w - n) blank) mids ∙ ap (λ k. all ++ replicate (w - k) blank) h ∙ blanks-end (paragraph % 2) (w - used w us) all even
+    second ∙ ap (λ xs. xs ++ replicate (w - n) blank) mids ∙ ap (λ k. all ++ replicate (w - k) blank) h ∙ blanks-end (paragraph % 2) (w - columns_used w us) all even
 
 pub drawn-odd : (class : ℕ → Class) (mirror : ℕ → Option ℕ) (w : ℕ) (body : List ℕ) (paragraph : ℕ) (us : List Unit) (levels columns order : List ℕ) (n : ℕ)
-    (start mid new : List Glyph) → 0 < paragraph % 2 → columns ≡ unit_columns w 0 us → order ≡ visual levels → n ≡ used w us → start ≡ []
+    (start mid new : List Glyph) → 0 < paragraph % 2 → columns ≡ unit_columns w 0 us → order ≡ visual levels → n ≡ columns_used w us → start ≡ []
     → mid ≡ start ++ replicate (w - n) blank → new ≡ mid ++ in_order class mirror w body us columns levels order
     → new ≡ draw class mirror w body paragraph us levels
 drawn-odd class mirror w body paragraph us levels columns order n start mid new odd e f h s first second =
     let all = in_order class mirror w body us (unit_columns w 0 us) levels (visual levels) in
-    let mids : mid ≡ replicate (w - used w us) blank = first ∙ ap (λ xs. xs ++ replicate (w - n) blank) s ∙ ap (λ k. replicate (w - k) blank) h in
+    let mids : mid ≡ replicate (w - columns_used w us) blank = first ∙ ap (λ xs. xs ++ replicate (w - n) blank) s ∙ ap (λ k. replicate (w - k) blank) h in
     second ∙ ap (λ xs. xs ++ in_order class mirror w body us columns levels order) mids
-    ∙ ap (λ xs. replicate (w - used w us) blank ++ xs) (same-order class mirror w body us columns levels order e f)
-    ∙ blanks-begin (paragraph % 2) (w - used w us) all odd
+    ∙ ap (λ xs. replicate (w - columns_used w us) blank ++ xs) (same-order class mirror w body us columns levels order e f)
+    ∙ blanks-begin (paragraph % 2) (w - columns_used w us) all odd

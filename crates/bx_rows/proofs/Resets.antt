@@ -3,23 +3,23 @@ use Rattle.std.proofs.Common.{◌≡◌, ℕ, zero, suc, ◌+◌, ◌-◌, min, 
 use Rattle.std.proofs.Common.{append_assoc, Option, Some, None, is_some, unwrap_or, refl, sym, ap, ap₂, ◌∙◌, arith}
 use Rattle.std.proofs.lemmas.List.{at_drop_more, reverse-append}
 use Rattle.bx_cells.specs.declared.unit.Unit.{Unit}
-use Rattle.bx_rows.specs.RowLevels.{Leveled, chars_before, trails, only_trailing, level_at, l1, first_level, unit_levels, filled, row_chars, row_levels}
+use Rattle.bx_rows.specs.RowLevels.{CharLevel, chars_before, trails, only_trailing, level_at, l1, first_level, unit_levels, levels_or_before, row_chars, row_levels}
 use Rattle.bx_ucd.specs.declared.class.Class.{Class}
 use Rattle.bx_cells.specs.Units.{unit_chars}
 use Rattle.bx_rows.proofs.Pieces.{map-length}
 
 -- the character before place n, and those from there on
-at_before : {B : Type 0} (f : List Leveled → B) (cs : List Leveled) (n : ℕ) (d : Leveled) → 0 < n → n ≤ length cs
+at_before : {B : Type 0} (f : List CharLevel → B) (cs : List CharLevel) (n : ℕ) (d : CharLevel) → 0 < n → n ≤ length cs
     → f (drop (n - 1) cs) ≡ f (get_or cs (n - 1) d ∷ drop n cs)
 at_before f cs n d h k =
     let e : (n - 1) + 1 ≡ n = omega arith in
     at_drop_more f cs (n - 1) d (omega arith) ∙ ap (λ j. f (get_or cs (n - 1) d ∷ drop j cs)) e
 
-pub trails_before : (cs : List Leveled) (n : ℕ) (d : Leveled) → 0 < n → n ≤ length cs
+pub trails_before : (cs : List CharLevel) (n : ℕ) (d : CharLevel) → 0 < n → n ≤ length cs
     → only_trailing (drop (n - 1) cs) ≡ trails (get_or cs (n - 1) d) (only_trailing (drop n cs))
 trails_before cs n d h k = at_before only_trailing cs n d h k
 
-pub l1_before : (p : ℕ) (cs : List Leveled) (n : ℕ) (d : Leveled) → 0 < n → n ≤ length cs
+pub l1_before : (p : ℕ) (cs : List CharLevel) (n : ℕ) (d : CharLevel) → 0 < n → n ≤ length cs
     → reverse (l1 p (drop (n - 1) cs)) ≡ reverse (l1 p (drop n cs))
     ++ level_at p (get_or cs (n - 1) d) (trails (get_or cs (n - 1) d) (only_trailing (drop n cs))) ∷ []
 l1_before p cs n d h k =
@@ -71,32 +71,32 @@ drop-capped (suc n) (x ∷ xs) =
 pub drop_each_capped : (n : ℕ) (xs : List (Option ℕ)) → drop (min n (length xs)) xs ≡ drop n xs
 drop_each_capped = drop-capped
 
-filled-more : (counts : List ℕ) (level : ℕ) (rest : List (Option ℕ)) (l : ℕ) (left : List (Option ℕ)) (done new all : List ℕ) → level ≡ l → rest ≡ left
-    → new ≡ done ++ level ∷ [] → done ++ l ∷ filled l (unit_levels counts left) ≡ all → new ++ filled level (unit_levels counts rest) ≡ all
-filled-more counts level rest l left done new all e g pushed inv =
-    ap (λ xs. xs ++ filled level (unit_levels counts rest)) pushed
-    ∙ append_assoc done (level ∷ []) (filled level (unit_levels counts rest))
-    ∙ ap₂ (λ x xs. done ++ x ∷ filled x (unit_levels counts xs)) e g
+levels_or_before-more : (counts : List ℕ) (level : ℕ) (rest : List (Option ℕ)) (l : ℕ) (left : List (Option ℕ)) (done new all : List ℕ) → level ≡ l → rest ≡ left
+    → new ≡ done ++ level ∷ [] → done ++ l ∷ levels_or_before l (unit_levels counts left) ≡ all → new ++ levels_or_before level (unit_levels counts rest) ≡ all
+levels_or_before-more counts level rest l left done new all e g pushed inv =
+    ap (λ xs. xs ++ levels_or_before level (unit_levels counts rest)) pushed
+    ∙ append_assoc done (level ∷ []) (levels_or_before level (unit_levels counts rest))
+    ∙ ap₂ (λ x xs. done ++ x ∷ levels_or_before x (unit_levels counts xs)) e g
     ∙ inv
 
 -- one more unit has its level: it has `n` characters, of which `m` are left
 pub fill_more : (f : Unit → ℕ) (us : List Unit) (i : ℕ) (d : Unit) (before n m : ℕ) (ls own rest : List (Option ℕ)) (first : Option ℕ) (level : ℕ)
     (done new all : List ℕ) → i < length us → n ≡ f (get_or us i d) → m ≡ min n (length ls) → own ≡ take m ls → rest ≡ drop m ls → first ≡ first_level own
-    → level ≡ unwrap_or first before → new ≡ done ++ level ∷ [] → done ++ filled before (unit_levels (map f (drop i us)) ls) ≡ all
-    → new ++ filled level (unit_levels (map f (drop (i + 1) us)) rest) ≡ all
+    → level ≡ unwrap_or first before → new ≡ done ++ level ∷ [] → done ++ levels_or_before before (unit_levels (map f (drop i us)) ls) ≡ all
+    → new ++ levels_or_before level (unit_levels (map f (drop (i + 1) us)) rest) ≡ all
 fill_more f us i d before n m ls own rest first level done new all h counted capped front back found lev pushed inv =
     let count = f (get_or us i d) in
     let own_is : own ≡ take count ls = front ∙ ap (λ k. take k ls) capped ∙ take-capped n ls ∙ ap (λ k. take k ls) counted in
     let here : level ≡ unwrap_or (first_level (take count ls)) before = lev ∙ ap (λ o. unwrap_or o before) (found ∙ ap first_level own_is) in
     let there : rest ≡ drop count ls = back ∙ ap (λ k. drop k ls) capped ∙ drop-capped n ls ∙ ap (λ k. drop k ls) counted in
-    filled-more (map f (drop (i + 1) us)) level rest _ _ done new all here there pushed
-    (ap (λ xs. done ++ xs) (sym (at_drop_more (λ xs. filled before (unit_levels (map f xs) ls)) us i d h)) ∙ inv)
+    levels_or_before-more (map f (drop (i + 1) us)) level rest _ _ done new all here there pushed
+    (ap (λ xs. done ++ xs) (sym (at_drop_more (λ xs. levels_or_before before (unit_levels (map f xs) ls)) us i d h)) ∙ inv)
 
 -- ---- each unit has a level
 
-filled-length : (before : ℕ) (ls : List (Option ℕ)) → length (filled before ls) ≡ length ls
-filled-length before [] = refl
-filled-length before (l ∷ ls) = ap suc (filled-length (unwrap_or l before) ls)
+levels_or_before-length : (before : ℕ) (ls : List (Option ℕ)) → length (levels_or_before before ls) ≡ length ls
+levels_or_before-length before [] = refl
+levels_or_before-length before (l ∷ ls) = ap suc (levels_or_before-length (unwrap_or l before) ls)
 
 levels-length : (ns : List ℕ) (ls : List (Option ℕ)) → length (unit_levels ns ls) ≡ length ns
 levels-length [] ls = refl
@@ -106,5 +106,5 @@ pub one_each : (class : ℕ → Class) (body : List ℕ) (paragraph : ℕ) (each
     → v ≡ row_levels class body paragraph each us → length v ≡ length us
 one_each class body paragraph each us v e =
     let counts = map (λ u. length (unit_chars body u)) us in
-    ap length e ∙ filled-length paragraph (unit_levels counts (l1 paragraph (row_chars class body each us)))
+    ap length e ∙ levels_or_before-length paragraph (unit_levels counts (l1 paragraph (row_chars class body each us)))
     ∙ levels-length counts (l1 paragraph (row_chars class body each us)) ∙ map-length (λ u. length (unit_chars body u)) us

@@ -13,7 +13,7 @@ use Rattle.bx_rows.specs.declared.start_search.RowStart.{RowStart}
 use Rattle.bx_rows.specs.declared.row_scan.Extent.{Extent}
 use Rattle.bx_rows.specs.declared.row_scan.Scan.{Scan}
 use Rattle.bx_rows.specs.RowStarts.{first_offset, start_of}
-use Rattle.bx_rows.specs.Wrapping.{columns_at, fitting_from, is_break, rows_from}
+use Rattle.bx_rows.specs.Wrapping.{columns_at, fit_count_from, is_break, rows_from}
 use Rattle.bx_rows.specs.RowScan.{Fits, HasExtent, IsPlaced, IsRead, IsScan, Takes, new_scan}
 use Rattle.bx_rows.proofs.Scans.{none_fits, scan-new, scan-more, scan-break, drop-break, drop-read, scan-length, row-at-break, scan-at-break, row-full}
 use Rattle.bx_rows.proofs.Scans.{row-none, row-last, row-empty}
@@ -117,7 +117,7 @@ module _ (class : ℕ → Class) (w : ℕ) (body : List ℕ) (starts : List RowS
   further n rest left r e = sym (drop-drop n s.start.units all_units) ∙ ap (drop n) r.number ∙ e
 
   pub read-at-break : (u : Unit) (rest : List Unit) (n : ℕ) (new : List RowStart) → IsRead class w body starts s (u ∷ rest)
-      → fitting_from w s.columns (u ∷ rest) ≡ 0 → 0 < s.last → n ≡ length (chars (take s.next body)) → new ≡ starts ++ s.start ∷ []
+      → fit_count_from w s.columns (u ∷ rest) ≡ 0 → 0 < s.last → n ≡ length (chars (take s.next body)) → new ≡ starts ++ s.start ∷ []
       → IsRead class w body new (record {
         start = record { offset = s.next; units = s.start.units + s.last; chars = n };
         next = s.next;
@@ -135,7 +135,7 @@ module _ (class : ℕ → Class) (w : ℕ) (body : List ℕ) (starts : List RowS
   }
 
   pub read-full : (u : Unit) (rest : List Unit) (at n : ℕ) (new : List RowStart) → units_from class w body at ≡ u ∷ rest
-      → IsRead class w body starts s (u ∷ rest) → fitting_from w s.columns (u ∷ rest) ≡ 0 → s.last ≡ 0 → 0 < s.count → n ≡ length (chars (take at body))
+      → IsRead class w body starts s (u ∷ rest) → fit_count_from w s.columns (u ∷ rest) ≡ 0 → s.last ≡ 0 → 0 < s.count → n ≡ length (chars (take at body))
       → new ≡ starts ++ s.start ∷ [] → IsRead class w body new (new_scan (record { offset = at; units = s.start.units + s.count; chars = n })) (u ∷ rest)
   read-full u rest at n new e r full none some counted pushed =
       let read = drop-read passes w here behind (u ∷ rest) s.columns s.last s.count s.since r.scan in
@@ -150,7 +150,7 @@ module _ (class : ℕ → Class) (w : ℕ) (body : List ℕ) (starts : List RowS
       }
 
   pub read-none : (u : Unit) (rest : List Unit) (stop n : ℕ) (new : List RowStart) → units_from class w body stop ≡ rest
-      → IsRead class w body starts s (u ∷ rest) → fitting_from w s.columns (u ∷ rest) ≡ 0 → s.last ≡ 0 → s.count ≡ 0 → n ≡ length (chars (take stop body))
+      → IsRead class w body starts s (u ∷ rest) → fit_count_from w s.columns (u ∷ rest) ≡ 0 → s.last ≡ 0 → s.count ≡ 0 → n ≡ length (chars (take stop body))
       → new ≡ starts ++ s.start ∷ [] → IsRead class w body new (new_scan (record { offset = stop; units = s.start.units + 1; chars = n })) rest
   read-none u rest stop n new e r full none empty counted pushed =
       let read = drop-read passes w here behind (u ∷ rest) s.columns s.last s.count s.since r.scan in
@@ -200,7 +200,7 @@ module _ (w : ℕ) (body : List ℕ) (e : Extent) (starts : List RowStart) (s : 
       (fits_of w s.columns (s.columns + columns_at w s.columns e.face) h)
 
   none_extent : (class : ℕ → Class) (u : Unit) (rest : List Unit) → HasExtent class w body e u rest
-      → (nat_lt s.columns w && nat_le (s.columns + columns_at w s.columns e.face) w) ≡ false → fitting_from w s.columns (u ∷ rest) ≡ 0
+      → (nat_lt s.columns w && nat_le (s.columns + columns_at w s.columns e.face) w) ≡ false → fit_count_from w s.columns (u ∷ rest) ≡ 0
   none_extent class u rest x h = none_fits w s.columns u rest
       (subst (λ n. (w ≤ s.columns) ⊎ (w < s.columns + n)) (sym (x.columns s.columns)) (fits_not w s.columns (s.columns + columns_at w s.columns e.face) h))
 

@@ -8,8 +8,8 @@ use Rattle.std.proofs.lemmas.List.Elements.{All-cons, All-nil, All-same}
 use Rattle.bx_ucd.specs.declared.class.Class.{Class}
 use Rattle.bx_cells.specs.declared.unit.Unit.{Unit}
 use Rattle.bx_rows.specs.declared.row.Row.{Row}
-use Rattle.bx_rows.specs.Wrapping.{columns_at, fitting_from, fitting, up_to_last, up_to_break, row_len, rows_from, rows_of, is_break, wrap, row_units}
-use Rattle.bx_rows.specs.RowPicture.{unit_columns, used}
+use Rattle.bx_rows.specs.Wrapping.{columns_at, fit_count_from, fit_count, up_to_last, up_to_break, row_len, rows_from, rows_of, is_break, wrap, row_units}
+use Rattle.bx_rows.specs.RowPicture.{unit_columns, columns_used}
 use Rattle.bx_rows.specs.Shown.{IsRowOf}
 use Rattle.bx_rows.proofs.PictureSums.{sum_by-same}
 
@@ -19,17 +19,17 @@ len-either : (b : Bool) (x n : ℕ) → x ≤ n → elim b [ true ↦ suc x | fa
 len-either true x n h = omega (arith, h)
 len-either false x n h = omega arith
 
-fit-length : (w c : ℕ) (us : List Unit) → fitting_from w c us ≤ length us
+fit-length : (w c : ℕ) (us : List Unit) → fit_count_from w c us ≤ length us
 fit-length w c [] = omega arith
-fit-length w c (u ∷ us) = len-either (nat_lt c w && nat_le (c + columns_at w c u.face) w) (fitting_from w (c + columns_at w c u.face) us) (length us)
+fit-length w c (u ∷ us) = len-either (nat_lt c w && nat_le (c + columns_at w c u.face) w) (fit_count_from w (c + columns_at w c u.face) us) (length us)
     (fit-length w (c + columns_at w c u.face) us)
 
 abbrev total : ℕ → ℕ → List Unit → ℕ
 total w c us = sum_by (λ m. m) (unit_columns w c us)
 
 fits-by : (w c n : ℕ) (u : Unit) (us : List Unit) (b : Bool) → (nat_lt c w && nat_le (c + columns_at w c u.face) w) ≡ b
-    → suc n ≤ elim b [ true ↦ suc (fitting_from w (c + columns_at w c u.face) us) | false ↦ 0 ]
-    → (c + columns_at w c u.face ≤ w → n ≤ fitting_from w (c + columns_at w c u.face) us
+    → suc n ≤ elim b [ true ↦ suc (fit_count_from w (c + columns_at w c u.face) us) | false ↦ 0 ]
+    → (c + columns_at w c u.face ≤ w → n ≤ fit_count_from w (c + columns_at w c u.face) us
     → c + columns_at w c u.face + total w (c + columns_at w c u.face) (take n us) ≤ w)
     → c + total w c (u ∷ take n us) ≤ w
 fits-by w c n u us true e k rest =
@@ -38,16 +38,16 @@ fits-by w c n u us true e k rest =
     omega (arith, rest end (omega (arith, k)), sum_by-cons (λ m. m) (columns_at w c u.face) (unit_columns w (c + columns_at w c u.face) (take n us)))
 fits-by w c n u us false e k rest = absurd (omega (arith, k))
 
-fits : (w c n : ℕ) (us : List Unit) → c ≤ w → n ≤ fitting_from w c us → c + total w c (take n us) ≤ w
+fits : (w c n : ℕ) (us : List Unit) → c ≤ w → n ≤ fit_count_from w c us → c + total w c (take n us) ≤ w
 fits w c zero us h k = let none : total w c [] ≡ 0 = refl in omega (arith, h, none)
 fits w c (suc n) [] h k = let none : total w c [] ≡ 0 = refl in omega (arith, h, none)
 fits w c (suc n) (u ∷ us) h k = fits-by w c n u us (nat_lt c w && nat_le (c + columns_at w c u.face) w) refl k
     (λ end rest. fits w (c + columns_at w c u.face) n us end rest)
 
-fits-used : (w n : ℕ) (us : List Unit) → n ≤ fitting w us → used w (take n us) ≤ w
+fits-used : (w n : ℕ) (us : List Unit) → n ≤ fit_count w us → columns_used w (take n us) ≤ w
 fits-used w n us k =
     let columns = unit_columns w 0 (take n us) in
-    let same : total w 0 (take n us) ≡ used w (take n us) = sum_by-same columns in
+    let same : total w 0 (take n us) ≡ columns_used w (take n us) = sum_by-same columns in
     omega (arith, fits w 0 n us (omega arith) k, same)
 
 -- ---- a row is such a prefix
@@ -74,9 +74,9 @@ len-step : (b : Bool) (m n : ℕ) → m ≤ n → elim b [ true ↦ n | false �
 len-step true m n h = omega arith
 len-step false m n h = h
 
-row-within : (p : Unit → Bool) (w : ℕ) (us : List Unit) → row_len p w us ≤ fitting w us
+row-within : (p : Unit → Bool) (w : ℕ) (us : List Unit) → row_len p w us ≤ fit_count w us
 row-within p w us =
-    let n = fitting w us in
+    let n = fit_count w us in
     let last : up_to_last p (take n us) ≤ n = omega (arith, last-length p (take n us), take-length n us) in
     len-step (n == length us) (up_to_break p n us) n (break-step (up_to_last p (take n us)) n last)
 
@@ -84,13 +84,13 @@ row-fits : (p : Unit → Bool) (w i : ℕ) (u : Unit) (us all : List Unit) → u
     → IsRowOf w all (record { start = i; stop = i + row_len p w (u ∷ us) })
 row-fits p w i u us all e =
     let n = row_len p w (u ∷ us) in
-    let within : n ≤ fitting w (u ∷ us) = row-within p w (u ∷ us) in
+    let within : n ≤ fit_count w (u ∷ us) = row-within p w (u ∷ us) in
     let count : length (u ∷ us) ≡ length all - i = ap length e ∙ length-drop i all in
     let some : length (u ∷ us) ≡ suc (length us) = refl in
     let len = fit-length w 0 (u ∷ us) in
     let whole : i + n - i ≡ n = omega arith in
     let units : row_units all (record { start = i; stop = i + n }) ≡ take n (u ∷ us) = ap (λ k. take k (drop i all)) whole ∙ ap (take n) (sym e) in
-    (omega arith, omega (arith, within, len, count, some), subst (λ xs. used w xs ≤ w) (sym units) (fits-used w n (u ∷ us) within))
+    (omega arith, omega (arith, within, len, count, some), subst (λ xs. columns_used w xs ≤ w) (sym units) (fits-used w n (u ∷ us) within))
 
 rest-of : (i : ℕ) (u : Unit) (us all : List Unit) → u ∷ us ≡ drop i all → us ≡ drop (suc i) all
 rest-of i u us all e = let one : i + 1 ≡ suc i = omega arith in ap (drop 1) e ∙ drop-drop 1 i all ∙ ap (λ k. drop k all) one
@@ -104,7 +104,7 @@ rows-fit p w i zero (u ∷ us) all e =
     (rows-fit p w (suc i) (n - 1) us all (rest-of i u us all e))
 
 wrapped-fit : (p : Unit → Bool) (w : ℕ) (us : List Unit) → All (IsRowOf w us) (rows_of p w us)
-wrapped-fit p w [] = let none : used w [] ≡ 0 = refl in All-cons (IsRowOf w []) (record { start = 0; stop = 0 }) []
+wrapped-fit p w [] = let none : columns_used w [] ≡ 0 = refl in All-cons (IsRowOf w []) (record { start = 0; stop = 0 }) []
     (omega arith, omega arith, omega (arith, none)) (All-nil (IsRowOf w []))
 wrapped-fit p w (u ∷ us) = rows-fit p w 0 0 (u ∷ us) (u ∷ us) refl
 

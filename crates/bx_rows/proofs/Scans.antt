@@ -7,7 +7,7 @@ use Rattle.std.proofs.lemmas.Bool.Decides.{nat_tests}
 use Rattle.bx_cells.specs.declared.unit.Face.{Face}
 use Rattle.bx_cells.specs.declared.unit.Face.TheVariants.{Tab, Mark, Own}
 use Rattle.bx_cells.specs.declared.unit.Unit.{Unit}
-use Rattle.bx_rows.specs.Wrapping.{columns_at, fitting_from, up_to_last, up_to_break, row_len, rows_from}
+use Rattle.bx_rows.specs.Wrapping.{columns_at, fit_count_from, up_to_last, up_to_break, row_len, rows_from}
 use Rattle.bx_rows.specs.RowScan.{Fits, IsScan}
 use Rattle.bx_rows.proofs.Wraps.{fit_cons, fits_no_more, fits_full, rows_turn}
 
@@ -17,10 +17,10 @@ sooner w c d Tab h k = omega (arith, h, k)
 sooner w c d (Mark letter) h k = omega (arith, h)
 sooner w c d (Own n) h k = omega (arith, h)
 
-past_fits : (w c : ℕ) (u : Unit) (us : List Unit) → w < c + columns_at w c u.face → fitting_from w c (u ∷ us) ≡ 0
+past_fits : (w c : ℕ) (u : Unit) (us : List Unit) → w < c + columns_at w c u.face → fit_count_from w c (u ∷ us) ≡ 0
 past_fits w c u us past = ⊎_elim (λ less. fits_no_more (u ∷ us) w c 0 (omega arith) less past) (fits_full (u ∷ us) w c 0) (cases_lt c w)
 
-pub none_fits : (w c : ℕ) (u : Unit) (us : List Unit) → (w ≤ c) ⊎ (w < c + columns_at w c u.face) → fitting_from w c (u ∷ us) ≡ 0
+pub none_fits : (w c : ℕ) (u : Unit) (us : List Unit) → (w ≤ c) ⊎ (w < c + columns_at w c u.face) → fit_count_from w c (u ∷ us) ≡ 0
 none_fits w c u us h = ⊎_elim (fits_full (u ∷ us) w c 0) (past_fits w c u us) h
 
 -- ---- the last that passes
@@ -59,7 +59,7 @@ pub scan-more : (p : Unit → Bool) (w : ℕ) (here behind : List Unit) (u : Uni
     → IsScan p w here behind (u ∷ rest) columns last count since → Fits w columns u → p u ≡ false
     → IsScan p w here behind rest (columns + columns_at w columns u.face) last (count + 1) (since + columns_at w since u.face)
 scan-more p w here behind u rest columns last count since s f no_break =
-    let joined : s.back ++ u ∷ rest ≡ (s.back ++ u ∷ []) ++ rest = sym (append_assoc s.back (u ∷ []) rest) in
+    let around : s.back ++ u ∷ rest ≡ (s.back ++ u ∷ []) ++ rest = sym (append_assoc s.back (u ∷ []) rest) in
     let less = s.less in
     let sooner_end = sooner w since columns u.face less s.within in
     let step = fit_cons w columns u rest f.0 f.1 in
@@ -67,8 +67,8 @@ scan-more p w here behind u rest columns last count since s f no_break =
     record {
       front = s.front;
       back = s.back ++ u ∷ [];
-      here_is = s.here_is ∙ ap (λ xs. s.front ++ xs) joined;
-      behind_is = s.behind_is ∙ joined;
+      here_is = s.here_is ∙ ap (λ xs. s.front ++ xs) around;
+      behind_is = s.behind_is ∙ around;
       ends = s.ends;
       none = none-append p s.back (u ∷ []) (one-passes p u false no_break) ∙ s.none;
       last_is = s.last_is;
@@ -85,7 +85,7 @@ pub scan-break : (p : Unit → Bool) (w : ℕ) (here behind : List Unit) (u : Un
     → IsScan p w here rest rest (columns + columns_at w columns u.face) (last + count + 1) 0 0
 scan-break p w here behind u rest columns last count since s f is_break =
     let all = s.front ++ (s.back ++ u ∷ []) in
-    let joined : s.front ++ (s.back ++ u ∷ rest) ≡ all ++ rest =
+    let around : s.front ++ (s.back ++ u ∷ rest) ≡ all ++ rest =
     ap (λ xs. s.front ++ xs) (sym (append_assoc s.back (u ∷ []) rest)) ∙ sym (append_assoc s.front (s.back ++ u ∷ []) rest) in
     let counted : length all ≡ last + count + 1 =
     omega (arith, length-append s.front (s.back ++ u ∷ []), length-append s.back (u ∷ []), s.last_is, s.count_is) in
@@ -93,7 +93,7 @@ scan-break p w here behind u rest columns last count since s f is_break =
     record {
       front = all;
       back = [];
-      here_is = s.here_is ∙ joined;
+      here_is = s.here_is ∙ around;
       behind_is = refl;
       ends = ap (up_to_last p) (sym (append_assoc s.front s.back (u ∷ []))) ∙ ends-push p (s.front ++ s.back) u is_break
           ∙ omega (arith, length-append s.front s.back, length-append s.front (s.back ++ u ∷ []), length-append s.back (u ∷ []));
@@ -112,17 +112,17 @@ module _ (p : Unit → Bool) (w : ℕ) (here behind rest : List Unit) (columns l
     scan-size : length (s.front ++ s.back) ≡ last + count
     scan-size = omega (arith, length-append s.front s.back, s.last_is, s.count_is)
 
-    scan-joined : here ≡ (s.front ++ s.back) ++ rest
-    scan-joined = s.here_is ∙ sym (append_assoc s.front s.back rest)
+    scan-around : here ≡ (s.front ++ s.back) ++ rest
+    scan-around = s.here_is ∙ sym (append_assoc s.front s.back rest)
 
     pub drop-break : drop last here ≡ behind
     drop-break = ap (drop last) s.here_is ∙ drop_at s.front (s.back ++ rest) last (sym s.last_is) ∙ sym s.behind_is
 
     pub drop-read : drop (last + count) here ≡ rest
-    drop-read = ap (drop (last + count)) scan-joined ∙ drop_at (s.front ++ s.back) rest (last + count) scan-size
+    drop-read = ap (drop (last + count)) scan-around ∙ drop_at (s.front ++ s.back) rest (last + count) scan-size
 
     pub scan-length : length here ≡ last + count + length rest
-    scan-length = omega (arith, ap length scan-joined, length-append (s.front ++ s.back) rest, scan-size)
+    scan-length = omega (arith, ap length scan-around, length-append (s.front ++ s.back) rest, scan-size)
 
 -- ---- the row's end
 
@@ -130,7 +130,7 @@ not_equal : (n m : ℕ) → n < m → (n == m) ≡ false
 not_equal n m h = grind (arith, nat_tests)
 
 -- of n units that fit and others, those up to the last break make the row
-len-past : (p : Unit → Bool) (w n : ℕ) (us : List Unit) → fitting_from w 0 us ≡ n → n < length us → row_len p w us ≡ up_to_break p n us
+len-past : (p : Unit → Bool) (w n : ℕ) (us : List Unit) → fit_count_from w 0 us ≡ n → n < length us → row_len p w us ≡ up_to_break p n us
 len-past p w n us fit less =
     ap (λ m. elim (m == length us) [ true ↦ m | false ↦ up_to_break p m us ]) fit
     ∙ ap (λ b. elim b [ true ↦ n | false ↦ up_to_break p n us ]) (not_equal n (length us) less)
@@ -157,18 +157,18 @@ module _ (p : Unit → Bool) (w : ℕ) (here behind : List Unit) (u : Unit) (res
   some-here : 0 < length here
   some-here = let size = scan-length p w here behind (u ∷ rest) columns last count since s in omega (arith, size)
 
-  len-scan : fitting_from w columns (u ∷ rest) ≡ 0 → row_len p w here ≡ len_of (last + count) last
+  len-scan : fit_count_from w columns (u ∷ rest) ≡ 0 → row_len p w here ≡ len_of (last + count) last
   len-scan full =
       let n = last + count in
       let size = scan-length p w here behind (u ∷ rest) columns last count since s in
       let front = s.front ++ s.back in
-      let taken : take n here ≡ front = ap (take n) (scan-joined p w here behind (u ∷ rest) columns last count since s)
+      let taken : take n here ≡ front = ap (take n) (scan-around p w here behind (u ∷ rest) columns last count since s)
       ∙ take_at front (u ∷ rest) n (scan-size p w here behind (u ∷ rest) columns last count since s) in
       len-past p w n here (s.fits ∙ omega (arith, full)) (omega (arith, size))
       ∙ break-at p n here last (ap (up_to_last p) taken ∙ none-append p s.front s.back s.none ∙ s.ends ∙ sym s.last_is)
 
   -- it ends at its last break
-  pub row-at-break : fitting_from w columns (u ∷ rest) ≡ 0 → (i : ℕ) → 0 < last
+  pub row-at-break : fit_count_from w columns (u ∷ rest) ≡ 0 → (i : ℕ) → 0 < last
       → rows_from p w i 0 here ≡ record { start = i; stop = i + last } ∷ rows_from p w (i + last) 0 behind
   row-at-break full i some =
       let one : max last 1 ≡ last = omega (arith, some) in
@@ -193,7 +193,7 @@ module _ (p : Unit → Bool) (w : ℕ) (here behind : List Unit) (u : Unit) (res
   }
 
   -- it has no break, and ends where it is full
-  pub row-full : fitting_from w columns (u ∷ rest) ≡ 0 → (i : ℕ) → last ≡ 0 → 0 < count
+  pub row-full : fit_count_from w columns (u ∷ rest) ≡ 0 → (i : ℕ) → last ≡ 0 → 0 < count
       → rows_from p w i 0 here ≡ record { start = i; stop = i + count } ∷ rows_from p w (i + count) 0 (u ∷ rest)
   row-full full i none some =
       let sum : last + count ≡ count = omega (arith, none) in
@@ -204,7 +204,7 @@ module _ (p : Unit → Bool) (w : ℕ) (here behind : List Unit) (u : Unit) (res
       ∙ ap (λ n. record { start = i; stop = i + count } ∷ rows_from p w (i + n) 0 (u ∷ rest)) more
 
   -- it has no unit, and goes on behind the one that is too wide
-  pub row-none : fitting_from w columns (u ∷ rest) ≡ 0 → (i : ℕ) → last ≡ 0 → count ≡ 0
+  pub row-none : fit_count_from w columns (u ∷ rest) ≡ 0 → (i : ℕ) → last ≡ 0 → count ≡ 0
       → rows_from p w i 0 here ≡ record { start = i; stop = i + 0 } ∷ rows_from p w (i + 1) 0 rest
   row-none full i none empty =
       let sum : last + count ≡ 0 = omega (arith, none, empty) in
@@ -217,7 +217,7 @@ pub row-last : (p : Unit → Bool) (w : ℕ) (here behind : List Unit) (columns 
 row-last p w here behind columns last count since i s some =
     let n = last + count in
     let size : length here ≡ n = scan-length p w here behind [] columns last count since s ∙ omega arith in
-    let fit : fitting_from w 0 here ≡ n = s.fits ∙ omega arith in
+    let fit : fit_count_from w 0 here ≡ n = s.fits ∙ omega arith in
     let len : row_len p w here ≡ n =
     ap (λ m. elim (m == length here) [ true ↦ m | false ↦ up_to_break p m here ]) fit
     ∙ ap (λ b. elim b [ true ↦ n | false ↦ up_to_break p n here ]) (eq-eqb n (length here) (sym size)) in

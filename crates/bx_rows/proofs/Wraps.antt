@@ -7,7 +7,7 @@ use Rattle.std.proofs.lemmas.Bool.{lt-ltb, le-leb}
 use Rattle.std.proofs.lemmas.Bool.Decides.{leb_tells}
 use Rattle.bx_cells.specs.declared.unit.Face.TheVariants.{Tab}
 use Rattle.bx_cells.specs.declared.unit.Unit.{Unit}
-use Rattle.bx_rows.specs.Wrapping.{columns_at, fitting_from, row_len, rows_from}
+use Rattle.bx_rows.specs.Wrapping.{columns_at, fit_count_from, row_len, rows_from}
 
 -- a unit to read where a list has none
 abbrev pub no_unit : Unit
@@ -21,32 +21,32 @@ rows_taken p w i (suc k) (u ∷ us) = let e : suc i + k ≡ i + suc k = omega ar
 
 -- one step, by the answers of its two tests
 fit_step : (w c : ℕ) (u : Unit) (us : List Unit) (a b : Bool) → nat_lt c w ≡ a → nat_le (c + columns_at w c u.face) w ≡ b
-    → fitting_from w c (u ∷ us) ≡ elim (a && b) [ true ↦ suc (fitting_from w (c + columns_at w c u.face) us) | false ↦ 0 ]
-fit_step w c u us a b d e = ap (λ t. elim t [ true ↦ suc (fitting_from w (c + columns_at w c u.face) us) | false ↦ 0 ])
+    → fit_count_from w c (u ∷ us) ≡ elim (a && b) [ true ↦ suc (fit_count_from w (c + columns_at w c u.face) us) | false ↦ 0 ]
+fit_step w c u us a b d e = ap (λ t. elim t [ true ↦ suc (fit_count_from w (c + columns_at w c u.face) us) | false ↦ 0 ])
     (ap (λ x. x && nat_le (c + columns_at w c u.face) w) d ∙ ap (λ y. a && y) e)
 
 pub fit_cons : (w c : ℕ) (u : Unit) (us : List Unit) → c < w → c + columns_at w c u.face ≤ w
-    → fitting_from w c (u ∷ us) ≡ suc (fitting_from w (c + columns_at w c u.face) us)
+    → fit_count_from w c (u ∷ us) ≡ suc (fit_count_from w (c + columns_at w c u.face) us)
 fit_cons w c u us h k = fit_step w c u us true true (lt-ltb c w h) (le-leb _ w k)
 
-fit_none : (w c : ℕ) (u : Unit) (us : List Unit) → c < w → w < c + columns_at w c u.face → fitting_from w c (u ∷ us) ≡ 0
+fit_none : (w c : ℕ) (u : Unit) (us : List Unit) → c < w → w < c + columns_at w c u.face → fit_count_from w c (u ∷ us) ≡ 0
 fit_none w c u us k h = fit_step w c u us true false (lt-ltb c w k) (grind (arith, leb_tells))
 
-fit_full : (w c : ℕ) (us : List Unit) → w ≤ c → fitting_from w c us ≡ 0
+fit_full : (w c : ℕ) (us : List Unit) → w ≤ c → fit_count_from w c us ≡ 0
 fit_full w c [] h = refl
 fit_full w c (u ∷ us) h = fit_step w c u us false (nat_le (c + columns_at w c u.face) w) (grind (arith, leb_tells)) refl
 
 pub fits_more : (us : List Unit) (w c i : ℕ) → i < length us → c < w → c + columns_at w c (get_or us i no_unit).face ≤ w
-    → fitting_from w c (drop i us) ≡ 1 + fitting_from w (c + columns_at w c (get_or us i no_unit).face) (drop (i + 1) us)
-fits_more us w c i h k m = at_drop_more (fitting_from w c) us i no_unit h ∙ fit_cons w c (get_or us i no_unit) (drop (i + 1) us) k m ∙ omega arith
+    → fit_count_from w c (drop i us) ≡ 1 + fit_count_from w (c + columns_at w c (get_or us i no_unit).face) (drop (i + 1) us)
+fits_more us w c i h k m = at_drop_more (fit_count_from w c) us i no_unit h ∙ fit_cons w c (get_or us i no_unit) (drop (i + 1) us) k m ∙ omega arith
 
-pub fits_no_more : (us : List Unit) (w c i : ℕ) → i < length us → c < w → w < c + columns_at w c (get_or us i no_unit).face → fitting_from w c (drop i us) ≡ 0
-fits_no_more us w c i h k m = at_drop_more (fitting_from w c) us i no_unit h ∙ fit_none w c (get_or us i no_unit) (drop (i + 1) us) k m
+pub fits_no_more : (us : List Unit) (w c i : ℕ) → i < length us → c < w → w < c + columns_at w c (get_or us i no_unit).face → fit_count_from w c (drop i us) ≡ 0
+fits_no_more us w c i h k m = at_drop_more (fit_count_from w c) us i no_unit h ∙ fit_none w c (get_or us i no_unit) (drop (i + 1) us) k m
 
-pub fits_full : (us : List Unit) (w c i : ℕ) → w ≤ c → fitting_from w c (drop i us) ≡ 0
+pub fits_full : (us : List Unit) (w c i : ℕ) → w ≤ c → fit_count_from w c (drop i us) ≡ 0
 fits_full us w c i h = fit_full w c (drop i us) h
 
-pub fits_all : (us : List Unit) (w c : ℕ) → fitting_from w c (drop (length us) us) ≡ 0
+pub fits_all : (us : List Unit) (w c : ℕ) → fit_count_from w c (drop (length us) us) ≡ 0
 fits_all us w c = rw drop-length
 
 -- the next row, and those behind it

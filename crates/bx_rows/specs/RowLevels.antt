@@ -21,26 +21,26 @@ is_trailing PDI = true
 is_trailing _ = false
 
 -- a character's class, and its level unless X9 removes it
-abbrev pub Leveled : Type 0
-Leveled = Class × Option ℕ
+abbrev pub CharLevel : Type 0
+CharLevel = Class × Option ℕ
 
 -- whether a character and those behind it trail, given whether those behind it do: one that X9 removes does not count
-abbrev pub trails : Leveled → Bool → Bool
+abbrev pub trails : CharLevel → Bool → Bool
 trails (class, None) after = after
 trails (class, Some level) after = elim (is_segment_separator class) [ true ↦ true | false ↦ is_trailing class && after ]
 
 -- the kept characters, up to a segment separator or the end, are all whitespace or isolate formatting characters
-abbrev pub only_trailing : List Leveled → Bool
+abbrev pub only_trailing : List CharLevel → Bool
 only_trailing [] = true
 only_trailing (c ∷ cs) = trails c (only_trailing cs)
 
 -- a kept character has the paragraph level where it trails
-abbrev pub level_at : ℕ → Leveled → Bool → Option ℕ
+abbrev pub level_at : ℕ → CharLevel → Bool → Option ℕ
 level_at paragraph (class, None) trailing = None
 level_at paragraph (class, Some level) trailing = elim trailing [ true ↦ Some paragraph | false ↦ Some level ]
 
 -- L1: the levels of a row's characters
-abbrev pub l1 : ℕ → List Leveled → List (Option ℕ)
+abbrev pub l1 : ℕ → List CharLevel → List (Option ℕ)
 l1 paragraph [] = []
 l1 paragraph (c ∷ cs) = level_at paragraph c (trails c (only_trailing cs)) ∷ l1 paragraph cs
 
@@ -56,9 +56,9 @@ unit_levels [] ls = []
 unit_levels (n ∷ ns) ls = first_level (take n ls) ∷ unit_levels ns (drop n ls)
 
 -- a unit with no level takes that of the unit before it
-abbrev pub filled : ℕ → List (Option ℕ) → List ℕ
-filled before [] = []
-filled before (l ∷ ls) = let level = unwrap_or l before in level ∷ filled level ls
+abbrev pub levels_or_before : ℕ → List (Option ℕ) → List ℕ
+levels_or_before before [] = []
+levels_or_before before (l ∷ ls) = let level = unwrap_or l before in level ∷ levels_or_before level ls
 
 -- how many characters of a body stand before its units
 abbrev pub chars_before : List ℕ → List Unit → ℕ
@@ -66,10 +66,10 @@ chars_before body [] = 0
 chars_before body (u ∷ us) = length (chars (take u.start body))
 
 -- the characters of a row's units, with their levels among the levels `each` of the body's characters
-abbrev pub row_chars : (ℕ → Class) → List ℕ → List (Option ℕ) → List Unit → List Leveled
+abbrev pub row_chars : (ℕ → Class) → List ℕ → List (Option ℕ) → List Unit → List CharLevel
 row_chars class body each us = zip (map class (flat_map (unit_chars body) us)) (drop (chars_before body us) each)
 
 -- the levels of a row's units, in a paragraph of the level `paragraph` whose characters have the levels `each`
 abbrev pub row_levels : (ℕ → Class) → List ℕ → ℕ → List (Option ℕ) → List Unit → List ℕ
 row_levels class body paragraph each us =
-    filled paragraph (unit_levels (map (λ u. length (unit_chars body u)) us) (l1 paragraph (row_chars class body each us)))
+    levels_or_before paragraph (unit_levels (map (λ u. length (unit_chars body u)) us) (l1 paragraph (row_chars class body each us)))

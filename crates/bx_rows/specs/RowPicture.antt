@@ -29,8 +29,8 @@ abbrev pub text_glyphs : ℕ → List ℕ → List Glyph
 text_glyphs n text = elim (are_ascii_printable text) [ true ↦ map (λ b. glyph (b ∷ []) 1 false) text | false ↦ glyph text n false ∷ [] ]
 
 -- a text with each character mirrored that has a mirror
-abbrev pub mirrored : (ℕ → Option ℕ) → List ℕ → List ℕ
-mirrored mirror text = encode_utf8_all (map (λ c. unwrap_or (mirror c) c) (chars text))
+abbrev pub mirror_image : (ℕ → Option ℕ) → List ℕ → List ℕ
+mirror_image mirror text = encode_utf8_all (map (λ c. unwrap_or (mirror c) c) (chars text))
 
 -- the face shows its own text in n columns
 abbrev pub is_own : ℕ → Face → Bool
@@ -38,12 +38,12 @@ is_own n (Own m) = m == n
 is_own n _ = false
 
 -- the mirrored text where that is shown as itself in as many columns, else the text
-abbrev pub mirrored_within : (ℕ → Class) → (ℕ → Option ℕ) → ℕ → ℕ → List ℕ → List ℕ
-mirrored_within class mirror w n text = let other = mirrored mirror text in elim (is_own n (face class w other)) [ true ↦ other | false ↦ text ]
+abbrev pub mirror_image_within : (ℕ → Class) → (ℕ → Option ℕ) → ℕ → ℕ → List ℕ → List ℕ
+mirror_image_within class mirror w n text = let other = mirror_image mirror text in elim (is_own n (face class w other)) [ true ↦ other | false ↦ text ]
 
 -- the text that is shown at a level: mirrored at an odd one
 abbrev pub shown_text : (ℕ → Class) → (ℕ → Option ℕ) → ℕ → ℕ → ℕ → List ℕ → List ℕ
-shown_text class mirror w n level text = elim (level % 2) [ zero ↦ text | suc _ ↦ mirrored_within class mirror w n text ]
+shown_text class mirror w n level text = elim (level % 2) [ zero ↦ text | suc _ ↦ mirror_image_within class mirror w n text ]
 
 -- the glyphs of a face in its columns, with its own text at a level
 abbrev pub face_glyphs : (ℕ → Class) → (ℕ → Option ℕ) → ℕ → List ℕ → Face → ℕ → ℕ → List Glyph
@@ -57,8 +57,8 @@ unit_columns w c [] = []
 unit_columns w c (u ∷ us) = let n = columns_at w c u.face in n ∷ unit_columns w (c + n) us
 
 -- the columns of a row's units, all together
-abbrev pub used : ℕ → List Unit → ℕ
-used w us = sum (unit_columns w 0 us)
+abbrev pub columns_used : ℕ → List Unit → ℕ
+columns_used w us = sum (unit_columns w 0 us)
 
 -- the glyphs of each unit of a row, given the columns and levels of its units
 abbrev pub unit_glyphs : (ℕ → Class) → (ℕ → Option ℕ) → ℕ → List ℕ → List Unit → List ℕ → List ℕ → List (List Glyph)
@@ -73,4 +73,4 @@ with_blanks paragraph n glyphs = elim (paragraph % 2) [ zero ↦ glyphs ++ repli
 abbrev pub draw : (ℕ → Class) → (ℕ → Option ℕ) → ℕ → List ℕ → ℕ → List Unit → List ℕ → List Glyph
 draw class mirror w body paragraph us levels =
     let glyphs = unit_glyphs class mirror w body us (unit_columns w 0 us) levels in
-    with_blanks paragraph (w - used w us) (flat_map (λ k. slice_index_or glyphs k []) (visual levels))
+    with_blanks paragraph (w - columns_used w us) (flat_map (λ k. slice_index_or glyphs k []) (visual levels))

@@ -8,7 +8,7 @@ use Rattle.bx_rows.specs.declared.row_scan.Extent.{Extent}
 use Rattle.bx_rows.specs.declared.row_scan.Scan.{Scan}
 use Rattle.bx_rows.specs.declared.start_search.RowStart.{RowStart}
 use Rattle.bx_rows.specs.RowStarts.{start_of}
-use Rattle.bx_rows.specs.Wrapping.{columns_at, fitting_from, is_break, rows_from, up_to_last}
+use Rattle.bx_rows.specs.Wrapping.{columns_at, fit_count_from, is_break, rows_from, up_to_last}
 
 -- a unit begins in the window at a column, and ends in it
 abbrev pub Fits : ℕ → ℕ → Unit → Type 0
@@ -26,8 +26,8 @@ pub record IsScan (p : Unit → Bool) (w : ℕ) (here behind rest : List Unit) (
   pub none : up_to_last p back ≡ 0
   pub last_is : last ≡ length front
   pub count_is : count ≡ length back
-  pub fits : fitting_from w 0 here ≡ last + count + fitting_from w columns rest
-  pub fits_behind : fitting_from w 0 behind ≡ count + fitting_from w since rest
+  pub fits : fit_count_from w 0 here ≡ last + count + fit_count_from w columns rest
+  pub fits_behind : fit_count_from w 0 behind ≡ count + fit_count_from w since rest
   pub within : columns ≤ w
   pub less : since ≤ columns
 

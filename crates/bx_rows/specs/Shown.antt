@@ -7,12 +7,12 @@ use Rattle.bx_cells.specs.declared.unit.Face.TheVariants.{Mark}
 use Rattle.bx_cells.specs.declared.unit.Unit.{Unit}
 use Rattle.bx_rows.specs.declared.drawn.Drawn.{Drawn}
 use Rattle.bx_rows.specs.declared.row.Row.{Row}
-use Rattle.bx_rows.specs.RowPicture.{Glyph, glyph, used}
+use Rattle.bx_rows.specs.RowPicture.{Glyph, glyph, columns_used}
 use Rattle.bx_rows.specs.Wrapping.{row_units}
 
 -- the glyph that is kept
-abbrev pub shown : Drawn → Glyph
-shown d = glyph (cow_str_bytes d.text) d.columns d.negative
+abbrev pub glyph_of : Drawn → Glyph
+glyph_of d = glyph (cow_str_bytes d.text) d.columns d.negative
 
 -- a mark's letter is a character from SPACE to TILDE
 abbrev pub HasLetter : Face → Type 0
@@ -21,4 +21,4 @@ HasLetter _ = ⊤
 
 -- a row of the units that has no more columns than the window
 abbrev pub IsRowOf : ℕ → List Unit → Row → Type 0
-IsRowOf w us r = (r.start ≤ r.stop) × (r.stop ≤ length us) × (used w (row_units us r) ≤ w)
+IsRowOf w us r = (r.start ≤ r.stop) × (r.stop ≤ length us) × (columns_used w (row_units us r) ≤ w)

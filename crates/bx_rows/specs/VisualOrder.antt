@@ -31,10 +31,10 @@ lowest_odd [] = None
 lowest_odd (l ∷ ls) = lower_odd l (lowest_odd ls)
 
 -- the units after all reversals, from the highest level down to the lowest odd one
-abbrev pub reversed_from : Option ℕ → ℕ → List (ℕ × ℕ) → List (ℕ × ℕ)
-reversed_from None high us = us
-reversed_from (Some low) high us = reverse_down low (high + 1 - low) us
+abbrev pub reversals_from : Option ℕ → ℕ → List (ℕ × ℕ) → List (ℕ × ℕ)
+reversals_from None high us = us
+reversals_from (Some low) high us = reverse_down low (high + 1 - low) us
 
 -- the numbers of a row's units, listed from left to right
 abbrev pub visual : List ℕ → List ℕ
-visual levels = map (λ u. u.0) (reversed_from (lowest_odd levels) (highest levels) (enumerate_from 0 levels))
+visual levels = map (λ u. u.0) (reversals_from (lowest_odd levels) (highest levels) (enumerate_from 0 levels))

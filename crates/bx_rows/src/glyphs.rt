@@ -3,8 +3,8 @@ ghost use Rattle.std.specs.Prelude.{◌≡◌, ◌++◌, ◌∷◌, [], IfOk, On
 ghost use Rattle.std.specs.List.{range_with_len};
 ghost use Rattle.std.specs.Cow.{cow_str_bytes};
 ghost use Rattle.bx_terms.specs.Characters.{are_ascii_printable, is_ascii_printable};
-ghost use Rattle.bx_rows.specs.RowPicture.{blank, face_glyphs, glyph, is_own, mirrored, mirrored_within, shown_text, text_glyphs};
-ghost use Rattle.bx_rows.specs.Shown.{HasLetter, shown};
+ghost use Rattle.bx_rows.specs.RowPicture.{blank, face_glyphs, glyph, is_own, mirror_image, mirror_image_within, shown_text, text_glyphs};
+ghost use Rattle.bx_rows.specs.Shown.{HasLetter, glyph_of};
 
 use crate::drawn::Drawn;
 use bx_cells::{Face, face};
@@ -38,7 +38,7 @@ fn letter<'a>(byte: u8) -> &'a str
 /// Adds a glyph of one character from SPACE to TILDE.
 fn push_letter<'a>(glyphs: &mut Vec<Drawn<'a>>, byte: u8, negative: bool) -> Result<(), AllocError>
     requires { is_ascii_printable byte ≡ true }
-    ensures { OnOk result (map shown glyphs.new.items ≡ map shown glyphs.old.items ++ glyph (byte ∷ []) 1 negative ∷ []) }
+    ensures { OnOk result (map glyph_of glyphs.new.items ≡ map glyph_of glyphs.old.items ++ glyph (byte ∷ []) 1 negative ∷ []) }
 {
     glyphs.push(Drawn {
         text: CowStr::Borrowed(letter(byte)),
@@ -50,7 +50,7 @@ fn push_letter<'a>(glyphs: &mut Vec<Drawn<'a>>, byte: u8, negative: bool) -> Res
 
 /// Adds blanks.
 pub(crate) fn push_blanks<'a>(glyphs: &mut Vec<Drawn<'a>>, count: u16) -> Result<(), AllocError>
-    ensures { OnOk result (map shown glyphs.new.items ≡ map shown glyphs.old.items ++ replicate count blank) }
+    ensures { OnOk result (map glyph_of glyphs.new.items ≡ map glyph_of glyphs.old.items ++ replicate count blank) }
 {
     for _ in 0..count {
         push_letter(glyphs, b' ', false)?;
@@ -61,7 +61,7 @@ pub(crate) fn push_blanks<'a>(glyphs: &mut Vec<Drawn<'a>>, count: u16) -> Result
 /// Adds a glyph for each character of a text that has only characters from SPACE to TILDE.
 fn push_letters<'a>(glyphs: &mut Vec<Drawn<'a>>, text: &[u8]) -> Result<(), AllocError>
     requires { are_ascii_printable text.now ≡ true }
-    ensures { OnOk result (map shown glyphs.new.items ≡ map shown glyphs.old.items ++ map (λ b. glyph (b ∷ []) 1 false) text.now) }
+    ensures { OnOk result (map glyph_of glyphs.new.items ≡ map glyph_of glyphs.old.items ++ map (λ b. glyph (b ∷ []) 1 false) text.now) }
 {
     for byte in text {
         push_letter(glyphs, *byte, false)?;
@@ -75,7 +75,7 @@ fn push_text<'a>(
     text: CowStr<'a, Global>,
     columns: u16,
 ) -> Result<(), AllocError>
-    ensures { OnOk result (map shown glyphs.new.items ≡ map shown glyphs.old.items ++ text_glyphs columns (cow_str_bytes text.entry)) }
+    ensures { OnOk result (map glyph_of glyphs.new.items ≡ map glyph_of glyphs.old.items ++ text_glyphs columns (cow_str_bytes text.entry)) }
 {
     if are_ascii_printable(text.as_str()) {
         return push_letters(glyphs, text.as_str().as_bytes());
@@ -89,8 +89,8 @@ fn push_text<'a>(
 }
 
 /// A text with each character mirrored that has a mirror.
-fn mirrored<D: BidiData>(alloc: Global, text: &str, source: &D) -> Result<String, AllocError>
-    ensures { IfOk result (λ t. string_bytes t ≡ mirrored (D.mirror_of source.now) text.now) }
+fn mirror_image<D: BidiData>(alloc: Global, text: &str, source: &D) -> Result<String, AllocError>
+    ensures { IfOk result (λ t. string_bytes t ≡ mirror_image (D.mirror_of source.now) text.now) }
 {
     let mut other = String::new(alloc);
     for c in text.chars() {
@@ -110,16 +110,16 @@ fn is_own(face: Face, n: u16) -> bool
 }
 
 /// The mirrored text where that is shown as itself in as many columns, else the text.
-fn mirrored_within<'a, D: BidiData>(
+fn mirror_image_within<'a, D: BidiData>(
     alloc: Global,
     text: &'a str,
     columns: u16,
     source: &D,
     w: u16,
 ) -> Result<CowStr<'a, Global>, AllocError>
-    ensures { IfOk result (λ t. cow_str_bytes t ≡ mirrored_within (D.class_of source.now) (D.mirror_of source.now) w columns text.entry.now) }
+    ensures { IfOk result (λ t. cow_str_bytes t ≡ mirror_image_within (D.class_of source.now) (D.mirror_of source.now) w columns text.entry.now) }
 {
-    let other = mirrored(alloc, text, source)?;
+    let other = mirror_image(alloc, text, source)?;
     let found = face(other.as_str(), source, w);
     if is_own(found, columns) {
         Ok(CowStr::Owned(other))
@@ -142,7 +142,7 @@ fn shown_text<'a, D: BidiData>(
     if level % 2 == 0 {
         Ok(CowStr::Borrowed(text))
     } else {
-        mirrored_within(alloc, text, columns, source, w)
+        mirror_image_within(alloc, text, columns, source, w)
     }
 }
 
@@ -158,7 +158,7 @@ pub(crate) fn push_face<'a, D: BidiData>(
     w: u16,
 ) -> Result<(), AllocError>
     requires { HasLetter face }
-    ensures { OnOk result (map shown glyphs.new.items ≡ map shown glyphs.old.items ++ face_glyphs (D.class_of source.now) (D.mirror_of source.now) w text.entry.now face columns level) }
+    ensures { OnOk result (map glyph_of glyphs.new.items ≡ map glyph_of glyphs.old.items ++ face_glyphs (D.class_of source.now) (D.mirror_of source.now) w text.entry.now face columns level) }
 {
     match face {
         Face::Tab => push_blanks(glyphs, columns),

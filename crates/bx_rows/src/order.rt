@@ -2,7 +2,7 @@
 ghost use Rattle.std.specs.Prelude.{◌≡◌, ◌≤◌, ◌<◌, ◌++◌, ◌∷◌, All, length, drop, IfOk, map};
 ghost use Rattle.std.specs.List.{enumerate_from};
 ghost use Rattle.bx_rows.specs.VisualOrder.{visual};
-ghost use Rattle.bx_rows.specs.Ordered.{IsRun, joined, ordered};
+ghost use Rattle.bx_rows.specs.Ordered.{IsRun, around, order_of};
 
 use crate::error::RowError;
 use std::alloc::{AllocError, Global};
@@ -37,7 +37,7 @@ fn join(
     before: VecDeque<(usize, u8)>,
     after: VecDeque<(usize, u8)>,
 ) -> Result<VecDeque<(usize, u8)>, AllocError>
-    ensures { IfOk result (λ q. q.items ≡ joined unit before.items after.items) }
+    ensures { IfOk result (λ q. q.items ≡ around unit before.items after.items) }
 {
     if unit.1 % 2 == 0 {
         surround(before, unit, after)
@@ -74,7 +74,7 @@ fn order_run(
 /// The units in their order, each with its level.
 #[tactic(auto, using(crate::proofs::Growth::whole))]
 fn order_units(alloc: Global, levels: &[u8]) -> Result<VecDeque<(usize, u8)>, AllocError>
-    ensures { IfOk result (λ q. q.items ≡ ordered (enumerate_from 0 levels.now)) }
+    ensures { IfOk result (λ q. q.items ≡ order_of (enumerate_from 0 levels.now)) }
 {
     let (run, _) = order_run(alloc, levels, 0, 0)?;
     Ok(run)

@@ -3,8 +3,8 @@ ghost use Rattle.std.specs.Prelude.{◌≡◌, ◌≤◌, ◌<◌, ◌+◌, ◌+
 ghost use Rattle.std.specs.Cow.{cow_str_bytes};
 ghost use Rattle.bx_terms.specs.Glyphs.{is_one_glyph};
 ghost use Rattle.bx_cells.specs.Units.{HasFace, StandsIn};
-ghost use Rattle.bx_rows.specs.RowPicture.{draw, unit_columns, unit_glyphs, used};
-ghost use Rattle.bx_rows.specs.Shown.{IsRowOf, shown};
+ghost use Rattle.bx_rows.specs.RowPicture.{draw, unit_columns, unit_glyphs, columns_used};
+ghost use Rattle.bx_rows.specs.Shown.{IsRowOf, glyph_of};
 ghost use Rattle.bx_rows.specs.VisualOrder.{visual};
 ghost use Rattle.bx_rows.specs.Wrapping.{row_units};
 
@@ -20,10 +20,10 @@ use std::alloc::{AllocError, Global};
 
 /// The columns of each unit of a row, and all of them together.
 fn unit_columns(alloc: Global, units: &[Unit], w: u16) -> Result<(Vec<u16>, u16), AllocError>
-    requires { used w units.now ≤ w }
+    requires { columns_used w units.now ≤ w }
     ensures columns { IfOk result (λ r. r.0.items ≡ unit_columns w 0 units.now) }
     ensures count { IfOk result (λ r. length r.0.items ≡ length units.now) }
-    ensures used { IfOk result (λ r. r.1 ≡ used w units.now) }
+    ensures used { IfOk result (λ r. r.1 ≡ columns_used w units.now) }
 {
     let mut columns = Vec::with_capacity(alloc, units.len())?;
     let mut c = 0;
@@ -52,7 +52,7 @@ fn push_units<'a, D: BidiData>(
     requires columns { length columns.now ≡ length units.now }
     requires levels { length levels.now ≡ length units.now }
     requires order { All (λ k. k < length units.now) order.now }
-    ensures { OnOk result (map shown glyphs.new.items ≡ map shown glyphs.old.items ++ flat_map (λ k. slice_index_or (unit_glyphs (D.class_of source.now) (D.mirror_of source.now) w body.entry.now units.now columns.now levels.now) k []) order.now) }
+    ensures { OnOk result (map glyph_of glyphs.new.items ≡ map glyph_of glyphs.old.items ++ flat_map (λ k. slice_index_or (unit_glyphs (D.class_of source.now) (D.mirror_of source.now) w body.entry.now units.now columns.now levels.now) k []) order.now) }
 {
     for number in order {
         let unit = units[*number];
@@ -82,9 +82,9 @@ fn row_glyphs<'a, D: BidiData>(
 ) -> Result<Vec<Drawn<'a>>, RowError>
     requires stand { All (StandsIn body.now) units.now }
     requires faces { All (HasFace (D.class_of source.now) w body.now) units.now }
-    requires used { used w units.now ≤ w }
+    requires used { columns_used w units.now ≤ w }
     requires levels { length levels.now ≡ length units.now }
-    ensures { IfOk result (λ v. map shown v.items ≡ draw (D.class_of source.now) (D.mirror_of source.now) w body.entry.now paragraph units.now levels.now) }
+    ensures { IfOk result (λ v. map glyph_of v.items ≡ draw (D.class_of source.now) (D.mirror_of source.now) w body.entry.now paragraph units.now levels.now) }
 {
     let (columns, used) = unit_columns(alloc, units, w)?;
     let order = visual(alloc, levels)?;
@@ -136,7 +136,7 @@ pub fn draw<'a, D: BidiData>(
     requires faces { All (HasFace (D.class_of source.now) w body.now) units.now }
     requires row { IsRowOf w units.now row }
     requires levels { length levels.now ≡ length (row_units units.now row) }
-    ensures picture { IfOk result (λ p. map shown p.glyphs.items ≡ draw (D.class_of source.now) (D.mirror_of source.now) w body.entry.now paragraph (row_units units.now row) levels.now) }
+    ensures picture { IfOk result (λ p. map glyph_of p.glyphs.items ≡ draw (D.class_of source.now) (D.mirror_of source.now) w body.entry.now paragraph (row_units units.now row) levels.now) }
     ensures glyphs { IfOk result (λ p. All (λ g. is_one_glyph (cow_str_bytes g.text) ≡ true) p.glyphs.items) }
     ensures columns { IfOk result (λ p. sum_by (λ g. g.columns) p.glyphs.items ≡ w) }
 {

@@ -2,7 +2,7 @@
 ghost use Rattle.std.specs.Prelude.{◌≡◌, ◌≤◌, ◌++◌, All, IfOk, OnOk, chars, flat_map, length, map};
 ghost use Rattle.std.specs.List.{zip};
 ghost use Rattle.bx_cells.specs.Units.{StandsIn, unit_chars};
-ghost use Rattle.bx_rows.specs.RowLevels.{chars_before, filled, first_level, is_segment_separator, is_trailing, l1, level_at, row_levels, trails, unit_levels};
+ghost use Rattle.bx_rows.specs.RowLevels.{chars_before, levels_or_before, first_level, is_segment_separator, is_trailing, l1, level_at, row_levels, trails, unit_levels};
 ghost use Rattle.bx_rows.specs.Wrapping.{row_units};
 
 use crate::error::RowError;
@@ -13,7 +13,7 @@ use bx_ucd::{BidiData, Class};
 use std::alloc::{AllocError, Global};
 
 /// What L1 sees of a character: its class, and its level unless X9 removes it.
-type Leveled = (Class, Option<u8>);
+type CharLevel = (Class, Option<u8>);
 
 /// Whether L1 resets a character of a class wherever it stands.
 fn is_segment_separator(class: Class) -> bool
@@ -33,7 +33,7 @@ fn is_trailing(class: Class) -> bool
 }
 
 /// Whether a character and those behind it trail, given whether those behind it do.
-fn trails(c: Leveled, after: bool) -> bool
+fn trails(c: CharLevel, after: bool) -> bool
     ensures { result ≡ trails c after }
 {
     match c.1 {
@@ -43,7 +43,7 @@ fn trails(c: Leveled, after: bool) -> bool
 }
 
 /// The level of a character, given whether it trails.
-fn level_at(paragraph: u8, c: Leveled, trailing: bool) -> Option<u8>
+fn level_at(paragraph: u8, c: CharLevel, trailing: bool) -> Option<u8>
     ensures { result ≡ level_at paragraph c trailing }
 {
     match c.1 {
@@ -54,7 +54,7 @@ fn level_at(paragraph: u8, c: Leveled, trailing: bool) -> Option<u8>
 
 /// L1: the levels of a row's characters. It reads them once, from the right end.
 #[tactic(auto, using(crate::proofs::Resets::trails_before, crate::proofs::Resets::l1_before))]
-fn l1(alloc: Global, chars: &[Leveled], paragraph: u8) -> Result<Vec<Option<u8>>, AllocError>
+fn l1(alloc: Global, chars: &[CharLevel], paragraph: u8) -> Result<Vec<Option<u8>>, AllocError>
     ensures { IfOk result (λ v. v.items ≡ l1 paragraph chars.now) }
 {
     let mut levels = Vec::with_capacity(alloc, chars.len())?;
@@ -105,7 +105,7 @@ fn with_levels(
     alloc: Global,
     classes: &[Class],
     each: &[Option<u8>],
-) -> Result<Vec<Leveled>, AllocError>
+) -> Result<Vec<CharLevel>, AllocError>
     ensures { IfOk result (λ v. v.items ≡ zip classes.now each.now) }
 {
     classes
@@ -156,7 +156,7 @@ fn first_level(levels: &[Option<u8>]) -> Option<u8>
 }
 
 /// The level of each unit: that of its first kept character, else that of the unit before it.
-fn filled(
+fn levels_or_before(
     alloc: Global,
     body: &str,
     units: &[Unit],
@@ -164,7 +164,7 @@ fn filled(
     paragraph: u8,
 ) -> Result<Vec<u8>, AllocError>
     requires { All (StandsIn body.now) units.now }
-    ensures { IfOk result (λ v. v.items ≡ filled paragraph (unit_levels (map (λ u. length (unit_chars body.now u)) units.now) levels.now)) }
+    ensures { IfOk result (λ v. v.items ≡ levels_or_before paragraph (unit_levels (map (λ u. length (unit_chars body.now u)) units.now) levels.now)) }
 {
     let mut found = Vec::with_capacity(alloc, units.len())?;
     let mut rest = levels;
@@ -199,7 +199,7 @@ fn each_level<D: BidiData>(
     let classes = row_classes(alloc, body, units, source)?;
     let chars = with_levels(alloc, &classes, &each[first..])?;
     let reset = l1(alloc, &chars, levels.paragraph)?;
-    filled(alloc, body, units, &reset, levels.paragraph)
+    levels_or_before(alloc, body, units, &reset, levels.paragraph)
 }
 
 /// The levels of a row's units, by L1: the row's end counts, not the paragraph's. A unit has the level of its first

@@ -2,7 +2,7 @@
 ghost use Rattle.std.specs.Prelude.{◌≡◌, ◌≤◌, All, IfOk, length};
 ghost use Rattle.bx_cells.specs.Units.{StandsIn};
 ghost use Rattle.bx_rows.specs.Shown.{IsRowOf};
-ghost use Rattle.bx_rows.specs.Wrapping.{columns_at, fitting, is_blank, is_break, up_to_last, row_len, wrap};
+ghost use Rattle.bx_rows.specs.Wrapping.{columns_at, fit_count, is_blank, is_break, up_to_last, row_len, wrap};
 
 use crate::error::RowError;
 use crate::row::Row;
@@ -25,8 +25,8 @@ pub(crate) fn columns_at(w: u16, c: u16, face: Face) -> u16
 
 /// How many of the units fit in one row.
 #[tactic(auto, using(crate::proofs::Wraps::fits_more, crate::proofs::Wraps::fits_no_more, crate::proofs::Wraps::fits_full, crate::proofs::Wraps::fits_all))]
-fn fitting(units: &[Unit], w: u16) -> usize
-    ensures fitting { result ≡ fitting w units.now }
+fn fit_count(units: &[Unit], w: u16) -> usize
+    ensures fit_count { result ≡ fit_count w units.now }
     ensures within { result ≤ length units.now }
 {
     let mut c: u16 = 0;
@@ -87,7 +87,7 @@ fn row_len<D: BidiData>(body: &str, units: &[Unit], source: &D, w: u16) -> usize
     ensures row { result ≡ row_len (is_break (D.class_of source.now) body.now) w units.now }
     ensures within { result ≤ length units.now }
 {
-    let n = fitting(units, w);
+    let n = fit_count(units, w);
     if n == units.len() {
         return n;
     }

@@ -12,7 +12,7 @@ use Rattle.bx_grid.specs.Columns.{is_ascii_printable}
 use Rattle.bx_grid.proofs.Laid.{plain_is_one, blank_next, laid_next}
 use Rattle.bx_grid.proofs.Reading.{and_left, and_right}
 use Rattle.bx_session.specs.Editor.{EditorState}
-use Rattle.bx_session.specs.Rows.{filled, rows_columns, row_columns, shown_height, picture, blank_image, text_image}
+use Rattle.bx_session.specs.Rows.{row_of_text, rows_columns, row_columns, shown_height, picture, blank_image, text_image}
 
 -- ---- one glyph more
 
@@ -98,29 +98,29 @@ at_most : (n : ℕ) (xs : List ℕ) → length (take n xs) ≤ n
 at_most n xs = omega (arith, length-take n xs)
 
 -- so many rows of a text are its characters one after another, and blanks
-pub rows_filled : (w count : ℕ) (text : List ℕ) → rows_columns w count text ≡ filled (count * w) (take (count * w) text)
-rows_filled w zero text = let none : 0 * w ≡ 0 = omega arith in rw none refl
-rows_filled w (suc count) text =
+pub rows_of_text : (w count : ℕ) (text : List ℕ) → rows_columns w count text ≡ row_of_text (count * w) (take (count * w) text)
+rows_of_text w zero text = let none : 0 * w ≡ 0 = omega arith in rw none refl
+rows_of_text w (suc count) text =
     let k : ℕ = count * w in
     let more : suc count * w ≡ w + count * w = omega arith in
     rw more
-    (ap (λ xs. row_columns w (take w text) ++ xs) (rows_filled w count (drop w text))
+    (ap (λ xs. row_columns w (take w text) ++ xs) (rows_of_text w count (drop w text))
     ∙ joined (take w text) (take (count * w) (drop w text)) w (count * w) (at_most w text) (at_most (count * w) (drop w text))
     (full_or_last w (count * w) text (nat_le w (length text)) refl)
-    ∙ ap (filled (w + count * w)) (sym (take-add w (count * w) text)))
+    ∙ ap (row_of_text (w + count * w)) (sym (take-add w (count * w) text)))
 
 -- blank rows after them
-pub filled_more : (a b : ℕ) (text : List ℕ) → length text ≤ a → filled (a + b) text ≡ filled a text ++ blanks b
+pub filled_more : (a b : ℕ) (text : List ℕ) → length text ≤ a → row_of_text (a + b) text ≡ row_of_text a text ++ blanks b
 filled_more a b text fits =
     let e : (a + b) - length text ≡ (a - length text) + b = omega arith in
     rw e (ap (λ xs. run text ++ xs) (sym (replicate-append-replicate (a - length text) b blank))
     ∙ sym (append_assoc (run text) (blanks (a - length text)) (blanks b)))
 
 pub text_columns : (h t w : ℕ) (text : List ℕ) → t ≤ h
-    → filled (h * w) (take (t * w) text) ≡ rows_columns w t text ++ blanks ((h - t) * w)
+    → row_of_text (h * w) (take (t * w) text) ≡ rows_columns w t text ++ blanks ((h - t) * w)
 text_columns h t w text le =
     let split : h * w ≡ t * w + (h - t) * w = ap (λ n. n * w) (let e : h ≡ t + (h - t) = omega arith in e) ∙ omega arith in
-    rw split (filled_more (t * w) ((h - t) * w) (take (t * w) text) (at_most (t * w) text) ∙ ap (λ xs. xs ++ blanks ((h - t) * w)) (sym (rows_filled w t text)))
+    rw split (filled_more (t * w) ((h - t) * w) (take (t * w) text) (at_most (t * w) text) ∙ ap (λ xs. xs ++ blanks ((h - t) * w)) (sym (rows_of_text w t text)))
 
 shown_at_most : (h : ℕ) (more : Bool) → nat_le 2 h ≡ more → 1 ≤ h → (if more then h - 1 else 1) ≤ h
 shown_at_most h true e low = omega arith

@@ -5,14 +5,14 @@ use Rattle.std.specs.Fmt.{digits}
 use Rattle.bx_grid.specs.Columns.{Col, Glyph, blank}
 use Rattle.bx_session.specs.declared.error.OpenError.TheVariants.{NotYet, SizeOutOfRange}
 use Rattle.bx_session.specs.Opening.{opened_session, refusal}
-use Rattle.bx_session.specs.Session.{SessionState, fed, shown_picture}
+use Rattle.bx_session.specs.Session.{SessionState, after_byte, shown_picture}
 
 abbrev g : ℕ → Col
 g b = Glyph (b ∷ []) 1 0 false
 
 abbrev after : SessionState → List ℕ → SessionState
 after s [] = s
-after s (b ∷ bs) = after (fed s b) bs
+after s (b ∷ bs) = after (after_byte s b) bs
 
 pub one_key_and_its_erasure : (after (opened_session (codes "ab") 1 5) (0x78 ∷ 0x7F ∷ [])).pending
     ≡ codes "\u{1b}[0m\u{1b}[2J\u{1b}[1;1Hab\u{1b}[1;1H\u{1b}[0m\u{1b}[2J\u{1b}[1;1Hxab\u{1b}[1;2H\u{1b}[0m\u{1b}[2J\u{1b}[1;1Hab\u{1b}[1;1H"

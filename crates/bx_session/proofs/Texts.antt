@@ -24,9 +24,9 @@ printable-append : (xs ys : List ℕ) → list_all is_ascii_printable xs ≡ tru
     → list_all is_ascii_printable (xs ++ ys) ≡ true
 printable-append xs ys h k = rw (list_all-append is_ascii_printable xs ys, h, k) refl
 
-pub IsEditor-typed : (e : EditorState) (b : ℕ) → IsEditor e → is_ascii_printable b ≡ true → length e.text < largest_text
+pub IsEditor-after_typing : (e : EditorState) (b : ℕ) → IsEditor e → is_ascii_printable b ≡ true → length e.text < largest_text
     → IsEditor (record e { text = insert e.text e.place b; place = e.place + 1; changed = true; quit_before = false })
-IsEditor-typed e b h p room =
+IsEditor-after_typing e b h p room =
     let count = length-insert e.text e.place b h.inside in
     record {
       inside = omega (arith, count, h.inside);
@@ -36,9 +36,9 @@ IsEditor-typed e b h p room =
       sized = h.sized;
     }
 
-pub IsEditor-erased : (e : EditorState) (place : ℕ) → IsEditor e → place + 1 ≡ e.place
+pub IsEditor-after_erasing : (e : EditorState) (place : ℕ) → IsEditor e → place + 1 ≡ e.place
     → IsEditor (record e { text = remove e.text place; place = place; changed = true; quit_before = false })
-IsEditor-erased e place h before =
+IsEditor-after_erasing e place h before =
     let count = length-remove e.text place (omega (arith, h.inside)) in
     record {
       inside = omega (arith, count, h.inside);

@@ -10,8 +10,8 @@ use Rattle.bx_session.specs.declared.status.Status.{Status}
 use Rattle.bx_session.specs.declared.error.Refused.{Refused}
 use Rattle.bx_session.specs.declared.error.Refused.TheVariants.{Edit, Paint}
 use Rattle.bx_session.specs.Rows.{top_row, picture}
-use Rattle.bx_session.specs.Session.{SessionState, Feeds, repainted, key_applied, key_of_byte, byte_applied, is_idle}
-use Rattle.bx_session.specs.Running.{Answered, bytes_of, FeedsAll, FedUntilEnd, HasRead, Sent, HasRun}
+use Rattle.bx_session.specs.Session.{SessionState, Feeds, with_painting, session_after_key, key_of_byte, unpainted_after_byte, is_idle}
+use Rattle.bx_session.specs.Running.{ByteAnswer, bytes_of, FeedsAll, FedUntilEnd, HasRead, Sent, HasRun}
 
 -- ---- what was pending before does not matter
 
@@ -19,53 +19,53 @@ use Rattle.bx_session.specs.Running.{Answered, bytes_of, FeedsAll, FedUntilEnd, 
 abbrev pub prefixed : List ℕ → SessionState → SessionState
 prefixed p s = record s { pending = p ++ s.pending }
 
-repainted-prefixed : (p : List ℕ) (s : SessionState) → repainted (prefixed p s) ≡ prefixed p (repainted s)
-repainted-prefixed p s =
+with_painting-prefixed : (p : List ℕ) (s : SessionState) → with_painting (prefixed p s) ≡ prefixed p (with_painting s)
+with_painting-prefixed p s =
     let top = top_row s.editor s.top in
     ap (λ (q : List ℕ). record s { top = top; painting_owed = false; pending = q }) (append_assoc p s.pending (whole_bytes (picture s.editor top)))
 
-key_applied-prefixed : (p : List ℕ) (s : SessionState) (key : Option Key) → key_applied (prefixed p s) key ≡ prefixed p (key_applied s key)
-key_applied-prefixed p s None = refl
-key_applied-prefixed p s (Some key) = refl
+session_after_key-prefixed : (p : List ℕ) (s : SessionState) (key : Option Key) → session_after_key (prefixed p s) key ≡ prefixed p (session_after_key s key)
+session_after_key-prefixed p s None = refl
+session_after_key-prefixed p s (Some key) = refl
 
 fed_either : (idle : Bool) (p : List ℕ) (s : SessionState) (b : ℕ)
-    → (if idle then prefixed p s else repainted (byte_applied (prefixed p s) b)) ≡ prefixed p (if idle then s else repainted (byte_applied s b))
+    → (if idle then prefixed p s else with_painting (unpainted_after_byte (prefixed p s) b)) ≡ prefixed p (if idle then s else with_painting (unpainted_after_byte s b))
 fed_either true p s b = refl
-fed_either false p s b = ap repainted (key_applied-prefixed p s (key_of_byte s b)) ∙ repainted-prefixed p (byte_applied s b)
+fed_either false p s b = ap with_painting (session_after_key-prefixed p s (key_of_byte s b)) ∙ with_painting-prefixed p (unpainted_after_byte s b)
 
 Feeds-prefixed : (p : List ℕ) (s : SessionState) (b : ℕ) (a : Result Status Refused) (s' : SessionState) → Feeds s b a s'
     → Feeds (prefixed p s) b a (prefixed p s')
 Feeds-prefixed p s b (Ok status) s' h = (ap (prefixed p) h.0 ∙ sym (fed_either (is_idle s b) p s b), h.1)
 Feeds-prefixed p s b (Err Edit) s' h = (ap (prefixed p) h.0, h.1)
 Feeds-prefixed p s b (Err Paint) s' h =
-    (ap (prefixed p) h.0 ∙ ap (λ (x : SessionState). record x { painting_owed = true }) (sym (key_applied-prefixed p s (key_of_byte s b))), h.1)
+    (ap (prefixed p) h.0 ∙ ap (λ (x : SessionState). record x { painting_owed = true }) (sym (session_after_key-prefixed p s (key_of_byte s b))), h.1)
 
-FeedsAll-prefixed : (p : List ℕ) (s : SessionState) (answered : List Answered) (s' : SessionState) → FeedsAll s answered s'
+FeedsAll-prefixed : (p : List ℕ) (s : SessionState) (answered : List ByteAnswer) (s' : SessionState) → FeedsAll s answered s'
     → FeedsAll (prefixed p s) answered (prefixed p s')
 FeedsAll-prefixed p s [] s' h = ap (prefixed p) h
 FeedsAll-prefixed p s (a ∷ answered) s' h =
     (prefixed p h.0, h.1, Feeds-prefixed p s a.0 a.1 h.0 h.2, FeedsAll-prefixed p h.0 answered s' h.3)
 
-FeedsAll-append : (s : SessionState) (first second : List Answered) (m s' : SessionState) → FeedsAll s first m → FeedsAll m second s'
+FeedsAll-append : (s : SessionState) (first second : List ByteAnswer) (m s' : SessionState) → FeedsAll s first m → FeedsAll m second s'
     → FeedsAll s (first ++ second) s'
 FeedsAll-append s [] second m s' h k = subst (λ (x : SessionState). FeedsAll x second s') h k
 FeedsAll-append s (a ∷ first) second m s' h k = (h.0, h.1, h.2, FeedsAll-append h.0 first second m s' h.3 k)
 
 -- ---- turns
 
-pub record Fed (old : SessionState) (bytes : List ℕ) (i : ℕ) (now : SessionState) (answered : List Answered) : Type 0 where
+pub record Fed (old : SessionState) (bytes : List ℕ) (i : ℕ) (now : SessionState) (answered : List ByteAnswer) : Type 0 where
   pub so_far : bytes_of answered ≡ take i bytes
   pub feeds : FeedsAll old answered now
 
-pub fed_more : (old now new : SessionState) (bytes : List ℕ) (i b : ℕ) (a : Result Status Refused) (answered : List Answered)
+pub fed_more : (old now new : SessionState) (bytes : List ℕ) (i b : ℕ) (a : Result Status Refused) (answered : List ByteAnswer)
     → Fed old bytes i now answered → now.editor.ended ≡ false → Feeds now b a new → take (i + 1) bytes ≡ take i bytes ++ b ∷ []
     → Fed old bytes (i + 1) new (answered ++ (b, a) ∷ [])
 fed_more old now new bytes i b a answered before running feeds more = record {
-  so_far = map-append (λ (x : Answered). x.0) answered ((b, a) ∷ []) ∙ ap (λ xs. xs ++ b ∷ []) before.so_far ∙ sym more;
+  so_far = map-append (λ (x : ByteAnswer). x.0) answered ((b, a) ∷ []) ∙ ap (λ xs. xs ++ b ∷ []) before.so_far ∙ sym more;
   feeds = FeedsAll-append old answered ((b, a) ∷ []) now new before.feeds (new, running, feeds, refl);
 }
 
-pub fed_until : (old now : SessionState) (bytes : List ℕ) (i : ℕ) (answered : List Answered) → Fed old bytes i now answered
+pub fed_until : (old now : SessionState) (bytes : List ℕ) (i : ℕ) (answered : List ByteAnswer) → Fed old bytes i now answered
     → (drop i bytes ≢ [] → now.editor.ended ≡ true) → FedUntilEnd old bytes now answered (drop i bytes)
 fed_until old now bytes i answered before ended = record {
   all = sym (take-append-drop i bytes) ∙ ap (λ xs. xs ++ drop i bytes) (sym before.so_far);
@@ -118,7 +118,7 @@ none_dropped : (dropped : List ℕ) (ended : Bool) → (dropped ≢ [] → ended
 none_dropped [] ended h running = refl
 none_dropped (x ∷ dropped) ended h running = absurd (let e : ended ≡ true = h (λ q. absurd (cc q)) in cc e)
 
-pub turned : (old s s2 s3 : SessionState) (r r1 r2 w w1 w2 : Option (List ℕ)) (answered answered' : List Answered)
+pub turned : (old s s2 s3 : SessionState) (r r1 r2 w w1 w2 : Option (List ℕ)) (answered answered' : List ByteAnswer)
     (dropped dropped' written written' bytes : List ℕ) (all : SessionState)
     → HasRun old s r r1 w w1 answered dropped written all → s.pending ≡ [] → s.editor.ended ≡ false → Consumes r1 r2 bytes
     → FedUntilEnd s bytes s2 answered' dropped' → Sent s2 s3 w1 w2 written'
@@ -133,7 +133,7 @@ turned old s s2 s3 r r1 r2 w w1 w2 answered answered' dropped dropped' written w
     ∙ ap (λ xs. xs ++ bytes) (append-nil (bytes_of answered))
     ∙ ap (λ xs. bytes_of answered ++ xs) feeds.all
     ∙ sym (append_assoc (bytes_of answered) (bytes_of answered') dropped')
-    ∙ ap (λ xs. xs ++ dropped') (sym (map-append (λ (x : Answered). x.0) answered answered')) in
+    ∙ ap (λ xs. xs ++ dropped') (sym (map-append (λ (x : ByteAnswer). x.0) answered answered')) in
     let kept : all.pending ≡ written = run.order ∙ ap (λ xs. written ++ xs) empty ∙ append-nil written in
     record {
       feeds = FeedsAll-append old answered answered' all (prefixed all.pending s2) run.feeds
@@ -146,7 +146,7 @@ turned old s s2 s3 r r1 r2 w w1 w2 answered answered' dropped dropped' written w
     }
 
 -- a reader that failed has given nothing
-pub run_kept : (old s : SessionState) (r r1 r2 w w1 : Option (List ℕ)) (answered : List Answered) (dropped written : List ℕ) (all : SessionState)
+pub run_kept : (old s : SessionState) (r r1 r2 w w1 : Option (List ℕ)) (answered : List ByteAnswer) (dropped written : List ℕ) (all : SessionState)
     → HasRun old s r r1 w w1 answered dropped written all → Keeps r1 r2 → HasRun old s r r2 w w1 answered dropped written all
 run_kept old s r r1 r2 w w1 answered dropped written all run k = record {
   feeds = run.feeds;

@@ -53,15 +53,15 @@ abbrev pub quiet : EditorState → EditorState
 quiet e = record e { quit_before = false }
 
 -- the character at the place, unless the text is as long as may be
-abbrev pub typed : EditorState → ℕ → EditorState
-typed e b =
+abbrev pub after_typing : EditorState → ℕ → EditorState
+after_typing e b =
     if nat_lt (length e.text) largest_text
     then record (quiet e) { text = insert e.text e.place b; place = e.place + 1; changed = true }
     else quiet e
 
 -- the character before the place goes; at the start there is none
-abbrev pub erased : EditorState → EditorState
-erased e =
+abbrev pub after_erasing : EditorState → EditorState
+after_erasing e =
     if e.place == 0
     then quiet e
     else record (quiet e) { text = remove e.text (e.place - 1); place = e.place - 1; changed = true }
@@ -70,10 +70,10 @@ erased e =
 abbrev pub quit : EditorState → EditorState
 quit e = record e { quit_before = true; ended = not e.changed || e.quit_before }
 
-abbrev pub applied : EditorState → Key → EditorState
-applied e (Insert b) = typed e b
-applied e Erase = erased e
-applied e Quit = quit e
+abbrev pub after_key : EditorState → Key → EditorState
+after_key e (Insert b) = after_typing e b
+after_key e Erase = after_erasing e
+after_key e Quit = quit e
 
 -- a key that may need memory to be applied
 abbrev pub is_insert : Key → Bool

@@ -5,10 +5,10 @@ use Rattle.bx_grid.specs.Picture.{is_size}
 use Rattle.bx_session.specs.declared.error.OpenError.{OpenError}
 use Rattle.bx_session.specs.declared.error.OpenError.TheVariants.{TooLong, NotYet, SizeOutOfRange}
 use Rattle.bx_session.specs.Editor.{at_start, largest_text}
-use Rattle.bx_session.specs.Session.{SessionState, repainted}
+use Rattle.bx_session.specs.Session.{SessionState, with_painting}
 
 abbrev pub opened_session : List ℕ → ℕ → ℕ → SessionState
-opened_session bytes height width = repainted (record { editor = at_start bytes height width; top = 0; painting_owed = false; pending = [] })
+opened_session bytes height width = with_painting (record { editor = at_start bytes height width; top = 0; painting_owed = false; pending = [] })
 
 abbrev pub refused_size : ℕ → ℕ → Option OpenError
 refused_size height width = if is_size height width then None else Some SizeOutOfRange

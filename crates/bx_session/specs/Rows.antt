@@ -60,5 +60,5 @@ pub record ShowsCursor (e : EditorState) (top : ℕ) : Type 0 where
   pub below : row_of e.width e.text e.place < top + shown_height e.height
 
 -- so many columns, the first of them these characters
-abbrev pub filled : ℕ → List ℕ → List Col
-filled count text = plain_columns false text ++ replicate (count - length text) blank
+abbrev pub row_of_text : ℕ → List ℕ → List Col
+row_of_text count text = plain_columns false text ++ replicate (count - length text) blank

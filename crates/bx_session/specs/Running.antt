@@ -10,20 +10,20 @@ use Rattle.bx_session.specs.declared.end.RunFault.TheVariants.{ReadFault, WriteF
 use Rattle.bx_session.specs.Session.{SessionState, Feeds}
 
 -- a byte, and what it was answered
-abbrev pub Answered : Type 0
-Answered = ℕ × Result Status Refused
+abbrev pub ByteAnswer : Type 0
+ByteAnswer = ℕ × Result Status Refused
 
-abbrev pub bytes_of : List Answered → List ℕ
+abbrev pub bytes_of : List ByteAnswer → List ℕ
 bytes_of answered = map (λ a. a.0) answered
 
 -- the session after these bytes, all fed before its end; nothing of what is pending is taken
-abbrev pub FeedsAll : SessionState → List Answered → SessionState → Type 0
+abbrev pub FeedsAll : SessionState → List ByteAnswer → SessionState → Type 0
 FeedsAll old [] new = new ≡ old
 FeedsAll old (a ∷ answered) new =
     (mid : SessionState) × (old.editor.ended ≡ false) × Feeds old a.0 a.1 mid × FeedsAll mid answered new
 
 -- bytes were fed up to the session's end, and the others dropped
-pub record FedUntilEnd (old : SessionState) (bytes : List ℕ) (new : SessionState) (answered : List Answered) (dropped : List ℕ) : Type 0 where
+pub record FedUntilEnd (old : SessionState) (bytes : List ℕ) (new : SessionState) (answered : List ByteAnswer) (dropped : List ℕ) : Type 0 where
   pub all : bytes ≡ bytes_of answered ++ dropped
   pub feeds : FeedsAll old answered new
   pub drops : dropped ≢ [] → new.editor.ended ≡ true
@@ -42,7 +42,7 @@ HasRead count reader reader' = (bytes : List ℕ) × (count ≤ length bytes) ×
 -- was written; `all` is the session if nothing had been, so what was pending at the start and all that was appended since
 -- is what was written and what is pending, in order
 pub record HasRun (old new : SessionState) (reader reader' writer writer' : Option (List ℕ))
-    (answered : List Answered) (dropped written : List ℕ) (all : SessionState) : Type 0 where
+    (answered : List ByteAnswer) (dropped written : List ℕ) (all : SessionState) : Type 0 where
   pub feeds : FeedsAll old answered all
   pub reads : Consumes reader reader' (bytes_of answered ++ dropped)
   pub drops : dropped ≢ [] → all.editor.ended ≡ true
@@ -52,7 +52,7 @@ pub record HasRun (old new : SessionState) (reader reader' writer writer' : Opti
 
 abbrev pub Runs : SessionState → SessionState → Option (List ℕ) → Option (List ℕ) → Option (List ℕ) → Option (List ℕ) → Type 0
 Runs old new reader reader' writer writer' =
-    (answered : List Answered) × (dropped : List ℕ) × (written : List ℕ) × (all : SessionState)
+    (answered : List ByteAnswer) × (dropped : List ℕ) × (written : List ℕ) × (all : SessionState)
     × HasRun old new reader reader' writer writer' answered dropped written all
 
 -- what the answer of a run says of the session after it and of the bytes that the reader has left

@@ -4,7 +4,7 @@ ghost use Rattle.std.specs.Prelude.{◌≡◌, ◌≤◌, ◌<◌, true, OnOk, O
 ghost use Rattle.std.specs.List.{list_all};
 ghost use Rattle.bx_grid.specs.Columns.{is_ascii_printable};
 ghost use Rattle.bx_grid.specs.Picture.{is_size};
-ghost use Rattle.bx_session.specs.Editor.{EditorState, IsEditor, at_start, largest_text, applied, typed, erased, quit, quiet, is_insert, IsTyped};
+ghost use Rattle.bx_session.specs.Editor.{EditorState, IsEditor, at_start, largest_text, after_key, after_typing, after_erasing, quit, quiet, is_insert, IsTyped};
 
 use crate::key::Key;
 use bx_terms::LARGEST_TEXT;
@@ -54,7 +54,7 @@ impl Editor {
 
     fn insert(&mut self, byte: u8) -> Result<(), AllocError>
         requires { is_ascii_printable byte ≡ true }
-        ensures ok { OnOk result (self.new ≡ typed self.old byte) }
+        ensures ok { OnOk result (self.new ≡ after_typing self.old byte) }
         ensures err { OnErr result (self.new ≡ self.old) }
     {
         if self.text.len() >= LARGEST_TEXT {
@@ -69,7 +69,7 @@ impl Editor {
     }
 
     fn erase(&mut self)
-        ensures { self.new ≡ erased self.old }
+        ensures { self.new ≡ after_erasing self.old }
     {
         if self.place == 0 {
             self.quit_before = false;
@@ -91,7 +91,7 @@ impl Editor {
     /// Applies a key. An error is want of memory for an insertion, and nothing has changed.
     pub fn apply(&mut self, key: Key) -> Result<(), AllocError>
         requires { IsTyped key }
-        ensures ok { OnOk result (self.new ≡ applied self.old key) }
+        ensures ok { OnOk result (self.new ≡ after_key self.old key) }
         ensures err { OnErr result (self.new ≡ self.old) }
         ensures inserts { OnErr result (is_insert key ≡ true) }
     {

@@ -4,7 +4,7 @@ ghost use Rattle.std.specs.Prelude.{◌≡◌, ◌<◌, ◌≤◌, ◌+◌, ◌-
 ghost use Rattle.std.specs.List.{list_all};
 ghost use Rattle.bx_grid.specs.Columns.{is_ascii_printable};
 ghost use Rattle.bx_grid.specs.Picture.{is_size};
-ghost use Rattle.bx_session.specs.Rows.{row_of, column_of, shown_height, top_row, picture, filled, ShowsCursor};
+ghost use Rattle.bx_session.specs.Rows.{row_of, column_of, shown_height, top_row, picture, row_of_text, ShowsCursor};
 
 use crate::editor::Editor;
 use crate::error::Refused;
@@ -42,7 +42,7 @@ fn text_grid(alloc: Global, height: u16, width: u16, text: &[u8]) -> Result<Grid
     requires sized { is_size height width ≡ true }
     requires room { length text.now ≤ height * width }
     requires printable { list_all is_ascii_printable text.now ≡ true }
-    ensures ok { IfOk result (λ g. g ≡ record { height = height; width = width; columns = filled (height * width) text.now }) }
+    ensures ok { IfOk result (λ g. g ≡ record { height = height; width = width; columns = row_of_text (height * width) text.now }) }
     ensures err { OnErr result (result ≡ Err Refused.Paint) }
 {
     let mut grid = Grid::blank(alloc, height, width)?;

@@ -1,7 +1,7 @@
 //! A session run over a reader and a writer.
 
 ghost use Rattle.std.specs.Prelude.{◌≡◌, ◌++◌, [], List, ℕ, OnOk, OnErr, IsErrOf};
-ghost use Rattle.bx_session.specs.Running.{Answered, FedUntilEnd, HasRead, Sent, Runs, EndsWith};
+ghost use Rattle.bx_session.specs.Running.{ByteAnswer, FedUntilEnd, HasRead, Sent, Runs, EndsWith};
 
 use crate::end::{End, RunFault};
 use crate::session::Session;
@@ -31,7 +31,7 @@ fn send<W: Write>(writer: &mut W, session: &mut Session) -> Result<(), RunFault>
 
 /// Feeds bytes until the session ends. A refused byte is spent like any other.
 fn feed_all(session: &mut Session, bytes: &[u8])
-    ensures { (answered : List Answered) × (dropped : List ℕ) × FedUntilEnd session.old bytes.now session.new answered dropped }
+    ensures { (answered : List ByteAnswer) × (dropped : List ℕ) × FedUntilEnd session.old bytes.now session.new answered dropped }
 {
     for byte in bytes {
         if session.ended() {

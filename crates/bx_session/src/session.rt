@@ -3,7 +3,7 @@
 ghost use Rattle.std.specs.Prelude.{◌≡◌, ◌≤◌, ◌+◌, ◌++◌, ◌∷◌, [], true, false, IfOk, IsOk, OnOk, OnErr, IfErr, IsErrOf, length, drop};
 ghost use Rattle.bx_paint.specs.Painting.{whole_bytes};
 ghost use Rattle.bx_session.specs.Rows.{picture, ShowsCursor};
-ghost use Rattle.bx_session.specs.Session.{SessionState, Feeds, PaintsWhole, Shown, is_idle, repainted, status_of};
+ghost use Rattle.bx_session.specs.Session.{SessionState, Feeds, PaintsWhole, Shown, is_idle, with_painting, status_of};
 
 use crate::editor::Editor;
 use crate::error::Refused;
@@ -77,7 +77,7 @@ impl Session {
     /// The top follows the cursor, and the picture is painted whole. An error is want of memory: top
     /// and queue are as before.
     pub(crate) fn paint(&mut self) -> Result<(), Refused>
-        ensures ok { OnOk result (self.new ≡ repainted self.old) }
+        ensures ok { OnOk result (self.new ≡ with_painting self.old) }
         ensures paints { OnOk result (PaintsWhole self.old.pending self.new) }
         ensures err { OnErr result (self.new ≡ self.old) }
         ensures memory { OnErr result (result ≡ Err Refused.Paint) }
@@ -93,7 +93,7 @@ impl Session {
     /// Errors: `Edit` where there was no memory to apply the key: nothing has changed. `Paint` where
     /// there was none to paint: the key was applied, and the queue is as before.
     pub fn feed(&mut self, byte: u8) -> Result<Status, Refused>
-        ensures fed { Feeds self.old byte result self.new }
+        ensures after_byte { Feeds self.old byte result self.new }
         ensures paints { is_idle self.old byte ≡ false → OnOk result (PaintsWhole self.old.pending self.new) }
         ensures refused { OnErr result (self.new.pending ≡ self.old.pending) }
 

@@ -20,8 +20,8 @@ fn isolates_nest(rt: HostRuntime) -> Result<(), Fail> {
     let found = sequences(rt.alloc(), &explicit)?;
     let mut shown = String::new(rt.alloc());
     for s in &found {
-        let (places, level) = (s.places(), s.level());
-        let row = format!(in rt.alloc(); "{places:?} {level} {:?} {:?};", s.sos(), s.eos())?;
+        let (indexes, level) = (s.indexes(), s.level());
+        let row = format!(in rt.alloc(); "{indexes:?} {level} {:?} {:?};", s.sos(), s.eos())?;
         shown.push_str(row.as_str())?;
     }
     assert_eq!(rt;

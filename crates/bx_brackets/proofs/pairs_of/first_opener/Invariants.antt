@@ -1,4 +1,4 @@
--- What is left of the search at place `i`.
+-- What is left of the search at index `i`.
 use Rattle.std.proofs.Common.{◌≡◌, ◌≤◌, ◌-◌, drop, length}
 use Rattle.bx_brackets.specs.Pairs.{pairs}
 use Rattle.bx_brackets.specs.Search.{pairs_from}

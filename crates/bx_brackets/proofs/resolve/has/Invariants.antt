@@ -1,4 +1,4 @@
--- The places of the range before `k` are clear.
+-- The indexes of the range before `k` are clear.
 use Rattle.std.proofs.Common.{◌≤◌, ◌-◌}
 use Rattle.bx_brackets.specs.Clear.{IsClear}
 use Rattle.bx_brackets.proofs.resolve.has.Given as goal

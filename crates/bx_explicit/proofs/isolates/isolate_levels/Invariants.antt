@@ -1,4 +1,4 @@
--- The levels of the texts after place `i`, and the answers from `i` on.
+-- The levels of the texts after index `i`, and the answers from `i` on.
 use Rattle.std.proofs.Common.{◌≡◌, ◌≤◌, ◌<◌, ◌+◌, ℕ, drop, length, get_or}
 use Rattle.bx_explicit.specs.ParagraphLevel.{isolate_level}
 use Rattle.bx_explicit.proofs.Texts.{texts}

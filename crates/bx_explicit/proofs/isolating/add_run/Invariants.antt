@@ -1,10 +1,10 @@
 -- What is added so far, and what is left to add.
 use Rattle.std.proofs.Common.{◌≡◌, ◌-◌, ◌++◌, drop, length}
-use Rattle.bx_explicit.specs.LevelPlaces.{level_places}
+use Rattle.bx_explicit.specs.LevelIndexes.{level_indexes}
 use Rattle.bx_explicit.proofs.isolating.add_run.Given as goal
 
 abbrev pub invariant-loop-k : goal.invariant-loop-k
-invariant-loop-k l = l.fn.places.items ++ level_places l.level l.first (drop l.first l.kept) ≡ l.places.items ++ level_places l.level l.k (drop l.k l.kept)
+invariant-loop-k l = l.fn.indexes.items ++ level_indexes l.level l.first (drop l.first l.kept) ≡ l.indexes.items ++ level_indexes l.level l.k (drop l.k l.kept)
 
 abbrev pub decreases-loop-k : goal.decreases-loop-k
 decreases-loop-k l = length l.kept - l.k

@@ -1,4 +1,4 @@
--- The run so far, before the runs from place `k` on, and nothing kept between.
+-- The run so far, before the runs from index `k` on, and nothing kept between.
 use Rattle.std.proofs.Common.{◌≡◌, ◌≤◌, ◌<◌, ◌+◌, ◌-◌, drop, length}
 use Rattle.bx_explicit.specs.Runs.{runs_from}
 use Rattle.bx_explicit.proofs.RunsAt.{extend}

@@ -1,4 +1,4 @@
--- Nothing before the place `first` is kept.
+-- Nothing before the index `first` is kept.
 use Rattle.std.proofs.Common.{◌≡◌, ◌≤◌, ◌-◌, drop, length}
 use Rattle.bx_explicit.specs.Runs.{runs_from}
 use Rattle.bx_explicit.proofs.runs.next_run.Given as goal

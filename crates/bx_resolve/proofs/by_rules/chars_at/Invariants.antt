@@ -3,4 +3,4 @@ use Rattle.bx_resolve.specs.Levels.{chars_at}
 use Rattle.bx_resolve.proofs.by_rules.chars_at.Given as goal
 
 abbrev pub invariant-loop-p : goal.invariant-loop-p
-invariant-loop-p l = l.found.items ≡ chars_at l.chars (take l.p-index l.places)
+invariant-loop-p l = l.found.items ≡ chars_at l.chars (take l.p-index l.indexes)

@@ -17,11 +17,11 @@ loop-sequence-preserved g c =
     let each : List (Option ℕ) = c.loop-sequence.each.items in
     let levels : c.deref-in-loop-sequence.result.now ≡ levels_in bracket chars kept s = c.deref-in-loop-sequence.ensures.value ∙ c.in_ok-levels.ensures
     ∙ ap (λ k. levels_in bracket chars k s) c.deref.ensures.value in
-    let new : c.write_levels.new.each.items ≡ with_levels s.places (levels_in bracket chars kept s) each = c.write_levels.ensures
-    ∙ ap (λ ps. with_levels ps c.deref-in-loop-sequence.result.now each) c.places.ensures ∙ ap (λ ls. with_levels s.places ls each) levels in
+    let new : c.write_levels.new.each.items ≡ with_levels s.indexes (levels_in bracket chars kept s) each = c.write_levels.ensures
+    ∙ ap (λ ps. with_levels ps c.deref-in-loop-sequence.result.now each) c.indexes.ensures ∙ ap (λ ls. with_levels s.indexes ls each) levels in
     record {
-      as_long = ap length new ∙ levels_length s.places (levels_in bracket chars kept s) each ∙ c.loop-sequence.invariant.as_long;
+      as_long = ap length new ∙ levels_length s.indexes (levels_in bracket chars kept s) each ∙ c.loop-sequence.invariant.as_long;
       written = c.loop-sequence.invariant.written ∙ sequences_more bracket chars kept ss each i s (omega arith)
-          ∙ ap (λ (x : RunSequence). with_sequences bracket chars kept (drop (i + 1) ss) (with_levels x.places (levels_in bracket chars kept x) each))
+          ∙ ap (λ (x : RunSequence). with_sequences bracket chars kept (drop (i + 1) ss) (with_levels x.indexes (levels_in bracket chars kept x) each))
           (sym c.sequence-item.is) ∙ ap (with_sequences bracket chars kept (drop (i + 1) ss)) (sym new);
     }

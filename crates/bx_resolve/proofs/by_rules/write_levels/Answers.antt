@@ -3,4 +3,4 @@ use Rattle.bx_resolve.proofs.Written.{levels_all}
 use Rattle.bx_resolve.proofs.by_rules.write_levels.Goals as goal
 
 pub returns : goal.returns
-returns c = sym (c.loop-i.invariant.written ∙ levels_all c.args.places.now c.args.levels.now c.loop-i.each.items c.loop-i.i (omega arith))
+returns c = sym (c.loop-i.invariant.written ∙ levels_all c.args.indexes.now c.args.levels.now c.loop-i.each.items c.loop-i.i (omega arith))

@@ -6,5 +6,5 @@ use Rattle.bx_resolve.proofs.by_rules.write_levels.Given as goal
 abbrev pub invariant-loop-i : goal.invariant-loop-i
 invariant-loop-i l = record {
   as_long : length l.each.items ≡ length l.fn.each.items;
-  written : with_levels l.places l.levels l.fn.each.items ≡ with_levels (drop l.i l.places) (drop l.i l.levels) l.each.items;
+  written : with_levels l.indexes l.levels l.fn.each.items ≡ with_levels (drop l.i l.indexes) (drop l.i l.levels) l.each.items;
 }

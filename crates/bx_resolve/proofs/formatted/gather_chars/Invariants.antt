@@ -1,12 +1,12 @@
 -- What is gathered so far, and what is left to gather.
 use Rattle.std.proofs.Common.{◌≡◌, ◌-◌, ◌++◌, drop, length}
-use Rattle.bx_explicit.specs.LevelPlaces.{level_places}
+use Rattle.bx_explicit.specs.LevelIndexes.{level_indexes}
 use Rattle.bx_resolve.specs.Levels.{chars_at}
 use Rattle.bx_resolve.proofs.formatted.gather_chars.Given as goal
 
 abbrev pub invariant-loop-k : goal.invariant-loop-k
-invariant-loop-k l = l.fn.found.items ++ chars_at l.chars (level_places l.level l.first (drop l.first l.kept))
-    ≡ l.found.items ++ chars_at l.chars (level_places l.level l.k (drop l.k l.kept))
+invariant-loop-k l = l.fn.found.items ++ chars_at l.chars (level_indexes l.level l.first (drop l.first l.kept))
+    ≡ l.found.items ++ chars_at l.chars (level_indexes l.level l.k (drop l.k l.kept))
 
 abbrev pub decreases-loop-k : goal.decreases-loop-k
 decreases-loop-k l = length l.kept - l.k

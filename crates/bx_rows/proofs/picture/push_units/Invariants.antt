@@ -2,11 +2,11 @@
 use Rattle.std.proofs.Common.{◌≡◌, ◌++◌, [], map, take}
 use Rattle.std.specs.Prelude.{flat_map, slice_index_or}
 use Rattle.bx_rows.specs.RowPicture.{unit_glyphs}
-use Rattle.bx_rows.specs.Shown.{shown}
+use Rattle.bx_rows.specs.Shown.{glyph_of}
 use Rattle.bx_rows.proofs.picture.push_units.Given as goal
 
 abbrev pub invariant-loop-number : goal.invariant-loop-number
 invariant-loop-number g l =
-    map shown l.glyphs.items ≡ map shown l.initial.glyphs.items
+    map glyph_of l.glyphs.items ≡ map glyph_of l.initial.glyphs.items
     ++ flat_map (λ k. slice_index_or (unit_glyphs (g.D.BidiData.class_of l.source) (g.D.BidiData.mirror_of l.source) l.w l.body l.units l.columns l.levels) k
     []) (take l.number-index l.order)

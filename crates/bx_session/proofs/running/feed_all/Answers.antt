@@ -19,7 +19,7 @@ loop-byte-preserved c =
     let h = c.loop-byte.invariant in (
       _,
       fed_more c.args.session.now c.loop-byte.session c.feed.new.self c.args.bytes.now c.loop-byte.byte-index _ c.feed.result h.0 h.1
-          (sym c.ended.ensures ∙ c.if-ended.false) c.feed.ensures.fed (take_more c.args.bytes.now c.loop-byte.byte-index 0 c.loop-byte-test.true),
+          (sym c.ended.ensures ∙ c.if-ended.false) c.feed.ensures.after_byte (take_more c.args.bytes.now c.loop-byte.byte-index 0 c.loop-byte-test.true),
     )
 
 pub returns : goal.returns

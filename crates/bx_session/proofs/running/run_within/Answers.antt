@@ -17,28 +17,28 @@ reads-init g c =
 pub returns-in_err-send-2-clause-runs : goal.returns-in_err-send-2-clause-runs
 returns-in_err-send-2-clause-runs g c =
     let run = c.reads.invariant.0 in
-    let fed = c.feed_all.ensures in
+    let after_byte = c.feed_all.ensures in
     let sent = c.send-in-reads.ensures.sent in (
-      run.0 ++ fed.0,
-      fed.1,
+      run.0 ++ after_byte.0,
+      after_byte.1,
       run.2 ++ sent.0,
       prefixed run.3.pending c.feed_all.new.session,
-      turned _ c.reads.session _ _ _ _ _ _ _ _ run.0 fed.0 run.1 fed.1 run.2 sent.0 _ run.3
-          run.4 c.reads.invariant.1 (sym c.ended.ensures ∙ c.if-ended.false) c.in-Ok.ensures.bytes.0 fed.2 sent.1,
+      turned _ c.reads.session _ _ _ _ _ _ _ _ run.0 after_byte.0 run.1 after_byte.1 run.2 sent.0 _ run.3
+          run.4 c.reads.invariant.1 (sym c.ended.ensures ∙ c.if-ended.false) c.in-Ok.ensures.bytes.0 after_byte.2 sent.1,
     )
 
 pub reads-preserved : goal.reads-preserved
 reads-preserved g c =
     let run = c.reads.invariant.0 in
-    let fed = c.feed_all.ensures in
+    let after_byte = c.feed_all.ensures in
     let sent = c.send-in-reads.ensures.sent in (
       (
-        run.0 ++ fed.0,
-        fed.1,
+        run.0 ++ after_byte.0,
+        after_byte.1,
         run.2 ++ sent.0,
         prefixed run.3.pending c.feed_all.new.session,
-        turned _ c.reads.session _ _ _ _ _ _ _ _ run.0 fed.0 run.1 fed.1 run.2 sent.0 _ run.3
-            run.4 c.reads.invariant.1 (sym c.ended.ensures ∙ c.if-ended.false) c.in-Ok.ensures.bytes.0 fed.2 sent.1,
+        turned _ c.reads.session _ _ _ _ _ _ _ _ run.0 after_byte.0 run.1 after_byte.1 run.2 sent.0 _ run.3
+            run.4 c.reads.invariant.1 (sym c.ended.ensures ∙ c.if-ended.false) c.in-Ok.ensures.bytes.0 after_byte.2 sent.1,
       ),
       c.in_ok-send-2.ensures.all,
       read_more c.reads.read _ _ _ _ c.reads.invariant.2 c.in-Ok.ensures.bytes.0

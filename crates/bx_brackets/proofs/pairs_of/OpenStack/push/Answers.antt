@@ -8,7 +8,7 @@ use Rattle.bx_brackets.proofs.pairs_of.OpenStack.push.Goals as goal
 pub invariant_of-self : goal.invariant_of-self
 invariant_of-self c =
     let old = c.self.inside.openers.items in
-    let now : reverse c.push.new.self.items ≡ (c.args.place, c.args.closer) ∷ reverse old = ap reverse c.push.ensures.items
-    ∙ reverse-append old ((c.args.place, c.args.closer) ∷ []) in
+    let now : reverse c.push.new.self.items ≡ (c.args.index, c.args.closer) ∷ reverse old = ap reverse c.push.ensures.items
+    ∙ reverse-append old ((c.args.index, c.args.closer) ∷ []) in
     subst (AreMissed (set c.self.inside.missed (c.args.closer % 31) None)) (sym now)
-    (missed_push c.self.inside.missed (reverse old) c.args.place c.args.closer c.self.invariant)
+    (missed_push c.self.inside.missed (reverse old) c.args.index c.args.closer c.self.invariant)

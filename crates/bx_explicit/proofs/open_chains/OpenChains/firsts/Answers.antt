@@ -2,9 +2,9 @@ use Rattle.std.proofs.Common.{◌≡◌, ◌-◌, ◌∙◌, ◌∷◌, ℕ, Lis
 use Rattle.std.proofs.lemmas.List.{take_rest}
 use Rattle.bx_explicit.specs.declared.entry.Explicit.{Explicit}
 use Rattle.bx_explicit.specs.declared.open_chains.OpenChain.{OpenChain}
-use Rattle.bx_explicit.specs.LevelPlaces.{places_from}
+use Rattle.bx_explicit.specs.LevelIndexes.{indexes_from}
 use Rattle.bx_explicit.specs.OpenChains.{OpenRuns, newest_sequence}
-use Rattle.bx_explicit.proofs.Newest.{level_is, places_is}
+use Rattle.bx_explicit.proofs.Newest.{level_is, indexes_is}
 use Rattle.bx_explicit.proofs.open_chains.OpenChains.firsts.Goals as goal
 
 pub returns : goal.returns
@@ -18,8 +18,8 @@ returns c =
     let firsts : take (length c.deref-2.result.now - o.begin) (drop o.begin c.deref-2.result.now) ≡ drop o.begin ps = take_rest c.deref-2.result.now o.begin
     ∙ ap (drop o.begin) c.deref-2.ensures.value in
     let given : List ℕ = take (length c.deref-2.result.now - o.begin) (drop o.begin c.deref-2.result.now) in
-    ap (λ (v : OpenRuns). places_from (newest_sequence v).level v.explicit.kept.items given) (sym c.self.view_is)
-    ∙ ap (λ l. places_from l x.kept.items given) (sym (level_is x os rest o ps e c.self.invariant))
-    ∙ ap (places_from o.level x.kept.items) firsts
-    ∙ places_is x os rest o ps e c.self.invariant
-    ∙ ap (λ (v : OpenRuns). (newest_sequence v).places) c.self.view_is
+    ap (λ (v : OpenRuns). indexes_from (newest_sequence v).level v.explicit.kept.items given) (sym c.self.view_is)
+    ∙ ap (λ l. indexes_from l x.kept.items given) (sym (level_is x os rest o ps e c.self.invariant))
+    ∙ ap (indexes_from o.level x.kept.items) firsts
+    ∙ indexes_is x os rest o ps e c.self.invariant
+    ∙ ap (λ (v : OpenRuns). (newest_sequence v).indexes) c.self.view_is

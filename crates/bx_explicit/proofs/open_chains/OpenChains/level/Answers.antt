@@ -3,7 +3,7 @@ use Rattle.bx_explicit.specs.declared.entry.Explicit.{Explicit}
 use Rattle.bx_explicit.specs.declared.open_chains.OpenChain.{OpenChain}
 use Rattle.bx_explicit.specs.OpenChains.{OpenRuns, newest_sequence}
 use Rattle.bx_explicit.specs.Stacked.{BeginsRun}
-use Rattle.bx_explicit.proofs.Newest.{level_is, newest_place, last_begins, opened}
+use Rattle.bx_explicit.proofs.Newest.{level_is, newest_index, last_begins, opened}
 use Rattle.bx_explicit.proofs.RunWalk.{level_low}
 use Rattle.bx_explicit.proofs.open_chains.OpenChains.level.Goals as goal
 
@@ -23,6 +23,6 @@ returns-clause-low c =
     let rest : List OpenChain = reverse (take (length c.deref.result.now - 1) c.deref.result.now) in
     let ps : List ℕ = c.self.inside.firsts.items in
     let e : os ≡ c.newest.result ∷ rest = ap reverse (sym c.deref.ensures.value) ∙ c.newest.ensures in
-    let b : BeginsRun x.kept.items c.newest.result.level (newest_place ps) =
+    let b : BeginsRun x.kept.items c.newest.result.level (newest_index ps) =
     last_begins x.kept.items c.newest.result ps (opened x.kept.items os rest c.newest.result ps e c.self.invariant) in
-    subst (λ l. l ≤ 125) b.of_level (level_low x.kept.items (newest_place ps) x.low)
+    subst (λ l. l ≤ 125) b.of_level (level_low x.kept.items (newest_index ps) x.low)

@@ -1,7 +1,7 @@
 use Rattle.std.proofs.Common.{length}
 use Rattle.bx_cells.specs.Units.{unit_chars}
 use Rattle.bx_rows.proofs.Resets.{fill_more}
-use Rattle.bx_rows.proofs.unit_levels.filled.Goals as goal
+use Rattle.bx_rows.proofs.unit_levels.levels_or_before.Goals as goal
 
 pub loop-unit-preserved : goal.loop-unit-preserved
 loop-unit-preserved c =

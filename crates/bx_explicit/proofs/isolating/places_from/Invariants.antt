@@ -1,7 +1,0 @@
--- What is added so far, and what is left to add.
-use Rattle.std.proofs.Common.{◌≡◌, ◌++◌, drop}
-use Rattle.bx_explicit.specs.LevelPlaces.{places_from}
-use Rattle.bx_explicit.proofs.isolating.places_from.Given as goal
-
-abbrev pub invariant-loop-first : goal.invariant-loop-first
-invariant-loop-first l = places_from l.level l.kept l.firsts ≡ l.places.items ++ places_from l.level l.kept (drop l.first-index l.firsts)
