@@ -170,7 +170,8 @@ fn resolve_brackets_in<D: BidiData>(
     requires as_long { length letters.old.text.chars ≡ length kept.now }
     requires types { length types.old ≡ length (indexes_from ends.level kept.now firsts.now) }
     requires marks { length scratch.old.marks.items ≡ length types.old }
-    ensures types { OnOk result (types.new ≡ resolve_pairs (direction ends.level) ends.sos scratch.old.marks.items (pairs (D.bracket_of source.now) (chars_at letters.old.text.chars (indexes_from ends.level kept.now firsts.now)) types.old) types.old) }
+    ensures types { OnOk result (types.new ≡ resolve_pairs (direction ends.level) ends.sos scratch.old.marks.items
+        (pairs (D.bracket_of source.now) (chars_at letters.old.text.chars (indexes_from ends.level kept.now firsts.now)) types.old) types.old) }
     ensures text { letters.new.text.chars ≡ letters.old.text.chars }
 {
     if !may_have_brackets(types) {
@@ -193,7 +194,8 @@ fn write_run(
     requires low { level ≤ max_depth }
     requires all { length each.old.items ≡ length kept.now }
     ensures all { length each.new.items ≡ length kept.now }
-    ensures written { WritesRun (level_indexes level first (drop first kept.now)) (implicit level (drop written types.now)) each.old.items (implicit level (drop result types.now)) each.new.items }
+    ensures written { WritesRun (level_indexes level first (drop first kept.now)) (implicit level (drop written types.now)) each.old.items
+        (implicit level (drop result types.now)) each.new.items }
 {
     let mut written = written;
     let mut k = first;
@@ -243,7 +245,8 @@ fn write_sequence<D: BidiData>(
     requires as_long { length letters.old.text.chars ≡ length kept.now }
     requires types { types.old ≡ types_at kept.now walk.now.current.indexes }
     requires all { length each.old.items ≡ length kept.now }
-    ensures written { OnOk result (each.new.items ≡ with_levels walk.now.current.indexes (levels_in (D.bracket_of source.now) letters.old.text.chars kept.now walk.now.current) each.old.items) }
+    ensures written { OnOk result (each.new.items ≡ with_levels walk.now.current.indexes
+        (levels_in (D.bracket_of source.now) letters.old.text.chars kept.now walk.now.current) each.old.items) }
     ensures text { letters.new.text.chars ≡ letters.old.text.chars }
 {
     let ends = Ends {
@@ -279,7 +282,8 @@ fn write_lent<D: BidiData>(
     requires same { kept.now ≡ walk.now.explicit.kept.items }
     requires as_long { length room.old.letters.text.chars ≡ length kept.now }
     requires all { length each.old.items ≡ length kept.now }
-    ensures written { OnOk result (each.new.items ≡ with_levels walk.now.current.indexes (levels_in (D.bracket_of source.now) room.old.letters.text.chars kept.now walk.now.current) each.old.items) }
+    ensures written { OnOk result (each.new.items ≡ with_levels walk.now.current.indexes
+        (levels_in (D.bracket_of source.now) room.old.letters.text.chars kept.now walk.now.current) each.old.items) }
     ensures text { room.new.letters.text.chars ≡ room.old.letters.text.chars }
 {
     sequence_types(&mut room.types, kept, walk.firsts(), walk.level())?;
@@ -303,7 +307,8 @@ fn each_level<D: BidiData>(
     explicit: &Explicit,
 ) -> Result<Vec<Option<u8>>, ResolveError>
     requires { length (chars body.now) ≡ length explicit.now.classes.items }
-    ensures { IfOk result (λ v. v.items ≡ with_sequences (D.bracket_of source.now) (chars body.now) explicit.now.kept.items (sequences explicit.now.level explicit.now.classes.items explicit.now.kept.items) (replicate (length (chars body.now)) None)) }
+    ensures { IfOk result (λ v. v.items ≡ with_sequences (D.bracket_of source.now) (chars body.now) explicit.now.kept.items
+        (sequences explicit.now.level explicit.now.classes.items explicit.now.kept.items) (replicate (length (chars body.now)) None)) }
 {
     let mut each = vec![in alloc; None; explicit.kept.len()]?;
     let mut room = Room {

@@ -52,7 +52,9 @@ fn push_units<'a, D: BidiData>(
     requires columns { length columns.now ≡ length units.now }
     requires levels { length levels.now ≡ length units.now }
     requires order { All (λ k. k < length units.now) order.now }
-    ensures { OnOk result (map glyph_of glyphs.new.items ≡ map glyph_of glyphs.old.items ++ flat_map (λ k. slice_index_or (unit_glyphs (D.class_of source.now) (D.mirror_of source.now) w body.entry.now units.now columns.now levels.now) k []) order.now) }
+    ensures { OnOk result (map glyph_of glyphs.new.items ≡ map glyph_of glyphs.old.items
+        ++ flat_map (λ k. slice_index_or (unit_glyphs (D.class_of source.now) (D.mirror_of source.now) w body.entry.now units.now columns.now levels.now) k
+        []) order.now) }
 {
     for number in order {
         let unit = units[*number];
@@ -136,7 +138,8 @@ pub fn draw<'a, D: BidiData>(
     requires faces { All (HasFace (D.class_of source.now) w body.now) units.now }
     requires row { IsRowOf w units.now row }
     requires levels { length levels.now ≡ length (row_units units.now row) }
-    ensures picture { IfOk result (λ p. map glyph_of p.glyphs.items ≡ draw (D.class_of source.now) (D.mirror_of source.now) w body.entry.now paragraph (row_units units.now row) levels.now) }
+    ensures picture { IfOk result (λ p. map glyph_of p.glyphs.items
+        ≡ draw (D.class_of source.now) (D.mirror_of source.now) w body.entry.now paragraph (row_units units.now row) levels.now) }
     ensures glyphs { IfOk result (λ p. All (λ g. is_one_glyph (cow_str_bytes g.text) ≡ true) p.glyphs.items) }
     ensures columns { IfOk result (λ p. sum_by (λ g. g.columns) p.glyphs.items ≡ w) }
 {

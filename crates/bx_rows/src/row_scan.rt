@@ -161,7 +161,14 @@ fn behind_break(scan: Scan, body: &str) -> Scan
     requires order { scan.start.offset ≤ scan.next }
     requires chars { scan.start.chars ≡ length (chars (take scan.start.offset body.now)) }
     requires bound { scan.start.units + scan.last ≤ length body.now }
-    ensures { result ≡ record { start = record { offset = scan.next; units = scan.start.units + scan.last; chars = length (chars (take scan.next body.now)) }; next = scan.next; columns = scan.since; last = 0; count = scan.count; since = scan.since } }
+    ensures { result ≡ record {
+      start = record { offset = scan.next; units = scan.start.units + scan.last; chars = length (chars (take scan.next body.now)) };
+      next = scan.next;
+      columns = scan.since;
+      last = 0;
+      count = scan.count;
+      since = scan.since;
+    } }
 {
     Scan {
         start: start_behind(body, scan.start, scan.next, scan.start.units + scan.last),
