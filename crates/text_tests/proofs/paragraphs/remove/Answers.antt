@@ -1,7 +1,7 @@
 use Rattle.std.proofs.Common.{length, ap, arith}
 use Rattle.bx_text.specs.declared.change.Change.{Change}
 use Rattle.bx_paras.proofs.Followed.{room_for_bytes}
-use Rattle.bx_tests.proofs.paragraphs.remove.Goals as goal
+use Rattle.text_tests.proofs.paragraphs.remove.Goals as goal
 
 pub edited-requires-clause-room : goal.edited-requires-clause-room
 edited-requires-clause-room g c =

@@ -1,0 +1,16 @@
+//! Tests of the public calls from the Unicode tables to the rows, a module a crate: worked rows, outside values, and each call once
+//! with ample memory. They stand in a crate of their own since the tests of a crate prove all of it once more.
+#![tactic(auto)]
+
+#[cfg(test)]
+mod brackets;
+#[cfg(test)]
+mod cells;
+#[cfg(test)]
+mod explicit;
+#[cfg(test)]
+mod files;
+#[cfg(test)]
+mod levels;
+#[cfg(test)]
+mod rows;
