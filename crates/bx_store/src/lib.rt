@@ -1,0 +1,10 @@
+//! Where a text is saved: what a save asks of a store, a store in memory, and one that is a file.
+#![tactic(auto)]
+
+mod file_store;
+mod memory_store;
+mod store;
+
+pub use file_store::FileStore;
+pub use memory_store::MemoryStore;
+pub use store::{Store, StoreFault};

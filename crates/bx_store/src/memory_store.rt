@@ -1,0 +1,132 @@
+//! A store in memory, of which one call may be made to fail.
+ghost use Rattle.std.specs.Prelude.{◌≡◌, ◌↔◌, true, false, [], OnOk, OnErr, IsErr};
+ghost use Rattle.bx_store.specs.Stores.{after_begin, after_commit, after_failure, after_put, fails_next};
+
+use crate::store::{Store, StoreFault};
+use std::alloc::Global;
+use std::marker::Model;
+use std::mem;
+
+/// A store that tells its bytes. The call whose number is given, counted from 1 over `begin`, `put` and `commit`, fails; no
+/// other does, but a `put` for which there is no memory.
+#[derive(Drop)]
+pub struct MemoryStore {
+    contents: Vec<u8>,
+    draft: Vec<u8>,
+    has_draft: bool,
+    calls: u64,
+    failures: u64,
+    fail_call: Option<u64>,
+}
+
+impl Model for MemoryStore {
+    ghost use Rattle.bx_store.specs.Stores.{MemoryState};
+
+    ghost Value = { MemoryState };
+
+    ghost view = { λ s. record {
+      contents = s.contents.items;
+      draft = s.draft.items;
+      has_draft = s.has_draft;
+      calls = s.calls;
+      failures = s.failures;
+      fail_call = s.fail_call;
+    } };
+}
+
+impl MemoryStore {
+    /// A store with nothing in it.
+    pub fn new(alloc: Global, fail_call: Option<u64>) -> Self
+        ensures { result ≡ record { contents = []; draft = []; has_draft = false; calls = 0; failures = 0; fail_call = fail_call } }
+    {
+        MemoryStore {
+            contents: Vec::new(alloc),
+            draft: Vec::new(alloc),
+            has_draft: false,
+            calls: 0,
+            failures: 0,
+            fail_call,
+        }
+    }
+
+    /// The bytes of the last save that succeeded; none at first.
+    pub fn contents(&self) -> &[u8]
+        ensures { result.now ≡ self.now.contents }
+    {
+        &self.contents
+    }
+
+    /// Whether the next call is the one that fails.
+    fn fails_next(&self) -> bool
+        ensures { result ≡ fails_next self.now }
+    {
+        self.fail_call == Some(self.calls.saturating_add(1))
+    }
+
+    /// Notes a call that fails.
+    fn fail(&mut self) -> StoreFault
+        ensures { self.new ≡ after_failure self.old }
+    {
+        self.has_draft = false;
+        self.calls = self.calls.saturating_add(1);
+        self.failures = self.failures.saturating_add(1);
+        StoreFault
+    }
+}
+
+impl Store for MemoryStore {
+    ghost use Rattle.std.specs.Prelude.{Some};
+
+    ghost contents = { λ s. Some s.contents };
+
+    ghost draft = { λ s. Some s.draft };
+
+    ghost has_draft = { λ s. s.has_draft };
+
+    ghost failure_count = { λ s. s.failures };
+
+    fn begin(&mut self) -> Result<(), StoreFault>
+        ensures ok { OnOk result (self.new ≡ after_begin self.old) }
+        ensures err { OnErr result (self.new ≡ after_failure self.old) }
+        ensures fails { IsErr result ↔ (fails_next self.old ≡ true) }
+    {
+        if self.fails_next() {
+            return Err(self.fail());
+        }
+        self.draft.clear();
+        self.has_draft = true;
+        self.calls = self.calls.saturating_add(1);
+        Ok(())
+    }
+
+    fn put(&mut self, bytes: &[u8]) -> Result<(), StoreFault>
+        ensures ok { OnOk result (self.new ≡ after_put bytes.now self.old) }
+        ensures err { OnErr result (self.new ≡ after_failure self.old) }
+        ensures fails { fails_next self.old ≡ true → IsErr result }
+    {
+        if self.fails_next() || self.draft.extend_from_slice(bytes).is_err() {
+            return Err(self.fail());
+        }
+        self.calls = self.calls.saturating_add(1);
+        Ok(())
+    }
+
+    fn commit(&mut self) -> Result<(), StoreFault>
+        ensures ok { OnOk result (self.new ≡ after_commit self.old) }
+        ensures err { OnErr result (self.new ≡ after_failure self.old) }
+        ensures fails { IsErr result ↔ (fails_next self.old ≡ true) }
+    {
+        if self.fails_next() {
+            return Err(self.fail());
+        }
+        let empty = Vec::new(*self.draft.allocator());
+        self.contents = mem::replace(&mut self.draft, empty);
+        self.has_draft = false;
+        self.calls = self.calls.saturating_add(1);
+        Ok(())
+    }
+
+    fn failures(&self) -> u64 {
+        self.failures
+    }
+}
