@@ -1,5 +1,5 @@
 -- What a store tells of the bytes that it has, and how it counts its failures.
-use Rattle.std.specs.Prelude.{◌≡◌, ℕ, suc, ◌-◌, ◌^◌, ◌<◌, ◌==◌, Bool, true, false, List, [], ◌∷◌, ◌++◌, min, Option, Some, None, option_map}
+use Rattle.std.specs.Prelude.{ℕ, suc, ◌-◌, ◌^◌, ◌<◌, ◌==◌, Bool, true, false, List, [], ◌++◌, min, Option, Some, None, option_map}
 
 -- the greatest count of failures or calls: there it stays
 abbrev pub greatest : ℕ

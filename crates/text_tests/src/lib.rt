@@ -1,4 +1,4 @@
-//! Tests of the public calls of the text, its pieces and its paragraphs, and of well-formed UTF-8, a module a crate: worked rows,
+//! Tests of the public calls of the text, its pieces, paragraphs and stores, and of well-formed UTF-8, a module a crate: worked rows,
 //! and each call once with ample memory. They stand in a crate of their own since the tests of a crate prove all of it once more.
 #![tactic(auto)]
 
@@ -6,6 +6,8 @@
 mod paragraphs;
 #[cfg(test)]
 mod pieces;
+#[cfg(test)]
+mod store;
 #[cfg(test)]
 mod text;
 #[cfg(test)]

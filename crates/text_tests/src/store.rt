@@ -1,0 +1,92 @@
+//! Saves into memory and into files.
+
+use bx_store::{FileStore, MemoryStore, Store, StoreFault};
+use std::os::unix::fs::PermissionsExt;
+use std::path::PathBuf;
+use std::test::Fail;
+use std::{env, fs, process};
+
+/// Saves two pieces.
+fn save<S: Store>(store: &mut S, first: &[u8], second: &[u8]) -> Result<(), StoreFault> {
+    store.begin()?;
+    store.put(first)?;
+    store.put(second)?;
+    store.commit()
+}
+
+/// The path of a file of this process's own in the system's folder for such.
+fn path_of(rt: &HostRuntime, name: &str) -> Result<PathBuf, Fail> {
+    let name = format!(in rt.alloc(); "bx_store-{}-{name}", process::id(rt.process()))?;
+    Ok(env::temp_dir(rt)?.join(rt.alloc(), name.as_str())?)
+}
+
+#[test]
+fn a_save_joins_what_was_put(rt: HostRuntime) -> Result<(), Fail> {
+    let mut store = MemoryStore::new(rt.alloc(), None);
+    save(&mut store, b"ab", b"c")?;
+    assert_eq!(rt; store.contents(), b"abc".as_slice());
+    save(&mut store, b"", b"d")?;
+    assert_eq!(rt; store.contents(), b"d".as_slice());
+    assert_eq!(rt; store.failures(), 0);
+    Ok(())
+}
+
+#[test]
+fn the_call_that_fails_keeps_what_was_stored(rt: HostRuntime) -> Result<(), Fail> {
+    let mut store = MemoryStore::new(rt.alloc(), Some(6));
+    save(&mut store, b"a", b"b")?;
+    assert_eq!(rt; save(&mut store, b"c", b"d"), Err(StoreFault));
+    assert_eq!(rt; store.contents(), b"ab".as_slice());
+    assert_eq!(rt; store.failures(), 1);
+    save(&mut store, b"c", b"d")?;
+    assert_eq!(rt; store.contents(), b"cd".as_slice());
+    Ok(())
+}
+
+#[test]
+fn a_file_is_made_and_replaced(rt: HostRuntime) -> Result<(), Fail> {
+    let path = path_of(&rt, "new")?;
+    let mut store = FileStore::new(&rt, rt.alloc(), path.as_str())?;
+    save(&mut store, b"a", b"b")?;
+    let first = fs::read(&rt, path.as_path())?;
+    fs::set_permissions(&rt, path.as_path(), fs::Permissions::from_mode(0o640))?;
+    save(&mut store, b"c", b"")?;
+    let second = fs::read(&rt, path.as_path())?;
+    let mode = fs::metadata(&rt, path.as_path())?.permissions().mode();
+    fs::remove_file(&rt, path.as_path())?;
+    assert_eq!(rt; first.as_slice(), b"ab".as_slice());
+    assert_eq!(rt; second.as_slice(), b"c".as_slice());
+    assert_eq!(rt; mode & 0o777, 0o640);
+    assert_eq!(rt; store.failures(), 0);
+    Ok(())
+}
+
+#[test]
+fn a_link_stays_and_nothing_is_left_beside_it(rt: HostRuntime) -> Result<(), Fail> {
+    let path = path_of(&rt, "behind")?;
+    let link = path_of(&rt, "link")?;
+    let beside = path_of(&rt, "behind.bx")?;
+    fs::write(&rt, path.as_path(), b"old")?;
+    fs::write(&rt, beside.as_path(), b"left by an earlier save")?;
+    std::os::unix::fs::symlink(&rt, path.as_path(), link.as_path())?;
+    let mut store = FileStore::new(&rt, rt.alloc(), link.as_str())?;
+    save(&mut store, b"new", b"")?;
+    let text = fs::read(&rt, path.as_path())?;
+    let stays = fs::symlink_metadata(&rt, link.as_path())?.is_symlink();
+    let is_left = fs::metadata(&rt, beside.as_path()).is_ok();
+    fs::remove_file(&rt, path.as_path())?;
+    fs::remove_file(&rt, link.as_path())?;
+    assert_eq!(rt; text.as_slice(), b"new".as_slice());
+    assert!(rt; stays);
+    assert!(rt; !is_left);
+    Ok(())
+}
+
+#[test]
+fn a_folder_that_is_not_there_takes_no_file(rt: HostRuntime) -> Result<(), Fail> {
+    let path = path_of(&rt, "nowhere/file")?;
+    let mut store = FileStore::new(&rt, rt.alloc(), path.as_str())?;
+    assert_eq!(rt; save(&mut store, b"a", b""), Err(StoreFault));
+    assert_eq!(rt; store.failures(), 1);
+    Ok(())
+}
