@@ -14,3 +14,4 @@ pub mod Firsts
 pub mod Turns
 pub mod Followed
 pub mod Asked
+pub mod Walks

@@ -4,6 +4,8 @@ pub mod Ended
 pub mod Scan
 pub mod OneBlock
 pub mod Flat
+pub mod Spots
 pub mod Touched
 pub mod Blocks
 pub mod Index
+pub mod Walk

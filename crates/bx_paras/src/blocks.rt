@@ -140,14 +140,36 @@ impl Blocks {
         None
     }
 
+    /// The paragraphs of a block; none where there are not so many blocks. No memory.
+    pub fn block(&self, at: usize) -> Option<&[Lengths]>
+        ensures lent { MatchOption result (length self.now.blocks ≤ at) (λ ls. (at < length self.now.blocks) × (ls.now ≡ get_or self.now.blocks at [])) }
+        ensures few { length self.now.blocks < 2 ^ 64 }
+        ensures few_paragraphs { length (flat self.now.blocks) < 2 ^ 64 }
+    {
+        Some(self.blocks.get(at)?.lengths())
+    }
+
+    /// The offset at which a paragraph begins, or the one behind the last. No memory.
+    pub fn start_of(&self, number: usize) -> usize
+        requires { number ≤ length (flat self.now.blocks) }
+        ensures { result ≡ total (take number (flat self.now.blocks)) }
+    {
+        match self.get(number) {
+            Some((start, _)) => start,
+            None => self.size().1,
+        }
+    }
+
     /// The block of a paragraph, and how many paragraphs of the block stand before it; behind the last one no block
     /// is left. No memory.
     #[tactic(auto, using(crate::proofs::Flats::length_flat_more, crate::proofs::Flats::length_flat_front))]
-    fn seek(&self, number: usize) -> (usize, usize)
+    pub fn seek(&self, number: usize) -> (usize, usize)
         requires { number ≤ length (flat self.now.blocks) }
         ensures block { result.0 ≤ length self.now.blocks }
         ensures number { number ≡ length (flat (take result.0 self.now.blocks)) + result.1 }
         ensures within { (result.1 ≡ 0) ⊎ ((result.0 < length self.now.blocks) × (result.1 < length (get_or self.now.blocks result.0 []))) }
+        ensures held { result.0 < length self.now.blocks → result.1 < length (get_or self.now.blocks result.0 []) }
+        ensures behind { length self.now.blocks ≤ result.0 → result.1 ≡ 0 }
     {
         let mut left = number;
         for (i, block) in self.blocks.iter().enumerate() {

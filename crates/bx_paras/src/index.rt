@@ -15,6 +15,7 @@ use crate::error::ParasError;
 use crate::fill::replace;
 use crate::position::Position;
 use crate::scan::paragraph_from;
+use crate::walk::ParagraphWalk;
 use bx_terms::LARGEST_TEXT;
 use bx_text::{Change, Text};
 use bx_ucd::BidiData;
@@ -172,5 +173,20 @@ impl Index {
             Some((_, paragraph)) => paragraph.separator as usize,
             None => 0,
         }
+    }
+
+    /// A walk that stands at the paragraph of a number. No memory.
+    pub fn walk_at(&self, number: usize) -> ParagraphWalk<'_>
+        requires { number < length self.now.paragraphs }
+        ensures { result ≡ record { paragraphs = self.now.paragraphs; number = number } }
+    {
+        ParagraphWalk::new(&self.ended, self.last, number)
+    }
+
+    /// A walk that stands at the paragraph that an offset in bytes falls in. No memory.
+    pub fn walk_at_offset(&self, offset: usize) -> ParagraphWalk<'_>
+        ensures { result ≡ record { paragraphs = self.now.paragraphs; number = paragraph_of self.now.paragraphs offset } }
+    {
+        ParagraphWalk::new(&self.ended, self.last, self.ended.find(offset).number)
     }
 }

@@ -10,6 +10,9 @@ mod lengths;
 mod position;
 mod scan;
 mod splices;
+mod spot;
+mod walk;
 
 pub use error::ParasError;
 pub use index::Index;
+pub use walk::ParagraphWalk;

@@ -177,6 +177,23 @@ fn a_separator_of_three_bytes(rt: HostRuntime) -> Result<(), Fail> {
 }
 
 #[test]
+fn a_walk_goes_to_the_ends_and_stays_there(rt: HostRuntime) -> Result<(), Fail> {
+    let source = Counting::new(rt.alloc())?;
+    let text = text_of(rt.alloc(), "1\n2\r\n3")?;
+    let index = Index::build(rt.alloc(), &text, &source)?;
+    let mut walk = index.walk_at_offset(4);
+    assert_eq!(rt; (walk.number(), walk.span(), walk.separator()), (1, (2, 3), 2));
+    assert!(rt; walk.to_next());
+    assert_eq!(rt; (walk.number(), walk.span(), walk.separator()), (2, (5, 6), 0));
+    assert!(rt; !walk.to_next());
+    assert_eq!(rt; walk.number(), 2);
+    assert!(rt; walk.to_previous() && walk.to_previous());
+    assert_eq!(rt; (walk.number(), walk.span(), walk.separator()), (0, (0, 1), 1));
+    assert!(rt; !walk.to_previous());
+    Ok(())
+}
+
+#[test]
 fn an_edit_looks_at_its_paragraphs_alone(rt: HostRuntime) -> Result<(), Fail> {
     let source = Counting::new(rt.alloc())?;
     let mut lines = String::new(rt.alloc());
