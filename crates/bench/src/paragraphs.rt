@@ -118,7 +118,7 @@ enum Task {
 /// Goes over all paragraphs and back to the first: how many there are.
 fn walked(index: &Index) -> usize {
     let mut seen: usize = 1;
-    let mut walk = index.walk_at(0);
+    let mut walk = index.walk_at_offset(0);
     for _ in 0..index.count() {
         let (start, stop) = walk.span();
         if start <= stop && walk.to_next() {

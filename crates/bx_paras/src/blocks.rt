@@ -2,7 +2,7 @@
 
 ghost use Rattle.std.specs.Prelude.{◌≡◌, ℕ, [], ◌∷◌, ◌++◌, ◌+◌, ◌-◌, ◌<◌, ◌≤◌, ◌^◌, ◌⊎◌, length, take, drop, get_or, IfOk, OnOk, OnErr, MatchOption, vec_len};
 ghost use Rattle.bx_paras.specs.Positions.{bytes_of, total};
-ghost use Rattle.bx_paras.specs.Flat.{flat, BlocksState, room_at, IsPosition};
+ghost use Rattle.bx_paras.specs.Flat.{flat, BlocksState, room_at, separator_of, IsPosition};
 
 use crate::block::{BLOCK_CAPACITY, Block, total};
 use crate::lengths::Lengths;
@@ -34,9 +34,9 @@ impl Model for Blocks {
 }
 
 /// Where the paragraph stands that an offset falls in, among the paragraphs of a block that end past it: its number,
-/// where it begins and where it ends.
+/// where it begins, where it ends, and the bytes of its separator.
 #[tactic(auto, using(crate::proofs::Totals::total_more, crate::proofs::Totals::total_front))]
-fn position_within(lengths: &[Lengths], offset: usize) -> (usize, usize, usize)
+fn position_within(lengths: &[Lengths], offset: usize) -> (usize, usize, usize, usize)
     requires inside { offset < total lengths.now }
     requires short { total lengths.now < 2 ^ 64 }
     ensures number { result.0 < length lengths.now }
@@ -44,18 +44,19 @@ fn position_within(lengths: &[Lengths], offset: usize) -> (usize, usize, usize)
     ensures begun { result.1 ≤ offset }
     ensures end { result.2 ≡ total (take (result.0 + 1) lengths.now) }
     ensures past { offset < result.2 }
+    ensures separator { result.3 ≡ separator_of lengths.now result.0 }
 {
     let mut number = 0;
     let mut start = 0;
     for paragraph in lengths {
         let end = start + paragraph.bytes();
         if offset < end {
-            return (number, start, end);
+            return (number, start, end, paragraph.separator as usize);
         }
         number += 1;
         start = end;
     }
-    (number, start, start)
+    (number, start, start, 0)
 }
 
 /// One of the blocks that were made ahead, with no paragraph. No memory.
@@ -90,11 +91,15 @@ impl Blocks {
         for block in &self.blocks {
             let end = start + block.bytes();
             if offset < end {
-                let (within, before, past) = position_within(block.lengths(), offset - start);
+                let (within, before, past, separator) = position_within(
+                    block.lengths(),
+                    offset - start,
+                );
                 return Position {
                     number: number + within,
                     start: start + before,
                     end: Some(start + past),
+                    separator,
                 };
             }
             number += block.lengths().len();
@@ -104,6 +109,7 @@ impl Blocks {
             number,
             start,
             end: None,
+            separator: 0,
         }
     }
 

@@ -12,6 +12,7 @@ mod scan;
 mod splices;
 mod spot;
 mod walk;
+mod window;
 
 pub use error::ParasError;
 pub use index::Index;
