@@ -112,6 +112,23 @@ enum Task {
     Build,
     Edit(usize),
     Restore(usize),
+    Walk,
+}
+
+/// Goes over all paragraphs and back to the first: how many there are.
+fn walked(index: &Index) -> usize {
+    let mut seen: usize = 1;
+    let mut walk = index.walk_at_offset(0);
+    for _ in 0..index.count() {
+        let (start, stop) = walk.span();
+        if start <= stop && walk.to_next() {
+            seen = seen.saturating_add(1);
+        }
+    }
+    for _ in 0..index.count() {
+        walk.to_previous();
+    }
+    seen.saturating_sub(walk.number())
 }
 
 /// How many paragraphs there are in the end, and the time of the build or of the edits.
@@ -130,6 +147,11 @@ fn measured<R: CpuClock + AllocGlobal>(
         Task::Build => return Ok((index.count(), built.saturating_sub(start))),
         Task::Edit(edits) => edit_often(&mut text, &mut index, &tables, edits)?,
         Task::Restore(edits) => restore_often(&mut text, &mut index, &tables, edits)?,
+        Task::Walk => {
+            let seen = walked(&index);
+            let end = rt.thread_cpu_time()?;
+            return Ok((seen, end.saturating_sub(built)));
+        }
     }
     let end = rt.thread_cpu_time()?;
     Ok((index.count(), end.saturating_sub(built)))
@@ -139,13 +161,14 @@ fn measured<R: CpuClock + AllocGlobal>(
 pub(crate) fn run<R: CpuClock + AllocGlobal>(rt: &R, words: &[String]) -> Result<Outcome> {
     let (task, bytes, line) = match words {
         [task, bytes, line] if task.as_str() == "build" => (Task::Build, bytes, line),
+        [task, bytes, line] if task.as_str() == "walk" => (Task::Walk, bytes, line),
         [task, bytes, line, edits] if task.as_str() == "edit" => {
             (Task::Edit(number(edits)?), bytes, line)
         }
         [task, bytes, line, edits] if task.as_str() == "restore" => {
             (Task::Restore(number(edits)?), bytes, line)
         }
-        _ => bail!("usage: bench paragraphs build|edit|restore BYTES LINE [EDITS]"),
+        _ => bail!("usage: bench paragraphs build|edit|restore|walk BYTES LINE [EDITS]"),
     };
     let (count, time) = measured(rt, number(bytes)?, number(line)?, task)?;
     let line = format!(in rt.alloc(); "{count} paragraphs")?;

@@ -93,7 +93,7 @@ span_of_last ps u n start e s =
     span_at 0 n (ps ++ u ∷ []) u (omega (arith, e, length-append ps (u ∷ []))) ∙ ap (λ k. Some (k, k + (get_or (ps ++ u ∷ []) n u).body)) same
     ∙ ap (λ (q : Lengths). Some (start, start + q.body)) here
 
-separator_at : (ps : List Lengths) (n : ℕ) (d : Lengths) → n < length ps → slice_get (separators ps) n ≡ Some (get_or ps n d).separator
+pub separator_at : (ps : List Lengths) (n : ℕ) (d : Lengths) → n < length ps → slice_get (separators ps) n ≡ Some (get_or ps n d).separator
 separator_at [] n d h = absurd (omega arith)
 separator_at (p ∷ ps) zero d h = refl
 separator_at (p ∷ ps) (suc n) d h = separator_at ps n d (omega arith)

@@ -14,7 +14,7 @@ use Rattle.bx_paras.proofs.Counts.{paired_ends, count_is_some}
 use Rattle.bx_paras.proofs.Cuts.{width, widths, widths_more, widths_append, one_width, grown, joined, lens, ends, is_paired, lens_plain, lens_paired}
 use Rattle.bx_paras.proofs.Cuts.{lens_ended}
 
-further_none : (p : Lengths) → p ≡ further 0 p
+pub further_none : (p : Lengths) → p ≡ further 0 p
 further_none p = let same : p.body ≡ 0 + p.body = omega arith in ap (λ n. record { body = n; separator = p.separator }) same
 
 pub further_more : (n m k : ℕ) (p : Lengths) → n + m ≡ k → further n (further m p) ≡ further k p
@@ -23,17 +23,17 @@ further_more n m k p e = let same : n + (m + p.body) ≡ k + p.body = omega arit
 pub same_lengths : (a b c d : ℕ) → a ≡ b → c ≡ d → ◌≡◌ {A = Lengths} (record { body = a; separator = c }) (record { body = b; separator = d })
 same_lengths a b c d e f = ap (λ n. record { body = n; separator = c }) e ∙ ap (λ n. record { body = b; separator = n }) f
 
-first_grown : (w : ℕ) (ls : List Lengths) → 0 < length ls → first (grown w ls) ≡ further w (first ls)
+pub first_grown : (w : ℕ) (ls : List Lengths) → 0 < length ls → first (grown w ls) ≡ further w (first ls)
 first_grown w [] h = absurd (omega arith)
 first_grown w (l ∷ ls) h = refl
 
 -- a character below 128 has one byte
-one_byte : (c : ℕ) → c < 128 → width c ≡ 1
+pub one_byte : (c : ℕ) → c < 128 → width c ≡ 1
 one_byte c h = length-encode c ∙ len_utf8_ascii c h
 
 module _ (class : ℕ → Class) where
   -- characters with no separator in front of others
-  first_behind : (cs ds : List ℕ) → HasNone class cs → first (lens class (cs ++ ds)) ≡ further (widths cs) (first (lens class ds))
+  pub first_behind : (cs ds : List ℕ) → HasNone class cs → first (lens class (cs ++ ds)) ≡ further (widths cs) (first (lens class ds))
   first_behind [] ds h = further_none (first (lens class ds))
   first_behind (c ∷ cs) ds h =
       ap first (lens_plain class c (cs ++ ds) h.0)
@@ -49,7 +49,7 @@ module _ (class : ℕ → Class) where
       let two : width 13 + width d ≡ 2 = omega (arith, one_byte 13 (omega arith), one_byte d (omega arith)) in
       ap first (lens_paired class c (d ∷ cs) e p ∙ ap (joined (width 13)) (paired_ends class c d cs p)) ∙ ap (λ n. record { body = 0; separator = n }) two
 
-  first_at : (c : ℕ) (cs : List ℕ) (paired : Bool) → ends class c ≡ true → is_paired class c cs ≡ paired
+  pub first_at : (c : ℕ) (cs : List ℕ) (paired : Bool) → ends class c ≡ true → is_paired class c cs ≡ paired
       → first (lens class (c ∷ cs)) ≡ record { body = 0; separator = if paired then 2 else width c }
   first_at c cs false e p = ap first (lens_ended class c cs e p)
   first_at c [] true e p = absurd (grind (arith, nat_tests))

@@ -8,7 +8,7 @@ use Rattle.bx_paras.specs.declared.lengths.Lengths.{Lengths}
 use Rattle.bx_paras.specs.Positions.{total}
 use Rattle.std.proofs.Math.Seq.{take-append-add, drop-append-add, take-append_seam, drop-append_seam}
 use Rattle.bx_paras.specs.declared.position.Position.{Position}
-use Rattle.bx_paras.specs.Flat.{flat, IsPosition}
+use Rattle.bx_paras.specs.Flat.{flat, separator_of, IsPosition}
 use Rattle.bx_paras.proofs.Totals.{total_append}
 
 pub flat_append : (bs ds : List (List Lengths)) → flat (bs ++ ds) ≡ flat bs ++ flat ds
@@ -90,10 +90,23 @@ module _ (bs : List (List Lengths)) (i : ℕ) (b : List Lengths) (h : i < length
   pub total_in_block : (k : ℕ) → k ≤ length b → total (take (length (flat (take i bs)) + k) (flat bs)) ≡ total (flat (take i bs)) + total (take k b)
   total_in_block k l = ap total (front_in_block k l) ∙ total_append (flat (take i bs)) (take k b)
 
-  pub position_at : (n s offset within before past : ℕ) → n ≡ length (flat (take i bs)) → s ≡ total (flat (take i bs)) → s ≤ offset
+  -- a paragraph of the block
+  pub get_at : (n left : ℕ) (d f : Lengths) → n ≡ length (flat (take i bs)) + left → left < length b → get_or b left d ≡ get_or (flat bs) n f
+  get_at n left d f e l =
+      get_or_default b left d f l
+      ∙ sym (get_or_append_left b (flat (drop (i + 1) bs)) f left l)
+      ∙ sym (get_or-append-add (flat (take i bs)) (b ++ flat (drop (i + 1) bs)) left f)
+      ∙ ap (λ ls. get_or ls (length (flat (take i bs)) + left) f) (sym around)
+      ∙ ap (λ m. get_or (flat bs) m f) (sym e)
+
+  abbrev none : Lengths
+  none = record { body = 0; separator = 0 }
+
+  pub position_at : (n s offset within before past separator : ℕ) → n ≡ length (flat (take i bs)) → s ≡ total (flat (take i bs)) → s ≤ offset
       → within < length b → before ≡ total (take within b) → before ≤ offset - s → past ≡ total (take (within + 1) b) → offset - s < past
-      → IsPosition (flat bs) offset (record { number = n + within; start = s + before; end = Some (s + past) })
-  position_at n s offset within before past en es begun inside eb lb ep lp =
+      → separator ≡ separator_of b within
+      → IsPosition (flat bs) offset (record { number = n + within; start = s + before; end = Some (s + past); separator = separator })
+  position_at n s offset within before past separator en es begun inside eb lb ep lp sep =
       let there : n + within ≡ length (flat (take i bs)) + within = omega (arith, en) in
       let next : n + within + 1 ≡ length (flat (take i bs)) + (within + 1) = omega (arith, en) in
       record {
@@ -105,16 +118,8 @@ module _ (bs : List (List Lengths)) (i : ℕ) (b : List Lengths) (h : i < length
           omega (arith, es, ep, total_in_block (within + 1) (omega arith), ap (λ m. total (take m (flat bs))) next),
           omega arith,
         );
+        separated = sep ∙ ap (λ (l : Lengths). l.separator) (get_at (n + within) within none none there inside);
       }
-
-  -- a paragraph of the block
-  pub get_at : (n left : ℕ) (d f : Lengths) → n ≡ length (flat (take i bs)) + left → left < length b → get_or b left d ≡ get_or (flat bs) n f
-  get_at n left d f e l =
-      get_or_default b left d f l
-      ∙ sym (get_or_append_left b (flat (drop (i + 1) bs)) f left l)
-      ∙ sym (get_or-append-add (flat (take i bs)) (b ++ flat (drop (i + 1) bs)) left f)
-      ∙ ap (λ ls. get_or ls (length (flat (take i bs)) + left) f) (sym around)
-      ∙ ap (λ m. get_or (flat bs) m f) (sym e)
 
   pub entry_at : (ds : List (List Lengths)) (ls : List Lengths) → bs ≡ ds → ls ≡ b → (n left start t : ℕ) (d : Lengths)
       → n ≡ length (flat (take i bs)) + left → start ≡ total (flat (take i bs)) → t ≡ total (take left ls) → left < length ls

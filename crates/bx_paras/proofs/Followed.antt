@@ -41,7 +41,7 @@ no_end ps offset p h k = subst (λ o. MatchOption o (p.number ≡ length ps) (λ
     h.ended
 
 -- a list parted at one of its paragraphs
-parted_at : (ps : List Lengths) (u d : Lengths) (n : ℕ) → n < length ps → ps ++ u ∷ [] ≡ take n ps ++ get_or ps n d ∷ (drop (n + 1) ps ++ u ∷ [])
+pub parted_at : (ps : List Lengths) (u d : Lengths) (n : ℕ) → n < length ps → ps ++ u ∷ [] ≡ take n ps ++ get_or ps n d ∷ (drop (n + 1) ps ++ u ∷ [])
 parted_at ps u d n h =
     ap (λ ls. ls ++ u ∷ []) (sym (take-append-drop n ps) ∙ ap (λ ls. take n ps ++ ls) (drop_more ps n d h))
     ∙ append_assoc (take n ps) (get_or ps n d ∷ drop (n + 1) ps) (u ∷ [])
@@ -82,10 +82,10 @@ module _ {class : ℕ → Class} {old : List ℕ} {c : Change} {new : List ℕ} 
   before : IsParted ps u (c.start - 1) first
   before = parted_by ps u (c.start - 1) first first.end refl touched.first_is
 
-  start_inside : c.start ≤ length old
+  pub start_inside : c.start ≤ length old
   start_inside = touched.leads.gave_way.start_bounds.0
 
-  old_bytes : total (ps ++ u ∷ []) ≡ length old
+  pub old_bytes : total (ps ++ u ∷ []) ≡ length old
   old_bytes = ap total touched.were ∙ total_lengths class old touched.old_utf8
 
   starts : total (take first.number ps) ≤ c.start - 1

@@ -11,6 +11,9 @@ mod Changes
 mod Rewritten
 pub mod Scans
 pub mod Firsts
+pub mod Beside
 pub mod Turns
 pub mod Followed
+pub mod Reached
 pub mod Asked
+pub mod Walks

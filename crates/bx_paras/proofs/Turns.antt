@@ -2,17 +2,20 @@
 use Rattle.std.proofs.Common.{◌≡◌, ◌<◌, ◌≤◌, ◌+◌, ◌-◌, ◌∙◌, ◌==◌, ◌⊎◌, inl, inr, ℕ, true, false, nat_le, List, [], ◌∷◌, ◌++◌, length, take, drop, chars, IsUtf8}
 use Rattle.std.proofs.Common.{IsCharBoundary, refl, ap, sym, subst, arith, append_assoc, append-nil}
 use Rattle.std.proofs.lemmas.Bool.Decides.{nat_tests}
-use Rattle.std.proofs.lemmas.List.{take-append-drop, drop_all}
-use Rattle.std.proofs.lemmas.Str.{chars-append, chars-nil, length-le-encodes, IsUtf8-take}
+use Rattle.std.proofs.lemmas.List.{take-append-drop, drop_all, length-drop}
+use Rattle.std.proofs.lemmas.Str.{chars-append, chars-nil, length-le-encodes, IsUtf8-take, IsUtf8-drop}
 use Rattle.bx_ucd.specs.declared.class.Class.{Class}
 use Rattle.bx_paras.specs.declared.lengths.Lengths.{Lengths}
 use Rattle.bx_paras.specs.Paragraphs.{lengths}
 use Rattle.bx_paras.specs.Positions.{bytes_of, total}
-use Rattle.bx_paras.specs.Ended.{ended_within, first}
+use Rattle.bx_paras.specs.Ended.{ended_within, first, further}
+use Rattle.bx_paras.specs.Windows.{IsWindow}
+use Rattle.bx_paras.specs.declared.window.Window.{Window}
 use Rattle.bx_paras.proofs.Changes.{cut_at, front_len, spelt}
 use Rattle.bx_paras.proofs.Counts.{count_few, total_lens}
 use Rattle.bx_paras.proofs.Cuts.{widths, widths_append, unended, lens, IsFirst, beginning}
 use Rattle.bx_paras.proofs.Edits.{ended_in_none}
+use Rattle.bx_paras.proofs.Firsts.{further_none}
 
 module _ (class : ℕ → Class) where
   -- how many bytes the paragraphs of a text have, and how many there are
@@ -124,3 +127,44 @@ still_all f g w left all p e h i = ap (λ ls. ls ++ left) e ∙ append_assoc f (
 
 pub now_all : (f w all : List Lengths) → f ++ w ≡ all → w ≡ [] → f ≡ all
 now_all f w all i h = sym (append-nil f) ∙ ap (λ ls. f ++ ls) (sym h) ∙ i
+
+-- ---- what is looked at
+
+pub bytes_of_first : (ls : List Lengths) → bytes_of (first ls) ≤ total ls
+bytes_of_first [] = omega arith
+bytes_of_first (l ∷ ls) = omega arith
+
+module _ (class : ℕ → Class) (text : List ℕ) where
+  -- the first paragraph from an offset on is within the text
+  pub first_within : (at : ℕ) → IsUtf8 text → IsCharBoundary text at → bytes_of (first (lengths class (drop at text))) ≤ length text - at
+  first_within at utf8 b = omega (
+    arith,
+    bytes_of_first (lengths class (drop at text)),
+    total_lengths class (drop at text) (IsUtf8-drop text at utf8 b),
+    length-drop at text,
+  )
+
+  -- a window that begins where a paragraph does
+  pub moved : (at to : ℕ) (w : Window) → IsWindow class text at w → IsCharBoundary text to → IsWindow class text to (record w { start = to })
+  moved at to w h b =
+      let none : 0 ≡ to - to = omega arith in
+      record {
+        start_bounds = b;
+        stop_bounds = h.stop_bounds;
+        begun = omega arith;
+        goes_on = further_none (first (lengths class (drop to text))) ∙ ap (λ n. further n (first (lengths class (drop to text)))) none;
+        behind = h.behind;
+      }
+
+  -- a scan that comes to the window's end
+  pub at_stop : (start at : ℕ) (w : Window) → IsWindow class text start w → start ≤ at → at ≡ w.stop
+      → first (lengths class (drop start text)) ≡ further (at - start) (first (lengths class (drop at text)))
+      → record { body = at - start + w.body; separator = w.separator } ≡ first (lengths class (drop start text))
+  at_stop start at w h begun e g =
+      sym (g ∙ ap (λ s. further (at - start) (first (lengths class (drop s text)))) e ∙ ap (further (at - start)) h.behind)
+
+  pub stop_within : (start at : ℕ) (w : Window) → IsWindow class text start w → IsUtf8 text → IsCharBoundary text at → at ≡ w.stop
+      → at + w.body + w.separator ≤ length text
+  stop_within start at w h utf8 b e =
+      let inside : at ≤ length text = b.0 in
+      omega (arith, first_within w.stop utf8 h.stop_bounds, ap bytes_of h.behind, e)

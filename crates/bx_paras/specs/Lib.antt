@@ -2,8 +2,11 @@ pub mod Paragraphs
 pub mod Positions
 pub mod Ended
 pub mod Scan
+pub mod Windows
 pub mod OneBlock
 pub mod Flat
+pub mod Spots
 pub mod Touched
 pub mod Blocks
 pub mod Index
+pub mod Walk

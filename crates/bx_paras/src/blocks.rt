@@ -2,7 +2,7 @@
 
 ghost use Rattle.std.specs.Prelude.{◌≡◌, ℕ, [], ◌∷◌, ◌++◌, ◌+◌, ◌-◌, ◌<◌, ◌≤◌, ◌^◌, ◌⊎◌, length, take, drop, get_or, IfOk, OnOk, OnErr, MatchOption, vec_len};
 ghost use Rattle.bx_paras.specs.Positions.{bytes_of, total};
-ghost use Rattle.bx_paras.specs.Flat.{flat, BlocksState, room_at, IsPosition};
+ghost use Rattle.bx_paras.specs.Flat.{flat, BlocksState, room_at, separator_of, IsPosition};
 
 use crate::block::{BLOCK_CAPACITY, Block, total};
 use crate::lengths::Lengths;
@@ -34,9 +34,9 @@ impl Model for Blocks {
 }
 
 /// Where the paragraph stands that an offset falls in, among the paragraphs of a block that end past it: its number,
-/// where it begins and where it ends.
+/// where it begins, where it ends, and the bytes of its separator.
 #[tactic(auto, using(crate::proofs::Totals::total_more, crate::proofs::Totals::total_front))]
-fn position_within(lengths: &[Lengths], offset: usize) -> (usize, usize, usize)
+fn position_within(lengths: &[Lengths], offset: usize) -> (usize, usize, usize, usize)
     requires inside { offset < total lengths.now }
     requires short { total lengths.now < 2 ^ 64 }
     ensures number { result.0 < length lengths.now }
@@ -44,18 +44,19 @@ fn position_within(lengths: &[Lengths], offset: usize) -> (usize, usize, usize)
     ensures begun { result.1 ≤ offset }
     ensures end { result.2 ≡ total (take (result.0 + 1) lengths.now) }
     ensures past { offset < result.2 }
+    ensures separator { result.3 ≡ separator_of lengths.now result.0 }
 {
     let mut number = 0;
     let mut start = 0;
     for paragraph in lengths {
         let end = start + paragraph.bytes();
         if offset < end {
-            return (number, start, end);
+            return (number, start, end, paragraph.separator as usize);
         }
         number += 1;
         start = end;
     }
-    (number, start, start)
+    (number, start, start, 0)
 }
 
 /// One of the blocks that were made ahead, with no paragraph. No memory.
@@ -90,11 +91,15 @@ impl Blocks {
         for block in &self.blocks {
             let end = start + block.bytes();
             if offset < end {
-                let (within, before, past) = position_within(block.lengths(), offset - start);
+                let (within, before, past, separator) = position_within(
+                    block.lengths(),
+                    offset - start,
+                );
                 return Position {
                     number: number + within,
                     start: start + before,
                     end: Some(start + past),
+                    separator,
                 };
             }
             number += block.lengths().len();
@@ -104,6 +109,7 @@ impl Blocks {
             number,
             start,
             end: None,
+            separator: 0,
         }
     }
 
@@ -140,14 +146,36 @@ impl Blocks {
         None
     }
 
+    /// The paragraphs of a block; none where there are not so many blocks. No memory.
+    pub fn block(&self, at: usize) -> Option<&[Lengths]>
+        ensures lent { MatchOption result (length self.now.blocks ≤ at) (λ ls. (at < length self.now.blocks) × (ls.now ≡ get_or self.now.blocks at [])) }
+        ensures few { length self.now.blocks < 2 ^ 64 }
+        ensures few_paragraphs { length (flat self.now.blocks) < 2 ^ 64 }
+    {
+        Some(self.blocks.get(at)?.lengths())
+    }
+
+    /// The offset at which a paragraph begins, or the one behind the last. No memory.
+    pub fn start_of(&self, number: usize) -> usize
+        requires { number ≤ length (flat self.now.blocks) }
+        ensures { result ≡ total (take number (flat self.now.blocks)) }
+    {
+        match self.get(number) {
+            Some((start, _)) => start,
+            None => self.size().1,
+        }
+    }
+
     /// The block of a paragraph, and how many paragraphs of the block stand before it; behind the last one no block
     /// is left. No memory.
     #[tactic(auto, using(crate::proofs::Flats::length_flat_more, crate::proofs::Flats::length_flat_front))]
-    fn seek(&self, number: usize) -> (usize, usize)
+    pub fn seek(&self, number: usize) -> (usize, usize)
         requires { number ≤ length (flat self.now.blocks) }
         ensures block { result.0 ≤ length self.now.blocks }
         ensures number { number ≡ length (flat (take result.0 self.now.blocks)) + result.1 }
         ensures within { (result.1 ≡ 0) ⊎ ((result.0 < length self.now.blocks) × (result.1 < length (get_or self.now.blocks result.0 []))) }
+        ensures held { result.0 < length self.now.blocks → result.1 < length (get_or self.now.blocks result.0 []) }
+        ensures behind { length self.now.blocks ≤ result.0 → result.1 ≡ 0 }
     {
         let mut left = number;
         for (i, block) in self.blocks.iter().enumerate() {

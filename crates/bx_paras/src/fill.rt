@@ -5,15 +5,17 @@ ghost use Rattle.bx_paras.specs.Paragraphs.{lengths};
 ghost use Rattle.bx_paras.specs.Positions.{total};
 ghost use Rattle.bx_paras.specs.Ended.{ended_within};
 ghost use Rattle.bx_paras.specs.Flat.{flat, room_at};
+ghost use Rattle.bx_paras.specs.Windows.{IsWindow};
 
 use crate::blocks::Blocks;
 use crate::position::Position;
 use crate::scan::paragraph_from;
+use crate::window::Window;
 use bx_text::Text;
 use bx_ucd::BidiData;
 
-/// Puts in, at a position among the blocks, the paragraphs of a text that end with a separator from one offset to another.
-/// Gives the position behind them and the offset where the last of them ends. No memory.
+/// Puts in, at a position among the blocks, the paragraphs of a text that end with a separator from one offset to another,
+/// of which it looks at what stands in a window. Gives the position behind them and the offset where the last of them ends. No memory.
 fn fill<D: BidiData>(
     blocks: &mut Blocks,
     position: usize,
@@ -21,8 +23,10 @@ fn fill<D: BidiData>(
     source: &D,
     start: usize,
     stop: usize,
+    window: Window,
 ) -> (usize, usize)
     requires bounds { IsCharBoundary text.now.edited.text start }
+    requires window { IsWindow (D.class_of source.now) text.now.edited.text start window }
     requires position { position ≤ length blocks.old.blocks }
     requires room { length (ended_within (stop - start) (lengths (D.class_of source.now) (drop start text.now.edited.text))) ≤ room_at blocks.old position }
     requires short { total (flat blocks.old.blocks) + total (ended_within (stop - start) (lengths (D.class_of source.now) (drop start text.now.edited.text))) < 2 ^ 64 }
@@ -34,13 +38,15 @@ fn fill<D: BidiData>(
 {
     let mut position = position;
     let mut at = start;
+    let mut window = window;
     while at < stop {
-        let paragraph = paragraph_from(text, source, at);
+        let paragraph = paragraph_from(text, source, at, window);
         if paragraph.separator == 0 || paragraph.bytes() > stop - at {
             return (position, at);
         }
         position = blocks.push(position, paragraph);
         at += paragraph.bytes();
+        window.start = at;
     }
     (position, at)
 }
@@ -54,8 +60,10 @@ pub fn replace<D: BidiData>(
     from: Position,
     to: usize,
     stop: usize,
+    window: Window,
 ) -> usize
     requires bounds { IsCharBoundary text.now.edited.text from.start }
+    requires window { IsWindow (D.class_of source.now) text.now.edited.text from.start window }
     requires order { from.number ≤ to }
     requires inside { to ≤ length (flat blocks.old.blocks) }
     requires room { 256 + length (ended_within (stop - from.start) (lengths (D.class_of source.now) (drop from.start text.now.edited.text))) ≤ 128 * blocks.old.spares }
@@ -65,7 +73,7 @@ pub fn replace<D: BidiData>(
     ensures stop { result ≡ from.start + total (ended_within (stop - from.start) (lengths (D.class_of source.now) (drop from.start text.now.edited.text))) }
 {
     let position = blocks.take_out(from.number, to);
-    let (position, at) = fill(blocks, position, text, source, from.start, stop);
+    let (position, at) = fill(blocks, position, text, source, from.start, stop, window);
     blocks.join(position);
     blocks.release();
     at

@@ -1,6 +1,6 @@
 //! The index.
 
-ghost use Rattle.std.specs.Prelude.{◌≡◌, ℕ, ◌+◌, ◌-◌, ◌<◌, ◌≤◌, ◌++◌, ◌∷◌, List, [], None, Some, length, take, drop, slice_get, IsUtf8, IfOk, OnOk, OnErr};
+ghost use Rattle.std.specs.Prelude.{◌≡◌, ℕ, ◌+◌, ◌-◌, ◌<◌, ◌≤◌, ◌++◌, ◌∷◌, List, [], None, Some, length, take, drop, slice_get, min, IsUtf8, IfOk, OnOk, OnErr, MatchOption};
 ghost use Rattle.bx_text.specs.Edits.{Leads, largest_text};
 ghost use Rattle.bx_text.specs.Text.{HasRoomFor};
 ghost use Rattle.bx_paras.specs.Paragraphs.{lengths, separator_count};
@@ -8,6 +8,7 @@ ghost use Rattle.bx_paras.specs.Positions.{total, spans, separators, paragraph_o
 ghost use Rattle.bx_paras.specs.Flat.{flat};
 ghost use Rattle.bx_paras.specs.Touched.{IsTouched};
 ghost use Rattle.bx_paras.specs.Index.{IndexState};
+ghost use Rattle.bx_paras.specs.Windows.{IsWindow};
 
 use crate::block::BLOCK_CAPACITY;
 use crate::blocks::Blocks;
@@ -15,6 +16,8 @@ use crate::error::ParasError;
 use crate::fill::replace;
 use crate::position::Position;
 use crate::scan::paragraph_from;
+use crate::walk::ParagraphWalk;
+use crate::window::{Window, window_to_end};
 use bx_terms::LARGEST_TEXT;
 use bx_text::{Change, Text};
 use bx_ucd::BidiData;
@@ -60,6 +63,58 @@ fn touched<D: BidiData>(
     (first, last)
 }
 
+/// Up to where no separator stands between the beginning of the paragraph in front of a change and the change.
+fn quiet_until(first: Position, change: &Change) -> usize
+    ensures { MatchOption first.end (result ≡ change.now.start) (λ e. result ≡ min change.now.start (e - first.separator)) }
+{
+    match first.end {
+        None => change.start,
+        Some(end) => change.start.min(end.saturating_sub(first.separator)),
+    }
+}
+
+/// What follows a change, of the paragraph that goes on there: the rest of its body and of its separator. The change
+/// ended at an offset of the text before it, and so many bytes of the text follow it.
+fn rest_behind(last: Position, offset: usize, left: usize) -> (usize, usize)
+    ensures { MatchOption last.end (result ≡ (left, 0)) (λ e. result ≡ (e - last.separator - offset, min last.separator (e - offset))) }
+{
+    match last.end {
+        None => (left, 0),
+        Some(end) => {
+            let stop = end.saturating_sub(last.separator);
+            let separator = last.separator.min(end.saturating_sub(offset));
+            (stop.saturating_sub(offset), separator)
+        }
+    }
+}
+
+/// What has to be looked at where a change was made.
+fn window_of<D: BidiData>(
+    ended: &Blocks,
+    last: u32,
+    text: &Text,
+    source: &D,
+    change: &Change,
+    reached: (Position, Position),
+) -> Window
+    requires touched { (old : List ℕ) × IsTouched (D.class_of source.now) old change.now text.now.edited.text (flat ended.now.blocks) (record { body = last; separator = 0 }) reached.0 reached.1 }
+    requires short { total (flat ended.now.blocks ++ record { body = last; separator = 0 } ∷ []) ≤ largest_text }
+    ensures { IsWindow (D.class_of source.now) text.now.edited.text reached.0.start result }
+{
+    let _ = ended;
+    let _ = source;
+    let _last = last;
+    let len = text.len();
+    let stop = change.start + change.added;
+    let (body, separator) = rest_behind(reached.1, change.start + change.removed, len - stop);
+    Window {
+        start: quiet_until(reached.0, change),
+        stop,
+        body,
+        separator,
+    }
+}
+
 impl Index {
     /// The paragraphs of a text.
     ///
@@ -71,8 +126,9 @@ impl Index {
         let mut ended = Blocks::new(alloc);
         let mut position = 0;
         let mut at = 0;
+        let mut window = window_to_end(text, at);
         while at < len {
-            let paragraph = paragraph_from(text, source, at);
+            let paragraph = paragraph_from(text, source, at, window);
             if paragraph.separator == 0 {
                 return Ok(Index {
                     ended,
@@ -83,6 +139,7 @@ impl Index {
             ended.ready(1)?;
             position = ended.push(position, paragraph);
             at += paragraph.bytes();
+            window.start = at;
         }
         Ok(Index {
             ended,
@@ -106,7 +163,7 @@ impl Index {
         Ok(())
     }
 
-    /// Follows an edit of the text, which it looks at where the change is. No memory, and it always succeeds: the index
+    /// Follows an edit of the text, of which it looks at what was added and at what stands beside it. No memory, and it always succeeds: the index
     /// was that of the text before the change, by the same data, and `ready` made room for the separators among what
     /// was added.
     pub fn edited<D: BidiData>(&mut self, text: &Text, source: &D, change: &Change)
@@ -115,7 +172,9 @@ impl Index {
         ensures { self.new ≡ record { paragraphs = lengths (D.class_of source.now) text.now.edited.text; room = None } }
     {
         let len = text.len();
-        let (first, last) = touched(&self.ended, self.last, text, source, change);
+        let reached = touched(&self.ended, self.last, text, source, change);
+        let window = window_of(&self.ended, self.last, text, source, change, reached);
+        let (first, last) = reached;
         if let Some(end) = last.end {
             let behind = end - change.removed + change.added;
             replace(
@@ -125,18 +184,28 @@ impl Index {
                 first,
                 last.number + 1,
                 behind,
+                window,
             );
             self.room = None;
             return;
         }
-        let at = replace(&mut self.ended, text, source, first, last.number, len);
+        let at = replace(
+            &mut self.ended,
+            text,
+            source,
+            first,
+            last.number,
+            len,
+            window,
+        );
         self.last = (len - at) as u32;
         self.room = None;
     }
 
     /// How many paragraphs the text has, at least one. No memory.
     pub fn count(&self) -> usize
-        ensures { result ≡ length self.now.paragraphs }
+        ensures count { result ≡ length self.now.paragraphs }
+        ensures some { 0 < result }
     {
         self.ended.size().0 + 1
     }
@@ -172,5 +241,20 @@ impl Index {
             Some((_, paragraph)) => paragraph.separator as usize,
             None => 0,
         }
+    }
+
+    /// A walk that stands at the paragraph of a number. No memory.
+    pub fn walk_at(&self, number: usize) -> ParagraphWalk<'_>
+        requires { number < length self.now.paragraphs }
+        ensures { result ≡ record { paragraphs = self.now.paragraphs; number = number } }
+    {
+        ParagraphWalk::new(&self.ended, self.last, number)
+    }
+
+    /// A walk that stands at the paragraph that an offset in bytes falls in. No memory.
+    pub fn walk_at_offset(&self, offset: usize) -> ParagraphWalk<'_>
+        ensures { result ≡ record { paragraphs = self.now.paragraphs; number = paragraph_of self.now.paragraphs offset } }
+    {
+        ParagraphWalk::new(&self.ended, self.last, self.ended.find(offset).number)
     }
 }

@@ -10,6 +10,10 @@ mod lengths;
 mod position;
 mod scan;
 mod splices;
+mod spot;
+mod walk;
+mod window;
 
 pub use error::ParasError;
 pub use index::Index;
+pub use walk::ParagraphWalk;

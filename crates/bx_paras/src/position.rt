@@ -9,4 +9,6 @@ pub struct Position {
     pub start: usize,
     /// The offset behind its separator; none where it has none.
     pub end: Option<usize>,
+    /// How many bytes its separator has, 0 where it has none.
+    pub separator: usize,
 }

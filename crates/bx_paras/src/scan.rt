@@ -1,11 +1,13 @@
 //! The paragraph that begins at an offset of a text.
 
-ghost use Rattle.std.specs.Prelude.{◌≡◌, ◌==◌, ◌&&◌, chars, drop, length, encode_utf8, if◌then◌else◌, IsCharBoundary, IsUtf8, MatchOption};
+ghost use Rattle.std.specs.Prelude.{◌≡◌, ◌<◌, ◌+◌, ◌==◌, ◌&&◌, chars, take, drop, length, encode_utf8, if◌then◌else◌, IsCharBoundary, IsUtf8, MatchOption};
 ghost use Rattle.bx_paras.specs.Paragraphs.{is_separator, begins_with_lf, lengths};
 ghost use Rattle.bx_paras.specs.Ended.{first};
 ghost use Rattle.bx_paras.specs.Scan.{HasNone, IsAt};
+ghost use Rattle.bx_paras.specs.Windows.{IsWindow};
 
 use crate::lengths::Lengths;
+use crate::window::Window;
 use bx_text::Text;
 use bx_ucd::{BidiData, Class};
 
@@ -53,16 +55,39 @@ fn separator_bytes<D: BidiData>(text: &Text, source: &D, c: char, after: usize) 
     }
 }
 
-/// The lengths of the paragraph that begins at an offset, or of what follows the offset of the one that holds it.
-/// No memory.
-pub fn paragraph_from<D: BidiData>(text: &Text, source: &D, start: usize) -> Lengths
-    requires { IsCharBoundary text.now.edited.text start }
+/// What stands from an offset on, as far as the piece of the text that holds it goes, up to another offset, if that is
+/// behind it. No memory.
+fn part_before(text: &Text, at: usize, stop: usize) -> &str
+    requires bounds { IsCharBoundary text.now.edited.text at }
+    requires inside { at < length text.now.edited.text }
+    requires stop { IsCharBoundary text.now.edited.text stop }
+    ensures bytes { take (length result.now) (drop at text.now.edited.text) ≡ result.now }
+    ensures not_empty { 0 < length result.now }
+    ensures next { IsCharBoundary text.now.edited.text (at + length result.now) }
+{
+    if at < stop {
+        return text.part_at(at, stop);
+    }
+    text.part_at(at, text.len())
+}
+
+/// The lengths of the paragraph that begins at an offset, or of what follows the offset of the one that holds it. Only
+/// what stands in the window is looked at, and the LF behind a CR. No memory.
+pub fn paragraph_from<D: BidiData>(text: &Text, source: &D, start: usize, window: Window) -> Lengths
+    requires { IsWindow (D.class_of source.now) text.now.edited.text start window }
     ensures first { result ≡ first (lengths (D.class_of source.now) (drop start text.now.edited.text)) }
     ensures utf8 { IsUtf8 text.now.edited.text }
 {
     let len = text.len();
-    let mut at = start;
-    while let Some(piece) = text.piece_at(at) {
+    let mut at = window.start;
+    while at < len {
+        if at == window.stop {
+            return Lengths {
+                body: (at - start + window.body) as u32,
+                separator: window.separator as u32,
+            };
+        }
+        let piece = part_before(text, at, window.stop);
         if let Some((before, c)) = separator_in(piece, source) {
             let end = at + before;
             return Lengths {

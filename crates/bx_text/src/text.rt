@@ -226,7 +226,7 @@ impl Text {
     }
 
     /// What stands from an offset on, as far as the piece that holds it goes, up to a later offset. No memory.
-    pub(crate) fn part_at(&self, at: usize, stop: usize) -> &str
+    pub fn part_at(&self, at: usize, stop: usize) -> &str
         requires range { IsRange self.now.edited.text at stop }
         requires before { at < stop }
         ensures bytes { take (length result.now) (drop at self.now.edited.text) ≡ result.now }

@@ -177,6 +177,32 @@ fn a_separator_of_three_bytes(rt: HostRuntime) -> Result<(), Fail> {
 }
 
 #[test]
+fn a_walk_goes_to_the_ends_and_stays_there(rt: HostRuntime) -> Result<(), Fail> {
+    let source = Counting::new(rt.alloc())?;
+    let text = text_of(rt.alloc(), "1\n2\r\n3")?;
+    let index = Index::build(rt.alloc(), &text, &source)?;
+    let mut walk = index.walk_at_offset(4);
+    assert_eq!(rt;
+        (walk.number(), walk.span(), walk.separator()),
+        (1, (2, 3), 2)
+    );
+    assert!(rt; walk.to_next());
+    assert_eq!(rt;
+        (walk.number(), walk.span(), walk.separator()),
+        (2, (5, 6), 0)
+    );
+    assert!(rt; !walk.to_next());
+    assert_eq!(rt; walk.number(), 2);
+    assert!(rt; walk.to_previous() && walk.to_previous());
+    assert_eq!(rt;
+        (walk.number(), walk.span(), walk.separator()),
+        (0, (0, 1), 1)
+    );
+    assert!(rt; !walk.to_previous());
+    Ok(())
+}
+
+#[test]
 fn an_edit_looks_at_its_paragraphs_alone(rt: HostRuntime) -> Result<(), Fail> {
     let source = Counting::new(rt.alloc())?;
     let mut lines = String::new(rt.alloc());
@@ -193,5 +219,28 @@ fn an_edit_looks_at_its_paragraphs_alone(rt: HostRuntime) -> Result<(), Fail> {
     assert_eq!(rt; index.span(500), (1500, 1502));
     assert_eq!(rt; index.span(501), (1503, 1504));
     assert_eq!(rt; index.span(1001), (3002, 3002));
+    Ok(())
+}
+
+#[test]
+fn an_edit_looks_at_what_it_adds_alone(rt: HostRuntime) -> Result<(), Fail> {
+    let source = Counting::new(rt.alloc())?;
+    let mut long = String::new(rt.alloc());
+    for _ in 0..1000 {
+        long.push_str("abcd")?;
+    }
+    long.push_str("\r\nab")?;
+    let mut text = Text::open(rt.alloc(), long)?;
+    let mut index = Index::build(rt.alloc(), &text, &source)?;
+    source.asked.set(0);
+    insert(&mut text, &mut index, &source, 2000, "x\n")?;
+    insert(&mut text, &mut index, &source, 4004, "y")?;
+    remove(&mut text, &mut index, &source, 3000, 3500)?;
+    assert!(rt; source.asked.get() < 10);
+    shows(
+        &rt,
+        &index,
+        &[(0, 2001, 1), (2002, 3502, 2), (3504, 3507, 0)],
+    );
     Ok(())
 }

@@ -2,7 +2,7 @@ use Rattle.std.proofs.Common.{◌∙◌, length, ap, arith}
 use Rattle.bx_paras.specs.declared.lengths.Lengths.{Lengths}
 use Rattle.bx_paras.specs.Positions.{total}
 use Rattle.bx_paras.proofs.Spliced.{pushed_from}
-use Rattle.bx_paras.proofs.Turns.{step, none_left, still_all, now_all}
+use Rattle.bx_paras.proofs.Turns.{step, moved, none_left, still_all, now_all}
 use Rattle.bx_paras.proofs.fill.fill.Goals as goal
 
 pub loop-at-preserved : goal.loop-at-preserved
@@ -16,6 +16,8 @@ loop-at-preserved g c =
     c.push-position.ensures.back in
     record {
       bounds = s.ends_between;
+      window = moved (g.D.BidiData.class_of c.args.source.now) c.args.text.now.edited.text c.loop-at.at _ c.loop-at.window
+          c.loop-at.invariant.window s.ends_between;
       position = c.push-position.ensures.position;
       front = still_all _ _ _ _ _ p c.push-position.ensures.front s.left c.loop-at.invariant.front;
       back = c.push-position.ensures.back ∙ c.loop-at.invariant.back;

@@ -4,6 +4,7 @@ use Rattle.bx_paras.specs.Paragraphs.{lengths}
 use Rattle.bx_paras.specs.Positions.{total}
 use Rattle.bx_paras.specs.Ended.{ended_within}
 use Rattle.bx_paras.specs.Flat.{flat, room_at}
+use Rattle.bx_paras.specs.Windows.{IsWindow}
 use Rattle.bx_paras.proofs.fill.fill.Given as goal
 
 abbrev pub invariant-loop-at : goal.invariant-loop-at
@@ -14,6 +15,7 @@ invariant-loop-at g l =
     let all = ended_within (l.stop - l.start) (lengths class (drop l.start text)) in
     record {
       bounds : IsCharBoundary text l.at;
+      window : IsWindow class text l.at l.window;
       position : l.position ≤ length l.blocks.blocks;
       front : flat (take l.position l.blocks.blocks) ++ left ≡ flat (take l.fn.position l.fn.blocks.blocks) ++ all;
       back : flat (drop l.position l.blocks.blocks) ≡ flat (drop l.fn.position l.fn.blocks.blocks);

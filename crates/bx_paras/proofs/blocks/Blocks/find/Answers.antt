@@ -1,6 +1,6 @@
 use Rattle.std.proofs.Common.{◌≡◌, ◌∙◌, ◌+◌, length, take, ap, arith}
 use Rattle.bx_paras.specs.Positions.{total}
-use Rattle.bx_paras.specs.Flat.{flat, BlocksState}
+use Rattle.bx_paras.specs.Flat.{flat, separator_of, BlocksState}
 use Rattle.bx_paras.proofs.Flats.{position_at, IsPosition-same, total_flat_more, total_flat_front}
 use Rattle.bx_paras.proofs.Totals.{total_front}
 use Rattle.bx_paras.proofs.blocks.Blocks.find.Goals as goal
@@ -28,10 +28,12 @@ returns-then-offset-end c =
     let e : c.lengths.result.now ≡ c.block-item.result = c.lengths.ensures.paragraphs in
     let p = position_at c.deref-block-items.result.now c.loop-block.block-index c.block-item.result c.loop-block-test.true c.block-item.is
     c.loop-block.number c.loop-block.start c.args.offset c.position_within-within.result.0 c.position_within-within.result.1 c.position_within-within.result.2
+    c.position_within-within.result.3
     c.loop-block.invariant.number c.loop-block.invariant.start c.loop-block.invariant.begun
     (omega (arith, c.position_within-within.ensures.number, ap length e))
     (c.position_within-within.ensures.start ∙ ap (λ ls. total (take c.position_within-within.result.0 ls)) e)
     c.position_within-within.ensures.begun
     (c.position_within-within.ensures.end ∙ ap (λ ls. total (take (c.position_within-within.result.0 + 1) ls)) e)
-    c.position_within-within.ensures.past in
+    c.position_within-within.ensures.past
+    (c.position_within-within.ensures.separator ∙ ap (λ ls. separator_of ls c.position_within-within.result.0) e) in
     IsPosition-same _ _ _ _ (c.deref-block-items.ensures.value ∙ ap (λ (s : BlocksState). s.blocks) c.self.view_is) p

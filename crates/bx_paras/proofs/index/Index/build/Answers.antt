@@ -7,12 +7,16 @@ use Rattle.bx_paras.specs.Flat.{flat, BlocksState}
 use Rattle.bx_paras.proofs.Cuts.{unended}
 use Rattle.bx_paras.proofs.Spliced.{pushed_behind}
 use Rattle.bx_paras.proofs.Totals.{total_push}
-use Rattle.bx_paras.proofs.Turns.{next, last, end_lengths, total_lengths, few_lengths, still_all}
+use Rattle.bx_paras.proofs.Turns.{next, last, moved, end_lengths, total_lengths, few_lengths, still_all}
 use Rattle.bx_paras.proofs.index.Index.build.Goals as goal
+
+pub window_to_end-window-requires : goal.window_to_end-window-requires
+window_to_end-window-requires g c = IsCharBoundary-start c.args.text.now.edited.text c.len-len.ensures.utf8
 
 pub loop-at-init : goal.loop-at-init
 loop-at-init g c = record {
   bounds = IsCharBoundary-start c.args.text.now.edited.text c.len-len.ensures.utf8;
+  window = c.window_to_end-window.ensures (g.D.BidiData.class_of c.args.source.now);
   position = omega arith;
   front = ap (λ (s : BlocksState). flat s.blocks ++ lengths (g.D.BidiData.class_of c.args.source.now) c.args.text.now.edited.text) c.new-ended.ensures;
   behind = ap (λ (s : BlocksState). flat s.blocks) c.new-ended.ensures;
@@ -70,6 +74,8 @@ loop-at-preserved g c =
     ∙ ap (λ bs. flat bs ++ p ∷ []) c.in_ok-ready.ensures.blocks in
     record {
       bounds = t.ends_between;
+      window = moved (g.D.BidiData.class_of c.args.source.now) c.args.text.now.edited.text c.loop-at.at _ c.loop-at.window c.loop-at.invariant.window
+          t.ends_between;
       position = c.push-position.ensures.position;
       front = still_all _ _ _ _ _ p more t.more c.loop-at.invariant.front;
       behind = c.push-position.ensures.back ∙ none;

@@ -3,11 +3,13 @@ use Rattle.std.proofs.Common.{◌≡◌, ◌≤◌, ◌-◌, ◌++◌, [], IsCha
 use Rattle.bx_paras.specs.Paragraphs.{lengths}
 use Rattle.bx_paras.specs.Positions.{total}
 use Rattle.bx_paras.specs.Flat.{flat}
+use Rattle.bx_paras.specs.Windows.{IsWindow}
 use Rattle.bx_paras.proofs.index.Index.build.Given as goal
 
 abbrev pub invariant-loop-at : goal.invariant-loop-at
 invariant-loop-at g l = record {
   bounds : IsCharBoundary l.text.edited.text l.at;
+  window : IsWindow (g.D.BidiData.class_of l.source) l.text.edited.text l.at l.window;
   position : l.position ≤ length l.ended.blocks;
   front : flat l.ended.blocks ++ lengths (g.D.BidiData.class_of l.source) (drop l.at l.text.edited.text)
       ≡ lengths (g.D.BidiData.class_of l.source) l.text.edited.text;

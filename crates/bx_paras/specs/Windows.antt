@@ -1,0 +1,20 @@
+-- The part of a text that a scan for paragraphs looks at.
+use Rattle.std.specs.Prelude.{◌≡◌, ◌≤◌, ℕ, ◌-◌, min, List, drop, IsCharBoundary}
+use Rattle.bx_ucd.specs.declared.class.Class.{Class}
+use Rattle.bx_paras.specs.declared.lengths.Lengths.{Lengths}
+use Rattle.bx_paras.specs.declared.window.Window.{Window}
+use Rattle.bx_paras.specs.Paragraphs.{lengths}
+use Rattle.bx_paras.specs.Positions.{bytes_of}
+use Rattle.bx_paras.specs.Ended.{first, further}
+
+-- what is left of a paragraph behind so many of its bytes
+abbrev pub rest_of : ℕ → Lengths → Lengths
+rest_of n p = record { body = p.body - n; separator = min p.separator (bytes_of p - n) }
+
+-- the paragraph from an offset on goes on where the window begins, and where it ends so much follows of one
+pub record IsWindow (class : ℕ → Class) (text : List ℕ) (at : ℕ) (w : Window) : Type 0 where
+  pub start_bounds : IsCharBoundary text w.start
+  pub stop_bounds : IsCharBoundary text w.stop
+  pub begun : at ≤ w.start
+  pub goes_on : first (lengths class (drop at text)) ≡ further (w.start - at) (first (lengths class (drop w.start text)))
+  pub behind : first (lengths class (drop w.stop text)) ≡ record { body = w.body; separator = w.separator }
