@@ -1,9 +1,10 @@
 -- Rows whose codes are equal and all tell their columns show the same.
-use Rattle.std.proofs.Common.{◌≡◌, ◌≢◌, ℕ, ◌+◌, ◌*◌, ◌-◌, ◌≤◌, ◌<◌, Bool, true, false, ◌&&◌, nat_eq, nat_le, nat_lt, if◌then◌else◌, List, [], ◌∷◌, ◌++◌, length}
-use Rattle.std.proofs.Common.{take, drop, set, get_or, zero, suc, refl, ap, sym, ◌∙◌, append_assoc, length-append, below_more, arith}
+use Rattle.std.proofs.Common.{◌≡◌, ℕ, ◌+◌, ◌*◌, ◌-◌, ◌≤◌, ◌<◌, Bool, true, false, ◌&&◌, nat_le, nat_lt, if◌then◌else◌, List, [], ◌∷◌, ◌++◌, length}
+use Rattle.std.proofs.Common.{take, drop, set, get_or, zero, suc, refl, ap, sym, ◌∙◌, append_assoc, length-append, below_more, min, inl, inr, arith}
+use Rattle.std.proofs.lemmas.Bool.{cases_lt}
 use lib.Bits.{bit_or, bit_xor, xor_assoc, xor_self, xor_zero_l, xor_zero_r}
 use Rattle.std.specs.List.{list_all}
-use Rattle.std.proofs.lemmas.List.{same_lists, drop_more, get_or-drop, length-drop, length-map, length-take-le, map-append, set_at, take_more, take-map}
+use Rattle.std.proofs.lemmas.List.{same_lists, drop_more, get_or-drop, length-drop, length-map, length-take-le, map-append, set_at, take_more, take-map, take_all}
 use Rattle.std.proofs.lemmas.List.{drop-map}
 use Rattle.std.proofs.lemmas.Bool.Decides.{nat_tests}
 use Rattle.std.proofs.lemmas.Nat.{le_or_l, le_or_r}
@@ -11,7 +12,7 @@ use Rattle.bx_grid.specs.Columns.{Col, Unknown, Glyph, are_equal, paste}
 use Rattle.bx_grid.specs.Codes.{is_byte, is_short, packed, no_code, is_code, code_in, code_of, codes_of}
 use Rattle.bx_grid.specs.Seen.{seen, all_seen}
 use Rattle.bx_grid.specs.declared.column.Column.{Column}
-use Rattle.bx_grid.proofs.Equal.{are_equal_refl}
+use Rattle.bx_grid.proofs.Equal.{are_equal_refl, lists_are}
 use Rattle.bx_grid.proofs.Pasted.{paste_around, three_parts}
 use Rattle.bx_grid.proofs.Reading.{and_left, and_right}
 
@@ -121,11 +122,41 @@ same_by_codes xs ys a b ea eb e h =
     let same = rows_same xs ys (sym ea ∙ e ∙ eb) (ap (list_all is_code) (sym ea) ∙ h) in
     rw same (are_equal_refl ys)
 
+equal_by : (t : Bool) (xs ys : List Col) → are_equal xs ys ≡ t → (xs ≡ ys → ⊥) → are_equal xs ys ≡ false
+equal_by true xs ys e h = absurd (h (lists_are xs ys e))
+equal_by false xs ys e h = e
+
+-- columns whose codes differ are not the same
+pub differ_by_codes : (xs ys : List Col) (a b : List ℕ) → a ≡ codes_of xs → b ≡ codes_of ys → (a ≡ b → ⊥) → false ≡ are_equal xs ys
+differ_by_codes xs ys a b ea eb h = sym (equal_by (are_equal xs ys) xs ys refl (λ e. h (ea ∙ ap codes_of e ∙ sym eb)))
+
 pub as_many : (xs ys : List Column) (a b : List ℕ) → length xs ≡ length ys → a ≡ codes_of (all_seen xs) → b ≡ codes_of (all_seen ys) → length a ≡ length b
 as_many xs ys a b len ea eb =
     ap length ea ∙ length-map (all_seen xs) code_of ∙ length-map xs seen ∙ len ∙ sym (ap length eb ∙ length-map (all_seen ys) code_of ∙ length-map ys seen)
 
+-- ---- the codes of a part of a row
+
+pub take_codes : (k : ℕ) (columns : List Column) (codes : List ℕ) → codes ≡ codes_of (all_seen columns) → take k codes ≡ codes_of (all_seen (take k columns))
+take_codes k columns codes e = ap (take k) e ∙ take-map code_of k (all_seen columns) ∙ ap codes_of (take-map seen k columns)
+
+pub drop_codes : (k : ℕ) (columns : List Column) (codes : List ℕ) → codes ≡ codes_of (all_seen columns) → drop k codes ≡ codes_of (all_seen (drop k columns))
+drop_codes k columns codes e = ap (drop k) e ∙ drop-map code_of k (all_seen columns) ∙ ap codes_of (drop-map seen k columns)
+
+pub take_min : {A : Type 0} (n : ℕ) (xs : List A) → take (min (length xs) n) xs ≡ take n xs
+take_min n xs = elim (cases_lt n (length xs)) [
+  | inl small ↦ (let e : min (length xs) n ≡ n = omega arith in rw e refl)
+  | inr large ↦ (let e : min (length xs) n ≡ length xs = omega arith in rw e (take_all (length xs) xs (omega arith) ∙ sym (take_all n xs large)))
+]
+
 -- ---- codes compared by their bits
+
+-- equal numbers have no bit in which they differ
+pub none_differ : (xs ys : List ℕ) (i differing : ℕ) → (xs ≡ ys → differing ≡ 0) → xs ≡ ys
+    → bit_or differing (bit_xor (get_or xs i 0) (get_or ys i 0)) ≡ 0
+none_differ xs ys i differing h e =
+    ap (λ zs. bit_or differing (bit_xor (get_or zs i 0) (get_or ys i 0))) e
+    ∙ ap (bit_or differing) (xor_self (get_or ys i 0))
+    ∙ ap (λ n. bit_or n 0) (h e)
 
 -- numbers whose bits do not differ
 pub xor_tells : (a b : ℕ) → bit_xor a b ≡ 0 → a ≡ b

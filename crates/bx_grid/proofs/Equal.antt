@@ -1,5 +1,6 @@
 -- Columns that show the same, by their test.
-use Rattle.std.proofs.Common.{◌≡◌, ◌↔◌, ℕ, Bool, true, false, IsTrue, ◌&&◌, nat_eq, List, [], ◌∷◌, refl, sym, arith}
+use Rattle.std.proofs.Common.{◌≡◌, ◌↔◌, ℕ, Bool, true, false, IsTrue, ◌&&◌, nat_eq, List, [], ◌∷◌, length, suc, refl, ap, sym, arith}
+use Rattle.std.proofs.Math.Bool.{and-false}
 use Rattle.std.specs.Str.{bytes_eq}
 use Rattle.std.proofs.lemmas.Bool.Decides.{nat_tests}
 use Rattle.bx_grid.specs.Columns.{Col, Unknown, Glyph, bool_eq, col_eq, are_equal}
@@ -70,3 +71,9 @@ bool_by false false f g h k = refl
 
 pub same_are_equal : (b : Bool) (xs ys : List Col) → (IsTrue b ↔ (xs ≡ ys)) → b ≡ are_equal xs ys
 same_are_equal b xs ys h = bool_by b (are_equal xs ys) (λ t. h.0 t) (λ e. h.1 e) (lists_are xs ys) (λ e. rw e (are_equal_refl ys))
+
+pub unequal_lengths : (xs ys : List Col) → (length xs ≡ length ys → ⊥) → are_equal xs ys ≡ false
+unequal_lengths [] [] h = absurd (h refl)
+unequal_lengths [] (y ∷ ys) h = refl
+unequal_lengths (x ∷ xs) [] h = refl
+unequal_lengths (x ∷ xs) (y ∷ ys) h = rw (unequal_lengths xs ys (λ e. h (ap suc e))) (and-false (col_eq x y))

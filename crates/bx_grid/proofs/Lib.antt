@@ -1,5 +1,6 @@
 pub mod Pieces
 pub mod Spoils
+pub mod Uncut
 pub mod Halves
 pub mod Pushed
 pub mod Puts

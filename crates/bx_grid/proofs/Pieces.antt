@@ -6,7 +6,9 @@ use borrow.Rule.Slice.PartMut.{put_mid}
 use Rattle.bx_grid.specs.Columns.{Col, cut_before, cut_after, paste, put, put_in_row}
 use Rattle.bx_grid.specs.Seen.{seen, all_seen}
 use Rattle.bx_grid.specs.declared.column.Column.{Column}
+use Rattle.bx_grid.specs.Uncut.{AreUncut}
 use Rattle.bx_grid.proofs.Spoils.{length-cut_before-seen}
+use Rattle.bx_grid.proofs.Uncut.{seen_drop}
 
 left_len : (row L : List Column) (k : ℕ) → k ≤ length row → all_seen L ≡ cut_before (all_seen (take k row)) → length L ≡ k
 left_len row L k fits hl =
@@ -15,6 +17,13 @@ left_len row L k fits hl =
 drop_base : (row L : List Column) (k n : ℕ) → length L ≡ k → drop (k + n) (L ++ drop k row) ≡ drop (k + n) row
 drop_base row L k n len =
     sym (drop-drop n k (L ++ drop k row)) ∙ ap (drop n) (drop_at L (drop k row) k len) ∙ drop-drop n k row
+
+-- what stands after the columns that are put
+pub right_uncut : (row L : List Column) (k n : ℕ) → k + n ≤ length row → all_seen L ≡ cut_before (all_seen (take k row)) → AreUncut (all_seen row)
+    → AreUncut (all_seen (take (length (L ++ drop k row) - (k + n)) (drop (k + n) (L ++ drop k row))))
+right_uncut row L k n fits hl h =
+    let base : List Column = L ++ drop k row in
+    rw (take_rest base (k + n), drop_base row L k n (left_len row L k (omega arith) hl)) (seen_drop row (k + n) h)
 
 -- what was put over a list of three parts
 paste_three : (a m z news : List Col) (k : ℕ) → length a ≡ k → length m ≡ length news → paste ((a ++ m) ++ z) k news ≡ a ++ news ++ z

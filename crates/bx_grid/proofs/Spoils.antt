@@ -1,19 +1,18 @@
 -- Columns of which nothing is known, one after another.
 use Rattle.bx_grid.specs.Seen.{seen, all_seen}
 use Rattle.bx_grid.specs.declared.column.Column.{Column}
-use Rattle.bx_grid.specs.declared.column.Column.TheVariants as column
 use Rattle.std.proofs.lemmas.Bool.Decides.{nat_tests}
 use Rattle.std.proofs.lemmas.List.{get_or-map, map-set, length-map}
-use Rattle.std.proofs.Common.{◌≡◌, ℕ, ◌+◌, ◌-◌, ◌<◌, ◌≤◌, true, false, cond, nat_lt, List, [], ◌∷◌, ◌++◌, length, take, drop, set, get_or, zero, suc, refl, ap}
+use Rattle.std.proofs.Common.{◌≡◌, ℕ, ◌+◌, ◌-◌, ◌<◌, ◌≤◌, true, cond, nat_lt, List, [], ◌∷◌, ◌++◌, length, take, drop, set, get_or, zero, suc, refl, ap}
 use Rattle.std.proofs.Common.{sym, ◌∙◌, append_assoc, arith}
 use Rattle.std.proofs.lemmas.List.{set_at, drop_more, take_more, get_or_at, length-take-le, append-nil, drop_all, take_all}
 use Rattle.bx_grid.specs.Columns.{Col, Unknown, columns_after, columns_before, cut_before, cut_after}
 
-length-cut_before : (xs : List Col) → length (cut_before xs) ≡ length xs
+pub length-cut_before : (xs : List Col) → length (cut_before xs) ≡ length xs
 length-cut_before [] = refl
 length-cut_before (x ∷ xs) = ap suc (length-cut_before xs)
 
-length-cut_after : (d : ℕ) (xs : List Col) → length (cut_after d xs) ≡ length xs
+pub length-cut_after : (d : ℕ) (xs : List Col) → length (cut_after d xs) ≡ length xs
 length-cut_after d [] = refl
 length-cut_after d (x ∷ xs) = ap suc (length-cut_after (d + 1) xs)
 
@@ -35,6 +34,24 @@ mixed_more ys xs i y d same low is =
     ∙ ap (λ z. (take i ys ++ z ∷ []) ++ drop (i + 1) xs) is
     ∙ ap (λ zs. zs ++ drop (i + 1) xs) (sym (take_more ys i d (omega arith)))
 
+-- in the first part
+pub mixed_start : (ys xs : List Col) (i : ℕ) (d : Col) → i < length ys → get_or (mixed (i + 1) ys xs) i d ≡ get_or ys i d
+mixed_start ys xs i d low =
+    let y = get_or ys i d in
+    ap (λ zs. get_or (zs ++ drop (i + 1) xs) i d) (take_more ys i d low)
+    ∙ ap (λ zs. get_or zs i d) (append_assoc (take i ys) (y ∷ []) (drop (i + 1) xs))
+    ∙ get_or_at (take i ys) y (drop (i + 1) xs) d i (length-take-le i ys (omega arith))
+
+pub mixed_less : (ys xs : List Col) (i : ℕ) (x d : Col) → length ys ≡ length xs → i < length ys → x ≡ get_or xs i d
+    → set (mixed (i + 1) ys xs) i x ≡ mixed i ys xs
+mixed_less ys xs i x d same low is =
+    let y = get_or ys i d in
+    ap (λ zs. set (zs ++ drop (i + 1) xs) i x) (take_more ys i d low)
+    ∙ ap (λ zs. set zs i x) (append_assoc (take i ys) (y ∷ []) (drop (i + 1) xs))
+    ∙ set_at (take i ys) y (drop (i + 1) xs) x i (length-take-le i ys (omega arith))
+    ∙ ap (λ z. take i ys ++ z ∷ drop (i + 1) xs) is
+    ∙ ap (λ zs. take i ys ++ zs) (sym (drop_more xs i d (omega arith)))
+
 pub left_of_at : (xs : List Col) (i : ℕ) (d : Col) → i < length xs
     → get_or (cut_before xs) i d ≡ cond (nat_lt (length xs - 1 - i) (columns_after (get_or xs i d))) Unknown (get_or xs i d)
 left_of_at [] i d low = absurd (omega arith)
@@ -53,70 +70,31 @@ right_of_at e (x ∷ xs) (suc i) d low =
 
 -- ---- one step of a loop that forgets
 
-read_same : (ys : List Col) (start row : List Column) (i : ℕ) (x : Column) (d : Col) → length ys ≡ length start → i < length start
+pub read_same : (ys : List Col) (start row : List Column) (i : ℕ) (x : Column) (d : Col) → length ys ≡ length start → i < length start
     → all_seen row ≡ mixed i ys (all_seen start) → length row ≡ length start → seen (get_or row i x) ≡ get_or (all_seen start) i d
 read_same ys start row i x d same low before len =
     sym (get_or-map seen row i x d (omega arith))
     ∙ ap (λ zs. get_or zs i d) before
     ∙ mixed_read ys (all_seen start) i d (same ∙ sym (length-map start seen)) (omega (arith, length-map start seen))
 
-pub forgot : (ys : List Col) (start row : List Column) (i : ℕ) (d : Col) → length ys ≡ length start → i < length start
+pub forgot : (ys : List Col) (start row : List Column) (i : ℕ) (y : Column) (d : Col) → seen y ≡ Unknown → length ys ≡ length start → i < length start
     → all_seen row ≡ mixed i ys (all_seen start) → Unknown ≡ get_or ys i d
-    → all_seen (set row i column.Unknown) ≡ mixed (i + 1) ys (all_seen start)
-forgot ys start row i d same low before is =
-    map-set seen row i column.Unknown
+    → all_seen (set row i y) ≡ mixed (i + 1) ys (all_seen start)
+forgot ys start row i y d known same low before is =
+    map-set seen row i y
+    ∙ ap (λ z. set (all_seen row) i z) known
     ∙ ap (λ zs. set zs i Unknown) before
     ∙ mixed_more ys (all_seen start) i Unknown d (same ∙ sym (length-map start seen)) (omega (arith, length-map start seen)) is
 
-pub kept : (ys : List Col) (start row : List Column) (i : ℕ) (x : Column) (d : Col) → length ys ≡ length start → i < length start
-    → all_seen row ≡ mixed i ys (all_seen start) → seen (get_or row i x) ≡ get_or ys i d
-    → all_seen (set row i (get_or row i x)) ≡ mixed (i + 1) ys (all_seen start)
-kept ys start row i x d same low before is =
-    map-set seen row i (get_or row i x)
-    ∙ ap (λ zs. set zs i (seen (get_or row i x))) before
-    ∙ mixed_more ys (all_seen start) i (seen (get_or row i x)) d (same ∙ sym (length-map start seen)) (omega (arith, length-map start seen)) is
-
-pub left_forgot : (start row : List Column) (i : ℕ) (x : Column) → i < length start → length row ≡ length start
-    → all_seen row ≡ mixed i (cut_before (all_seen start)) (all_seen start) → length start - 1 - i < columns_after (seen (get_or row i x))
-    → all_seen (set row i column.Unknown) ≡ mixed (i + 1) (cut_before (all_seen start)) (all_seen start)
-left_forgot start row i x low len before reach =
-    let ys : List Col = cut_before (all_seen start) in
-    let same : length ys ≡ length start = length-cut_before (all_seen start) ∙ length-map start seen in
-    let here : seen (get_or row i x) ≡ get_or (all_seen start) i Unknown = read_same ys start row i x Unknown same low before len in
-    let test : nat_lt (length (all_seen start) - 1 - i) (columns_after (get_or (all_seen start) i Unknown)) ≡ true =
-    rw (← here, length-map start seen) (grind (arith, nat_tests)) in
-    forgot ys start row i Unknown same low before (sym (left_of_at (all_seen start) i Unknown (omega (arith, length-map start seen)) ∙ rw test refl))
-
-pub left_kept : (start row : List Column) (i : ℕ) (x : Column) → i < length start → length row ≡ length start
-    → all_seen row ≡ mixed i (cut_before (all_seen start)) (all_seen start) → columns_after (seen (get_or row i x)) ≤ length start - 1 - i
-    → all_seen (set row i (get_or row i x)) ≡ mixed (i + 1) (cut_before (all_seen start)) (all_seen start)
-left_kept start row i x low len before reach =
-    let ys : List Col = cut_before (all_seen start) in
-    let same : length ys ≡ length start = length-cut_before (all_seen start) ∙ length-map start seen in
-    let here : seen (get_or row i x) ≡ get_or (all_seen start) i Unknown = read_same ys start row i x Unknown same low before len in
-    let test : nat_lt (length (all_seen start) - 1 - i) (columns_after (get_or (all_seen start) i Unknown)) ≡ false =
-    rw (← here, length-map start seen) (grind (arith, nat_tests)) in
-    kept ys start row i x Unknown same low before (here ∙ sym (left_of_at (all_seen start) i Unknown (omega (arith, length-map start seen)) ∙ rw test refl))
-
-pub right_forgot : (start row : List Column) (i : ℕ) (x : Column) → i < length start → length row ≡ length start
+pub right_forgot : (start row : List Column) (i : ℕ) (x y : Column) → seen y ≡ Unknown → i < length start → length row ≡ length start
     → all_seen row ≡ mixed i (cut_after 0 (all_seen start)) (all_seen start) → i < columns_before (seen (get_or row i x))
-    → all_seen (set row i column.Unknown) ≡ mixed (i + 1) (cut_after 0 (all_seen start)) (all_seen start)
-right_forgot start row i x low len before reach =
+    → all_seen (set row i y) ≡ mixed (i + 1) (cut_after 0 (all_seen start)) (all_seen start)
+right_forgot start row i x y known low len before reach =
     let ys : List Col = cut_after 0 (all_seen start) in
     let same : length ys ≡ length start = length-cut_after 0 (all_seen start) ∙ length-map start seen in
     let here : seen (get_or row i x) ≡ get_or (all_seen start) i Unknown = read_same ys start row i x Unknown same low before len in
     let test : nat_lt (0 + i) (columns_before (get_or (all_seen start) i Unknown)) ≡ true = rw (← here) (grind (arith, nat_tests)) in
-    forgot ys start row i Unknown same low before (sym (right_of_at 0 (all_seen start) i Unknown (omega (arith, length-map start seen)) ∙ rw test refl))
-
-pub right_kept : (start row : List Column) (i : ℕ) (x : Column) → i < length start → length row ≡ length start
-    → all_seen row ≡ mixed i (cut_after 0 (all_seen start)) (all_seen start) → columns_before (seen (get_or row i x)) ≤ i
-    → all_seen (set row i (get_or row i x)) ≡ mixed (i + 1) (cut_after 0 (all_seen start)) (all_seen start)
-right_kept start row i x low len before reach =
-    let ys : List Col = cut_after 0 (all_seen start) in
-    let same : length ys ≡ length start = length-cut_after 0 (all_seen start) ∙ length-map start seen in
-    let here : seen (get_or row i x) ≡ get_or (all_seen start) i Unknown = read_same ys start row i x Unknown same low before len in
-    let test : nat_lt (0 + i) (columns_before (get_or (all_seen start) i Unknown)) ≡ false = rw (← here) (grind (arith, nat_tests)) in
-    kept ys start row i x Unknown same low before (here ∙ sym (right_of_at 0 (all_seen start) i Unknown (omega (arith, length-map start seen)) ∙ rw test refl))
+    forgot ys start row i y Unknown known same low before (sym (right_of_at 0 (all_seen start) i Unknown (omega (arith, length-map start seen)) ∙ rw test refl))
 
 -- the whole list, once each index has been looked at
 pub mixed_all : (ys xs : List Col) (i : ℕ) → length ys ≡ length xs → length xs ≤ i → mixed i ys xs ≡ ys

@@ -4,6 +4,7 @@ use Rattle.bx_grid.specs.Seen.{all_seen}
 use Rattle.bx_grid.specs.Tokens.{fate}
 use Rattle.bx_grid.specs.Picture.{IsSized}
 use Rattle.bx_grid.specs.Terminal.{Terminal}
+use Rattle.bx_grid.specs.Uncut.{AreUncutRows}
 use Rattle.bx_bytes.specs.declared.fate.Fate.TheVariants.{Waits}
 use Rattle.bx_grid.specs.declared.live.Live.TheInside.{Inside}
 
@@ -22,3 +23,4 @@ pub record IsLive (s : Inside) : Type 0 where
   pub sized : IsSized s.height s.width (length s.columns.items)
   pub placed : IfSome s.position (λ p. (p.0 < s.height) × (p.1 < s.width))
   pub waits : fate s.half_read.items ≡ Waits
+  pub uncut : AreUncutRows s.height s.width (all_seen s.columns.items)

@@ -63,31 +63,41 @@ pub fn note_codes(codes: &mut [u64], columns: &[Column], from: usize, to: usize)
     }
 }
 
-/// Whether these codes are equal and all tell their columns. The whole of both is read, which is faster than to stop.
-fn are_same_codes(codes: &[u64], others: &[u64]) -> bool
+/// The bits in which codes differ. The whole of both is read, which is faster than to stop.
+fn differing_bits(codes: &[u64], others: &[u64]) -> u64
     requires { length codes.now ≡ length others.now }
-    ensures equal { result ≡ true → codes.now ≡ others.now }
-    ensures tell { result ≡ true → list_all is_code codes.now ≡ true }
+    ensures same { result ≡ 0 → codes.now ≡ others.now }
+    ensures none { codes.now ≡ others.now → result ≡ 0 }
 {
     let mut differing: u64 = 0;
-    let mut all: u64 = 0;
     for (i, code) in codes.iter().enumerate() {
         differing |= *code ^ others[i];
-        all |= *code;
     }
-    differing == 0 && all < NO_CODE
+    differing
 }
 
-/// Whether two rows show the same. Their codes tell it where all of them tell their columns.
-#[tactic(auto, using(crate::proofs::Coded::same_by_codes))]
+/// Whether all these codes tell their columns.
+fn all_tell(codes: &[u64]) -> bool
+    ensures { result ≡ true → list_all is_code codes.now ≡ true }
+{
+    let mut all: u64 = 0;
+    for code in codes {
+        all |= *code;
+    }
+    all < NO_CODE
+}
+
+/// Whether columns show the same. Their codes tell it where they differ, and where all of them tell their columns.
 pub fn are_same(columns: &[Column], codes: &[u64], others: &[Column], other_codes: &[u64]) -> bool
-    requires as_long { length columns.now ≡ length others.now }
     requires codes { codes.now ≡ codes_of (all_seen columns.now) }
     requires others { other_codes.now ≡ codes_of (all_seen others.now) }
     ensures { result ≡ are_equal (all_seen columns.now) (all_seen others.now) }
 {
-    if are_same_codes(codes, other_codes) {
-        return true;
+    if columns.len() != others.len() {
+        return false;
     }
-    all_same(columns, others)
+    if differing_bits(codes, other_codes) != 0 {
+        return false;
+    }
+    all_tell(codes) || all_same(columns, others)
 }

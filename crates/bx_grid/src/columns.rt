@@ -1,12 +1,13 @@
 //! Lists of columns: filling, putting, and forgetting what is left of a glyph.
 
-ghost use Rattle.std.specs.Prelude.{◌≡◌, ℕ, ◌+◌, ◌≤◌, [], ◌∷◌, length, replicate, ◌-◌, ◌*◌, ◌<◌, true, nat_le, ◌&&◌, false, IfOk, IsOk, OnOk, OnErr, IsTrue};
+ghost use Rattle.std.specs.Prelude.{◌≡◌, ℕ, ◌+◌, ◌≤◌, [], ◌∷◌, length, take, drop, replicate, ◌-◌, ◌*◌, ◌<◌, true, nat_le, ◌&&◌, false, IfOk, IsOk, OnOk, OnErr, IsTrue};
 ghost use Rattle.std.specs.Prelude.{◌↔◌};
 ghost use Rattle.std.specs.List.{list_all};
 ghost use Rattle.bx_grid.specs.Columns.{are_ascii_printable, run_width, blank, is_blank, put, paste, AreBlank, AreSameAround, put_in_row, cut_before};
 ghost use Rattle.bx_grid.specs.Columns.{cut_after, columns_after, columns_before, plain_columns, glyph_columns, run_columns};
 ghost use Rattle.bx_grid.specs.Columns as spec;
 ghost use Rattle.bx_grid.specs.Seen.{seen, all_seen};
+ghost use Rattle.bx_grid.specs.Uncut.{AreUncut};
 
 use crate::column::Column;
 use crate::glyph_text::GlyphText;
@@ -182,28 +183,37 @@ impl Column {
             Column::Glyph { offset, .. } => *offset,
         }
     }
-}
 
-/// Nothing is known of a glyph that goes on after these columns.
-fn forget_left(row: &mut [Column])
-    ensures { all_seen row.new ≡ cut_before (all_seen row.old) }
-{
-    let count = row.len();
-    for (i, column) in row.iter_mut().enumerate() {
-        if (column.after() as usize) > count - 1 - i {
-            *column = Column::Unknown;
-        }
+    /// Nothing is known of it from here on.
+    fn forget(&mut self)
+        ensures { seen self.new ≡ spec.Unknown }
+    {
+        *self = Column::Unknown;
     }
 }
 
-/// Nothing is known of a glyph that began before these columns.
+/// Nothing is known of a glyph that goes on after these columns. Only its columns are looked at, and the one before them.
+fn forget_left(row: &mut [Column])
+    requires { AreUncut (all_seen row.old) }
+    ensures { all_seen row.new ≡ cut_before (all_seen row.old) }
+{
+    let count = row.len();
+    let mut first = count;
+    while first > 0 && (row[first - 1].after() as usize) > count - first {
+        first -= 1;
+        row[first].forget();
+    }
+}
+
+/// Nothing is known of a glyph that began before these columns. Only its columns are looked at, and the one after them.
 fn forget_right(row: &mut [Column])
+    requires { AreUncut (all_seen row.old) }
     ensures { all_seen row.new ≡ cut_after 0 (all_seen row.old) }
 {
-    for (i, column) in row.iter_mut().enumerate() {
-        if (column.before() as usize) > i {
-            *column = Column::Unknown;
-        }
+    let mut next = 0;
+    while next < row.len() && (row[next].before() as usize) > next {
+        row[next].forget();
+        next += 1;
     }
 }
 
@@ -216,6 +226,7 @@ pub fn show_in_row(
     count: u16,
     negative: bool,
 ) -> Result<(), AllocError>
+    requires uncut { AreUncut (all_seen row.old) }
     requires counted { count ≡ run_width run.now }
     requires inside { from + count ≤ length row.old }
     ensures { OnOk result (all_seen row.new ≡ put_in_row (all_seen row.old) from (run_columns negative run.now)) }
@@ -226,7 +237,8 @@ pub fn show_in_row(
 }
 
 pub fn erase_in_row(row: &mut [Column], from: usize)
-    requires { from ≤ length row.old }
+    requires uncut { AreUncut (all_seen row.old) }
+    requires inside { from ≤ length row.old }
     ensures { all_seen row.new ≡ put_in_row (all_seen row.old) from (replicate (length row.old - from) blank) }
 {
     forget_left(&mut row[..from]);
@@ -234,7 +246,7 @@ pub fn erase_in_row(row: &mut [Column], from: usize)
     fill_blank(row, from, count);
 }
 
-/// Puts a run in a row of all columns. Where memory runs out some of it is written.
+/// Puts a run in a row of all columns. Where memory runs out nothing is known of any column.
 pub fn show_at(
     alloc: Global,
     columns: &mut [Column],
@@ -247,24 +259,31 @@ pub fn show_at(
 ) -> Result<(), AllocError>
     requires small { (row < 500) × (width ≤ 500) }
     requires rows { row * width + width ≤ length columns.old }
+    requires uncut { AreUncut (take width (drop (row * width) (all_seen columns.old))) }
     requires counted { count ≡ run_width run.now }
     requires inside { from + count ≤ width }
-    ensures { OnOk result (all_seen columns.new ≡ put width (all_seen columns.old) row from (run_columns negative run.now)) }
+    ensures ok { OnOk result (all_seen columns.new ≡ put width (all_seen columns.old) row from (run_columns negative run.now)) }
+    ensures err { OnErr result (all_seen columns.new ≡ replicate (length columns.old) spec.Unknown) }
 {
     let start = row * width;
-    show_in_row(
+    let shown = show_in_row(
         alloc,
         &mut columns[start..start + width],
         from,
         run,
         count,
         negative,
-    )
+    );
+    if shown.is_err() {
+        fill_unknown(columns);
+    }
+    shown
 }
 
 pub fn erase_at(columns: &mut [Column], width: usize, row: usize, from: usize)
     requires small { (row < 500) × (width ≤ 500) }
     requires rows { row * width + width ≤ length columns.old }
+    requires uncut { AreUncut (take width (drop (row * width) (all_seen columns.old))) }
     requires inside { from ≤ width }
     ensures { all_seen columns.new ≡ put width (all_seen columns.old) row from (replicate (width - from) blank) }
 {

@@ -1,6 +1,6 @@
-//! A row of a grid, lent.
+//! A row of a grid, or a part of one, lent.
 
-ghost use Rattle.std.specs.Prelude.{◌≡◌, length};
+ghost use Rattle.std.specs.Prelude.{◌≡◌, ◌≤◌, length, take, drop};
 ghost use Rattle.bx_grid.specs.Columns.{are_equal};
 ghost use Rattle.bx_grid.specs.Codes.{codes_of};
 ghost use Rattle.bx_grid.specs.Seen.{all_seen};
@@ -9,7 +9,7 @@ use crate::codes::are_same;
 use crate::column::Column;
 use std::marker::Model;
 
-/// The columns of one row of a grid.
+/// Columns of one row of a grid, side by side.
 #[derive(Drop)]
 pub struct Row<'g> {
     columns: &'g [Column],
@@ -46,9 +46,24 @@ impl<'g> Row<'g> {
         self.columns
     }
 
-    /// Whether both rows show the same.
+    /// Its first columns, or all where there are fewer.
+    pub fn front(&self, count: usize) -> Row<'g>
+        ensures { result ≡ take count self.now }
+    {
+        let end = self.columns.len().min(count);
+        Row::new(&self.columns[..end], &self.codes[..end])
+    }
+
+    /// Its columns from one on.
+    pub fn rest(&self, from: usize) -> Row<'g>
+        requires { from ≤ length self.now }
+        ensures { result ≡ drop from self.now }
+    {
+        Row::new(&self.columns[from..], &self.codes[from..])
+    }
+
+    /// Whether both show the same.
     pub fn is_same(&self, other: &Row<'_>) -> bool
-        requires { length self.now ≡ length other.now }
         ensures { result ≡ are_equal self.now other.now }
     {
         are_same(self.columns, self.codes, other.columns, other.codes)

@@ -1,7 +1,7 @@
 -- A terminal that reads what is sent for the glyphs of a row.
 use Rattle.std.proofs.Common.{◌≡◌, ℕ, ◌+◌, ◌*◌, ◌<◌, ◌≤◌, Bool, true, false, ◌&&◌, List, [], ◌∷◌, ◌++◌, length, take, drop, Option, Some, refl, ap, sym, ◌∙◌}
 use Rattle.std.proofs.Common.{append_assoc, length-append, arith}
-use Rattle.std.specs.List.{list_all, All}
+use Rattle.std.specs.List.{All}
 use Rattle.std.proofs.lemmas.List.{append-nil, map-append, take-append-drop, length-drop, drop-append-le, nil_from_length}
 use Rattle.std.proofs.lemmas.List.Elements.{All-head, All-tail}
 use Rattle.bx_grid.specs.Columns.{Col, Glyph, is_ascii_glyph, are_equal, cut_after, run_columns, are_ascii_printable}

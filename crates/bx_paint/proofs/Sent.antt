@@ -1,31 +1,14 @@
 -- The parts of a row, and what is sent for them, one column after another.
-use Rattle.std.proofs.Common.{◌≡◌, ℕ, ◌+◌, ◌*◌, ◌-◌, ◌<◌, ◌≤◌, Bool, true, false, min, get_or, List, [], ◌∷◌, ◌++◌, length, take, drop, suc, refl, ap, sym, ◌∙◌}
-use Rattle.std.proofs.Common.{inl, inr, append_assoc, arith}
+use Rattle.std.proofs.Common.{◌≡◌, ℕ, ◌+◌, ◌*◌, ◌-◌, ◌<◌, ◌≤◌, Bool, true, false, get_or, List, [], ◌∷◌, ◌++◌, length, take, drop, suc, refl, ap, sym, ◌∙◌}
+use Rattle.std.proofs.Common.{append_assoc, arith}
 use Rattle.std.specs.List.{list_all}
-use Rattle.std.proofs.lemmas.Bool.{cases_lt}
-use Rattle.std.proofs.lemmas.List.{take_all, take_more, drop_more, drop-drop, drop-map, map-append}
+use Rattle.std.proofs.lemmas.List.{take_more, drop_more, drop-drop, map-append}
 use Rattle.bx_grid.specs.Seen.{seen, all_seen}
 use Rattle.bx_grid.specs.declared.column.Column.{Column}
 use Rattle.std.proofs.lemmas.List.Folds.{list_all-append}
 use Rattle.std.proofs.Math.Bool.{and-false, and-true}
-use Rattle.bx_grid.specs.Columns.{Col, is_blank, col_eq, are_equal}
+use Rattle.bx_grid.specs.Columns.{Col, Unknown, is_blank}
 use Rattle.bx_paint.specs.Painting.{Sent, then_sent, before_tail, leading_blanks, column_sent, columns_sent, tail_sent, tail_after, row_sent, rows_sent}
-use Rattle.bx_grid.specs.declared.column.Column.TheVariants.{Unknown}
-
--- ---- lists of columns
-
-pub unequal_lengths : (xs ys : List Col) → (length xs ≡ length ys → ⊥) → are_equal xs ys ≡ false
-unequal_lengths [] [] h = absurd (h refl)
-unequal_lengths [] (y ∷ ys) h = refl
-unequal_lengths (x ∷ xs) [] h = refl
-unequal_lengths (x ∷ xs) (y ∷ ys) h =
-    rw (unequal_lengths xs ys (λ e. h (ap suc e))) (and-false (col_eq x y))
-
-pub take_min : {A : Type 0} (n : ℕ) (xs : List A) → take (min (length xs) n) xs ≡ take n xs
-take_min n xs = elim (cases_lt n (length xs)) [
-  | inl small ↦ (let e : min (length xs) n ≡ n = omega arith in rw e refl)
-  | inr large ↦ (let e : min (length xs) n ≡ length xs = omega arith in rw e (take_all (length xs) xs (omega arith) ∙ sym (take_all n xs large)))
-]
 
 -- ---- the tail
 
@@ -108,19 +91,17 @@ one_more row i near negative old new new' x out h =
     let with_rest : List ℕ → Sent = λ bs. record { bytes = bs; negative = rest.negative } in
     rw h (ap with_rest (append_assoc out s.bytes rest.bytes))
 
-pub column_more : (row i : ℕ) (near negative near' negative' : Bool) (old new po pn : List Column) (out out' : List ℕ) → i < length new
+pub column_more : (row i : ℕ) (near negative near' negative' : Bool) (old new po pn : List Col) (out out' : List ℕ) → i < length new
     → po ≡ drop i old → pn ≡ drop i new
-    → out' ≡ out ++ (column_sent row i near negative (all_seen po) (all_seen pn)).bytes
-    → near' ≡ (column_sent row i near negative (all_seen po) (all_seen pn)).near
-    → negative' ≡ (column_sent row i near negative (all_seen po) (all_seen pn)).negative
-    → then_sent out' (columns_sent row (i + 1) near' negative' (all_seen (drop (i + 1) old)) (all_seen (drop (i + 1) new)))
-    ≡ then_sent out (columns_sent row i near negative (all_seen (drop i old)) (all_seen (drop i new)))
+    → out' ≡ out ++ (column_sent row i near negative po pn).bytes
+    → near' ≡ (column_sent row i near negative po pn).near
+    → negative' ≡ (column_sent row i near negative po pn).negative
+    → then_sent out' (columns_sent row (i + 1) near' negative' (drop (i + 1) old) (drop (i + 1) new))
+    ≡ then_sent out (columns_sent row i near negative (drop i old) (drop i new))
 column_more row i near negative near' negative' old new po pn out out' low ep ew eo en eg =
-    let split : all_seen (drop i new) ≡ seen (get_or new i Unknown) ∷ all_seen (drop (i + 1) new) = ap all_seen (drop_more new i Unknown low) in
-    let rest : all_seen (drop (i + 1) old) ≡ drop 1 (all_seen (drop i old)) =
-    ap all_seen (sym (drop-drop 1 i old)) ∙ sym (drop-map seen 1 (drop i old)) in
-    rw (eo, en, eg, ep, ew, rest) (one_more row i near negative (all_seen (drop i old)) (all_seen (drop i new)) (all_seen (drop (i + 1) new))
-    (seen (get_or new i Unknown)) out split)
+    let split : drop i new ≡ get_or new i Unknown ∷ drop (i + 1) new = drop_more new i Unknown low in
+    let rest : drop (i + 1) old ≡ drop 1 (drop i old) = sym (drop-drop 1 i old) in
+    rw (eo, en, eg, ep, ew, rest) (one_more row i near negative (drop i old) (drop i new) (drop (i + 1) new) (get_or new i Unknown) out split)
 
 -- ---- a row
 

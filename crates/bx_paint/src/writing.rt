@@ -7,7 +7,7 @@ ghost use Rattle.bx_paint.specs.Painting as spec;
 ghost use Rattle.bx_paint.specs.Painting.{move_bytes, render_change, glyph_bytes, before_tail, leading_blanks, column_sent, columns_sent, tail_sent, row_sent};
 ghost use Rattle.bx_paint.specs.Painting.{rows_sent};
 
-use bx_grid::{Column, GlyphText, Grid, Row, all_same};
+use bx_grid::{Column, GlyphText, Grid, Row};
 use itoa::Buffer;
 use std::alloc::AllocError;
 
@@ -65,25 +65,19 @@ fn write_glyph(
     out.extend_from_slice(text.as_bytes())
 }
 
-/// The first columns, or all where there are fewer.
-fn front(columns: &[Column], count: u16) -> &[Column]
-    ensures { all_seen result.now ≡ take count (all_seen columns.now) }
+/// Whether both begin with the same columns, so many or all that there are.
+fn is_same_front(old: &Row<'_>, new: &Row<'_>, count: u16) -> bool
+    ensures { result ≡ are_equal (take count old.now) (take count new.now) }
 {
-    &columns[..columns.len().min(count as usize)]
-}
-
-/// Whether the columns show the same, and are as many.
-fn are_same(columns: &[Column], others: &[Column]) -> bool
-    ensures { result ≡ are_equal (all_seen columns.now) (all_seen others.now) }
-{
-    columns.len() == others.len() && all_same(columns, others)
+    old.front(count as usize)
+        .is_same(&new.front(count as usize))
 }
 
 /// Whether the columns begin with a glyph of which a column differs from the old ones.
-fn is_sent(old: &[Column], new: &[Column]) -> bool
-    ensures { result ≡ spec.is_sent (all_seen old.now) (all_seen new.now) }
+fn is_sent(old: &Row<'_>, new: &Row<'_>) -> bool
+    ensures { result ≡ spec.is_sent old.now new.now }
 {
-    match new.first() {
+    match new.columns().first() {
         None | Some(Column::Unknown) => false,
         Some(
             Column::Glyph {
@@ -91,7 +85,7 @@ fn is_sent(old: &[Column], new: &[Column]) -> bool
                 offset,
                 ..
             },
-        ) => *offset == 0 && !are_same(front(old, *columns), front(new, *columns)),
+        ) => *offset == 0 && !is_same_front(old, new, *columns),
     }
 }
 
@@ -101,16 +95,16 @@ fn write_column(
     row: u16,
     column: u16,
     pen: Pen,
-    old: &[Column],
-    new: &[Column],
+    old: &Row<'_>,
+    new: &Row<'_>,
 ) -> Result<Pen, AllocError>
     requires small { (row < 65535) × (column < 65535) }
-    ensures bytes { OnOk result (out.new.items ≡ out.old.items ++ (column_sent row column pen.near pen.negative (all_seen old.now) (all_seen new.now)).bytes) }
-    ensures near { IfOk result (λ after. after.near ≡ (column_sent row column pen.near pen.negative (all_seen old.now) (all_seen new.now)).near) }
-    ensures rendition { IfOk result (λ after. after.negative ≡ (column_sent row column pen.near pen.negative (all_seen old.now) (all_seen new.now)).negative) }
+    ensures bytes { OnOk result (out.new.items ≡ out.old.items ++ (column_sent row column pen.near pen.negative old.now new.now).bytes) }
+    ensures near { IfOk result (λ after. after.near ≡ (column_sent row column pen.near pen.negative old.now new.now).near) }
+    ensures rendition { IfOk result (λ after. after.negative ≡ (column_sent row column pen.near pen.negative old.now new.now).negative) }
 {
     let sent = is_sent(old, new);
-    match new.first() {
+    match new.columns().first() {
         Some(Column::Glyph { text, negative, .. }) if sent => {
             write_glyph(out, row, column, pen, text, *negative)?;
             Ok(Pen {
@@ -130,20 +124,21 @@ fn write_columns(
     out: &mut Vec<u8>,
     row: u16,
     negative: bool,
-    old: &[Column],
-    new: &[Column],
+    old: &Row<'_>,
+    new: &Row<'_>,
 ) -> Result<bool, AllocError>
     requires small { (row < 65535) × (length new.now < 65535) }
     requires same { length old.now ≡ length new.now }
-    ensures bytes { OnOk result (out.new.items ≡ out.old.items ++ (columns_sent row 0 false negative (all_seen old.now) (all_seen new.now)).bytes) }
-    ensures rendition { IfOk result (λ after. after ≡ (columns_sent row 0 false negative (all_seen old.now) (all_seen new.now)).negative) }
+    ensures bytes { OnOk result (out.new.items ≡ out.old.items ++ (columns_sent row 0 false negative old.now new.now).bytes) }
+    ensures rendition { IfOk result (λ after. after ≡ (columns_sent row 0 false negative old.now new.now).negative) }
 {
     let mut pen = Pen {
         near: false,
         negative,
     };
-    for i in 0..new.len() {
-        pen = write_column(out, row, i as u16, pen, &old[i..], &new[i..])?;
+    let count = new.columns().len();
+    for i in 0..count {
+        pen = write_column(out, row, i as u16, pen, &old.rest(i), &new.rest(i))?;
     }
     Ok(pen.negative)
 }
@@ -202,17 +197,17 @@ fn write_changed_row(
     out: &mut Vec<u8>,
     row: u16,
     negative: bool,
-    old: &[Column],
-    new: &[Column],
+    old: &Row<'_>,
+    new: &Row<'_>,
 ) -> Result<bool, AllocError>
     requires small { (row < 65535) × (length new.now < 65535) }
     requires same { length old.now ≡ length new.now }
-    ensures bytes { OnOk result (out.new.items ≡ out.old.items ++ (row_sent row negative (all_seen old.now) (all_seen new.now)).bytes) }
-    ensures rendition { IfOk result (λ after. after ≡ (row_sent row negative (all_seen old.now) (all_seen new.now)).negative) }
+    ensures bytes { OnOk result (out.new.items ≡ out.old.items ++ (row_sent row negative old.now new.now).bytes) }
+    ensures rendition { IfOk result (λ after. after ≡ (row_sent row negative old.now new.now).negative) }
 {
-    let front = front_len(new);
-    let negative = write_columns(out, row, negative, &old[..front], &new[..front])?;
-    write_tail(out, row, front as u16, negative, &old[front..])
+    let front = front_len(new.columns());
+    let negative = write_columns(out, row, negative, &old.front(front), &new.front(front))?;
+    write_tail(out, row, front as u16, negative, old.rest(front).columns())
 }
 
 /// Sends what differs in a row.
@@ -231,7 +226,7 @@ fn write_row(
     if old.is_same(new) {
         return Ok(negative);
     }
-    write_changed_row(out, row, negative, old.columns(), new.columns())
+    write_changed_row(out, row, negative, old, new)
 }
 
 /// Sends what differs in all rows of two grids of one size.

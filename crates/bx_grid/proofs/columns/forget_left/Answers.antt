@@ -1,30 +1,38 @@
-use Rattle.std.proofs.Common.{◌∙◌, arith}
+use Rattle.std.proofs.Common.{◌-◌, ◌≡◌, length, ap, sym, ◌∙◌, arith}
 use Rattle.std.proofs.lemmas.List.{length-map}
 use Rattle.bx_grid.specs.Columns.{cut_before}
 use Rattle.bx_grid.specs.Seen.{seen, all_seen}
-use Rattle.bx_grid.proofs.Spoils.{left_forgot, left_kept, mixed_all, length-cut_before-seen}
+use Rattle.bx_grid.proofs.Spoils.{mixed, mixed_all, length-cut_before-seen}
+use Rattle.bx_grid.proofs.Uncut.{left_more, left_all}
 use Rattle.bx_grid.proofs.columns.forget_left.Goals as goal
-use Rattle.bx_grid.proofs.columns.forget_left.Goals.{then-after-count+in-Glyph+in-Long-1, then-after-count+in-Glyph+in-Short-1, then-after-count+in-Unknown-1}
-use Rattle.bx_grid.proofs.columns.forget_left.Goals.{else-after-count}
 
-pub loop-i-preserved : goal.loop-i-preserved
-loop-i-preserved c =
-    elim c.if-after-count.branch [
-      | then-after-count+in-Glyph+in-Long-1 w ↦ rw w.row-is
-          (left_forgot c.args.row.now c.loop-i.row c.loop-i.i c.index-row-i.result c.loop-i-test.true c.loop-i.auto.row c.loop-i.invariant
-          (omega (arith, w.if-after-count.true, c.after.ensures)))
-      | then-after-count+in-Glyph+in-Short-1 w ↦ rw w.row-is
-          (left_forgot c.args.row.now c.loop-i.row c.loop-i.i c.index-row-i.result c.loop-i-test.true c.loop-i.auto.row c.loop-i.invariant
-          (omega (arith, w.if-after-count.true, c.after.ensures)))
-      | then-after-count+in-Unknown-1 w ↦ rw w.row-is
-          (left_forgot c.args.row.now c.loop-i.row c.loop-i.i c.index-row-i.result c.loop-i-test.true c.loop-i.auto.row c.loop-i.invariant
-          (omega (arith, w.if-after-count.true, c.after.ensures)))
-      | else-after-count w ↦ rw w.row-is
-          (left_kept c.args.row.now c.loop-i.row c.loop-i.i c.index-row-i.result c.loop-i-test.true c.loop-i.auto.row c.loop-i.invariant
-          (omega (arith, w.if-after-count.false, c.after.ensures)))
-    ]
+pub loop-first-init : goal.loop-first-init
+loop-first-init c =
+    let xs = all_seen c.args.row.now in
+    let len = length-cut_before-seen c.args.row.now in
+    record {
+      low = omega arith;
+      cut = sym (mixed_all xs (cut_before xs) (length c.args.row.now) (sym len) (omega (arith, len, length-map c.args.row.now seen)));
+    }
 
-pub returns : goal.returns
-returns c =
-    c.loop-i.invariant ∙ mixed_all (cut_before (all_seen c.args.row.now)) (all_seen c.args.row.now) c.loop-i.i (length-cut_before-seen c.args.row.now)
-    (omega (arith, length-map c.args.row.now seen, c.loop-i-test.false))
+pub loop-first-preserved : goal.loop-first-preserved
+loop-first-preserved c =
+    let first = c.loop-first.first in
+    let kept = c.loop-first.invariant in
+    record {
+      low = omega (arith, kept.low);
+      cut = left_more c.args.row.now c.loop-first.row first (first - 1) c.index-row-first.result c.forget.new.self c.forget.ensures
+          (omega (arith, c.loop-first-test.true)) kept.low c.loop-first.auto.row kept.cut (omega (arith, c.if-after-count.true, c.after.ensures));
+    }
+
+pub returns-else-after-count : goal.returns-else-after-count
+returns-else-after-count c =
+    let first = c.loop-first.first in
+    let kept = c.loop-first.invariant in
+    left_all c.args.row.now c.loop-first.row first (first - 1) c.index-row-first.result c.requires (omega (arith, c.loop-first-test.true)) kept.low
+    c.loop-first.auto.row kept.cut (omega (arith, c.if-after-count.false, c.after.ensures))
+
+pub returns-after-loop-first : goal.returns-after-loop-first
+returns-after-loop-first c =
+    let none : c.loop-first.first ≡ 0 = omega (arith, c.loop-first-test.false) in
+    c.loop-first.invariant.cut ∙ ap (λ n. mixed n (all_seen c.args.row.now) (cut_before (all_seen c.args.row.now))) none

@@ -2,29 +2,28 @@ use Rattle.std.proofs.Common.{◌∙◌, arith}
 use Rattle.std.proofs.lemmas.List.{length-map}
 use Rattle.bx_grid.specs.Columns.{cut_after}
 use Rattle.bx_grid.specs.Seen.{seen, all_seen}
-use Rattle.bx_grid.proofs.Spoils.{right_forgot, right_kept, mixed_all, length-cut_after-seen}
+use Rattle.bx_grid.proofs.Spoils.{right_forgot, mixed_all, length-cut_after-seen}
+use Rattle.bx_grid.proofs.Uncut.{right_all}
 use Rattle.bx_grid.proofs.columns.forget_right.Goals as goal
-use Rattle.bx_grid.proofs.columns.forget_right.Goals.{then-before-i+in-Glyph+in-Long-1, then-before-i+in-Glyph+in-Short-1, then-before-i+in-Unknown-1}
-use Rattle.bx_grid.proofs.columns.forget_right.Goals.{else-before-i}
 
-pub loop-i-preserved : goal.loop-i-preserved
-loop-i-preserved c =
-    elim c.if-before-i.branch [
-      | then-before-i+in-Glyph+in-Long-1 w ↦ rw w.row-is
-          (right_forgot c.args.row.now c.loop-i.row c.loop-i.i c.index-row-i.result c.loop-i-test.true c.loop-i.auto.row c.loop-i.invariant
-          (omega (arith, w.if-before-i.true, c.before-in-loop-i.ensures)))
-      | then-before-i+in-Glyph+in-Short-1 w ↦ rw w.row-is
-          (right_forgot c.args.row.now c.loop-i.row c.loop-i.i c.index-row-i.result c.loop-i-test.true c.loop-i.auto.row c.loop-i.invariant
-          (omega (arith, w.if-before-i.true, c.before-in-loop-i.ensures)))
-      | then-before-i+in-Unknown-1 w ↦ rw w.row-is
-          (right_forgot c.args.row.now c.loop-i.row c.loop-i.i c.index-row-i.result c.loop-i-test.true c.loop-i.auto.row c.loop-i.invariant
-          (omega (arith, w.if-before-i.true, c.before-in-loop-i.ensures)))
-      | else-before-i w ↦ rw w.row-is
-          (right_kept c.args.row.now c.loop-i.row c.loop-i.i c.index-row-i.result c.loop-i-test.true c.loop-i.auto.row c.loop-i.invariant
-          (omega (arith, w.if-before-i.false, c.before-in-loop-i.ensures)))
-    ]
+pub loop-next-preserved : goal.loop-next-preserved
+loop-next-preserved c =
+    let next = c.loop-next.next in
+    let kept = c.loop-next.invariant in
+    record {
+      low = omega (arith, c.loop-next-test.true, c.loop-next.auto.row);
+      cut = right_forgot c.args.row.now c.loop-next.row next c.index-row-next.result c.forget.new.self c.forget.ensures
+          (omega (arith, c.loop-next-test.true, c.loop-next.auto.row)) c.loop-next.auto.row kept.cut
+          (omega (arith, c.if-before-next.true, c.before-in-loop-next.ensures));
+    }
 
-pub returns : goal.returns
-returns c =
-    c.loop-i.invariant ∙ mixed_all (cut_after 0 (all_seen c.args.row.now)) (all_seen c.args.row.now) c.loop-i.i (length-cut_after-seen c.args.row.now)
-    (omega (arith, length-map c.args.row.now seen, c.loop-i-test.false))
+pub returns-else-before-next : goal.returns-else-before-next
+returns-else-before-next c =
+    right_all c.args.row.now c.loop-next.row c.loop-next.next c.index-row-next.result c.requires
+    (omega (arith, c.loop-next-test.true, c.loop-next.auto.row)) c.loop-next.auto.row c.loop-next.invariant.cut
+    (omega (arith, c.if-before-next.false, c.before-in-loop-next.ensures))
+
+pub returns-after-loop-next : goal.returns-after-loop-next
+returns-after-loop-next c =
+    c.loop-next.invariant.cut ∙ mixed_all (cut_after 0 (all_seen c.args.row.now)) (all_seen c.args.row.now) c.loop-next.next
+    (length-cut_after-seen c.args.row.now) (omega (arith, length-map c.args.row.now seen, c.loop-next-test.false, c.loop-next.auto.row))

@@ -1,5 +1,5 @@
-use Rattle.std.proofs.Common.{◌≡◌, ◌++◌, Result, Ok, Err, IfOk, length, ◌-◌, take, drop, false, ap, sym, ◌∙◌}
-use Rattle.std.proofs.lemmas.List.{length-map, length-take-le, take-map, drop-map, take_rest}
+use Rattle.std.proofs.Common.{◌≡◌, ◌++◌, Result, Ok, Err, IfOk, ◌≤◌, length, take, drop, false, ap, sym, ◌∙◌, arith}
+use Rattle.std.proofs.lemmas.List.{length-map, length-take-le, take-map}
 use Rattle.bx_grid.proofs.Halves.{on_ok}
 use Rattle.bx_grid.specs.Seen.{seen, all_seen}
 use Rattle.bx_paint.specs.Painting.{Sent, before_tail, columns_sent, tail_sent, tail_after, row_sent}
@@ -7,31 +7,29 @@ use Rattle.bx_paint.proofs.Sent.{row_by, row_bytes}
 use Rattle.bx_paint.proofs.writing.write_changed_row.Goals as goal
 
 -- the row's definition, at the parts that the code takes
-parts : (c : goal.After-write_tail) → row_sent c.args.row c.args.negative (all_seen c.args.old.now) (all_seen c.args.new.now)
-    ≡ tail_after c.args.row c.front_len-front.result
-    (all_seen (take (length c.args.old.now - c.front_len-front.result) (drop c.front_len-front.result c.args.old.now)))
-    (columns_sent c.args.row 0 false c.args.negative (all_seen (take c.front_len-front.result c.args.old.now))
-    (all_seen (take c.front_len-front.result c.args.new.now)))
+parts : (c : goal.After-write_tail) → row_sent c.args.row c.args.negative c.args.old.now c.args.new.now
+    ≡ tail_after c.args.row c.front_len-front.result (all_seen c.columns-2.result.now)
+    (columns_sent c.args.row 0 false c.args.negative c.front.result c.front-2.result)
 parts c =
-    let old = c.args.old.now in
     let new = c.args.new.now in
+    let columns = c.columns.result.now in
     let f = c.front_len-front.result in
-    let count : f ≡ length (before_tail (all_seen new)) =
-    sym (length-take-le f new c.front_len-front.ensures.within) ∙ sym (length-map (take f new) seen) ∙ ap length c.front_len-front.ensures.front in
-    row_by c.args.row f c.args.negative (all_seen old) (all_seen new) _ _ _ c.front_len-front.ensures.front count
-    (sym (take-map seen f old) ∙ ap (λ n. take n (all_seen old)) count)
-    (ap all_seen (take_rest old f) ∙ sym (drop-map seen f old) ∙ ap (λ n. drop n (all_seen old)) count)
+    let few : f ≤ length new = omega (arith, c.front_len-front.ensures.within, ap length c.columns.ensures, length-map columns seen) in
+    let front : take f new ≡ before_tail new =
+    ap (take f) (sym c.columns.ensures) ∙ take-map seen f columns ∙ c.front_len-front.ensures.front ∙ ap before_tail c.columns.ensures in
+    let count : f ≡ length (before_tail new) = sym (length-take-le f new few) ∙ ap length front in
+    row_by c.args.row f c.args.negative c.args.old.now new _ _ _ (c.front-2.ensures ∙ front) count
+    (c.front.ensures ∙ ap (λ n. take n c.args.old.now) count)
+    (c.columns-2.ensures ∙ c.rest.ensures ∙ ap (λ n. drop n c.args.old.now) count)
 
 pub returns-clause-bytes : goal.returns-clause-bytes
 returns-clause-bytes c =
     let out = c.args.out.now.items in
     let f = c.front_len-front.result in
-    let old = c.args.old.now in
-    let before = all_seen (take f old) in
-    let tail = all_seen (take (length old - f) (drop f old)) in
-    let front = all_seen (take f c.args.new.now) in
+    let tail = all_seen c.columns-2.result.now in
     on_ok c.write_tail.result (c.write_tail.new.out.items ≡ c.write_columns.new.out.items ++ (tail_sent c.args.row f c.in_ok-negative.negative tail).bytes) _
-    (λ sent. row_bytes c.args.row f c.args.negative c.in_ok-negative.negative before tail front out c.write_columns.new.out.items c.write_tail.new.out.items
+    (λ sent. row_bytes c.args.row f c.args.negative c.in_ok-negative.negative c.front.result tail c.front-2.result out c.write_columns.new.out.items
+    c.write_tail.new.out.items
     c.in_ok-negative.ensures.bytes c.in_ok-negative.ensures.rendition sent ∙ ap (λ (s : Sent). out ++ s.bytes) (sym (parts c)))
     c.write_tail.ensures.bytes
 
@@ -42,8 +40,7 @@ if_ok (Err e) P Q f h = h
 pub returns-clause-rendition : goal.returns-clause-rendition
 returns-clause-rendition c =
     let f = c.front_len-front.result in
-    let old = c.args.old.now in
-    let tail = all_seen (take (length old - f) (drop f old)) in
+    let tail = all_seen c.columns-2.result.now in
     if_ok c.write_tail.result (λ after. after ≡ (tail_sent c.args.row f c.in_ok-negative.negative tail).negative) _
     (λ after is. is ∙ ap (λ n. (tail_sent c.args.row f n tail).negative) c.in_ok-negative.ensures.rendition ∙ ap (λ (s : Sent). s.negative) (sym (parts c)))
     c.write_tail.ensures.rendition

@@ -1,9 +1,8 @@
 use Rattle.std.proofs.Common.{◌≡◌, drop, false}
-use Rattle.bx_grid.specs.Seen.{all_seen}
 use Rattle.bx_paint.specs.Painting.{columns_sent, then_sent}
 use Rattle.bx_paint.proofs.writing.write_columns.Given as goal
 
 abbrev pub invariant-loop-i : goal.invariant-loop-i
 invariant-loop-i l =
-    then_sent l.out.items (columns_sent l.row l.i l.pen.near l.pen.negative (all_seen (drop l.i l.old)) (all_seen (drop l.i l.new)))
-    ≡ then_sent l.initial.out.items (columns_sent l.row 0 false l.negative (all_seen l.old) (all_seen l.new))
+    then_sent l.out.items (columns_sent l.row l.i l.pen.near l.pen.negative (drop l.i l.old) (drop l.i l.new))
+    ≡ then_sent l.initial.out.items (columns_sent l.row 0 false l.negative l.old l.new)

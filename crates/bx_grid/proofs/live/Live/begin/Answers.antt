@@ -15,6 +15,7 @@ pub invariant_of-self-then-byte-eq-ESCAPE : goal.invariant_of-self-then-byte-eq-
 invariant_of-self-then-byte-eq-ESCAPE c = record {
   sized = c.self.invariant.sized;
   placed = c.self.invariant.placed;
+  uncut = c.self.invariant.uncut;
   waits = ap fate (pushed c ∙ ap (λ b. b ∷ []) c.if-byte-eq-ESCAPE.true);
 }
 
