@@ -5,6 +5,7 @@ use Rattle.std.proofs.lemmas.List.{reverse-append, take-append-le, take-append-d
 use Rattle.bx_ucd.specs.declared.class.Class.{Class}
 use Rattle.bx_ucd.specs.declared.class.Class.TheVariants.{L, R}
 use Rattle.bx_brackets.specs.Resolve.{nearest, is_left, is_right, context_of, change_marks, change_bracket, pair_direction, resolve_in, IsPairWithin}
+use Rattle.bx_brackets.specs.Clear.{IsKnown, known_first}
 
 nearest-append : (sos : Class) (xs ys : List Class) → nearest sos (xs ++ ys) ≡ nearest (nearest sos ys) xs
 nearest-append sos [] ys = refl
@@ -72,3 +73,11 @@ take_by (Some d) was pq ts w =
 pub take_resolved : (e context : Class) (was : List Bool) (pq : ℕ × ℕ) (ts : List Class) → IsPairWithin (length ts) pq
     → take pq.0 (resolve_in e context was pq ts) ≡ take pq.0 ts
 take_resolved e context was pq ts w = take_by (pair_direction e context (take (pq.1 - pq.0 - 1) (drop (pq.0 + 1) ts))) was pq ts w
+
+-- before the first pair
+pub first_known : (e sos : Class) (ts : List Class) → IsKnown e sos ts (known_first sos)
+first_known e sos ts = record {
+  within = omega arith;
+  context_is = refl;
+  clear = record { embedding_is = λ k a b. absurd (omega arith); other_is = λ k a b. absurd (omega arith) };
+}

@@ -2,7 +2,8 @@ mod Rows
 pub mod Stack
 pub mod Close
 pub mod Missed
-pub mod Slots
+pub mod Closers
+pub mod Insert
 pub mod Marks
 pub mod Context
 pub mod ClearRanges

@@ -1,12 +1,14 @@
 -- The openers that are open, as a stack.
-use Rattle.std.proofs.Common.{◌≡◌, ◌<◌, ◌≤◌, ◌+◌, ◌∙◌, ℕ, List, [], ◌∷◌, length, refl, ap, sym, arith, Option, Some, None, Bool, true, false, cond, subst}
+use Rattle.std.proofs.Common.{◌≡◌, ◌<◌, ◌≤◌, ◌+◌, ◌∙◌, ℕ, List, [], ◌∷◌, length, refl, ap, sym, arith, Option, Some, None, Bool, true, false, cond, subst, get_or, drop}
 use Rattle.std.proofs.lemmas.Bool.Decides.{nat_tests}
 use Rattle.std.specs.Prelude.{filter, find, not, nat_le, nat_lt, ◌&&◌, ◌==◌, ◌||◌}
 use Rattle.std.specs.List.{list_any}
-use Rattle.bx_brackets.specs.Search.{below_first, is_for, IsFalling, pairs_from}
+use Rattle.bx_brackets.specs.Search.{below_first, is_for, left_by, IsFalling, Progress, progress, turn, after, pairs_after, found_by}
 use Rattle.bx_brackets.specs.Pairs.{bracket_room, Search, insert_pair, is_open, open_openers, meet, meet_opener, meet_closer, canonical, bracket_at}
-use Rattle.bx_brackets.specs.Pairs.{search_from}
+use Rattle.bx_brackets.specs.Pairs.{search_from, pairs}
 use Rattle.bx_ucd.specs.declared.class.Class.{Class}
+use Rattle.bx_ucd.specs.declared.class.Class.TheVariants.{L}
+use Rattle.std.proofs.lemmas.List.{at_drop_more}
 use Rattle.bx_ucd.specs.declared.data.Side.{Side}
 use Rattle.bx_ucd.specs.declared.data.Side.TheVariants.{Opener, Closer}
 
@@ -104,6 +106,15 @@ found_below p j (x ∷ xs) o h e =
     (elim (p x) as (λ b. cond b (Some x) (find p xs) ≡ Some o → o.0 < j) [
       | true ↦ λ k. let q : x ≡ o = cc in subst (λ (y : Place). y.0 < j) q lt
       | false ↦ λ k. let z : o.0 < x.0 = ih k in omega arith
+    ]) e
+
+pub falling_below : (p : Place → Bool) (j : ℕ) (os : List Place) (o : Place) → IsFalling j os → find p os ≡ Some o → IsFalling o.0 (below_first p os)
+falling_below p j [] o h e = absurd (cc)
+falling_below p j (x ∷ xs) o h e =
+    let ih : find p xs ≡ Some o → IsFalling o.0 (below_first p xs) = falling_below p x.0 xs o h.1 in
+    (elim (p x) as (λ b. cond b (Some x) (find p xs) ≡ Some o → IsFalling o.0 (elim b as (λ v. List Place) [ true ↦ xs | false ↦ below_first p xs ])) [
+      | true ↦ λ k. let q : x ≡ o = cc in subst (λ (y : Place). IsFalling y.0 xs) q h.1
+      | false ↦ λ k. ih k
     ]) e
 
 -- to close an opener takes it off with what stands above it
@@ -224,5 +235,78 @@ search_is_stack bracket j (c ∷ cs) [] s o f e = refl
 search_is_stack bracket j (c ∷ cs) (t ∷ ts) s o f e =
     rw (o, search_from) (turn_agrees bracket j cs ts c (search_is_stack bracket (j + 1) cs ts) (bracket_at bracket c t) s o f e)
 
-pub rest_by_stack : (bracket : ℕ → Option (Side × ℕ)) (j : ℕ) (cs : List ℕ) (ts : List Class) → pairs_from bracket j cs ts ≡ stack_run bracket [] [] j cs ts
-rest_by_stack bracket j cs ts = search_is_stack bracket j cs ts (record { openers = []; pairs = []; is_over = false }) refl tt tt
+-- a search that is over finds no more
+pub over_after : (bracket : ℕ → Option (Side × ℕ)) (p : Progress) (j : ℕ) (cs : List ℕ) (ts : List Class) → p.is_over ≡ true
+    → pairs_after bracket p j cs ts ≡ p.pairs
+over_after bracket p j [] ts e = refl
+over_after bracket p j (c ∷ cs) [] e = refl
+over_after bracket p j (c ∷ cs) (t ∷ ts) e =
+    let same : after j c (bracket_at bracket c t) p ≡ p = ap (λ x. elim x as (λ v. Progress) [ true ↦ p | false ↦ turn j c (bracket_at bracket c t) p ]) e in
+    ap (λ q. pairs_after bracket q (j + 1) cs ts) same ∙ over_after bracket p (j + 1) cs ts e
+
+-- what the turns and the stack make of the rest are one
+abbrev AreOne : (ℕ → Option (Side × ℕ)) → ℕ → List ℕ → List Class → Type 0
+AreOne bracket j cs ts = (p : Progress) → p.is_over ≡ false → pairs_after bracket p j cs ts ≡ stack_run bracket p.openers p.pairs j cs ts
+
+module _ (bracket : ℕ → Option (Side × ℕ)) (j c : ℕ) (cs : List ℕ) (ts : List Class) (ih : AreOne bracket (j + 1) cs ts) (p : Progress)
+    (e : p.is_over ≡ false) where
+  abbrev go : List Place → List Place → List Place
+  go x y = stack_run bracket x y (j + 1) cs ts
+
+  opener_is_turn : (m : ℕ) (b : Bool) → nat_lt (length p.openers) bracket_room ≡ b
+      → pairs_after bracket (turn j c (Some (Opener, m)) p) (j + 1) cs ts ≡ stack_turn go p.openers p.pairs j c (Some (Opener, m))
+  opener_is_turn m true q =
+      let u : Progress = record p { openers = (j, canonical m) ∷ p.openers; is_over = false } in
+      let t : turn j c (Some (Opener, m)) p ≡ u =
+      ap (λ b. record p { openers = elim b as (λ v. List Place) [ true ↦ (j, canonical m) ∷ p.openers | false ↦ p.openers ]; is_over = not b }) q in
+      let s : stack_turn go p.openers p.pairs j c (Some (Opener, m)) ≡ go ((j, canonical m) ∷ p.openers) p.pairs = rw (q, stack_turn) in
+      ap (λ v. pairs_after bracket v (j + 1) cs ts) t ∙ ih u refl ∙ sym s
+  opener_is_turn m false q =
+      let u : Progress = record p { is_over = true } in
+      let t : turn j c (Some (Opener, m)) p ≡ u =
+      ap (λ b. record p { openers = elim b as (λ v. List Place) [ true ↦ (j, canonical m) ∷ p.openers | false ↦ p.openers ]; is_over = not b }) q in
+      let s : stack_turn go p.openers p.pairs j c (Some (Opener, m)) ≡ p.pairs = rw (q, stack_turn) in
+      ap (λ v. pairs_after bracket v (j + 1) cs ts) t ∙ over_after bracket u (j + 1) cs ts refl ∙ sym s
+
+  closer_is_turn : (m : ℕ) (b : Option Place) → find (is_for (canonical c)) p.openers ≡ b
+      → pairs_after bracket (turn j c (Some (Closer, m)) p) (j + 1) cs ts ≡ stack_turn go p.openers p.pairs j c (Some (Closer, m))
+  closer_is_turn m b q =
+      let u : Progress = record p { openers = left_by b (canonical c) p.openers; pairs = found_by b j p.pairs } in
+      let t : turn j c (Some (Closer, m)) p ≡ u = rw (q, turn) in
+      let s : stack_turn go p.openers p.pairs j c (Some (Closer, m)) ≡ go (left_by b (canonical c) p.openers) (found_by b j p.pairs) =
+      rw (q, stack_turn) (elim b as (λ x. elim x as (λ v. List Place) [
+        | None ↦ go p.openers p.pairs
+        | Some o ↦ go (below_first (is_for (canonical c)) p.openers) (insert_pair (o.0, j) p.pairs)
+      ] ≡ go (left_by x (canonical c) p.openers) (found_by x j p.pairs)) [ None ↦ refl | Some o ↦ refl ]) in
+      ap (λ v. pairs_after bracket v (j + 1) cs ts) t ∙ ih u e ∙ sym s
+
+  turn_is_one : (b : Option (Side × ℕ)) → pairs_after bracket (turn j c b p) (j + 1) cs ts ≡ stack_turn go p.openers p.pairs j c b
+  turn_is_one None = ih p e
+  turn_is_one (Some (Opener, m)) = opener_is_turn m (nat_lt (length p.openers) bracket_room) refl
+  turn_is_one (Some (Closer, m)) = closer_is_turn m (find (is_for (canonical c)) p.openers) refl
+
+turns_are_stack : (bracket : ℕ → Option (Side × ℕ)) (j : ℕ) (cs : List ℕ) (ts : List Class) → AreOne bracket j cs ts
+turns_are_stack bracket j [] ts p e = refl
+turns_are_stack bracket j (c ∷ cs) [] p e = refl
+turns_are_stack bracket j (c ∷ cs) (t ∷ ts) p e =
+    let on : after j c (bracket_at bracket c t) p ≡ turn j c (bracket_at bracket c t) p =
+    ap (λ x. elim x as (λ v. Progress) [ true ↦ p | false ↦ turn j c (bracket_at bracket c t) p ]) e in
+    ap (λ q. pairs_after bracket q (j + 1) cs ts) on ∙ turn_is_one bracket j c cs ts (turns_are_stack bracket (j + 1) cs ts) p e (bracket_at bracket c t)
+
+-- all turns together find the pairs of the definition
+pub all_found : (bracket : ℕ → Option (Side × ℕ)) (cs : List ℕ) (ts : List Class) → pairs_after bracket (progress [] [] false) 0 cs ts ≡ pairs bracket cs ts
+all_found bracket cs ts = turns_are_stack bracket 0 cs ts (progress [] [] false) refl
+    ∙ sym (search_is_stack bracket 0 cs ts (record { openers = []; pairs = []; is_over = false }) refl tt tt)
+
+-- what the search finds from index `i` on, where the turn there leaves this
+pub turn_more : (bracket : ℕ → Option (Side × ℕ)) (os ps new_os new_ps : List Place) (over : Bool) (cs : List ℕ) (ts : List Class) (i x : ℕ)
+    (b : Option (Side × ℕ)) → i < length cs → i < length ts → x ≡ get_or cs i x → b ≡ bracket_at bracket x (get_or ts i L)
+    → progress new_os new_ps over ≡ turn i x b (progress os ps false)
+    → pairs_after bracket (progress os ps false) i (drop i cs) (drop i ts)
+    ≡ pairs_after bracket (progress new_os new_ps over) (i + 1) (drop (i + 1) cs) (drop (i + 1) ts)
+turn_more bracket os ps new_os new_ps over cs ts i x b h l at is new =
+    let p : Progress = progress os ps false in
+    let rest : Progress → List Place = λ q. pairs_after bracket q (i + 1) (drop (i + 1) cs) (drop (i + 1) ts) in
+    at_drop_more (λ xs. pairs_after bracket p i xs (drop i ts)) cs i x h
+    ∙ at_drop_more (λ ys. pairs_after bracket p i (get_or cs i x ∷ drop (i + 1) cs) ys) ts i L l
+    ∙ ap (λ y. rest (turn i y (bracket_at bracket y (get_or ts i L)) p)) (sym at) ∙ ap (λ y. rest (turn i x y p)) (sym is) ∙ ap rest (sym new)

@@ -1,10 +1,11 @@
 -- What the walk over the pairs knows to be clear of a direction, so that it looks at no index again.
-use Rattle.std.specs.Prelude.{◌≡◌, ◌≤◌, ◌<◌, ℕ, false, true, List, slice_index_or, max, min}
+use Rattle.std.specs.Prelude.{◌≡◌, ◌≤◌, ◌<◌, ℕ, false, true, List, slice_index_or, max, min, length}
 use Rattle.bx_ucd.specs.declared.class.Class.{Class}
 use Rattle.bx_ucd.specs.declared.class.Class.TheVariants.{L}
 use Rattle.bx_brackets.specs.declared.resolve.Clear.{Clear}
 use Rattle.bx_brackets.specs.declared.resolve.Clears.{Clears}
-use Rattle.bx_brackets.specs.Resolve.{counts_as, opposite}
+use Rattle.bx_brackets.specs.declared.resolve.Known.{Known}
+use Rattle.bx_brackets.specs.Resolve.{counts_as, opposite, context_of}
 
 -- no type of a range counts as the direction
 abbrev pub IsClear : Class → List Class → Clear → Type 0
@@ -26,3 +27,16 @@ clear_after embedding d c from to = elim (counts_as embedding d) [
   | true ↦ record c { embedding = between c.embedding from to }
   | false ↦ record c { other = between c.other from to }
 ]
+
+-- a walk over the pairs knows the context of an index, and what is clear
+pub record IsKnown (embedding sos : Class) (ts : List Class) (k : Known) : Type 0 where
+  pub within : k.index ≤ length ts
+  pub context_is : k.context ≡ context_of sos ts k.index
+  pub clear : AreClear embedding ts k.clears
+
+abbrev pub known_first : Class → Known
+known_first sos = record {
+  index = 0;
+  context = sos;
+  clears = record { embedding = record { from = 0; to = 0 }; other = record { from = 0; to = 0 } };
+}

@@ -1,10 +1,11 @@
--- What the search does with a slot for each opener met and a stack of the slots that are open, the last one first.
-use Rattle.std.specs.Prelude.{◌≡◌, ℕ, ◌%◌, ◌==◌, ◌<◌, ◌≤◌, nat_lt, not, find, Bool, true, false, List, [], ◌∷◌, ◌++◌, Option, Some, None, length, slice_set}
+-- The search by a stack of the openers that are open, the last one first.
+use Rattle.std.specs.Prelude.{◌≡◌, ℕ, ◌+◌, ◌%◌, ◌==◌, ◌<◌, ◌≤◌, ◌⊎◌, nat_lt, not, find, Bool, true, false, List, [], ◌∷◌, Option, Some, None, length, slice_set, All}
 use Rattle.std.specs.Prelude.{slice_index_or}
 use Rattle.bx_ucd.specs.declared.data.Side.{Side}
 use Rattle.bx_ucd.specs.declared.data.Side.TheVariants.{Opener, Closer}
 use Rattle.bx_ucd.specs.declared.class.Class.{Class}
-use Rattle.bx_brackets.specs.Pairs.{bracket_room, canonical, search_from}
+use Rattle.bx_brackets.specs.Pairs.{bracket_room, canonical, bracket_at, insert_pair}
+use Rattle.bx_brackets.specs.Resolve.{IsPairWithin}
 
 -- what is below the first that passes
 abbrev pub below_first : ((ℕ × ℕ) → Bool) → List (ℕ × ℕ) → List (ℕ × ℕ)
@@ -28,53 +29,92 @@ abbrev pub index_of : Option (ℕ × ℕ) → Option ℕ
 index_of None = None
 index_of (Some o) = Some o.0
 
-abbrev pub is_opener : Option (Side × ℕ) → Bool
-is_opener None = false
-is_opener (Some (Opener, m)) = true
-is_opener (Some (Closer, m)) = false
-
 -- the openers that a closer leaves
 abbrev pub left_by : Option (ℕ × ℕ) → ℕ → List (ℕ × ℕ) → List (ℕ × ℕ)
 left_by None c os = os
 left_by (Some o) c os = below_first (is_for c) os
 
--- one character of the sequence: whether it ends the search, and the openers that are open after it
-abbrev pub ends_search : Option (Side × ℕ) → List (ℕ × ℕ) → Bool
-ends_search None os = false
-ends_search (Some (Opener, m)) os = not (nat_lt (length os) bracket_room)
-ends_search (Some (Closer, m)) os = false
+-- the openers that are open, each its index and its closer; the pairs found so far; and whether the search has ended for
+-- want of room
+pub record Progress : Type 0 where
+  pub openers : List (ℕ × ℕ)
+  pub pairs : List (ℕ × ℕ)
+  pub is_over : Bool
 
-abbrev pub open_after : ℕ → ℕ → Option (Side × ℕ) → List (ℕ × ℕ) → List (ℕ × ℕ)
-open_after j c None os = os
-open_after j c (Some (Opener, m)) os = elim (nat_lt (length os) bracket_room) [ true ↦ (j, canonical m) ∷ os | false ↦ os ]
-open_after j c (Some (Closer, m)) os = left_by (find (is_for (canonical c)) os) (canonical c) os
+abbrev pub progress : List (ℕ × ℕ) → List (ℕ × ℕ) → Bool → Progress
+progress os ps over = record { openers = os; pairs = ps; is_over = over }
 
--- the slot of an opener has its index and that of its closer, or its own index twice while it has none
-abbrev pub is_closed : ℕ × ℕ → Bool
-is_closed s = nat_lt s.0 s.1
+-- the pairs with that of a closer at index `j` and the opener that it meets
+abbrev pub found_by : Option (ℕ × ℕ) → ℕ → List (ℕ × ℕ) → List (ℕ × ℕ)
+found_by None j ps = ps
+found_by (Some o) j ps = insert_pair (o.0, j) ps
 
-abbrev pub slot : List (ℕ × ℕ) → ℕ → ℕ × ℕ
-slot ss k = slice_index_or ss k (0, 0)
+-- the openers with one at index `j`, where there is room for it
+abbrev pub opened : ℕ → ℕ → List (ℕ × ℕ) → List (ℕ × ℕ)
+opened j m os = elim (nat_lt (length os) bracket_room) [ true ↦ (j, canonical m) ∷ os | false ↦ os ]
 
-abbrev pub with_closer : Option ℕ → ℕ → List (ℕ × ℕ) → List (ℕ × ℕ)
-with_closer None j ss = ss
-with_closer (Some k) j ss = slice_set ss k ((slot ss k).0, j)
+-- what the character at index `j` makes of it, where the search goes on
+abbrev pub turn : ℕ → ℕ → Option (Side × ℕ) → Progress → Progress
+turn j c None p = p
+turn j c (Some (Opener, m)) p = record p { openers = opened j m p.openers; is_over = not (nat_lt (length p.openers) bracket_room) }
+turn j c (Some (Closer, m)) p = record p {
+  openers = left_by (find (is_for (canonical c)) p.openers) (canonical c) p.openers;
+  pairs = found_by (find (is_for (canonical c)) p.openers) j p.pairs;
+}
 
-abbrev pub slots_after : ℕ → ℕ → Option (Side × ℕ) → List (ℕ × ℕ) → List (ℕ × ℕ) → List (ℕ × ℕ)
-slots_after j c None os ss = ss
-slots_after j c (Some (Opener, m)) os ss = elim (nat_lt (length os) bracket_room) [ true ↦ ss ++ (j, j) ∷ [] | false ↦ ss ]
-slots_after j c (Some (Closer, m)) os ss = with_closer (index_of (find (is_for (canonical c)) os)) j ss
+abbrev pub after : ℕ → ℕ → Option (Side × ℕ) → Progress → Progress
+after j c b p = elim p.is_over [ true ↦ p | false ↦ turn j c b p ]
+
+-- the pairs once the rest of the sequence is met, from index `j` on
+abbrev pub pairs_after : (ℕ → Option (Side × ℕ)) → Progress → ℕ → List ℕ → List Class → List (ℕ × ℕ)
+pairs_after bracket p j [] ts = p.pairs
+pairs_after bracket p j (c ∷ cs) [] = p.pairs
+pairs_after bracket p j (c ∷ cs) (t ∷ ts) = pairs_after bracket (after j c (bracket_at bracket c t) p) (j + 1) cs ts
 
 -- each opener stands before `j`, and before those above it
 abbrev pub IsFalling : ℕ → List (ℕ × ℕ) → Type 0
 IsFalling j [] = Unit {0}
 IsFalling j (o ∷ os) = (o.0 < j) × IsFalling o.0 os
 
--- a slot lies inside a list
-pub record IsSlotWithin (n : ℕ) (s : ℕ × ℕ) : Type 0 where
-  pub ordered : s.0 ≤ s.1
-  pub ends : s.1 < n
+-- pairs are ordered by their openers, from `k` on
+abbrev pub AreSorted : ℕ → List (ℕ × ℕ) → Type 0
+AreSorted k [] = Unit {0}
+AreSorted k (p ∷ ps) = (k ≤ p.0) × AreSorted p.0 ps
 
--- the pairs that a search finds from index `j` on, where none is open before it
-abbrev pub pairs_from : (ℕ → Option (Side × ℕ)) → ℕ → List ℕ → List Class → List (ℕ × ℕ)
-pairs_from bracket j cs ts = (search_from bracket (record { openers = []; pairs = []; is_over = false }) j cs ts).pairs
+-- what holds of the openers and the pairs before index `j`
+pub record AreFound (j : ℕ) (os ps : List (ℕ × ℕ)) : Type 0 where
+  pub falling : IsFalling j os
+  pub sorted : AreSorted 0 ps
+  pub within : All (IsPairWithin j) ps
+
+-- the pairs by a list of closers: at the index of an opener that of its closer, and else none behind the index itself
+abbrev pub pairs_in : ℕ → List ℕ → List (ℕ × ℕ)
+pairs_in k [] = []
+pairs_in k (c ∷ cs) = elim (nat_lt k c) [ true ↦ (k, c) ∷ pairs_in (k + 1) cs | false ↦ pairs_in (k + 1) cs ]
+
+abbrev pub with_closer : Option ℕ → ℕ → List ℕ → List ℕ
+with_closer None j cs = cs
+with_closer (Some k) j cs = slice_set cs k j
+
+-- the openers have no closer in the list
+pub record IsUnclosed (cs : List ℕ) (k : ℕ) : Type 0 where
+  pub inside : k < length cs
+  pub none : slice_index_or cs k 0 ≤ k
+
+abbrev pub AreUnclosed : List ℕ → List (ℕ × ℕ) → Type 0
+AreUnclosed cs [] = Unit {0}
+AreUnclosed cs (o ∷ os) = IsUnclosed cs o.0 × AreUnclosed cs os
+
+-- what holds of the openers and the closers of a sequence of so many characters, of which those before `next` are met
+pub record IsSearched (count next : ℕ) (os : List (ℕ × ℕ)) (cs : List ℕ) : Type 0 where
+  pub falling : IsFalling next os
+  pub unclosed : AreUnclosed cs os
+  pub long : (length cs ≡ 0) ⊎ (length cs ≡ count)
+  pub within : All (λ c. c < count) cs
+  pub met : All (λ c. c ≤ next) cs
+
+-- a search: what it has found, the first index that is not met, and how many characters the sequence has
+pub record Searching : Type 0 where
+  pub progress : Progress
+  pub next : ℕ
+  pub count : ℕ

@@ -4,7 +4,9 @@
 mod error;
 mod pairs_of;
 mod resolve;
+mod search;
 
 pub use error::BracketError;
-pub use pairs_of::{PairSearch, pairs};
+pub use pairs_of::pairs;
 pub use resolve::resolve_pairs;
+pub use search::PairSearch;

@@ -1,10 +1,8 @@
 //! Bracket pairs (BD14 to BD16).
-ghost use Rattle.std.specs.Prelude.{◌≡◌, ℕ, ◌<◌, ◌≤◌, drop, All, IfOk, OnOk, IfSome, length, List, [], ◌∷◌, reverse, take, not, nat_lt, find, filter};
-ghost use Rattle.bx_brackets.specs.Search.{AreMissed, below_first, opener_at, is_for, index_of, left_by, ends_search, open_after, with_closer, slots_after};
-ghost use Rattle.bx_brackets.specs.Search.{is_closed, is_opener, pairs_from, IsFalling};
+ghost use Rattle.std.specs.Prelude.{◌≡◌, ℕ, ◌+◌, ◌<◌, ◌≤◌, ◌++◌, drop, All, IfOk, OnOk, IfSome, length, List, [], ◌∷◌, reverse, take, not, nat_lt, find, false};
+ghost use Rattle.bx_brackets.specs.Search.{AreMissed, below_first, opener_at, is_for, index_of, left_by, progress, turn, found_by, AreSorted, AreFound};
 ghost use Rattle.bx_brackets.specs.Resolve.{IsPairWithin};
-ghost use Rattle.bx_brackets.specs.Search.{IsSlotWithin};
-ghost use Rattle.bx_brackets.specs.Pairs.{bracket_room, canonical, bracket_at, pairs};
+ghost use Rattle.bx_brackets.specs.Pairs.{bracket_room, canonical, bracket_at, insert_pair, pairs};
 
 use crate::error::BracketError;
 use arrayvec::ArrayVec;
@@ -13,7 +11,7 @@ use std::alloc::{AllocError, Global};
 use std::marker::Model;
 
 /// The character that a bracket counts as.
-fn canonical(c: char) -> char
+pub fn canonical(c: char) -> char
     ensures { result ≡ canonical c }
 {
     match c {
@@ -24,20 +22,13 @@ fn canonical(c: char) -> char
 }
 
 /// The bracket at a character of a type.
-fn bracket_at<D: BidiData>(source: &D, c: char, t: Class) -> Option<(Side, char)>
+pub fn bracket_at<D: BidiData>(source: &D, c: char, t: Class) -> Option<(Side, char)>
     ensures { result ≡ bracket_at (D.bracket_of source.now) c t }
 {
     match t {
         Class::ON => source.bracket(c),
         _ => None,
     }
-}
-
-/// Whether a bracket opens.
-fn is_opener(bracket: Option<(Side, char)>) -> bool
-    ensures { result ≡ is_opener bracket }
-{
-    matches!(bracket, Some((Side::Opener, _)))
 }
 
 /// How many openers the stack has room for (BD16).
@@ -48,7 +39,7 @@ const REMAINDERS: usize = 31;
 
 /// The openers that are open.
 #[derive(Drop)]
-struct OpenStack {
+pub struct OpenStack {
     openers: ArrayVec<(usize, char), BRACKET_ROOM>,
     /// At each remainder a closer that none of the openers is for, so that it is looked for once.
     missed: [Option<char>; REMAINDERS],
@@ -82,7 +73,7 @@ fn last_for(openers: &[(usize, char)], closer: char) -> Option<usize>
 
 impl OpenStack {
     /// No opener.
-    fn new() -> Self
+    pub fn new() -> Self
         ensures { result ≡ [] }
     {
         OpenStack {
@@ -92,21 +83,21 @@ impl OpenStack {
     }
 
     /// Takes all openers off.
-    fn clear(&mut self)
+    pub fn clear(&mut self)
         ensures { self.new ≡ [] }
     {
         self.openers.clear();
     }
 
     /// Whether there is no room.
-    fn is_full(&self) -> bool
+    pub fn is_full(&self) -> bool
         ensures { result ≡ not (nat_lt (length self.now) bracket_room) }
     {
         self.openers.is_full()
     }
 
     /// Adds an opener.
-    fn push(&mut self, index: usize, closer: char)
+    pub fn push(&mut self, index: usize, closer: char)
         requires { length self.old < bracket_room }
         ensures { self.new ≡ (index, closer) ∷ self.old }
     {
@@ -115,7 +106,7 @@ impl OpenStack {
     }
 
     /// Takes off the last opener that the closer meets, with what stands above it.
-    fn close(&mut self, closer: char) -> Option<usize>
+    pub fn close(&mut self, closer: char) -> Option<usize>
         ensures index { result ≡ index_of (find (is_for closer) self.old) }
         ensures left { self.new ≡ left_by (find (is_for closer) self.old) closer self.old }
     {
@@ -137,40 +128,67 @@ impl OpenStack {
     }
 }
 
-/// Writes the closer of an opener into its slot, if there is an opener.
-fn note_closer(slots: &mut Vec<(usize, usize)>, slot: Option<usize>, closer: usize)
-    requires { IfSome slot (λ k. k < length slots.old.items) }
-    ensures { slots.new.items ≡ with_closer slot closer slots.old.items }
+/// The index of a new pair among pairs that are ordered by their openers.
+#[tactic(auto, using(crate::proofs::Insert::insert_here, crate::proofs::Insert::insert_start))]
+fn index_for(found: &[(usize, usize)], pair: (usize, usize)) -> usize
+    requires sorted { AreSorted 0 found.now }
+    ensures within { result ≤ length found.now }
+    ensures insert { insert_pair pair found.now ≡ take result found.now ++ pair ∷ drop result found.now }
 {
-    if let Some(k) = slot {
-        slots[k].1 = closer;
+    let mut k = found.len();
+    while k > 0 {
+        k -= 1;
+        if found[k].0 <= pair.0 {
+            return k + 1;
+        }
     }
+    0
 }
 
-/// Makes room for one slot more. Doubling may leave half of the room unused: so it grows by a quarter.
-fn make_room(slots: &mut Vec<(usize, usize)>) -> Result<(), AllocError>
-    ensures { slots.new.items ≡ slots.old.items }
+/// Adds a pair to pairs that are ordered by their openers.
+fn insert_pair(found: &mut Vec<(usize, usize)>, pair: (usize, usize)) -> Result<(), AllocError>
+    requires sorted { AreSorted 0 found.old.items }
+    ensures { OnOk result (found.new.items ≡ insert_pair pair found.old.items) }
 {
-    let count = slots.len();
-    if count >= slots.capacity() {
-        slots.reserve_exact(count / 4 + 8)?;
-    }
+    let k = index_for(found, pair);
+    found.insert(k, pair)?;
     Ok(())
 }
 
-/// Takes one character of the sequence. Whether the search ends there, for want of room.
-#[tactic(auto, using(crate::proofs::Close::found_within))]
+/// Takes a closer at an index.
+#[tactic(auto, using(crate::proofs::Insert::close_some, crate::proofs::Insert::close_none))]
+fn meet_closer(
+    open: &mut OpenStack,
+    found: &mut Vec<(usize, usize)>,
+    index: usize,
+    closer: char,
+) -> Result<(), AllocError>
+    requires { AreFound index «open».old found.old.items }
+    ensures open { OnOk result («open».new ≡ left_by (find (is_for closer) «open».old) closer «open».old) }
+    ensures found { OnOk result (found.new.items ≡ found_by (find (is_for closer) «open».old) index found.old.items) }
+    ensures later { OnOk result (AreFound (index + 1) «open».new found.new.items) }
+{
+    match open.close(closer) {
+        Some(opener) => {
+            insert_pair(found, (opener, index))?;
+            Ok(())
+        }
+        None => Ok(()),
+    }
+}
+
+/// Takes one character of a sequence, with its bracket. Whether the search ends there, for want of room.
+#[tactic(auto, using(crate::proofs::Insert::found_later, crate::proofs::Insert::found_push))]
 fn meet(
     open: &mut OpenStack,
-    slots: &mut Vec<(usize, usize)>,
+    found: &mut Vec<(usize, usize)>,
     index: usize,
     c: char,
     bracket: Option<(Side, char)>,
 ) -> Result<bool, AllocError>
-    requires within { IsFalling (length slots.old.items) «open».old }
-    ensures over { IfOk result (λ r. r ≡ ends_search bracket «open».old) }
-    ensures left { OnOk result («open».new ≡ open_after (length slots.old.items) c bracket «open».old) }
-    ensures slots { OnOk result (slots.new.items ≡ slots_after index c bracket «open».old slots.old.items) }
+    requires { AreFound index «open».old found.old.items }
+    ensures turn { IfOk result (λ r. progress «open».new found.new.items r ≡ turn index c bracket (progress «open».old found.old.items false)) }
+    ensures later { OnOk result (AreFound (index + 1) «open».new found.new.items) }
 {
     match bracket {
         None => Ok(false),
@@ -178,127 +196,13 @@ fn meet(
             if open.is_full() {
                 return Ok(true);
             }
-            let slot = slots.len();
-            make_room(slots)?;
-            slots.push((index, index))?;
-            open.push(slot, canonical(closer));
+            open.push(index, canonical(closer));
             Ok(false)
         }
         Some((Side::Closer, _)) => {
-            let slot = open.close(canonical(c));
-            note_closer(slots, slot, index);
+            meet_closer(open, found, index, canonical(c))?;
             Ok(false)
         }
-    }
-}
-
-/// The first opener, or the sequence's end. Closers before it have nothing to close.
-#[tactic(auto, using(crate::proofs::Slots::skip_more))]
-fn first_opener<D: BidiData>(chars: &[char], types: &[Class], source: &D) -> usize
-    requires { length chars.now ≡ length types.now }
-    ensures within { result ≤ length chars.now }
-    ensures rest { pairs (D.bracket_of source.now) chars.now types.now ≡ pairs_from (D.bracket_of source.now) result (drop result chars.now) (drop result types.now) }
-{
-    let mut i = 0;
-    while i < chars.len() && !is_opener(bracket_at(source, chars[i], types[i])) {
-        i += 1;
-    }
-    i
-}
-
-/// Makes a slot for each opener from index `start` on, with its closer if it has one.
-fn search<D: BidiData>(
-    open: &mut OpenStack,
-    slots: &mut Vec<(usize, usize)>,
-    chars: &[char],
-    types: &[Class],
-    source: &D,
-    start: usize,
-) -> Result<(), AllocError>
-    requires none_open { «open».old ≡ [] }
-    requires empty { slots.old.items ≡ [] }
-    requires as_long { length chars.now ≡ length types.now }
-    requires within { start ≤ length chars.now }
-    requires rest { pairs (D.bracket_of source.now) chars.now types.now ≡ pairs_from (D.bracket_of source.now) start (drop start chars.now) (drop start types.now) }
-    ensures found { OnOk result (filter is_closed slots.new.items ≡ pairs (D.bracket_of source.now) chars.now types.now) }
-    ensures within { OnOk result (All (IsSlotWithin (length types.now)) slots.new.items) }
-{
-    for i in start..chars.len() {
-        let c = chars[i];
-        let bracket = bracket_at(source, c, types[i]);
-        if meet(open, slots, i, c, bracket)? {
-            return Ok(());
-        }
-    }
-    Ok(())
-}
-
-/// Leaves the slots that have a closer.
-fn keep_closed(slots: &mut Vec<(usize, usize)>)
-    ensures { slots.new.items ≡ filter is_closed slots.old.items }
-{
-    slots.retain(|s| s.0 < s.1);
-}
-
-/// What searches for pairs work in, one after another, and the pairs that the last one found.
-#[derive(Drop)]
-pub struct PairSearch {
-    open: OpenStack,
-    found: Vec<(usize, usize)>,
-}
-
-// Clauses see the pairs.
-impl Model for PairSearch {
-    ghost Value = { List (ℕ × ℕ) };
-
-    ghost view = { λ s. s.found.items };
-}
-
-impl PairSearch {
-    /// No pairs.
-    pub fn new(alloc: Global) -> Self
-        ensures { result ≡ [] }
-    {
-        PairSearch {
-            open: OpenStack::new(),
-            found: Vec::new(alloc),
-        }
-    }
-
-    /// The pairs found last: the indexes of the opener and the closer in the sequence, ordered by openers.
-    pub fn pairs(&self) -> &[(usize, usize)]
-        ensures { result.now ≡ self.now }
-    {
-        &self.found
-    }
-
-    /// Finds the bracket pairs of a sequence (BD14 to BD16) from its characters and their current types. Memory is taken
-    /// where there are more openers than in the searches before, and want of it is the only refusal.
-    pub fn find<D: BidiData>(
-        &mut self,
-        chars: &[char],
-        types: &[Class],
-        source: &D,
-    ) -> Result<(), BracketError>
-        requires { length chars.now ≡ length types.now }
-        ensures pairs { OnOk result (self.new ≡ pairs (D.bracket_of source.now) chars.now types.now) }
-        ensures within { OnOk result (All (IsPairWithin (length types.now)) self.new) }
-    {
-        self.found.clear();
-        let start = first_opener(chars, types, source);
-        if start < chars.len() {
-            self.open.clear();
-            search(&mut self.open, &mut self.found, chars, types, source, start)?;
-            keep_closed(&mut self.found);
-        }
-        Ok(())
-    }
-
-    /// The pairs alone.
-    fn into_pairs(self) -> Vec<(usize, usize)>
-        ensures { result.items ≡ self }
-    {
-        self.found
     }
 }
 
@@ -314,7 +218,14 @@ pub fn pairs<D: BidiData>(
     ensures pairs { IfOk result (λ v. v.items ≡ pairs (D.bracket_of source.now) chars.now types.now) }
     ensures within { IfOk result (λ v. All (IsPairWithin (length types.now)) v.items) }
 {
-    let mut search = PairSearch::new(alloc);
-    search.find(chars, types, source)?;
-    Ok(search.into_pairs())
+    let mut open = OpenStack::new();
+    let mut found = Vec::new(alloc);
+    for i in 0..chars.len() {
+        let c = chars[i];
+        let bracket = bracket_at(source, c, types[i]);
+        if meet(&mut open, &mut found, i, c, bracket)? {
+            return Ok(found);
+        }
+    }
+    Ok(found)
 }

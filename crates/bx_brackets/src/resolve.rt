@@ -2,9 +2,10 @@
 ghost use Rattle.std.specs.Prelude.{◌≡◌, ◌+◌, ◌-◌, ◌<◌, ◌≤◌, length, reverse, take, drop, All};
 ghost use Rattle.std.specs.List.{list_any};
 ghost use Rattle.bx_ucd.specs.Class.{direction};
-ghost use Rattle.bx_brackets.specs.Clear.{IsClear, AreClear, AreSameFrom, between, clear_after};
+ghost use Rattle.bx_brackets.specs.Clear.{IsClear, AreClear, IsKnown, known_first, AreSameFrom, between, clear_after};
 ghost use Rattle.bx_brackets.specs.Resolve.{opposite, is_left, is_right, counts_as, nearest, pair_direction, change_bracket, resolve_in, context_of};
-ghost use Rattle.bx_brackets.specs.Resolve.{resolve_pairs, IsPairWithin};
+ghost use Rattle.bx_brackets.specs.Resolve.{resolve_pair, resolve_pairs, IsPairWithin};
+ghost use Rattle.bx_brackets.specs.Search.{pairs_in};
 
 use bx_ucd::Class;
 use bx_ucd::class::direction;
@@ -211,9 +212,58 @@ fn resolve_in(
     }
 }
 
+/// What a walk over the pairs knows: the context of an index, and what is clear.
+#[derive(Clone, Copy, PartialEq, Eq, Debug)]
+struct Known {
+    index: usize,
+    context: Class,
+    clears: Clears,
+}
+
+/// What is known before the first pair.
+fn known_first(sos: Class) -> Known
+    ensures { result ≡ known_first sos }
+{
+    let nothing = Clear { from: 0, to: 0 };
+    let clears = Clears {
+        embedding: nothing,
+        other: nothing,
+    };
+    Known {
+        index: 0,
+        context: sos,
+        clears,
+    }
+}
+
+/// Gives the next pair its types. What is then known.
+fn resolve_next(
+    types: &mut [Class],
+    was_nsm: &[bool],
+    embedding: Class,
+    sos: Class,
+    known: Known,
+    pair: (usize, usize),
+) -> Known
+    requires within { IsPairWithin (length types.old) pair }
+    requires as_long { length was_nsm.now ≡ length types.old }
+    requires known { IsKnown embedding sos types.old known }
+    ensures types { types.new ≡ resolve_pair embedding sos was_nsm.now pair types.old }
+    ensures known { IsKnown embedding sos types.new result }
+{
+    let whole: &[Class] = &types[..];
+    let before = context(sos, (known.index, known.context), whole, pair.0);
+    let clears = resolve_in(types, was_nsm, embedding, before, known.clears, pair);
+    Known {
+        index: pair.0,
+        context: before,
+        clears,
+    }
+}
+
 /// Gives the bracket pairs of a sequence their types, pair by pair (N0), in place. `types` are those after W7,
 /// `was_nsm` says which characters were NSM before W1, and `sos` is the type before the sequence of level `level`.
-#[tactic(auto, using(crate::proofs::Marks::pairs_more, crate::proofs::Marks::pairs_all))]
+#[tactic(auto, using(crate::proofs::Marks::pairs_more, crate::proofs::Marks::pairs_all, crate::proofs::Context::first_known))]
 pub fn resolve_pairs(
     types: &mut [Class],
     was_nsm: &[bool],
@@ -226,16 +276,31 @@ pub fn resolve_pairs(
     ensures { types.new ≡ resolve_pairs (direction level) sos was_nsm.now pairs.now types.old }
 {
     let embedding = direction(level);
-    let nothing = Clear { from: 0, to: 0 };
-    let mut clears = Clears {
-        embedding: nothing,
-        other: nothing,
-    };
-    let mut known = (0, sos);
+    let mut known = known_first(sos);
     for pair in pairs {
-        let whole: &[Class] = &types[..];
-        let before = context(sos, known, whole, pair.0);
-        known = (pair.0, before);
-        clears = resolve_in(types, was_nsm, embedding, before, clears, *pair);
+        known = resolve_next(types, was_nsm, embedding, sos, known, *pair);
+    }
+}
+
+/// The same, where pairs are given by a list with the index of each opener's closer.
+#[tactic(auto, using(crate::proofs::Context::first_known))]
+pub fn resolve_closers(
+    types: &mut [Class],
+    was_nsm: &[bool],
+    closers: &[u32],
+    level: u8,
+    sos: Class,
+)
+    requires within { All (λ c. c < length types.old) closers.now }
+    requires as_long { length was_nsm.now ≡ length types.old }
+    ensures { types.new ≡ resolve_pairs (direction level) sos was_nsm.now (pairs_in 0 closers.now) types.old }
+{
+    let embedding = direction(level);
+    let mut known = known_first(sos);
+    for i in 0..closers.len() {
+        let close = closers[i] as usize;
+        if i < close {
+            known = resolve_next(types, was_nsm, embedding, sos, known, (i, close));
+        }
     }
 }

@@ -1,0 +1,214 @@
+//! A search for bracket pairs that is given one character at a time.
+ghost use Rattle.std.specs.Prelude.{◌≡◌, ℕ, ◌+◌, ◌^◌, ◌<◌, ◌≤◌, ◌⊎◌, IfOk, OnOk, OnErr, IfSome, List, length, [], false, find, replicate, Option, Some};
+ghost use Rattle.bx_ucd.specs.declared.class.Class.{Class};
+ghost use Rattle.bx_ucd.specs.Class.{direction};
+ghost use Rattle.bx_ucd.specs.declared.data.Side.{Side};
+ghost use Rattle.bx_ucd.specs.declared.data.Side.TheVariants.{Opener, Closer};
+ghost use Rattle.bx_brackets.specs.Pairs.{bracket_at, pairs};
+ghost use Rattle.bx_brackets.specs.Resolve.{resolve_pairs};
+ghost use Rattle.bx_brackets.specs.Search.{Searching, IsSearched, progress, turn, after, pairs_after, pairs_in, with_closer, index_of, is_for, left_by, found_by};
+
+use crate::error::BracketError;
+use crate::pairs_of::{OpenStack, bracket_at, canonical};
+use crate::resolve::resolve_closers;
+use bx_ucd::{BidiData, Class, Side};
+use std::alloc::{AllocError, Global};
+use std::marker::Model;
+
+/// Makes a place for the closer of each character, with none in it. The room grows to what is needed, and by a quarter at
+/// least.
+fn make_places(closers: &mut Vec<u32>, count: usize) -> Result<(), AllocError>
+    requires none { length closers.old.items ≡ 0 }
+    ensures ok { OnOk result (closers.new.items ≡ replicate count 0) }
+    ensures err { OnErr result (closers.new.items ≡ closers.old.items) }
+{
+    let room = closers.capacity();
+    if count > room {
+        closers.reserve_exact(count.max(room.saturating_add(room / 4)))?;
+    }
+    closers.resize(count, 0)
+}
+
+/// Makes the places for closers, unless they are made.
+fn need_places(closers: &mut Vec<u32>, count: usize) -> Result<(), AllocError>
+    requires long { (length closers.old.items ≡ 0) ⊎ (length closers.old.items ≡ count) }
+    ensures long { OnOk result (length closers.new.items ≡ count) }
+    ensures pairs { pairs_in 0 closers.new.items ≡ pairs_in 0 closers.old.items }
+    ensures searched { (j : ℕ) (os : List (ℕ × ℕ)) → j < count → IsSearched count j os closers.old.items → IsSearched count j os closers.new.items }
+{
+    if closers.is_empty() {
+        make_places(closers, count)?;
+    }
+    Ok(())
+}
+
+/// Takes an opener at an index. Whether the search ends there, for want of room.
+fn meet_opener(
+    open: &mut OpenStack,
+    closers: &mut Vec<u32>,
+    count: usize,
+    index: usize,
+    closer: char,
+) -> Result<bool, AllocError>
+    requires searched { IsSearched count index «open».old closers.old.items }
+    requires within { index < count }
+    ensures searched { IsSearched count (index + 1) «open».new closers.new.items }
+    ensures turn { IfOk result (λ r. progress «open».new (pairs_in 0 closers.new.items) r
+        ≡ turn index 0 (Some (Opener, closer)) (progress «open».old (pairs_in 0 closers.old.items) false)) }
+{
+    if open.is_full() {
+        return Ok(true);
+    }
+    need_places(closers, count)?;
+    open.push(index, canonical(closer));
+    Ok(false)
+}
+
+/// Writes the closer of an opener, if there is an opener.
+fn note_closer(closers: &mut Vec<u32>, opener: Option<usize>, closer: usize)
+    requires within { IfSome opener (λ k. k < length closers.old.items) }
+    requires small { closer < 2 ^ 32 }
+    ensures { closers.new.items ≡ with_closer opener closer closers.old.items }
+{
+    if let Some(k) = opener {
+        closers[k] = closer as u32;
+    }
+}
+
+/// Takes a closer at an index.
+#[tactic(auto, using(crate::proofs::Closers::found_place))]
+fn meet_closer(
+    open: &mut OpenStack,
+    closers: &mut Vec<u32>,
+    count: usize,
+    index: usize,
+    closer: char,
+)
+    requires searched { IsSearched count index «open».old closers.old.items }
+    requires within { index < count }
+    requires small { count ≤ 2 ^ 32 }
+    ensures searched { IsSearched count (index + 1) «open».new closers.new.items }
+    ensures left { «open».new ≡ left_by (find (is_for closer) «open».old) closer «open».old }
+    ensures pairs { pairs_in 0 closers.new.items ≡ found_by (find (is_for closer) «open».old) index (pairs_in 0 closers.old.items) }
+{
+    let opener = open.close(closer);
+    note_closer(closers, opener, index);
+}
+
+/// Takes a bracket at an index. Whether the search ends there, for want of room.
+fn meet_bracket(
+    open: &mut OpenStack,
+    closers: &mut Vec<u32>,
+    count: usize,
+    index: usize,
+    c: char,
+    bracket: (Side, char),
+) -> Result<bool, AllocError>
+    requires searched { IsSearched count index «open».old closers.old.items }
+    requires within { index < count }
+    requires small { count ≤ 2 ^ 32 }
+    ensures searched { IsSearched count (index + 1) «open».new closers.new.items }
+    ensures turn { IfOk result (λ r. progress «open».new (pairs_in 0 closers.new.items) r
+        ≡ turn index c (Some bracket) (progress «open».old (pairs_in 0 closers.old.items) false)) }
+{
+    match bracket {
+        (Side::Opener, closer) => meet_opener(open, closers, count, index, closer),
+        (Side::Closer, _) => {
+            meet_closer(open, closers, count, index, canonical(c));
+            Ok(false)
+        }
+    }
+}
+
+/// What searches for bracket pairs work in, one after another, and the pairs that the last one found.
+#[derive(Drop)]
+pub struct PairSearch {
+    openers: OpenStack,
+    /// At the index of an opener that of its closer, and else 0. Empty before the first opener.
+    closers: Vec<u32>,
+    /// How many characters the sequence has.
+    count: usize,
+    /// The first index that is not met.
+    next: usize,
+    is_over: bool,
+}
+
+// Clauses see what is found so far.
+impl Model for PairSearch {
+    ghost Value = { Searching };
+
+    ghost view = { λ s. record { progress = progress s.openers (pairs_in 0 s.closers.items) s.is_over; next = s.next; count = s.count } };
+
+    ghost invariant = { λ s. (s.count ≤ 2 ^ 32) × IsSearched s.count s.next s.openers s.closers.items };
+}
+
+impl PairSearch {
+    /// A search of a sequence of no characters.
+    pub fn new(alloc: Global) -> Self {
+        PairSearch {
+            openers: OpenStack::new(),
+            closers: Vec::new(alloc),
+            count: 0,
+            next: 0,
+            is_over: false,
+        }
+    }
+
+    /// Begins a search of a sequence of so many characters.
+    pub fn begin(&mut self, count: usize)
+        requires small { count ≤ 2 ^ 32 }
+        ensures next { self.new.next ≡ 0 }
+        ensures count { self.new.count ≡ count }
+        ensures pairs { (bracket : ℕ → Option (Side × ℕ)) (cs : List ℕ) (ts : List Class) → pairs_after bracket self.new.progress 0 cs ts ≡ pairs bracket cs ts }
+    {
+        self.openers.clear();
+        self.closers.clear();
+        self.count = count;
+        self.next = 0;
+        self.is_over = false;
+    }
+
+    /// Takes the character of the sequence at an index, of a current type. Those whose type is not ON may be left out.
+    /// Memory is taken at the first opener, 4 bytes for each character of the longest sequence so far, and want of it is the
+    /// only refusal.
+    pub fn meet<D: BidiData>(
+        &mut self,
+        index: usize,
+        c: char,
+        t: Class,
+        source: &D,
+    ) -> Result<(), BracketError>
+        requires next { self.old.next ≤ index }
+        requires within { index < self.old.count }
+        ensures progress { OnOk result (self.new.progress ≡ after index c (bracket_at (D.bracket_of source.now) c t) self.old.progress) }
+        ensures next { self.new.next ≤ index + 1 }
+        ensures count { self.new.count ≡ self.old.count }
+    {
+        if self.is_over {
+            return Ok(());
+        }
+        let Some(bracket) = bracket_at(source, c, t) else {
+            return Ok(());
+        };
+        self.next = index + 1;
+        self.is_over = meet_bracket(
+            &mut self.openers,
+            &mut self.closers,
+            self.count,
+            index,
+            c,
+            bracket,
+        )?;
+        Ok(())
+    }
+
+    /// Gives the pairs that are found their types, pair by pair (N0), in place. `types` are those after W7, `was_nsm` says
+    /// which characters were NSM before W1, and `sos` is the type before the sequence of level `level`.
+    pub fn resolve(&self, types: &mut [Class], was_nsm: &[bool], level: u8, sos: Class)
+        requires count { length types.old ≡ self.now.count }
+        requires as_long { length was_nsm.now ≡ length types.old }
+        ensures { types.new ≡ resolve_pairs (direction level) sos was_nsm.now self.now.progress.pairs types.old }
+    {
+        resolve_closers(types, was_nsm, &self.closers, level, sos);
+    }
+}
