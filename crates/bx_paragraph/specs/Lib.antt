@@ -1,0 +1,2 @@
+pub mod BodyRows
+pub mod Slots

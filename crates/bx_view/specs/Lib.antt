@@ -1,0 +1,3 @@
+pub mod TextRows
+pub mod Moves
+pub mod Top
