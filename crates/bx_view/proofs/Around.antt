@@ -112,7 +112,7 @@ module _ (class : ℕ → Class) (bracket : ℕ → Option (Side × ℕ)) (base 
         let same : next + total (map lengths_of ps) ≡ start + total (map lengths_of (p ∷ ps)) = omega arith in
         subst (λ os. Rises start os (start + total (map lengths_of (p ∷ ps)))) (sym (firsts-from start p ps))
         (rises-append start (map first (map (text_row start) (own p))) next (map first (from next ps)) (start + total (map lengths_of (p ∷ ps)))
-        (rises-further start (map first (map (text_row start) (own p))) (start + length p.body + 1) next (omega (arith, e.0)) (own-rise start p u.0))
+        (rises-further start (map first (map (text_row start) (own p))) (start + length p.body + 1) next (omega (arith, e.0)) (own-rise start p u.0.body))
         (subst (λ h. Rises next (map first (from next ps)) h) same (ended-rise next ps u.1 e.1)))
 
     -- of paragraphs of which the last need not
@@ -121,13 +121,13 @@ module _ (class : ℕ → Class) (bracket : ℕ → Option (Side × ℕ)) (base 
     all-rise start (p ∷ []) u e =
         subst (λ os. Rises start os (start + total (map lengths_of (p ∷ [])) + 1)) (sym (firsts-from start p []))
         (rises-append start (map first (map (text_row start) (own p))) (start + length p.body + 1) [] (start + total (map lengths_of (p ∷ [])) + 1)
-        (own-rise start p u.0) (omega arith))
+        (own-rise start p u.0.body) (omega arith))
     all-rise start (p ∷ q ∷ ps) u e =
         let next = start + bytes_of (lengths_of p) in
         let same : next + total (map lengths_of (q ∷ ps)) + 1 ≡ start + total (map lengths_of (p ∷ q ∷ ps)) + 1 = omega arith in
         subst (λ os. Rises start os (start + total (map lengths_of (p ∷ q ∷ ps)) + 1)) (sym (firsts-from start p (q ∷ ps)))
         (rises-append start (map first (map (text_row start) (own p))) next (map first (from next (q ∷ ps))) (start + total (map lengths_of (p ∷ q ∷ ps)) + 1)
-        (rises-further start (map first (map (text_row start) (own p))) (start + length p.body + 1) next (omega (arith, e.0)) (own-rise start p u.0))
+        (rises-further start (map first (map (text_row start) (own p))) (start + length p.body + 1) next (omega (arith, e.0)) (own-rise start p u.0.body))
         (subst (λ h. Rises next (map first (from next (q ∷ ps))) h) same (all-rise next (q ∷ ps) u.1 e.1)))
 
     -- none of the rows behind an offset is begun
@@ -190,7 +190,7 @@ module _ (class : ℕ → Class) (bracket : ℕ → Option (Side × ℕ)) (base 
           → row_of (text_rows class bracket base w text) offset ≡ length (from 0 ahead) + row_of_body (own p) (offset - start)
       row-falls offset u e low high =
           let u' = behind-utf8 ahead (p ∷ behind) u in
-          omega (arith, begun-around offset u e low high, own-begun p (offset - start) u'.0)
+          omega (arith, begun-around offset u e low high, own-begun p (offset - start) u'.0.body)
 
       -- and a row of the paragraph by its number in the text
       pub row-there : (k : ℕ) → k < length (own p)
