@@ -31,13 +31,16 @@ with_last row [] = []
 with_last row (us ∷ []) = row true us ∷ []
 with_last row (us ∷ vs ∷ rest) = row false us ∷ with_last row (vs ∷ rest)
 
+-- the units of each row of a body
+abbrev pub rows_units : (ℕ → Class) → ℕ → List ℕ → List (List Unit)
+rows_units class w body = let us = units class w body in map (row_units us) (wrap class w body us)
+
 -- the rows of a body
 abbrev pub body_rows : (ℕ → Class) → (ℕ → Option (Side × ℕ)) → Base → ℕ → List ℕ → List BodyRow
 body_rows class bracket base w body =
     let paragraph = paragraph_level_under class base (chars body) in
     let each = levels_under class bracket base (chars body) in
-    let us = units class w body in
-    with_last (row_with class body paragraph each) (map (row_units us) (wrap class w body us))
+    with_last (row_with class body paragraph each) (rows_units class w body)
 
 -- the offset at which a row begins
 abbrev pub first_of : BodyRow → ℕ

@@ -1,6 +1,6 @@
 -- The slots of a row of a body: its places from left to right, each with its columns.
 use Rattle.std.specs.Prelude.{ℕ, zero, suc, ◌+◌, ◌-◌, ◌%◌, ◌==◌, ◌&&◌, nat_le, nat_lt, min, max, true, false}
-use Rattle.std.specs.Prelude.{Bool, List, [], ◌∷◌, ◌++◌, map, length, reverse, find, slice_index_or, Option, Some, None, option_map, unwrap_or}
+use Rattle.std.specs.Prelude.{Bool, List, [], ◌∷◌, ◌++◌, map, length, reverse, find, slice_index_or, sum_by, Option, Some, None, option_map, unwrap_or}
 use Rattle.std.specs.List.{zip}
 use Rattle.bx_cells.specs.declared.unit.Unit.{Unit}
 use Rattle.bx_rows.specs.VisualOrder.{visual}
@@ -16,23 +16,27 @@ slot offset column columns = record { offset = offset; column = column; columns 
 -- units side by side, each by its offset and its columns; the first begins in the column `at`
 abbrev pub side_by_side : ℕ → List (ℕ × ℕ) → List Slot
 side_by_side at [] = []
-side_by_side at ((offset, columns) ∷ us) = slot offset at columns ∷ side_by_side (at + columns) us
+side_by_side at (u ∷ us) = slot u.0 at u.1 ∷ side_by_side (at + u.1) us
 
 -- the column in which a row's leftmost unit begins: at level 0 a row begins at the left edge, at level 1 at the right edge
 abbrev pub left_column : ℕ → BodyRow → ℕ
 left_column w r = elim (r.paragraph % 2) [ zero ↦ 1 | suc _ ↦ w - columns_used w r.units + 1 ]
 
--- the offset and the columns of each unit of a row, in the order of the text
-abbrev pub extents : ℕ → List Unit → List (ℕ × ℕ)
-extents w us = zip (map (λ u. u.start) us) (unit_columns w 0 us)
+-- the offset and the columns of the unit of a number, among units of these columns
+abbrev pub extent_of : List Unit → List ℕ → ℕ → ℕ × ℕ
+extent_of us columns k = slice_index_or (zip (map (λ u. u.start) us) columns) k (0, 0)
 
 -- the slots of a row's units, from left to right
 abbrev pub unit_slots : ℕ → BodyRow → List Slot
-unit_slots w r = side_by_side (left_column w r) (map (λ k. slice_index_or (extents w r.units) k (0, 0)) (visual r.levels))
+unit_slots w r = side_by_side (left_column w r) (map (extent_of r.units (unit_columns w 0 r.units)) (visual r.levels))
 
 -- the column of the slot of the paragraph's end: beside the units, or the last one at the edge
 abbrev pub end_column : ℕ → BodyRow → ℕ
 end_column w r = elim (r.paragraph % 2) [ zero ↦ min (columns_used w r.units + 1) w | suc _ ↦ max (w - columns_used w r.units) 1 ]
+
+-- the columns of units in an order, all together
+abbrev pub columns_of : List ℕ → List ℕ → ℕ
+columns_of columns order = sum_by (λ k. slice_index_or columns k 0) order
 
 -- the slot of the paragraph's end, which covers no column
 abbrev pub end_slot : ℕ → BodyRow → Slot

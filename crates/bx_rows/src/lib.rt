@@ -17,7 +17,7 @@ pub use drawn::{Drawn, RowPicture};
 pub use error::RowError;
 pub use one_row::has_one_row;
 pub use order::visual;
-pub use picture::draw;
+pub use picture::{draw, unit_columns};
 pub use row::Row;
 pub use start_search::{RowStart, row_starts};
 pub use unit_levels::row_levels;
