@@ -18,7 +18,7 @@ pub use drawn::{Drawn, RowPicture};
 pub use error::RowError;
 pub use one_row::has_one_row;
 pub use order::visual;
-pub use picture::draw;
+pub use picture::{draw, unit_columns};
 pub use row::Row;
 pub use row_part::units_of_row;
 pub use start_search::{RowStart, row_starts};

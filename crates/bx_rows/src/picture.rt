@@ -18,8 +18,9 @@ use bx_cells::Unit;
 use bx_ucd::BidiData;
 use std::alloc::{AllocError, Global};
 
-/// The columns of each unit of a row, and all of them together.
-fn unit_columns(alloc: Global, units: &[Unit], w: u16) -> Result<(Vec<u16>, u16), AllocError>
+/// The columns of each unit of a row in a window of `w` columns, and all of them together. It is refused only where memory
+/// runs out.
+pub fn unit_columns(alloc: Global, units: &[Unit], w: u16) -> Result<(Vec<u16>, u16), AllocError>
     requires { columns_used w units.now ≤ w }
     ensures columns { IfOk result (λ r. r.0.items ≡ unit_columns w 0 units.now) }
     ensures count { IfOk result (λ r. length r.0.items ≡ length units.now) }

@@ -1,0 +1,68 @@
+-- A row of a layout, by its units.
+use Rattle.std.proofs.Common.{◌≡◌, ℕ, zero, suc, ◌+◌, ◌-◌, ◌==◌, ◌<◌, Bool, List, [], ◌∷◌, length, take, get_or, Option, refl, sym, ap, ◌∙◌, arith}
+use Rattle.std.specs.Prelude.{chars}
+use Rattle.std.proofs.Common.{ne_eqb}
+use Rattle.std.proofs.Math.Dec.{eqb-suc-suc}
+use Rattle.std.proofs.Math.Seq.{take-length}
+use Rattle.std.proofs.lemmas.List.{length-map}
+use Rattle.bx_ucd.specs.declared.class.Class.{Class}
+use Rattle.bx_ucd.specs.declared.data.Side.{Side}
+use Rattle.bx_resolve.specs.Levels.{paragraph_level_under, levels_under}
+use Rattle.bx_cells.specs.declared.unit.Unit.{Unit}
+use Rattle.bx_cells.specs.Units.{units}
+use Rattle.bx_rows.specs.RowLevels.{row_levels}
+use Rattle.bx_rows.specs.RowPicture.{Glyph, draw}
+use Rattle.bx_rows.specs.RowStarts.{start_of}
+use Rattle.bx_rows.specs.Wrapping.{row_units, wrap}
+use Rattle.bx_paragraph.specs.declared.row_parts.RowParts.{RowParts}
+use Rattle.bx_paragraph.specs.BodyRows.{BodyRow, no_row, row_glyphs, row_with, rows_units, with_last}
+use Rattle.bx_paragraph.specs.Layout.{IsLayoutBy, LayoutState, row_by}
+use Rattle.bx_paragraph.specs.RowParts.{row_of_parts}
+
+one-more : (k : ℕ) → suc k + 1 ≡ suc (k + 1)
+one-more k = omega arith
+
+-- the row of a number, the last one told that it is
+last-at : (row : Bool → List Unit → BodyRow) (xs : List (List Unit)) (k : ℕ) → k < length xs
+    → get_or (with_last row xs) k no_row ≡ row (k + 1 == length xs) (get_or xs k [])
+last-at row [] k h = absurd (omega (arith, h))
+last-at row (us ∷ []) zero h = refl
+last-at row (us ∷ []) (suc k) h = absurd (omega (arith, h))
+last-at row (us ∷ vs ∷ rest) zero h = ap (λ b. row b us) (sym (ne_eqb 1 (suc (suc (length rest))) (λ e. omega (arith, e))))
+last-at row (us ∷ vs ∷ rest) (suc k) h = last-at row (vs ∷ rest) k (omega (arith, h)) ∙ ap (λ b. row b (get_or (vs ∷ rest) k [])) (sym (ap (λ n. n == suc (suc (length rest))) (one-more k) ∙ eqb-suc-suc (k + 1) (suc (length rest))))
+
+-- as many rows as row starts
+pub rows-count : (l : LayoutState) (class : ℕ → Class) (bracket : ℕ → Option (Side × ℕ)) → IsLayoutBy class bracket l
+    → length l.starts ≡ length (rows_units class l.w l.body)
+rows-count l class bracket is =
+    let us = units class l.w l.body in
+    ap length is.starts ∙ length-map (wrap class l.w l.body us) (start_of l.body us) ∙ sym (length-map (wrap class l.w l.body us) (row_units us))
+
+-- a row of a layout
+pub row-is : (l : LayoutState) (class : ℕ → Class) (bracket : ℕ → Option (Side × ℕ)) (k : ℕ) (us : List Unit) (levels : List ℕ) (is_last : Bool)
+    → IsLayoutBy class bracket l → k < length l.starts → us ≡ get_or (rows_units class l.w l.body) k []
+    → levels ≡ row_levels class l.body l.paragraph l.each us → is_last ≡ (k + 1 == length l.starts)
+    → record { body = l.body; paragraph = l.paragraph; units = us; levels = levels; is_last = is_last } ≡ row_by class bracket l k
+row-is l class bracket k us levels is_last is h units-are levels-are last =
+    let xs = rows_units class l.w l.body in
+    let count = rows-count l class bracket is in
+    let paragraph = paragraph_level_under class l.base (chars l.body) in
+    let each = levels_under class bracket l.base (chars l.body) in
+    let found = last-at (row_with class l.body paragraph each) xs k (omega (arith, h, count)) in
+    let make : ℕ → List (Option ℕ) → Bool → List Unit → BodyRow = λ p e b vs. row_with class l.body p e b vs in
+    ap (λ ls. record { body = l.body; paragraph = l.paragraph; units = us; levels = ls; is_last = is_last }) levels-are
+    ∙ ap (λ p. make p l.each is_last us) is.paragraph ∙ ap (λ e. make paragraph e is_last us) is.each
+    ∙ ap (λ b. make paragraph each b us) (last ∙ ap (λ n. k + 1 == n) count) ∙ ap (make paragraph each (k + 1 == length xs)) units-are ∙ sym found
+
+-- all units of a list, as a row of them
+pub whole_row_is : (us : List Unit) → row_units us (record { start = 0; stop = length us }) ≡ us
+whole_row_is us = let all : length us - 0 ≡ length us = omega arith in ap (λ k. take k us) all ∙ take-length us
+
+-- the glyphs of a row of a layout, by its parts
+pub glyphs-are : (class : ℕ → Class) (mirror : ℕ → Option ℕ) (gs : List Glyph) (w : ℕ) (body : List ℕ) (paragraph : ℕ) (us : List Unit) (levels : List ℕ)
+    (l : LayoutState) (parts : RowParts) (r : BodyRow) → gs ≡ draw class mirror w body paragraph us levels → w ≡ l.w → body ≡ l.body
+    → paragraph ≡ l.paragraph → us ≡ parts.units.items → levels ≡ parts.levels.items → row_of_parts l parts ≡ r → gs ≡ row_glyphs class mirror l.w r
+glyphs-are class mirror gs w body paragraph us levels l parts r drawn ew eb ep eu el er =
+    drawn ∙ ap (λ n. draw class mirror n body paragraph us levels) ew ∙ ap (λ b. draw class mirror l.w b paragraph us levels) eb
+    ∙ ap (λ p. draw class mirror l.w l.body p us levels) ep ∙ ap (λ vs. draw class mirror l.w l.body l.paragraph vs levels) eu
+    ∙ ap (draw class mirror l.w l.body l.paragraph parts.units.items) el ∙ ap (row_glyphs class mirror l.w) er

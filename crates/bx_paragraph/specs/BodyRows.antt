@@ -1,0 +1,80 @@
+-- The rows of a paragraph's body in a window of `w` columns, numbered from 0. Offsets count bytes of the body.
+use Rattle.std.specs.Prelude.{ℕ, ◌-◌, nat_le, Bool, true, false, List, [], ◌∷◌, ◌++◌, map, length, count_by, slice_index_or, Option, chars}
+use Rattle.bx_ucd.specs.declared.class.Class.{Class}
+use Rattle.bx_ucd.specs.declared.data.Side.{Side}
+use Rattle.bx_explicit.specs.declared.base.Base.{Base}
+use Rattle.bx_resolve.specs.Levels.{paragraph_level_under, levels_under}
+use Rattle.bx_cells.specs.declared.unit.Unit.{Unit}
+use Rattle.bx_cells.specs.Units.{units}
+use Rattle.bx_rows.specs.Wrapping.{wrap, row_units}
+use Rattle.bx_rows.specs.RowLevels.{row_levels}
+use Rattle.bx_rows.specs.RowPicture.{Glyph, draw}
+use Rattle.bx_rows.specs.RowStarts.{first_offset}
+
+-- a row: the body that it is of, the level of that paragraph, the row's units with their levels, and whether it is the
+-- paragraph's last row
+pub record BodyRow : Type 0 where
+  pub body : List ℕ
+  pub paragraph : ℕ
+  pub units : List Unit
+  pub levels : List ℕ
+  pub is_last : Bool
+
+-- the row of some units, in a paragraph of the level `paragraph` whose characters have the levels `each`
+abbrev pub row_with : (ℕ → Class) → List ℕ → ℕ → List (Option ℕ) → Bool → List Unit → BodyRow
+row_with class body paragraph each is_last us =
+    record { body = body; paragraph = paragraph; units = us; levels = row_levels class body paragraph each us; is_last = is_last }
+
+-- one row after another, the last one told that it is
+abbrev pub with_last : (Bool → List Unit → BodyRow) → List (List Unit) → List BodyRow
+with_last row [] = []
+with_last row (us ∷ []) = row true us ∷ []
+with_last row (us ∷ vs ∷ rest) = row false us ∷ with_last row (vs ∷ rest)
+
+-- the units of each row of a body
+abbrev pub rows_units : (ℕ → Class) → ℕ → List ℕ → List (List Unit)
+rows_units class w body = let us = units class w body in map (row_units us) (wrap class w body us)
+
+-- the rows of a body
+abbrev pub body_rows : (ℕ → Class) → (ℕ → Option (Side × ℕ)) → Base → ℕ → List ℕ → List BodyRow
+body_rows class bracket base w body =
+    let paragraph = paragraph_level_under class base (chars body) in
+    let each = levels_under class bracket base (chars body) in
+    with_last (row_with class body paragraph each) (rows_units class w body)
+
+-- the offset at which a row begins
+abbrev pub first_of : BodyRow → ℕ
+first_of r = first_offset r.units
+
+-- the offsets of a row's places in order: where each unit begins, and in the last row where the body ends
+abbrev pub offsets_of : BodyRow → List ℕ
+offsets_of r = map (λ u. u.start) r.units ++ elim (r.is_last) [ true ↦ length r.body ∷ [] | false ↦ [] ]
+
+-- the last of some offsets
+abbrev pub last_offset : List ℕ → ℕ
+last_offset [] = 0
+last_offset (p ∷ []) = p
+last_offset (p ∷ q ∷ ps) = last_offset (q ∷ ps)
+
+-- the offset of a row's last place: the body's end in the last row, else where the row's last unit begins
+abbrev pub last_of : BodyRow → ℕ
+last_of r = last_offset (offsets_of r)
+
+-- the number of the last of some beginnings, in order, that is at an offset or before it
+abbrev pub falls_in : List ℕ → ℕ → ℕ
+falls_in beginnings offset = count_by (λ b. nat_le b offset) beginnings - 1
+
+-- the number of the row that an offset falls in: the last that begins at or before it
+abbrev pub row_of : List BodyRow → ℕ → ℕ
+row_of rows offset = falls_in (map first_of rows) offset
+
+-- a row by its number
+abbrev pub no_row : BodyRow
+no_row = record { body = []; paragraph = 0; units = []; levels = []; is_last = true }
+
+abbrev pub row_at : List BodyRow → ℕ → BodyRow
+row_at rows k = slice_index_or rows k no_row
+
+-- what a row shows, from left to right
+abbrev pub row_glyphs : (ℕ → Class) → (ℕ → Option ℕ) → ℕ → BodyRow → List Glyph
+row_glyphs class mirror w r = draw class mirror w r.body r.paragraph r.units r.levels

@@ -1,0 +1,36 @@
+-- What a paragraph's layout is seen as, and the rows that it stands for.
+use Rattle.std.specs.Prelude.{◌≡◌, ℕ, List, Option, chars}
+use Rattle.bx_ucd.specs.declared.class.Class.{Class}
+use Rattle.bx_ucd.specs.declared.data.Side.{Side}
+use Rattle.bx_explicit.specs.declared.base.Base.{Base}
+use Rattle.bx_resolve.specs.Levels.{paragraph_level_under, levels_under}
+use Rattle.bx_rows.specs.declared.start_search.RowStart.{RowStart}
+use Rattle.bx_rows.specs.RowStarts.{row_starts}
+use Rattle.bx_paragraph.specs.BodyRows.{BodyRow, body_rows, row_at}
+
+-- a body, the base direction, the window's columns, the paragraph's level and its characters' levels, and where the rows begin
+pub record LayoutState : Type 0 where
+  pub body : List ℕ
+  pub base : Base
+  pub w : ℕ
+  pub paragraph : ℕ
+  pub each : List (Option ℕ)
+  pub starts : List RowStart
+
+-- the levels and the beginnings of the rows are those that the definitions give under some data
+pub record IsLayoutBy (class : ℕ → Class) (bracket : ℕ → Option (Side × ℕ)) (l : LayoutState) : Type 0 where
+  pub paragraph : l.paragraph ≡ paragraph_level_under class l.base (chars l.body)
+  pub each : l.each ≡ levels_under class bracket l.base (chars l.body)
+  pub starts : l.starts ≡ row_starts class l.w l.body
+
+-- the rows of the layout's body
+abbrev pub rows_by : (ℕ → Class) → (ℕ → Option (Side × ℕ)) → LayoutState → List BodyRow
+rows_by class bracket l = body_rows class bracket l.base l.w l.body
+
+-- one of them
+abbrev pub row_by : (ℕ → Class) → (ℕ → Option (Side × ℕ)) → LayoutState → ℕ → BodyRow
+row_by class bracket l k = row_at (rows_by class bracket l) k
+
+-- what is true of the layout's rows, whatever data they are by
+abbrev pub OfRows : LayoutState → (List BodyRow → Type 0) → Type 0
+OfRows l P = (class : ℕ → Class) (bracket : ℕ → Option (Side × ℕ)) → IsLayoutBy class bracket l → P (rows_by class bracket l)

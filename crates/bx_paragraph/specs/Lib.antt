@@ -1,0 +1,4 @@
+pub mod BodyRows
+pub mod Slots
+pub mod Layout
+pub mod RowParts

@@ -1,0 +1,107 @@
+-- The slots of a row of a body: its places from left to right, each with its columns.
+use Rattle.std.specs.Prelude.{ℕ, zero, suc, ◌+◌, ◌-◌, ◌%◌, ◌==◌, ◌&&◌, nat_le, nat_lt, min, max, true, false}
+use Rattle.std.specs.Prelude.{Bool, List, [], ◌∷◌, ◌++◌, map, length, reverse, find, slice_index_or, sum_by, Option, Some, None, option_map, unwrap_or}
+use Rattle.std.specs.List.{zip}
+use Rattle.bx_cells.specs.declared.unit.Unit.{Unit}
+use Rattle.bx_rows.specs.VisualOrder.{visual}
+use Rattle.bx_rows.specs.RowPicture.{unit_columns, columns_used}
+use Rattle.bx_paragraph.specs.declared.moves.Visual.{Visual}
+use Rattle.bx_paragraph.specs.declared.moves.Visual.TheVariants.{Left, Right}
+use Rattle.bx_paragraph.specs.declared.slot.Slot.{Slot}
+use Rattle.bx_paragraph.specs.BodyRows.{BodyRow}
+
+abbrev pub slot : ℕ → ℕ → ℕ → Slot
+slot offset column columns = record { offset = offset; column = column; columns = columns }
+
+-- units side by side, each by its offset and its columns; the first begins in the column `at`
+abbrev pub side_by_side : ℕ → List (ℕ × ℕ) → List Slot
+side_by_side at [] = []
+side_by_side at (u ∷ us) = slot u.0 at u.1 ∷ side_by_side (at + u.1) us
+
+-- the column in which a row's leftmost unit begins: at level 0 a row begins at the left edge, at level 1 at the right edge
+abbrev pub left_column : ℕ → BodyRow → ℕ
+left_column w r = elim (r.paragraph % 2) [ zero ↦ 1 | suc _ ↦ w - columns_used w r.units + 1 ]
+
+-- the offset and the columns of the unit of a number, among units of these columns
+abbrev pub extent_of : List Unit → List ℕ → ℕ → ℕ × ℕ
+extent_of us columns k = slice_index_or (zip (map (λ u. u.start) us) columns) k (0, 0)
+
+-- the slots of a row's units, from left to right
+abbrev pub unit_slots : ℕ → BodyRow → List Slot
+unit_slots w r = side_by_side (left_column w r) (map (extent_of r.units (unit_columns w 0 r.units)) (visual r.levels))
+
+-- the column of the slot of the paragraph's end: beside the units, or the last one at the edge
+abbrev pub end_column : ℕ → BodyRow → ℕ
+end_column w r = elim (r.paragraph % 2) [ zero ↦ min (columns_used w r.units + 1) w | suc _ ↦ max (w - columns_used w r.units) 1 ]
+
+-- the columns of units in an order, all together
+abbrev pub columns_of : List ℕ → List ℕ → ℕ
+columns_of columns order = sum_by (λ k. slice_index_or columns k 0) order
+
+-- the slot of the paragraph's end, which covers no column
+abbrev pub end_slot : ℕ → BodyRow → Slot
+end_slot w r = slot (length r.body) (end_column w r) 0
+
+-- the end's slot stands right of the units at level 0, left of them at level 1
+abbrev pub with_end : ℕ → Slot → List Slot → List Slot
+with_end paragraph end ss = elim (paragraph % 2) [ zero ↦ ss ++ end ∷ [] | suc _ ↦ end ∷ ss ]
+
+-- the slots of a row from left to right: its units, and in the paragraph's last row its end
+abbrev pub row_slots : ℕ → BodyRow → List Slot
+row_slots w r = elim (r.is_last) [ true ↦ with_end r.paragraph (end_slot w r) (unit_slots w r) | false ↦ unit_slots w r ]
+
+-- their offsets from left to right
+abbrev pub slot_offsets : ℕ → BodyRow → List ℕ
+slot_offsets w r = map (λ s. s.offset) (row_slots w r)
+
+-- their offsets in reading order: from left to right at level 0, from right to left at level 1
+abbrev pub reading_order : ℕ → BodyRow → List ℕ
+reading_order w r = elim (r.paragraph % 2) [ zero ↦ slot_offsets w r | suc _ ↦ reverse (slot_offsets w r) ]
+
+-- the first of some offsets, if there is one
+abbrev pub first_in : List ℕ → Option ℕ
+first_in [] = None
+first_in (p ∷ ps) = Some p
+
+-- the one that follows an offset among some
+abbrev pub next_in : ℕ → List ℕ → Option ℕ
+next_in offset [] = None
+next_in offset (p ∷ ps) = elim (p == offset) [ true ↦ first_in ps | false ↦ next_in offset ps ]
+
+-- the offset of the next slot of a row to a side
+abbrev pub beside : ℕ → BodyRow → Visual → ℕ → Option ℕ
+beside w r Right offset = next_in offset (slot_offsets w r)
+beside w r Left offset = next_in offset (reverse (slot_offsets w r))
+
+-- the offset of a row's slot at its reading start (the leftmost at level 0, the rightmost at level 1), and at its reading end
+abbrev pub reading_start : ℕ → BodyRow → Option ℕ
+reading_start w r = first_in (reading_order w r)
+
+abbrev pub reading_end : ℕ → BodyRow → Option ℕ
+reading_end w r = first_in (reverse (reading_order w r))
+
+-- a side is where the row's reading end is: right at level 0, left at level 1
+abbrev pub reads_on : Visual → BodyRow → Bool
+reads_on Right r = elim (r.paragraph % 2) [ zero ↦ true | suc _ ↦ false ]
+reads_on Left r = elim (r.paragraph % 2) [ zero ↦ false | suc _ ↦ true ]
+
+-- the column of the slot at an offset, from 1
+abbrev pub column_of : ℕ → BodyRow → ℕ → ℕ
+column_of w r offset = unwrap_or (option_map (λ s. s.column) (find (λ s. s.offset == offset) (row_slots w r))) 1
+
+-- a slot covers a column
+abbrev pub covers : ℕ → Slot → Bool
+covers column s = nat_le s.column column && nat_lt column (s.column + s.columns)
+
+-- the offset of the unit that covers a column of a row
+abbrev pub covering : ℕ → BodyRow → ℕ → Option ℕ
+covering w r column = option_map (λ s. s.offset) (find (covers column) (row_slots w r))
+
+-- the first of two that there is
+abbrev pub or_else : Option ℕ → Option ℕ → Option ℕ
+or_else None other = other
+or_else (Some p) other = Some p
+
+-- where a row is entered in a column: at the unit that covers it, else at the row's reading end
+abbrev pub entry : ℕ → BodyRow → ℕ → Option ℕ
+entry w r column = or_else (covering w r column) (reading_end w r)

@@ -1,0 +1,211 @@
+//! The layout of one paragraph.
+ghost use Rattle.std.specs.Prelude.{◌≡◌, ◌≤◌, ◌<◌, true, All, IfOk, count_by, length, nat_le, map, string_bytes, sum_by};
+ghost use Rattle.std.specs.Cow.{cow_str_bytes};
+ghost use Rattle.bx_terms.specs.Glyphs.{is_one_glyph};
+ghost use Rattle.bx_terms.specs.Sizes.{is_side};
+ghost use Rattle.bx_cells.specs.Units.{HasFace, StandsIn};
+ghost use Rattle.bx_rows.specs.RowPicture.{columns_used};
+ghost use Rattle.bx_rows.specs.Shown.{glyph_of};
+ghost use Rattle.bx_paragraph.specs.BodyRows.{first_of, row_at, row_glyphs, row_of};
+ghost use Rattle.bx_paragraph.specs.Layout.{IsLayoutBy, OfRows, row_by};
+ghost use Rattle.bx_paragraph.specs.RowParts.{row_of_parts};
+ghost use Rattle.bx_paragraph.specs.Slots.{row_slots};
+
+use crate::error::ParagraphError;
+use crate::row_parts::{RowParts, units_of_row, whole_row};
+use crate::slot::Slot;
+use crate::slots::row_slots;
+use bx_explicit::Base;
+use bx_resolve::{Levels, levels};
+use bx_rows::{RowPicture, RowStart, draw, row_levels, row_starts};
+use bx_ucd::BidiData;
+use std::alloc::Global;
+use std::marker::Model;
+
+/// A paragraph's body in a window of so many columns: its levels, and where its rows begin. It is resolved once; the
+/// units of a row are made when that row is looked at.
+#[derive(Drop)]
+pub struct ParagraphLayout {
+    body: String,
+    base: Base,
+    w: u16,
+    levels: Levels,
+    starts: Vec<RowStart>,
+}
+
+impl Model for ParagraphLayout {
+    ghost use Rattle.std.specs.Prelude.{◌≡◌, ◌<◌, true, length, string_bytes};
+    ghost use Rattle.bx_terms.specs.Sizes.{is_side};
+    ghost use Rattle.bx_paragraph.specs.Layout.{LayoutState};
+
+    ghost Value = { LayoutState };
+
+    ghost view = { λ l. record { body = string_bytes l.body; base = l.base; w = l.w; paragraph = l.levels.paragraph; each = l.levels.each.items; starts = l.starts.items } };
+
+    ghost invariant = { λ l. (is_side l.w ≡ true) × (0 < length l.starts.items) };
+}
+
+impl ParagraphLayout {
+    /// Lays out a body in a window of `w` columns, under a base direction.
+    ///
+    /// Errors: `OutOfMemory`.
+    #[tactic(auto, using(crate::proofs::Starts::some_start))]
+    pub fn of<D: BidiData>(
+        alloc: Global,
+        body: String,
+        source: &D,
+        w: u16,
+        base: Base,
+    ) -> Result<ParagraphLayout, ParagraphError>
+        requires { is_side w ≡ true }
+        ensures body { IfOk result (λ l. l.body ≡ string_bytes body) }
+        ensures base { IfOk result (λ l. l.base ≡ base) }
+        ensures w { IfOk result (λ l. l.w ≡ w) }
+        ensures rows { IfOk result (λ l. IsLayoutBy (D.class_of source.now) (D.bracket_of source.now) l) }
+    {
+        let levels = levels(alloc, body.as_str(), source, base)?;
+        let starts = row_starts(alloc, body.as_str(), source, w)?;
+        Ok(ParagraphLayout {
+            body,
+            base,
+            w,
+            levels,
+            starts,
+        })
+    }
+
+    /// The paragraph's body.
+    pub fn body(&self) -> &str
+        ensures { result.now ≡ self.now.body }
+    {
+        self.body.as_str()
+    }
+
+    /// The base direction that it is laid out under.
+    pub fn base(&self) -> Base
+        ensures { result ≡ self.now.base }
+    {
+        self.base
+    }
+
+    /// The columns of the window.
+    pub fn width(&self) -> u16
+        ensures width { result ≡ self.now.w }
+        ensures side { is_side result ≡ true }
+    {
+        self.w
+    }
+
+    /// The paragraph's level, 0 or 1.
+    pub fn level(&self) -> u8
+        ensures { result ≡ self.now.paragraph }
+    {
+        self.levels.paragraph
+    }
+
+    /// How many rows it has, at least one. No memory.
+    #[tactic(auto, using(crate::proofs::Starts::row_count))]
+    pub fn row_count(&self) -> usize
+        ensures starts { result ≡ length self.now.starts }
+        ensures some { 0 < result }
+        ensures rows { OfRows self.now (λ rows. result ≡ length rows) }
+    {
+        self.starts.len()
+    }
+
+    /// The number of the row, from 0, that an offset of the body falls in: the last that begins at or before it. No memory.
+    #[tactic(auto, using(crate::proofs::Starts::row_falls))]
+    pub fn row_of(&self, offset: usize) -> usize
+        ensures within { result < length self.now.starts }
+        ensures row { OfRows self.now (λ rows. result ≡ row_of rows offset) }
+    {
+        starts_up_to(&self.starts, offset).saturating_sub(1)
+    }
+
+    /// The offset in the body at which a row begins, in bytes. No memory.
+    pub fn first(&self, row: usize) -> usize
+        requires { row < length self.now.starts }
+        ensures { OfRows self.now (λ rows. result ≡ first_of (row_at rows row)) }
+    {
+        self.starts[row].offset
+    }
+
+    /// The units of a row with their levels.
+    fn row<D: BidiData>(&self, row: usize, source: &D) -> Result<RowParts, ParagraphError>
+        requires data { IsLayoutBy (D.class_of source.now) (D.bracket_of source.now) self.now }
+        requires row { row < length self.now.starts }
+        ensures row { IfOk result (λ r. row_of_parts self.now r ≡ row_by (D.class_of source.now) (D.bracket_of source.now) self.now row) }
+        ensures stand { IfOk result (λ r. All (StandsIn self.now.body) r.units.items) }
+        ensures faces { IfOk result (λ r. All (HasFace (D.class_of source.now) self.now.w self.now.body) r.units.items) }
+        ensures fits { IfOk result (λ r. columns_used self.now.w r.units.items ≤ self.now.w) }
+        ensures levels { IfOk result (λ r. length r.levels.items ≡ length r.units.items) }
+    {
+        let alloc = *self.starts.allocator();
+        let body = self.body.as_str();
+        let units = units_of_row(alloc, body, row, source, self.w)?;
+        let whole = whole_row(&units);
+        let levels = row_levels(alloc, body, &units, whole, &self.levels, source)?;
+        let is_last = row + 1 == self.starts.len();
+        Ok(RowParts {
+            units,
+            levels,
+            is_last,
+        })
+    }
+
+    /// The slots of a row from left to right, each with its columns.
+    ///
+    /// Errors: `OutOfMemory`.
+    pub fn slots<D: BidiData>(&self, row: usize, source: &D) -> Result<Vec<Slot>, ParagraphError>
+        requires data { IsLayoutBy (D.class_of source.now) (D.bracket_of source.now) self.now }
+        requires row { row < length self.now.starts }
+        ensures { IfOk result (λ v. v.items ≡ row_slots self.now.w (row_by (D.class_of source.now) (D.bracket_of source.now) self.now row)) }
+    {
+        let parts = self.row(row, source)?;
+        row_slots(
+            *parts.units.allocator(),
+            self.body(),
+            &parts.units,
+            &parts.levels,
+            self.level(),
+            parts.is_last,
+            self.width(),
+        )
+    }
+
+    /// What a row shows, from left to right with its blanks.
+    ///
+    /// Errors: `OutOfMemory`.
+    pub fn picture<D: BidiData>(
+        &self,
+        row: usize,
+        source: &D,
+    ) -> Result<RowPicture<'_>, ParagraphError>
+        requires data { IsLayoutBy (D.class_of source.now) (D.bracket_of source.now) self.now }
+        requires row { row < length self.now.starts }
+        ensures picture { IfOk result (λ p. map glyph_of p.glyphs.items ≡ row_glyphs (D.class_of source.now) (D.mirror_of source.now) self.now.w
+            (row_by (D.class_of source.now) (D.bracket_of source.now) self.now row)) }
+        ensures glyphs { IfOk result (λ p. All (λ g. is_one_glyph (cow_str_bytes g.text) ≡ true) p.glyphs.items) }
+        ensures columns { IfOk result (λ p. sum_by (λ g. g.columns) p.glyphs.items ≡ self.now.w) }
+    {
+        let parts = self.row(row, source)?;
+        let picture = draw(
+            *parts.units.allocator(),
+            self.body(),
+            &parts.units,
+            whole_row(&parts.units),
+            &parts.levels,
+            self.level(),
+            source,
+            self.width(),
+        )?;
+        Ok(picture)
+    }
+}
+
+/// How many of the beginnings are at an offset or before it.
+fn starts_up_to(starts: &[RowStart], offset: usize) -> usize
+    ensures { result ≡ count_by (λ o. nat_le o offset) (map (λ s. s.offset) starts.now) }
+{
+    starts.iter().filter(|s| s.offset <= offset).count()
+}

@@ -1,0 +1,14 @@
+//! The rows of one paragraph: its body wrapped in a window, the slots of each row and their columns.
+#![tactic(auto)]
+
+mod error;
+mod layout;
+mod moves;
+mod row_parts;
+mod slot;
+mod slots;
+
+pub use error::ParagraphError;
+pub use layout::ParagraphLayout;
+pub use moves::Visual;
+pub use slot::Slot;

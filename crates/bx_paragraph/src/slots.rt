@@ -1,0 +1,87 @@
+//! The slots of a row, made from its units.
+ghost use Rattle.std.specs.Prelude.{◌≡◌, ◌≤◌, ◌<◌, ◌+◌, ◌++◌, ◌∷◌, [], true, false, All, IfOk, OnOk, length, map};
+ghost use Rattle.bx_terms.specs.Sizes.{is_side};
+ghost use Rattle.bx_rows.specs.RowPicture.{columns_used};
+ghost use Rattle.bx_paragraph.specs.Slots.{columns_of, extent_of, row_slots, side_by_side};
+
+use crate::error::ParagraphError;
+use crate::slot::Slot;
+use bx_cells::Unit;
+use bx_rows::{unit_columns, visual};
+use std::alloc::{AllocError, Global};
+
+/// Adds the slots of units side by side, in an order; the first begins in the column `at`.
+fn push_units(
+    slots: &mut Vec<Slot>,
+    units: &[Unit],
+    columns: &[u16],
+    order: &[usize],
+    at: u16,
+) -> Result<(), AllocError>
+    requires counts { length columns.now ≡ length units.now }
+    requires order { All (λ k. k < length units.now) order.now }
+    requires room { at + columns_of columns.now order.now ≤ 501 }
+    ensures { OnOk result (slots.new.items ≡ slots.old.items
+        ++ side_by_side at (map (extent_of units.now columns.now) order.now)) }
+{
+    let mut column = at;
+    for number in order {
+        let columns = columns[*number];
+        slots.push(Slot {
+            offset: units[*number].start,
+            column,
+            columns,
+        })?;
+        column += columns;
+    }
+    Ok(())
+}
+
+/// Adds the slot of the paragraph's end, in the paragraph's last row.
+fn push_end(
+    slots: &mut Vec<Slot>,
+    is_last: bool,
+    offset: usize,
+    column: u16,
+) -> Result<(), AllocError>
+    ensures { OnOk result (slots.new.items ≡ slots.old.items
+        ++ elim is_last [ true ↦ record { offset = offset; column = column; columns = 0 } ∷ [] | false ↦ [] ]) }
+{
+    if is_last {
+        slots.push(Slot {
+            offset,
+            column,
+            columns: 0,
+        })?;
+    }
+    Ok(())
+}
+
+/// The slots of a row of a body from left to right, by its units and their levels.
+pub(crate) fn row_slots(
+    alloc: Global,
+    body: &str,
+    units: &[Unit],
+    levels: &[u8],
+    paragraph: u8,
+    is_last: bool,
+    w: u16,
+) -> Result<Vec<Slot>, ParagraphError>
+    requires side { is_side w ≡ true }
+    requires fits { columns_used w units.now ≤ w }
+    requires levels { length levels.now ≡ length units.now }
+    ensures { IfOk result (λ v. v.items
+        ≡ row_slots w (record { body = body.now; paragraph = paragraph; units = units.now; levels = levels.now; is_last = is_last })) }
+{
+    let (columns, used) = unit_columns(alloc, units, w)?;
+    let order = visual(alloc, levels)?;
+    let mut slots = Vec::with_capacity(alloc, units.len() + 1)?;
+    if paragraph % 2 == 0 {
+        push_units(&mut slots, units, &columns, &order, 1)?;
+        push_end(&mut slots, is_last, body.len(), (used + 1).min(w))?;
+        return Ok(slots);
+    }
+    push_end(&mut slots, is_last, body.len(), (w - used).max(1))?;
+    push_units(&mut slots, units, &columns, &order, w - used + 1)?;
+    Ok(slots)
+}

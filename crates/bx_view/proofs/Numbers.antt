@@ -1,0 +1,210 @@
+-- What the index tells of a paragraph by its number: where it begins, its body, and which offsets fall in it.
+use Rattle.std.proofs.Common.{◌≡◌, ℕ, zero, suc, ◌+◌, ◌-◌, ◌<◌, ◌≤◌, nat_le, cond, Bool, true, false, List, [], ◌∷◌, ◌++◌, map, length, take, drop, get_or}
+use Rattle.std.proofs.Common.{slice_get, slice_range, count_by, Option, Some, IsUtf8, IsCharBoundary, encode_utf8_all, refl, sym, ap, subst, ◌∙◌, arith, ⊎_elim}
+use Rattle.std.proofs.Common.{append_assoc, length-append, length-drop}
+use Rattle.std.proofs.lemmas.Bool.{cases_lt}
+use Rattle.std.proofs.lemmas.Bool.Decides.{nat_tests}
+use Rattle.std.proofs.lemmas.List.{length-map, length-take-le, take-append-drop, drop_more, drop_at, take_at, take-map, get_or-map}
+use Rattle.std.proofs.lemmas.List.Sums.{sum_by-cons}
+use Rattle.std.proofs.lemmas.Str.{IsCharBoundary-at_seam, IsUtf8-append, IsUtf8-nil}
+use Rattle.bx_ucd.specs.declared.class.Class.{Class}
+use Rattle.bx_text.specs.Edits.{IsRange}
+use Rattle.bx_paras.specs.declared.lengths.Lengths.{Lengths}
+use Rattle.bx_paras.specs.Paragraphs.{Paragraph, bare, lengths, lengths_of, paragraphs}
+use Rattle.bx_paras.specs.Positions.{bytes_of, paragraph_of, spans, spans_from, total}
+use Rattle.bx_paras.proofs.Asked.{span_at}
+use Rattle.bx_paras.proofs.Totals.{total_more}
+use Rattle.bx_view.specs.Standing.{body_at, count, paragraph_at, start_at}
+use Rattle.bx_view.proofs.Around.{EndsBefore, IsAmong, behind-utf8, ahead-utf8}
+use Rattle.bx_view.proofs.Parts.{AreUtf8, bytes, text-bytes, text-parts}
+
+-- ---- the bytes of paragraphs
+
+pub bytes-append : (ps qs : List Paragraph) → bytes (ps ++ qs) ≡ bytes ps ++ bytes qs
+bytes-append [] qs = refl
+bytes-append (p ∷ ps) qs = ap (λ b. p.body ++ p.separator ++ b) (bytes-append ps qs) ∙ sym (append_assoc (p.body ++ p.separator) (bytes ps) (bytes qs))
+
+pub bytes-length : (ps : List Paragraph) → length (bytes ps) ≡ total (map lengths_of ps)
+bytes-length [] = refl
+bytes-length (p ∷ ps) = omega (arith, length-append (p.body ++ p.separator) (bytes ps), length-append p.body p.separator, bytes-length ps)
+
+pub bytes-utf8 : (ps : List Paragraph) → AreUtf8 ps → IsUtf8 (bytes ps)
+bytes-utf8 [] u = IsUtf8-nil
+bytes-utf8 (p ∷ ps) u = IsUtf8-append (p.body ++ p.separator) (bytes ps) (IsUtf8-append p.body p.separator u.0.body u.0.separator) (bytes-utf8 ps u.1)
+
+-- ---- the paragraphs that begin at an offset or before it
+
+module _ (offset : ℕ) where
+  abbrev begun-spans : ℕ → List Lengths → ℕ
+  begun-spans at ls = count_by (λ s. nat_le s.0 offset) (spans_from at ls)
+
+  spans-cons : (at : ℕ) (l : Lengths) (ls : List Lengths) → begun-spans at (l ∷ ls) ≡ cond (nat_le at offset) 1 0 + begun-spans (at + bytes_of l) ls
+  spans-cons at l ls = sum_by-cons (λ s. cond (nat_le s.0 offset) 1 0) (at, at + l.body) (spans_from (at + bytes_of l) ls)
+
+  span-begun : (at : ℕ) (l : Lengths) (ls : List Lengths) → at ≤ offset → begun-spans at (l ∷ ls) ≡ 1 + begun-spans (at + bytes_of l) ls
+  span-begun at l ls h =
+      let e : nat_le at offset ≡ true = grind (arith, nat_tests) in spans-cons at l ls ∙ ap (λ b. cond b 1 0 + begun-spans (at + bytes_of l) ls) e
+
+  no-span-begun : (at : ℕ) (ls : List Lengths) → offset < at → begun-spans at ls ≡ 0
+  no-span-begun at [] h = refl
+  no-span-begun at (l ∷ ls) h =
+      let e : nat_le at offset ≡ false = grind (arith, nat_tests) in
+      let more : begun-spans (at + bytes_of l) ls ≡ 0 = no-span-begun (at + bytes_of l) ls (omega arith) in
+      spans-cons at l ls ∙ ap (λ b. cond b 1 0 + begun-spans (at + bytes_of l) ls) e ∙ omega (arith, more)
+
+  -- the last of them holds the offset
+  pub record Holds (at : ℕ) (ls : List Lengths) (n : ℕ) : Type 0 where
+    pub within : n < length ls
+    pub begun : at + total (take n ls) ≤ offset
+    pub ended : n + 1 < length ls → offset < at + total (take (n + 1) ls)
+
+  holds-next : (at : ℕ) (l : Lengths) (ls : List Lengths) (n : ℕ) → Holds (at + bytes_of l) ls n → Holds at (l ∷ ls) (suc n)
+  holds-next at l ls n h = record {
+    within = omega (arith, h.within);
+    begun = omega (arith, h.begun);
+    ended = λ further.
+        let same : suc n + 1 ≡ suc (n + 1) = omega arith in
+        let sum : total (take (suc n + 1) (l ∷ ls)) ≡ bytes_of l + total (take (n + 1) ls) = ap (λ k. total (take k (l ∷ ls))) same in
+        omega (arith, h.ended (omega (arith, further)), sum);
+  }
+
+  holds-first : (at : ℕ) (l : Lengths) (ls : List Lengths) → at ≤ offset → (0 < length ls → offset < at + bytes_of l) → Holds at (l ∷ ls) 0
+  holds-first at l ls h past = record { within = omega arith; begun = omega arith; ended = λ further. omega (arith, past (omega (arith, further))) }
+
+  holds : (at : ℕ) (l : Lengths) (ls : List Lengths) (n : ℕ) → at ≤ offset → begun-spans at (l ∷ ls) ≡ n + 1 → Holds at (l ∷ ls) n
+  holds at l [] zero h e = holds-first at l [] h (λ none. absurd (omega (arith, none)))
+  holds at l [] (suc n) h e = absurd (omega (arith, e, span-begun at l [] h))
+  holds at l (m ∷ ls) zero h e =
+      let next = at + bytes_of l in
+      ⊎_elim (λ past. holds-first at l (m ∷ ls) h (λ some. past))
+      (λ here. absurd (omega (arith, e, span-begun at l (m ∷ ls) h, span-begun next m ls here))) (cases_lt offset next)
+  holds at l (m ∷ ls) (suc n) h e =
+      let next = at + bytes_of l in
+      ⊎_elim (λ past. absurd (omega (arith, e, span-begun at l (m ∷ ls) h, no-span-begun next (m ∷ ls) past)))
+      (λ here. holds-next at l (m ∷ ls) n (holds next m ls n here (omega (arith, e, span-begun at l (m ∷ ls) h)))) (cases_lt offset next)
+
+  -- the paragraph that an index tells for the offset
+  pub holds-of : (ls : List Lengths) (n : ℕ) → 0 < length ls → n ≡ paragraph_of ls offset → Holds 0 ls n
+  holds-of [] n some e = absurd (omega (arith, some))
+  holds-of (l ∷ ls) n some e = holds 0 l ls n (omega arith) (omega (arith, e, span-begun 0 l ls (omega arith)))
+
+pair-of : (a b c d : ℕ) → ◌≡◌ {A = Option (ℕ × ℕ)} (Some (a, b)) (Some (c, d)) → (a ≡ c) × (b ≡ d)
+pair-of a b c d e = let same : ◌≡◌ {A = ℕ × ℕ} (a, b) (c, d) = cc in (ap (λ (x : ℕ × ℕ). x.0) same, ap (λ (x : ℕ × ℕ). x.1) same)
+
+-- ---- a paragraph by its number
+
+module _ (class : ℕ → Class) (text : List ℕ) where
+  abbrev all : List Paragraph
+  all = paragraphs class text
+
+  pub lengths-count : length (lengths class text) ≡ count class text
+  lengths-count = length-map all lengths_of
+
+  pub start-is : (n : ℕ) → start_at class text n ≡ total (map lengths_of (take n all))
+  start-is n = ap total (take-map lengths_of n all)
+
+  module _ (n : ℕ) (within : n < count class text) where
+    abbrev pub ahead : List Paragraph
+    ahead = take n all
+
+    abbrev pub behind : List Paragraph
+    behind = drop (n + 1) all
+
+    abbrev pub here : Paragraph
+    here = paragraph_at class text n
+
+    pub parts-at : paragraphs class text ≡ ahead ++ here ∷ behind
+    parts-at = sym (take-append-drop n all) ∙ ap (λ ps. take n all ++ ps) (drop_more all n (bare []) within)
+
+    pub among : IsAmong class text n (start_at class text n) here ahead behind
+    among = record { parts = parts-at; number_is = sym (length-take-le n all (omega (arith, within))); start_is = start-is n }
+
+    here-length : get_or (lengths class text) n (lengths_of (bare [])) ≡ lengths_of here
+    here-length = get_or-map lengths_of all n (bare []) (lengths_of (bare [])) within
+
+    -- what an index tells of it
+    pub span-is : (a b : ℕ) → slice_get (spans (lengths class text)) n ≡ Some (a, b)
+        → (a ≡ start_at class text n) × (b ≡ start_at class text n + length (body_at class text n))
+    span-is a b e =
+        let start = start_at class text n in
+        let told : slice_get (spans (lengths class text)) n ≡ Some (start, start + (get_or (lengths class text) n (lengths_of (bare []))).body) =
+        span_at 0 n (lengths class text) (lengths_of (bare [])) (omega (arith, within, lengths-count)) ∙ ap (λ s. Some (s, s + (get_or (lengths class text) n (lengths_of (bare []))).body)) (omega arith) in
+        pair-of a b start (start + length here.body) (sym e ∙ told ∙ ap (λ (l : Lengths). Some (start, start + l.body)) here-length)
+
+    -- ---- its bytes
+
+    module _ (utf8 : IsUtf8 text) where
+      abbrev start : ℕ
+      start = start_at class text n
+
+      are-utf8 : AreUtf8 (ahead ++ here ∷ behind)
+      are-utf8 = subst AreUtf8 parts-at (text-parts class text utf8).utf8
+
+      pub body-utf8 : IsUtf8 (body_at class text n)
+      body-utf8 = (behind-utf8 ahead (here ∷ behind) are-utf8).0.body
+
+      whole : text ≡ bytes ahead ++ (here.body ++ (here.separator ++ bytes behind))
+      whole = sym (text-bytes class text utf8) ∙ ap bytes parts-at ∙ bytes-append ahead (here ∷ behind)
+          ∙ ap (λ b. bytes ahead ++ b) (append_assoc here.body here.separator (bytes behind))
+
+      front : length (bytes ahead) ≡ start
+      front = bytes-length ahead ∙ sym (start-is n)
+
+      rest : drop start text ≡ here.body ++ (here.separator ++ bytes behind)
+      rest = ap (drop start) whole ∙ drop_at (bytes ahead) (here.body ++ (here.separator ++ bytes behind)) start front
+
+      -- the bytes between its offsets are its body
+      pub body-is : slice_range text start (start + length (body_at class text n)) ≡ body_at class text n
+      body-is =
+          let size : start + length here.body - start ≡ length here.body = omega arith in
+          ap (λ k. take k (drop start text)) size ∙ ap (take (length here.body)) rest
+          ∙ take_at here.body (here.separator ++ bytes behind) (length here.body) refl
+
+      behind-text : IsUtf8 (here.separator ++ bytes behind)
+      behind-text =
+          let u = behind-utf8 ahead (here ∷ behind) are-utf8 in
+          IsUtf8-append here.separator (bytes behind) u.0.separator (bytes-utf8 behind u.1)
+
+      -- they bound characters
+      pub body-range : IsRange text start (start + length (body_at class text n))
+      body-range =
+          let upto : text ≡ (bytes ahead ++ here.body) ++ (here.separator ++ bytes behind) =
+          whole ∙ sym (append_assoc (bytes ahead) here.body (here.separator ++ bytes behind)) in
+          let size : length (bytes ahead ++ here.body) ≡ start + length here.body = omega (arith, length-append (bytes ahead) here.body, front) in
+          record {
+            start_bounds = subst (IsCharBoundary text) front (IsCharBoundary-at_seam text (bytes ahead) (here.body ++ (here.separator ++ bytes behind)) whole
+                (IsUtf8-append here.body (here.separator ++ bytes behind) body-utf8 behind-text));
+            stop_bounds = subst (IsCharBoundary text) size (IsCharBoundary-at_seam text (bytes ahead ++ here.body) (here.separator ++ bytes behind) upto behind-text);
+            in_order = omega arith;
+          }
+
+  -- ---- an offset in it
+
+  pub some-paragraph : IsUtf8 text → 0 < count class text
+  some-paragraph utf8 = (text-parts class text utf8).some
+
+  next-start : (n : ℕ) → n < count class text → start_at class text (n + 1) ≡ start_at class text n + bytes_of (lengths_of (paragraph_at class text n))
+  next-start n within =
+      total_more (lengths class text) n (lengths_of (bare [])) (omega (arith, within, lengths-count))
+      ∙ ap (λ (l : Lengths). start_at class text n + bytes_of l) (here-length n within)
+
+  ends-before : (offset stop : ℕ) (ps : List Paragraph) → (0 < length ps → offset < stop) → EndsBefore ps offset stop
+  ends-before offset stop [] h = tt
+  ends-before offset stop (p ∷ ps) h = h (omega arith)
+
+  -- what is true of the paragraph that an offset falls in
+  pub record Falls (offset n : ℕ) : Type 0 where
+    pub within : n < count class text
+    pub begun : start_at class text n ≤ offset
+    pub ended : EndsBefore (drop (n + 1) (paragraphs class text)) offset (start_at class text n + bytes_of (lengths_of (paragraph_at class text n)))
+
+  pub falls-at : (offset n : ℕ) → IsUtf8 text → n ≡ paragraph_of (lengths class text) offset → Falls offset n
+  falls-at offset n utf8 e =
+      let h = holds-of offset (lengths class text) n (omega (arith, lengths-count, some-paragraph utf8)) e in
+      let within : n < count class text = omega (arith, h.within, lengths-count) in
+      record {
+        within = within;
+        begun = omega (arith, h.begun);
+        ended = ends-before offset (start_at class text n + bytes_of (lengths_of (paragraph_at class text n))) (drop (n + 1) all)
+            (λ some. omega (arith, h.ended (omega (arith, some, length-drop (n + 1) all, lengths-count)), next-start n within));
+      }

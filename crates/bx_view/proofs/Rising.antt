@@ -1,0 +1,86 @@
+-- Offsets that rise, and how many of them are at an offset or before it.
+use Rattle.std.proofs.Common.{◌≡◌, ℕ, zero, suc, ◌+◌, ◌-◌, ◌<◌, ◌≤◌, nat_le, cond, true, false, List, [], ◌∷◌, ◌++◌, length, map, count_by, get_or, refl}
+use Rattle.std.proofs.Common.{sym, ap, ◌∙◌, arith, ⊎_elim}
+use Rattle.std.proofs.lemmas.Bool.{cases_lt}
+use Rattle.std.proofs.lemmas.Bool.Decides.{nat_tests}
+use Rattle.std.proofs.lemmas.List.Sums.{sum_by-cons, sum_by-append, count_by-le-length}
+
+-- offsets that rise strictly, from `low` on and before `high`
+abbrev pub Rises : ℕ → List ℕ → ℕ → Type 0
+Rises low [] high = low ≤ high
+Rises low (o ∷ os) high = (low ≤ o) × Rises (o + 1) os high
+
+pub rises-sooner : (low from : ℕ) (os : List ℕ) (high : ℕ) → low ≤ from → Rises from os high → Rises low os high
+rises-sooner low from [] high h r = omega (arith, h, r)
+rises-sooner low from (o ∷ os) high h r = (omega (arith, h, r.0), r.1)
+
+pub rises-further : (low : ℕ) (os : List ℕ) (to high : ℕ) → to ≤ high → Rises low os to → Rises low os high
+rises-further low [] to high h r = omega (arith, h, r)
+rises-further low (o ∷ os) to high h r = (r.0, rises-further (o + 1) os to high h r.1)
+
+pub rises-append : (low : ℕ) (os : List ℕ) (mid : ℕ) (ps : List ℕ) (high : ℕ) → Rises low os mid → Rises mid ps high → Rises low (os ++ ps) high
+rises-append low [] mid ps high r s = rises-sooner low mid ps high r s
+rises-append low (o ∷ os) mid ps high r s = (r.0, rises-append (o + 1) os mid ps high r.1 s)
+
+pub rises-within : (low : ℕ) (os : List ℕ) (high : ℕ) → Rises low os high → low ≤ high
+rises-within low [] high r = r
+rises-within low (o ∷ os) high r = omega (arith, r.0, rises-within (o + 1) os high r.1)
+
+pub rises-moved : (at low : ℕ) (os : List ℕ) (high : ℕ) → Rises low os high → Rises (at + low) (map (λ o. at + o) os) (at + high)
+rises-moved at low [] high r = omega (arith, r)
+rises-moved at low (o ∷ os) high r =
+    (omega (arith, r.0), rises-sooner (at + o + 1) (at + (o + 1)) (map (λ o. at + o) os) (at + high) (omega arith) (rises-moved at (o + 1) os high r.1))
+
+-- ---- how many are at an offset or before it
+
+module _ (offset : ℕ) where
+  abbrev pub begun : List ℕ → ℕ
+  begun os = count_by (λ b. nat_le b offset) os
+
+  pub begun-append : (os ps : List ℕ) → begun (os ++ ps) ≡ begun os + begun ps
+  begun-append os ps = sum_by-append (λ b. cond (nat_le b offset) 1 0) os ps
+
+  begun-cons : (o : ℕ) (os : List ℕ) → begun (o ∷ os) ≡ cond (nat_le o offset) 1 0 + begun os
+  begun-cons o os = sum_by-cons (λ b. cond (nat_le b offset) 1 0) o os
+
+  pub begun-first : (o : ℕ) (os : List ℕ) → o ≤ offset → begun (o ∷ os) ≡ 1 + begun os
+  begun-first o os h = let e : nat_le o offset ≡ true = grind (arith, nat_tests) in begun-cons o os ∙ ap (λ b. cond b 1 0 + begun os) e
+
+  begun-not : (o : ℕ) (os : List ℕ) → offset < o → begun (o ∷ os) ≡ begun os
+  begun-not o os h =
+      let e : nat_le o offset ≡ false = grind (arith, nat_tests) in
+      begun-cons o os ∙ ap (λ b. cond b 1 0 + begun os) e ∙ omega arith
+
+  -- none that lie past the offset
+  pub none-begun : (low : ℕ) (os : List ℕ) (high : ℕ) → Rises low os high → offset < low → begun os ≡ 0
+  none-begun low [] high r h = refl
+  none-begun low (o ∷ os) high r h = begun-not o os (omega (arith, r.0)) ∙ none-begun (o + 1) os high r.1 (omega (arith, r.0))
+
+  -- all that end before it
+  pub all-begun : (low : ℕ) (os : List ℕ) (high : ℕ) → Rises low os high → high ≤ offset + 1 → begun os ≡ length os
+  all-begun low [] high r h = refl
+  all-begun low (o ∷ os) high r h =
+      let near = rises-within (o + 1) os high r.1 in
+      let more = all-begun (o + 1) os high r.1 h in
+      begun-first o os (omega (arith, near)) ∙ omega (arith, more)
+
+  pub begun-few : (os : List ℕ) → begun os ≤ length os
+  begun-few os = count_by-le-length (λ b. nat_le b offset) os
+
+-- the number of the last that is at the offset or before it: those up to it are, those past it are not
+module _ (offset d : ℕ) where
+  pub begun-here : (low : ℕ) (os : List ℕ) (high k : ℕ) → Rises low os high → k < begun offset os → get_or os k d ≤ offset
+  begun-here low [] high k r h = absurd (omega (arith, h))
+  begun-here low (o ∷ os) high zero r h = ⊎_elim
+      (λ past. absurd (omega (arith, h, begun-not offset o os past, none-begun offset (o + 1) os high r.1 (omega (arith, past))))) (λ here. here)
+      (cases_lt offset o)
+  begun-here low (o ∷ os) high (suc k) r h = ⊎_elim
+      (λ past. absurd (omega (arith, h, begun-not offset o os past, none-begun offset (o + 1) os high r.1 (omega (arith, past)))))
+      (λ here. begun-here (o + 1) os high k r.1 (omega (arith, h, begun-first offset o os here))) (cases_lt offset o)
+
+  pub begun-not-here : (low : ℕ) (os : List ℕ) (high k : ℕ) → Rises low os high → begun offset os ≤ k → k < length os → offset < get_or os k d
+  begun-not-here low [] high k r h l = absurd (omega (arith, l))
+  begun-not-here low (o ∷ os) high zero r h l = ⊎_elim (λ past. past) (λ here. absurd (omega (arith, h, begun-first offset o os here))) (cases_lt offset o)
+  begun-not-here low (o ∷ os) high (suc k) r h l = ⊎_elim
+      (λ past. begun-not-here (o + 1) os high k r.1 (omega (arith, none-begun offset (o + 1) os high r.1 (omega (arith, past)))) (omega (arith, l)))
+      (λ here. begun-not-here (o + 1) os high k r.1 (omega (arith, h, begun-first offset o os here)) (omega (arith, l))) (cases_lt offset o)

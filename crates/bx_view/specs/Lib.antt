@@ -1,0 +1,4 @@
+pub mod TextRows
+pub mod Moves
+pub mod Top
+pub mod Standing

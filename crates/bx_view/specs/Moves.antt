@@ -1,0 +1,85 @@
+-- The cursor's moves, from place to place.
+use Rattle.std.specs.Prelude.{ℕ, zero, suc, ◌+◌, ◌-◌, ◌==◌, nat_le, nat_lt, min, true}
+use Rattle.std.specs.Prelude.{false, List, length, reverse, find, slice_get, Option, Some, None, option_map, unwrap_or}
+use Rattle.bx_paragraph.specs.declared.moves.Visual.{Visual}
+use Rattle.bx_paragraph.specs.BodyRows.{last_of, last_offset}
+use Rattle.bx_paragraph.specs.Slots.{beside, entry, or_else, reading_end, reading_start, reads_on}
+use Rattle.bx_view.specs.declared.moves.Logical.{Logical}
+use Rattle.bx_view.specs.declared.moves.Logical.TheVariants.{Back, Forward}
+use Rattle.bx_view.specs.declared.moves.Vertical.{Vertical}
+use Rattle.bx_view.specs.declared.moves.Vertical.TheVariants.{Up, Down}
+use Rattle.bx_view.specs.TextRows.{TextRow, cell_of, first, places, row_at, row_of}
+
+-- the least place not before an offset, or the last place
+abbrev pub place_from : List TextRow → ℕ → ℕ
+place_from rows offset = unwrap_or (find (nat_le offset) (places rows)) (last_offset (places rows))
+
+-- Forward and Back: the place after and before; at the text's ends the place itself
+abbrev pub step_logical : List TextRow → Logical → ℕ → ℕ
+step_logical rows Forward place = unwrap_or (find (nat_lt place) (places rows)) place
+step_logical rows Back place = unwrap_or (find (λ p. nat_lt p place) (reverse (places rows))) place
+
+-- the place that an offset of a row's body is
+abbrev pub place_in : TextRow → Option ℕ → Option ℕ
+place_in r offset = option_map (λ o. r.start + o) offset
+
+-- the places at the reading start and end of a row, if there is such a row
+abbrev pub start_of : ℕ → Option TextRow → Option ℕ
+start_of w None = None
+start_of w (Some r) = place_in r (reading_start w r.row)
+
+abbrev pub end_of : ℕ → Option TextRow → Option ℕ
+end_of w None = None
+end_of w (Some r) = place_in r (reading_end w r.row)
+
+-- the row after number `k` and the row before it, if there are such rows
+abbrev pub row_after : List TextRow → ℕ → Option TextRow
+row_after rows k = slice_get rows (k + 1)
+
+abbrev pub row_before : List TextRow → ℕ → Option TextRow
+row_before rows zero = None
+row_before rows (suc k) = slice_get rows k
+
+-- past the last slot of row `k` on a side: at its reading end the next row's reading start, at its reading start the reading
+-- end of the row before
+abbrev pub past : ℕ → List TextRow → Visual → ℕ → Option ℕ
+past w rows side k = elim (reads_on side (row_at rows k).row) [ true ↦ start_of w (row_after rows k) | false ↦ end_of w (row_before rows k) ]
+
+-- Right and Left: the next slot of the row to that side, or past its last slot; where there is no row, the place itself
+abbrev pub step_visual : ℕ → List TextRow → Visual → ℕ → ℕ
+step_visual w rows side place =
+    let k = row_of rows place in
+    let r = row_at rows k in
+    unwrap_or (or_else (place_in r (beside w r.row side (place - r.start))) (past w rows side k)) place
+
+-- the place where a row is entered in a column
+abbrev pub entry_in : ℕ → TextRow → ℕ → Option ℕ
+entry_in w r column = place_in r (entry w r.row column)
+
+-- from a place to row `k`; where that is its own row, it stays
+abbrev pub to_row : ℕ → List TextRow → ℕ → ℕ → ℕ
+to_row w rows place k = elim (k == row_of rows place) [
+  | true ↦ place
+  | false ↦ unwrap_or (entry_in w (row_at rows k) (cell_of w rows place)) place
+]
+
+-- `n` rows up or down, at most to the first or the last row
+abbrev pub rows_away : ℕ → List TextRow → Vertical → ℕ → ℕ → ℕ
+rows_away w rows Up n place = to_row w rows place (row_of rows place - n)
+rows_away w rows Down n place = to_row w rows place (min (row_of rows place + n) (length rows - 1))
+
+-- Up and Down: the row before or after
+abbrev pub vertical : ℕ → List TextRow → Vertical → ℕ → ℕ
+vertical w rows way place = rows_away w rows way 1 place
+
+-- PageUp and PageDown: as many rows as are shown
+abbrev pub page : ℕ → List TextRow → Vertical → ℕ → ℕ → ℕ
+page w rows way t place = rows_away w rows way t place
+
+-- RowHome: the row's first offset
+abbrev pub row_home : List TextRow → ℕ → ℕ
+row_home rows place = first (row_at rows (row_of rows place))
+
+-- RowEnd: the paragraph's end in its last row, else the place before the row's last unit
+abbrev pub row_end : List TextRow → ℕ → ℕ
+row_end rows place = let r = row_at rows (row_of rows place) in r.start + last_of r.row

@@ -1,0 +1,39 @@
+-- One paragraph among those of a text, and one row of it among the rows of the text.
+use Rattle.std.specs.Prelude.{◌≡◌, ℕ, ◌+◌, ◌<◌, List, [], length, take, slice_index_or, Option}
+use Rattle.bx_ucd.specs.declared.class.Class.{Class}
+use Rattle.bx_ucd.specs.declared.data.Side.{Side}
+use Rattle.bx_explicit.specs.declared.base.Base.{Base}
+use Rattle.bx_paras.specs.Paragraphs.{Paragraph, bare, lengths, paragraphs}
+use Rattle.bx_paras.specs.Positions.{total}
+use Rattle.bx_paragraph.specs.BodyRows.{BodyRow, body_rows}
+use Rattle.bx_view.specs.TextRows.{rows_from}
+
+-- how many paragraphs a text has
+abbrev pub count : (ℕ → Class) → List ℕ → ℕ
+count class text = length (paragraphs class text)
+
+-- a paragraph by its number
+abbrev pub paragraph_at : (ℕ → Class) → List ℕ → ℕ → Paragraph
+paragraph_at class text number = slice_index_or (paragraphs class text) number (bare [])
+
+-- the bytes of its body
+abbrev pub body_at : (ℕ → Class) → List ℕ → ℕ → List ℕ
+body_at class text number = (paragraph_at class text number).body
+
+-- the offset at which its body begins
+abbrev pub start_at : (ℕ → Class) → List ℕ → ℕ → ℕ
+start_at class text number = total (take number (lengths class text))
+
+-- its rows
+abbrev pub rows_in : (ℕ → Class) → (ℕ → Option (Side × ℕ)) → Base → ℕ → List ℕ → ℕ → List BodyRow
+rows_in class bracket base w text number = body_rows class bracket base w (body_at class text number)
+
+-- how many rows the paragraphs before it have
+abbrev pub rows_ahead : (ℕ → Class) → (ℕ → Option (Side × ℕ)) → Base → ℕ → List ℕ → ℕ → ℕ
+rows_ahead class bracket base w text number = length (rows_from class bracket base w 0 (take number (paragraphs class text)))
+
+-- row `k` of paragraph `number` is row `n` of the text
+pub record IsRow (class : ℕ → Class) (bracket : ℕ → Option (Side × ℕ)) (base : Base) (w : ℕ) (text : List ℕ) (number k n : ℕ) : Type 0 where
+  pub paragraph : number < count class text
+  pub row : k < length (rows_in class bracket base w text number)
+  pub is : n ≡ rows_ahead class bracket base w text number + k
