@@ -1,0 +1,116 @@
+-- The editor's state, and the changes that keys make of it. Offsets and places count bytes of the text.
+use Rattle.std.specs.Prelude.{ℕ, ◌+◌, ◌-◌, Bool, true, false, not, ◌||◌, nat_le, ◌==◌, List, [], ◌∷◌, length, Option, Some, None, if◌then◌else◌}
+use Rattle.bx_explicit.specs.declared.base.Base.{Base}
+use Rattle.bx_explicit.specs.declared.base.Base.TheVariants.{Auto, Ltr, Rtl}
+use Rattle.bx_text.specs.Edits.{Edited, Edit, opened, inserted, removed, spliced, fits, undone, redone}
+use Rattle.bx_view.specs.TextRows.{TextRow, text_rows}
+use Rattle.bx_view.specs.Moves.{place_from}
+use Rattle.bx_editor.specs.declared.message.Message.{Message}
+use Rattle.bx_editor.specs.declared.message.Message.TheVariants as messages
+use Rattle.bx_editor.specs.Data.{Data}
+
+pub record Editor : Type 0 where
+  -- the text, with its past and its future
+  pub content : Edited
+  -- the cursor's place
+  pub place : ℕ
+  -- since the opening or the last save
+  pub changed : Bool
+  pub message : Option Message
+  -- the last key, sizes aside, was Quit
+  pub quit_before : Bool
+  pub ended : Bool
+  pub base : Base
+  -- the window's rows and columns
+  pub height : ℕ
+  pub width : ℕ
+
+-- at opening
+abbrev pub at_start : List ℕ → ℕ → ℕ → Base → Editor
+at_start text height width base = record {
+  content = opened text;
+  place = 0;
+  changed = false;
+  message = None;
+  quit_before = false;
+  ended = false;
+  base = base;
+  height = height;
+  width = width;
+}
+
+-- the rows of a text as the editor would show it, and those of its own text
+abbrev pub rows_of : Data → Editor → List ℕ → List TextRow
+rows_of d e text = text_rows d.class d.bracket e.base e.width text
+
+abbrev pub rows : Data → Editor → List TextRow
+rows d e = rows_of d e e.content.text
+
+-- how many rows of text the window shows: its last row is for the status, unless it is the only one
+abbrev pub text_height : ℕ → ℕ
+text_height height = if nat_le 2 height then height - 1 else 1
+
+-- ---- edits
+
+-- the least place of a new text that is not before an offset
+abbrev pub place_after : Data → Editor → List ℕ → ℕ → ℕ
+place_after d e text offset = place_from (rows_of d e text) offset
+
+-- bytes go in at the place, unless the text would be too long; the cursor stands behind them
+abbrev pub after_insertion : Data → Editor → List ℕ → Editor
+after_insertion d e new =
+    if fits e.content.text e.place e.place new
+    then (let after = place_after d e (spliced e.content.text e.place e.place new) (e.place + length new) in
+    record e { content = inserted e.content e.place new e.place after; place = after; changed = true })
+    else record e { message = Some messages.TextFull }
+
+-- what stands from start to stop goes; where that is nothing, nothing happens
+abbrev pub after_removal : Data → Editor → ℕ → ℕ → Editor
+after_removal d e start stop =
+    if start == stop
+    then e
+    else
+    let after = place_after d e (spliced e.content.text start stop []) start in
+    record e { content = removed e.content start stop e.place after; place = after; changed = true }
+
+-- the latest edit is taken back, with its place
+abbrev pub after_undo : Editor → List Edit → Editor
+after_undo e [] = record e { message = Some messages.NothingToUndo }
+after_undo e (edit ∷ past) = record e { content = undone e.content; place = edit.before.place; changed = true }
+
+-- the next edit is made again, with its place
+abbrev pub after_redo : Editor → List Edit → Editor
+after_redo e [] = record e { message = Some messages.NothingToRedo }
+after_redo e (edit ∷ future) = record e { content = redone e.content; place = edit.after.place; changed = true }
+
+-- ---- what is no edit
+
+-- a save succeeded, or failed
+abbrev pub after_save : Editor → Bool → Editor
+after_save e true = record e { changed = false; message = Some messages.Saved }
+after_save e false = record e { message = Some messages.SaveFailed }
+
+-- the session ends where nothing would be lost, or if the key before was Quit too
+abbrev pub after_quit : Editor → Bool → Editor
+after_quit e again =
+    if not e.changed || again
+    then record e { quit_before = true; ended = true }
+    else record e { quit_before = true; message = Some messages.Unsaved }
+
+abbrev pub next_base : Base → Base
+next_base Auto = Ltr
+next_base Ltr = Rtl
+next_base Rtl = Auto
+
+abbrev pub with_base : Editor → Base → Editor
+with_base e base = record e { base = base; message = Some (messages.Direction base) }
+
+abbrev pub with_size : Editor → ℕ → ℕ → Editor
+with_size e height width = record e { height = height; width = width }
+
+abbrev pub with_place : Editor → ℕ → Editor
+with_place e place = record e { place = place }
+
+-- the old message goes, and a Quit before does not count any more
+abbrev pub without_message : Editor → Editor
+without_message e = record e { message = None; quit_before = false }

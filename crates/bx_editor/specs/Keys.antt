@@ -1,0 +1,66 @@
+-- What each key makes of the editor's state.
+use Rattle.std.specs.Prelude.{Bool, true, false, List, [], ◌∷◌, encode_utf8}
+use Rattle.bx_keys.specs.declared.key.Key.{Key}
+use Rattle.bx_keys.specs.declared.key.Key.TheVariants.{Insert, Erase, Delete, Back, Forward, Up, Down, Right, Left, RowHome, RowEnd, PageUp, PageDown}
+use Rattle.bx_keys.specs.declared.key.Key.TheVariants.{Save, Quit, Undo, Redo, Repaint, Direction, Size}
+use Rattle.bx_paragraph.specs.declared.moves.Visual.TheVariants as visual
+use Rattle.bx_view.specs.declared.moves.Logical.TheVariants as logical
+use Rattle.bx_view.specs.declared.moves.Vertical.TheVariants as ways
+use Rattle.bx_view.specs.Moves.{step_logical, step_visual, vertical, page, row_home, row_end}
+use Rattle.bx_editor.specs.Data.{Data}
+use Rattle.bx_editor.specs.Editor.{Editor, rows, text_height, after_insertion, after_removal, after_undo, after_redo, after_save, after_quit}
+use Rattle.bx_editor.specs.Editor.{next_base, with_base, with_size, with_place, without_message}
+
+-- a key but Size, where the old message is gone; `saved` tells how a Save ends, and `again` that the key before was Quit
+abbrev pub after_pressing : Data → Bool → Bool → Editor → Key → Editor
+after_pressing d saved again e (Insert c) = after_insertion d e (encode_utf8 c)
+after_pressing d saved again e Erase = after_removal d e (step_logical (rows d e) logical.Back e.place) e.place
+after_pressing d saved again e Delete = after_removal d e e.place (step_logical (rows d e) logical.Forward e.place)
+after_pressing d saved again e Back = with_place e (step_logical (rows d e) logical.Back e.place)
+after_pressing d saved again e Forward = with_place e (step_logical (rows d e) logical.Forward e.place)
+after_pressing d saved again e Up = with_place e (vertical e.width (rows d e) ways.Up e.place)
+after_pressing d saved again e Down = with_place e (vertical e.width (rows d e) ways.Down e.place)
+after_pressing d saved again e Right = with_place e (step_visual e.width (rows d e) visual.Right e.place)
+after_pressing d saved again e Left = with_place e (step_visual e.width (rows d e) visual.Left e.place)
+after_pressing d saved again e RowHome = with_place e (row_home (rows d e) e.place)
+after_pressing d saved again e RowEnd = with_place e (row_end (rows d e) e.place)
+after_pressing d saved again e PageUp = with_place e (page e.width (rows d e) ways.Up (text_height e.height) e.place)
+after_pressing d saved again e PageDown = with_place e (page e.width (rows d e) ways.Down (text_height e.height) e.place)
+after_pressing d saved again e Save = after_save e saved
+after_pressing d saved again e Quit = after_quit e again
+after_pressing d saved again e Undo = after_undo e e.content.past
+after_pressing d saved again e Redo = after_redo e e.content.future
+after_pressing d saved again e Repaint = e
+after_pressing d saved again e Direction = with_base e (next_base e.base)
+after_pressing d saved again e (Size height width) = e
+
+-- a key: all but Size take the old message away first
+abbrev pub after_key : Data → Bool → Editor → Key → Editor
+after_key d saved e (Size height width) = with_size e height width
+after_key d saved e key = after_pressing d saved e.quit_before (without_message e) key
+
+-- keys one after another, each Save with the same end
+abbrev pub after_keys : Data → Bool → Editor → List Key → Editor
+after_keys d saved e [] = e
+after_keys d saved e (key ∷ keys) = after_keys d saved (after_key d saved e key) keys
+
+-- ---- kinds of keys
+
+-- a key that edits, undoes, redoes or moves: it may need memory to be applied
+abbrev pub is_edit_or_move : Key → Bool
+is_edit_or_move Save = false
+is_edit_or_move Quit = false
+is_edit_or_move Repaint = false
+is_edit_or_move Direction = false
+is_edit_or_move (Size height width) = false
+is_edit_or_move _ = true
+
+abbrev pub is_save : Key → Bool
+is_save Save = true
+is_save _ = false
+
+-- a key after which nothing is taken for known of the screen
+abbrev pub asks_for_whole : Key → Bool
+asks_for_whole Repaint = true
+asks_for_whole (Size height width) = true
+asks_for_whole _ = false

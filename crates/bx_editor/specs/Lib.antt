@@ -1,0 +1,5 @@
+pub mod Data
+pub mod Editor
+pub mod Keys
+pub mod Status
+pub mod Picture
