@@ -4,7 +4,8 @@ ghost use Rattle.std.specs.Prelude.{◌≡◌, ◌≤◌, ◌<◌, true, OnOk, O
 ghost use Rattle.std.specs.List.{list_all};
 ghost use Rattle.bx_grid.specs.Columns.{is_ascii_printable};
 ghost use Rattle.bx_grid.specs.Picture.{is_size};
-ghost use Rattle.bx_session.specs.Editor.{EditorState, IsEditor, at_start, largest_text, after_key, after_typing, after_erasing, quit, quiet, is_insert, IsTyped};
+ghost use Rattle.bx_session.specs.Editor.{EditorState, IsEditor, at_start, largest_text, after_key, after_typing, after_erasing};
+ghost use Rattle.bx_session.specs.Editor.{quit, quiet, is_insert, IsTyped};
 
 use crate::key::Key;
 use bx_terms::LARGEST_TEXT;
@@ -28,9 +29,25 @@ impl Model for Editor {
 
     ghost Value = { EditorState };
 
-    ghost view = { λ e. record { text = e.text.items; place = e.place; changed = e.changed; quit_before = e.quit_before; ended = e.ended; height = e.height; width = e.width } };
+    ghost view = { λ e. record {
+      text = e.text.items;
+      place = e.place;
+      changed = e.changed;
+      quit_before = e.quit_before;
+      ended = e.ended;
+      height = e.height;
+      width = e.width;
+    } };
 
-    ghost invariant = { λ e. IsEditor (record { text = e.text.items; place = e.place; changed = e.changed; quit_before = e.quit_before; ended = e.ended; height = e.height; width = e.width }) };
+    ghost invariant = { λ e. IsEditor (record {
+      text = e.text.items;
+      place = e.place;
+      changed = e.changed;
+      quit_before = e.quit_before;
+      ended = e.ended;
+      height = e.height;
+      width = e.width;
+    }) };
 }
 
 impl Editor {
