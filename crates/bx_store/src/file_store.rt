@@ -61,7 +61,11 @@ fn begin_beside<R: Files>(files: &R, alloc: Global, path: &str) -> io::Result<Dr
         OpenOptions::new().write(true).create_new(true),
         path.as_str(),
     )?;
-    take_permissions(files, &file, target.as_str())?;
+    if let Err(error) = take_permissions(files, &file, target.as_str()) {
+        // the fault is told already
+        let _ = files.remove_file(path.as_str());
+        return Err(error);
+    }
     Ok(Draft { file, path, target })
 }
 
