@@ -5,9 +5,11 @@ ghost use Rattle.bx_paras.specs.Paragraphs.{lengths};
 ghost use Rattle.bx_paras.specs.Positions.{total};
 ghost use Rattle.bx_paras.specs.Ended.{ended_within};
 ghost use Rattle.bx_paras.specs.Flat.{flat, room_at};
+ghost use Rattle.bx_paras.specs.Leads.{TellLeads};
 ghost use Rattle.bx_paras.specs.Windows.{IsWindow};
 
 use crate::blocks::Blocks;
+use crate::leads::Leads;
 use crate::position::Position;
 use crate::scan::paragraph_from;
 use crate::window::Window;
@@ -21,11 +23,13 @@ fn fill<D: BidiData>(
     position: usize,
     text: &Text,
     source: &D,
+    leads: &Leads,
     start: usize,
     stop: usize,
     window: Window,
 ) -> (usize, usize)
     requires bounds { IsCharBoundary text.now.edited.text start }
+    requires leads { TellLeads (D.class_of source.now) leads.now.may_separate }
     requires window { IsWindow (D.class_of source.now) text.now.edited.text start window }
     requires position { position ≤ length blocks.old.blocks }
     requires room { length (ended_within (stop - start) (lengths (D.class_of source.now) (drop start text.now.edited.text))) ≤ room_at blocks.old position }
@@ -40,7 +44,7 @@ fn fill<D: BidiData>(
     let mut at = start;
     let mut window = window;
     while at < stop {
-        let paragraph = paragraph_from(text, source, at, window);
+        let paragraph = paragraph_from(text, source, leads, at, window);
         if paragraph.separator == 0 || paragraph.bytes() > stop - at {
             return (position, at);
         }
@@ -57,12 +61,14 @@ pub fn replace<D: BidiData>(
     blocks: &mut Blocks,
     text: &Text,
     source: &D,
+    leads: &Leads,
     from: Position,
     to: usize,
     stop: usize,
     window: Window,
 ) -> usize
     requires bounds { IsCharBoundary text.now.edited.text from.start }
+    requires leads { TellLeads (D.class_of source.now) leads.now.may_separate }
     requires window { IsWindow (D.class_of source.now) text.now.edited.text from.start window }
     requires order { from.number ≤ to }
     requires inside { to ≤ length (flat blocks.old.blocks) }
@@ -73,7 +79,9 @@ pub fn replace<D: BidiData>(
     ensures stop { result ≡ from.start + total (ended_within (stop - from.start) (lengths (D.class_of source.now) (drop from.start text.now.edited.text))) }
 {
     let position = blocks.take_out(from.number, to);
-    let (position, at) = fill(blocks, position, text, source, from.start, stop, window);
+    let (position, at) = fill(
+        blocks, position, text, source, leads, from.start, stop, window,
+    );
     blocks.join(position);
     blocks.release();
     at

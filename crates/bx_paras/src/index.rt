@@ -14,6 +14,7 @@ use crate::block::BLOCK_CAPACITY;
 use crate::blocks::Blocks;
 use crate::error::ParasError;
 use crate::fill::replace;
+use crate::leads::leads_of;
 use crate::position::Position;
 use crate::scan::paragraph_from;
 use crate::walk::ParagraphWalk;
@@ -127,8 +128,9 @@ impl Index {
         let mut position = 0;
         let mut at = 0;
         let mut window = window_to_end(text, at);
+        let leads = leads_of(source, len);
         while at < len {
-            let paragraph = paragraph_from(text, source, at, window);
+            let paragraph = paragraph_from(text, source, &leads, at, window);
             if paragraph.separator == 0 {
                 return Ok(Index {
                     ended,
@@ -174,6 +176,7 @@ impl Index {
         let len = text.len();
         let reached = touched(&self.ended, self.last, text, source, change);
         let window = window_of(&self.ended, self.last, text, source, change, reached);
+        let leads = leads_of(source, window.stop.saturating_sub(window.start));
         let (first, last) = reached;
         if let Some(end) = last.end {
             let behind = end - change.removed + change.added;
@@ -181,6 +184,7 @@ impl Index {
                 &mut self.ended,
                 text,
                 source,
+                &leads,
                 first,
                 last.number + 1,
                 behind,
@@ -193,6 +197,7 @@ impl Index {
             &mut self.ended,
             text,
             source,
+            &leads,
             first,
             last.number,
             len,
