@@ -44,11 +44,23 @@ module _ (class : ℕ → Class) (text : List ℕ) (utf8 : IsUtf8 text) where
   unflagged_at c lead flags false e tells f = e
   unflagged_at c lead flags true e tells f = let g : get_or flags lead false ≡ true = tells e in absurd (cc)
 
-  pub unflagged : (flags : List Bool) (n : ℕ) → TellLeads class flags → get_or flags (get_or text n 0) false ≡ false → NoneAt class text n
+  unflagged : (flags : List Bool) (n : ℕ) → TellLeads class flags → get_or flags (get_or text n 0) false ≡ false → NoneAt class text n
   unflagged flags n tells f front c rest e w =
       let lead : get_or text n 0 ≡ lead_of c = ap (λ i. get_or text i 0) (sym w) ∙ byte_at front c rest e in
       unflagged_at c (lead_of c) flags (is_separator (class c)) refl (λ s. tells c (scalar_there front c rest e) s)
       (ap (λ b. get_or flags b false) (sym lead) ∙ f)
+
+  unflagged_from_at : (flags : List Bool) (n m : ℕ) → TellLeads class flags → NoneBefore class text n
+      → ((i : ℕ) → n ≤ i → i < m → get_or flags (get_or text i 0) false ≡ false) → (front : List ℕ) (c : ℕ) (rest : List ℕ)
+      → chars text ≡ front ++ c ∷ rest → widths front < m → (less : Bool) → nat_lt (widths front) n ≡ less → is_separator (class c) ≡ false
+  unflagged_from_at flags n m tells h k front c rest e l true f = h front c rest e (grind (arith, nat_tests))
+  unflagged_from_at flags n m tells h k front c rest e l false f =
+      let behind : n ≤ widths front = grind (arith, nat_tests) in
+      unflagged flags (widths front) tells (k (widths front) behind l) front c rest e refl
+
+  pub unflagged_from : (flags : List Bool) (n m : ℕ) → TellLeads class flags → NoneBefore class text n
+      → ((i : ℕ) → n ≤ i → i < m → get_or flags (get_or text i 0) false ≡ false) → NoneBefore class text m
+  unflagged_from flags n m tells h k front c rest e l = unflagged_from_at flags n m tells h k front c rest e l (nat_lt (widths front) n) refl
 
   -- no character begins there, or another does
   pub within_character : (n : ℕ) → ¬ (IsCharBoundary text n) → NoneAt class text n

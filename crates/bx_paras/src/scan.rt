@@ -1,6 +1,6 @@
 //! The paragraph that begins at an offset of a text.
 
-ghost use Rattle.std.specs.Prelude.{◌≡◌, ◌<◌, ◌+◌, ◌==◌, ◌&&◌, chars, take, drop, length, slice_get, encode_utf8, if◌then◌else◌, IsCharBoundary, IsUtf8, MatchOption};
+ghost use Rattle.std.specs.Prelude.{◌≡◌, ℕ, ◌<◌, ◌≤◌, ◌+◌, ◌==◌, ◌&&◌, chars, take, drop, false, get_or, length, slice_get, encode_utf8, if◌then◌else◌, IsCharBoundary, IsUtf8, MatchOption};
 ghost use Rattle.bx_paras.specs.Paragraphs.{is_separator, begins_with_lf, lengths};
 ghost use Rattle.bx_paras.specs.Ended.{first};
 ghost use Rattle.bx_paras.specs.Scan.{HasNone, NoneAt, BeginsAt, IsAt};
@@ -48,20 +48,32 @@ fn separator_at<D: BidiData>(piece: &str, source: &D, at: usize) -> Option<char>
     }
 }
 
+/// The offset of the first byte from one on that may begin a separator; the count of the bytes, where none may.
+fn next_lead(bytes: &[u8], leads: &Leads, from: usize) -> usize
+    requires { from ≤ length bytes.now }
+    ensures order { from ≤ result }
+    ensures inside { result ≤ length bytes.now }
+    ensures none_between { (at : ℕ) → from ≤ at → at < result → get_or leads.now.may_separate (get_or bytes.now at 0) false ≡ false }
+{
+    let mut at = from;
+    while at < bytes.len() && !leads.may_separate[bytes[at] as usize] {
+        at += 1;
+    }
+    at
+}
+
 /// The first paragraph separator of a piece of text, and how many bytes stand before it.
 fn separator_in<D: BidiData>(piece: &str, source: &D, leads: &Leads) -> Option<(usize, char)>
     requires { TellLeads (D.class_of source.now) leads.now.may_separate }
     ensures { MatchOption result (HasNone (D.class_of source.now) (chars piece.now)) (λ found. IsAt (D.class_of source.now) (chars piece.now) found.0 found.1) }
 {
     let bytes = piece.as_bytes();
-    let mut at = 0;
+    let mut at = next_lead(bytes, leads, 0);
     while at < bytes.len() {
-        if leads.may_separate[bytes[at] as usize] {
-            if let Some(c) = separator_at(piece, source, at) {
-                return Some((at, c));
-            }
+        if let Some(c) = separator_at(piece, source, at) {
+            return Some((at, c));
         }
-        at += 1;
+        at = next_lead(bytes, leads, at + 1);
     }
     None
 }

@@ -1,7 +1,13 @@
-use Rattle.std.proofs.Common.{false, get_or, ap, sym, ◌∙◌, arith}
-use Rattle.bx_paras.proofs.Scans.{none_next, unflagged, found_there, none_there}
-use Rattle.bx_paras.proofs.scan.separator_in.Goals.{then-leads-bytes+in_default, else-leads-bytes}
+use Rattle.std.proofs.Common.{◌∙◌, ◌+◌, false, get_or, ap, sym, arith}
+use Rattle.bx_paras.proofs.Scans.{none_next, unflagged_from, found_there, none_there}
 use Rattle.bx_paras.proofs.scan.separator_in.Goals as goal
+
+pub loop-at-init : goal.loop-at-init
+loop-at-init g c =
+    let flags = c.args.leads.now.may_separate in
+    unflagged_from (g.D.BidiData.class_of c.args.source.now) c.args.piece.now c.utf8.piece flags 0 c.next_lead-at.result c.requires
+    (λ front d rest e l. absurd (omega arith))
+    (λ i a b. ap (λ bs. get_or flags (get_or bs i 0) false) (sym c.as_bytes-bytes.ensures.value) ∙ c.next_lead-at.ensures.none_between i a b)
 
 pub returns-in-Some : goal.returns-in-Some
 returns-in-Some g c =
@@ -10,12 +16,10 @@ returns-in-Some g c =
 pub loop-at-preserved : goal.loop-at-preserved
 loop-at-preserved g c =
     let class = g.D.BidiData.class_of c.args.source.now in
-    none_next class c.args.piece.now c.utf8.piece c.loop-at.at c.loop-at.invariant
-    (elim c.if-leads-bytes.branch [
-      | then-leads-bytes+in_default w ↦ w.in_default.ensures
-      | else-leads-bytes w ↦ unflagged class c.args.piece.now c.utf8.piece c.args.leads.now.may_separate c.loop-at.at c.requires
-          (ap (λ bs. get_or c.args.leads.now.may_separate (get_or bs c.loop-at.at 0) false) (sym c.as_bytes-bytes.ensures.value) ∙ w.if-leads-bytes.false)
-    ])
+    let flags = c.args.leads.now.may_separate in
+    unflagged_from class c.args.piece.now c.utf8.piece flags (c.loop-at.at + 1) c.next_lead-at-in-loop-at.result c.requires
+    (none_next class c.args.piece.now c.utf8.piece c.loop-at.at c.loop-at.invariant c.in_default.ensures)
+    (λ i a b. ap (λ bs. get_or flags (get_or bs i 0) false) (sym c.as_bytes-bytes.ensures.value) ∙ c.next_lead-at-in-loop-at.ensures.none_between i a b)
 
 pub returns : goal.returns
 returns g c =
