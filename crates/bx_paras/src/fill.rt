@@ -1,9 +1,8 @@
 //! Paragraphs of a text put in among others.
 
-ghost use Rattle.std.specs.Prelude.{◌≡◌, ◌++◌, ◌+◌, ◌-◌, ◌*◌, ◌<◌, ◌≤◌, ◌^◌, length, take, drop, IsCharBoundary};
-ghost use Rattle.bx_paras.specs.Paragraphs.{lengths};
+ghost use Rattle.std.specs.Prelude.{◌≡◌, ◌++◌, ◌+◌, ◌*◌, ◌<◌, ◌≤◌, ◌^◌, length, take, drop, IsCharBoundary};
 ghost use Rattle.bx_paras.specs.Positions.{total};
-ghost use Rattle.bx_paras.specs.Ended.{ended_within};
+ghost use Rattle.bx_paras.specs.Ended.{ended_between};
 ghost use Rattle.bx_paras.specs.Flat.{flat, room_at};
 ghost use Rattle.bx_paras.specs.Leads.{TellLeads};
 ghost use Rattle.bx_paras.specs.Windows.{IsWindow};
@@ -32,13 +31,14 @@ fn fill<D: BidiData>(
     requires leads { TellLeads (D.class_of source.now) leads.now.may_separate }
     requires window { IsWindow (D.class_of source.now) text.now.edited.text start window }
     requires position { position ≤ length blocks.old.blocks }
-    requires room { length (ended_within (stop - start) (lengths (D.class_of source.now) (drop start text.now.edited.text))) ≤ room_at blocks.old position }
-    requires short { total (flat blocks.old.blocks) + total (ended_within (stop - start) (lengths (D.class_of source.now) (drop start text.now.edited.text))) < 2 ^ 64 }
-    requires few { length (flat blocks.old.blocks) + length (ended_within (stop - start) (lengths (D.class_of source.now) (drop start text.now.edited.text))) < 2 ^ 64 }
+    requires room { length (ended_between (D.class_of source.now) text.now.edited.text start stop) ≤ room_at blocks.old position }
+    requires short { total (flat blocks.old.blocks) + total (ended_between (D.class_of source.now) text.now.edited.text start stop) < 2 ^ 64 }
+    requires few { length (flat blocks.old.blocks) + length (ended_between (D.class_of source.now) text.now.edited.text start stop) < 2 ^ 64 }
     ensures position { result.0 ≤ length blocks.new.blocks }
-    ensures front { flat (take result.0 blocks.new.blocks) ≡ flat (take position blocks.old.blocks) ++ ended_within (stop - start) (lengths (D.class_of source.now) (drop start text.now.edited.text)) }
+    ensures front { flat (take result.0 blocks.new.blocks)
+        ≡ flat (take position blocks.old.blocks) ++ ended_between (D.class_of source.now) text.now.edited.text start stop }
     ensures back { flat (drop result.0 blocks.new.blocks) ≡ flat (drop position blocks.old.blocks) }
-    ensures stop { result.1 ≡ start + total (ended_within (stop - start) (lengths (D.class_of source.now) (drop start text.now.edited.text))) }
+    ensures stop { result.1 ≡ start + total (ended_between (D.class_of source.now) text.now.edited.text start stop) }
 {
     let mut position = position;
     let mut at = start;
@@ -72,11 +72,13 @@ pub fn replace<D: BidiData>(
     requires window { IsWindow (D.class_of source.now) text.now.edited.text from.start window }
     requires order { from.number ≤ to }
     requires inside { to ≤ length (flat blocks.old.blocks) }
-    requires room { 256 + length (ended_within (stop - from.start) (lengths (D.class_of source.now) (drop from.start text.now.edited.text))) ≤ 128 * blocks.old.spares }
-    requires short { total (flat blocks.old.blocks) + total (ended_within (stop - from.start) (lengths (D.class_of source.now) (drop from.start text.now.edited.text))) < 2 ^ 64 }
-    requires few { length (flat blocks.old.blocks) + length (ended_within (stop - from.start) (lengths (D.class_of source.now) (drop from.start text.now.edited.text))) < 2 ^ 64 }
-    ensures paragraphs { flat blocks.new.blocks ≡ take from.number (flat blocks.old.blocks) ++ (ended_within (stop - from.start) (lengths (D.class_of source.now) (drop from.start text.now.edited.text)) ++ drop to (flat blocks.old.blocks)) }
-    ensures stop { result ≡ from.start + total (ended_within (stop - from.start) (lengths (D.class_of source.now) (drop from.start text.now.edited.text))) }
+    requires room { 256 + length (ended_between (D.class_of source.now) text.now.edited.text from.start stop) ≤ 128 * blocks.old.spares }
+    requires short { total (flat blocks.old.blocks) + total (ended_between (D.class_of source.now) text.now.edited.text from.start stop) < 2 ^ 64 }
+    requires few { length (flat blocks.old.blocks) + length (ended_between (D.class_of source.now) text.now.edited.text from.start stop) < 2 ^ 64 }
+    ensures paragraphs { flat blocks.new.blocks
+        ≡ take from.number (flat blocks.old.blocks)
+        ++ (ended_between (D.class_of source.now) text.now.edited.text from.start stop ++ drop to (flat blocks.old.blocks)) }
+    ensures stop { result ≡ from.start + total (ended_between (D.class_of source.now) text.now.edited.text from.start stop) }
 {
     let position = blocks.take_out(from.number, to);
     let (position, at) = fill(

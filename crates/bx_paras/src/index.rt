@@ -6,6 +6,7 @@ ghost use Rattle.bx_text.specs.Text.{HasRoomFor};
 ghost use Rattle.bx_paras.specs.Paragraphs.{lengths, separator_count};
 ghost use Rattle.bx_paras.specs.Positions.{total, spans, separators, paragraph_of};
 ghost use Rattle.bx_paras.specs.Flat.{flat};
+ghost use Rattle.bx_paras.specs.Spots.{closed};
 ghost use Rattle.bx_paras.specs.Touched.{IsTouched};
 ghost use Rattle.bx_paras.specs.Index.{IndexState};
 ghost use Rattle.bx_paras.specs.Windows.{IsWindow};
@@ -53,9 +54,14 @@ fn touched<D: BidiData>(
     source: &D,
     change: &Change,
 ) -> (Position, Position)
-    requires was { (old : List ℕ) × IsUtf8 old × (flat ended.now.blocks ++ record { body = last; separator = 0 } ∷ [] ≡ lengths (D.class_of source.now) old) × Leads old change.now text.now.edited.text }
-    requires short { total (flat ended.now.blocks ++ record { body = last; separator = 0 } ∷ []) ≤ largest_text }
-    ensures { (old : List ℕ) × IsTouched (D.class_of source.now) old change.now text.now.edited.text (flat ended.now.blocks) (record { body = last; separator = 0 }) result.0 result.1 }
+    requires was { (old : List ℕ)
+        × IsUtf8 old
+        × (closed ended.now.blocks last ≡ lengths (D.class_of source.now) old)
+        × Leads old change.now text.now.edited.text }
+    requires short { total (closed ended.now.blocks last) ≤ largest_text }
+    ensures { (old : List ℕ)
+        × IsTouched (D.class_of source.now) old change.now text.now.edited.text (flat ended.now.blocks)
+        (record { body = last; separator = 0 }) result.0 result.1 }
 {
     let _utf8 = text.len();
     let _ = source;
@@ -98,8 +104,10 @@ fn window_of<D: BidiData>(
     change: &Change,
     reached: (Position, Position),
 ) -> Window
-    requires touched { (old : List ℕ) × IsTouched (D.class_of source.now) old change.now text.now.edited.text (flat ended.now.blocks) (record { body = last; separator = 0 }) reached.0 reached.1 }
-    requires short { total (flat ended.now.blocks ++ record { body = last; separator = 0 } ∷ []) ≤ largest_text }
+    requires touched { (old : List ℕ)
+        × IsTouched (D.class_of source.now) old change.now text.now.edited.text (flat ended.now.blocks)
+        (record { body = last; separator = 0 }) reached.0 reached.1 }
+    requires short { total (closed ended.now.blocks last) ≤ largest_text }
     ensures { IsWindow (D.class_of source.now) text.now.edited.text reached.0.start result }
 {
     let _ = ended;
@@ -169,8 +177,12 @@ impl Index {
     /// was that of the text before the change, by the same data, and `ready` made room for the separators among what
     /// was added.
     pub fn edited<D: BidiData>(&mut self, text: &Text, source: &D, change: &Change)
-        requires was { (old : List ℕ) × IsUtf8 old × (self.old.paragraphs ≡ lengths (D.class_of source.now) old) × Leads old change.now text.now.edited.text }
-        requires room { HasRoomFor self.old.room (separator_count (D.class_of source.now) (take change.now.added (drop change.now.start text.now.edited.text))) }
+        requires was { (old : List ℕ)
+            × IsUtf8 old
+            × (self.old.paragraphs ≡ lengths (D.class_of source.now) old)
+            × Leads old change.now text.now.edited.text }
+        requires room { HasRoomFor self.old.room
+            (separator_count (D.class_of source.now) (take change.now.added (drop change.now.start text.now.edited.text))) }
         ensures { self.new ≡ record { paragraphs = lengths (D.class_of source.now) text.now.edited.text; room = None } }
     {
         let len = text.len();
