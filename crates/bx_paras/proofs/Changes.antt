@@ -13,7 +13,7 @@ use Rattle.bx_paras.proofs.Cuts.{widths}
 
 -- ---- a text cut between its characters
 
-scalars_back : (x m : List ℕ) → scalars (x ++ m) ≡ true → scalars m ≡ true
+pub scalars_back : (x m : List ℕ) → scalars (x ++ m) ≡ true → scalars m ≡ true
 scalars_back [] m e = e
 scalars_back (c ∷ x) m e = scalars_back x m (grind (arith, nat_tests))
 

@@ -9,6 +9,7 @@ mod Counts
 mod Edits
 mod Changes
 mod Rewritten
+pub mod LeadBytes
 pub mod Scans
 pub mod Firsts
 pub mod Beside

@@ -1,50 +1,121 @@
 -- The scan for the end of a paragraph.
-use Rattle.std.proofs.Common.{◌≡◌, ◌<◌, ◌≤◌, ◌+◌, ◌∙◌, ◌==◌, ◌&&◌, ℕ, Bool, true, false, List, [], ◌∷◌, ◌++◌, length, get_or, take, drop, chars, encode_utf8}
-use Rattle.std.proofs.Common.{encode_utf8_all, IsUtf8, IsCharBoundary, refl, ap, sym, subst, arith}
+use Rattle.std.proofs.Common.{◌≡◌, ◌<◌, ◌≤◌, ◌+◌, ◌∙◌, ◌==◌, ◌&&◌, ℕ, Bool, true, false, nat_lt, List, [], ◌∷◌, ◌++◌, length, get_or, take, drop, chars, encode_utf8, slice_get, Option, Some, None}
+use Rattle.std.proofs.Common.{encode_utf8_all, IsUtf8, IsCharBoundary, refl, ap, sym, arith, append_assoc, append-nil}
 use Rattle.std.proofs.lemmas.Bool.Decides.{nat_tests}
-use Rattle.std.proofs.lemmas.Str.{chars-nil, encodes-chars, byte_from_char, char_from_byte, IsUtf8-drop}
-use Rattle.std.proofs.lemmas.List.{take_more, drop_more, take-append-drop, length-take, get_or-take, drop_all}
+use Rattle.std.proofs.lemmas.Str.{chars-nil, chars-append, encodes-chars, encodes-append, scalars-chars, byte_from_char, char_from_byte, IsUtf8-take, IsUtf8-drop}
+use Rattle.std.proofs.lemmas.List.{take-append-drop, length-take, get_or-take, drop_all, get_or_append_left, get_or-append-add}
+use lib.Utf8.{scalar, scalars}
 use Rattle.bx_ucd.specs.declared.class.Class.{Class}
 use Rattle.bx_paras.specs.Paragraphs.{is_separator, begins_with_lf}
-use Rattle.bx_paras.specs.Scan.{HasNone, IsAt}
-use Rattle.bx_paras.proofs.Cuts.{width, widths, widths_append, one_width}
+use Rattle.bx_paras.specs.Leads.{lead_of, TellLeads}
+use Rattle.bx_paras.specs.Scan.{HasNone, NoneAt, NoneBefore, BeginsAt, IsAt}
+use Rattle.bx_paras.proofs.Changes.{scalars_back, cut_at, front_len, spelt}
+use Rattle.bx_paras.proofs.Cuts.{width_is_some, widths, widths_more, widths_append, one_width}
 
--- ---- one character of a piece
+-- ---- what begins at an offset
 
-seen_more : (cs : List ℕ) (n c : ℕ) → (n < length cs) × (c ≡ get_or cs n c) → take (n + 1) cs ≡ take n cs ++ c ∷ []
-seen_more cs n c h = take_more cs n c h.0 ∙ ap (λ d. take n cs ++ d ∷ []) (sym h.1)
+module _ (class : ℕ → Class) (text : List ℕ) (utf8 : IsUtf8 text) where
+  none_next_at : (n : ℕ) → NoneBefore class text n → NoneAt class text n → (front : List ℕ) (c : ℕ) (rest : List ℕ) → chars text ≡ front ++ c ∷ rest
+      → widths front < n + 1 → (less : Bool) → nat_lt (widths front) n ≡ less → is_separator (class c) ≡ false
+  none_next_at n h k front c rest e l true f = h front c rest e (grind (arith, nat_tests))
+  none_next_at n h k front c rest e l false f = k front c rest e (grind (arith, nat_tests))
 
-pub widths_next : (cs : List ℕ) (n c : ℕ) → (n < length cs) × (c ≡ get_or cs n c) → widths (take (n + 1) cs) ≡ widths (take n cs) + width c
-widths_next cs n c h = ap widths (seen_more cs n c h) ∙ widths_append (take n cs) (c ∷ []) ∙ ap (λ w. widths (take n cs) + w) (one_width c)
+  pub none_next : (n : ℕ) → NoneBefore class text n → NoneAt class text n → NoneBefore class text (n + 1)
+  none_next n h k front c rest e l = none_next_at n h k front c rest e l (nat_lt (widths front) n) refl
 
-module _ (class : ℕ → Class) where
-  none_append : (cs ds : List ℕ) → HasNone class cs → HasNone class ds → HasNone class (cs ++ ds)
-  none_append [] ds h k = k
-  none_append (c ∷ cs) ds h k = (h.0, none_append cs ds h.1 k)
+  -- the byte there begins the character
+  byte_at : (front : List ℕ) (c : ℕ) (rest : List ℕ) → chars text ≡ front ++ c ∷ rest → get_or text (widths front) 0 ≡ lead_of c
+  byte_at front c rest e =
+      let spelt : text ≡ encode_utf8_all front ++ encode_utf8_all (c ∷ rest) =
+      sym (encodes-chars text utf8) ∙ ap encode_utf8_all e ∙ encodes-append front (c ∷ rest) in
+      let same : widths front ≡ widths front + 0 = omega arith in
+      ap (λ bs. get_or bs (widths front) 0) spelt ∙ ap (λ n. get_or (encode_utf8_all front ++ encode_utf8_all (c ∷ rest)) n 0) same
+      ∙ get_or-append-add (encode_utf8_all front) (encode_utf8_all (c ∷ rest)) 0 0
+      ∙ get_or_append_left (encode_utf8 c) (encode_utf8_all rest) 0 0 (width_is_some c)
 
-  pub found_here : (cs : List ℕ) (n c before : ℕ) → (n < length cs) × (c ≡ get_or cs n c) → HasNone class (take n cs) → before ≡ widths (take n cs)
-      → true ≡ is_separator (class c) → IsAt class cs before c
-  found_here cs n c before h none e f = record {
-    front = take n cs;
-    rest = drop (n + 1) cs;
-    whole = sym (take-append-drop n cs) ∙ ap (λ r. take n cs ++ r) (drop_more cs n c h.0 ∙ ap (λ d. d ∷ drop (n + 1) cs) (sym h.1));
-    none = none;
-    bytes = sym e;
-    separates = sym f;
-  }
+  scalar_there : (front : List ℕ) (c : ℕ) (rest : List ℕ) → chars text ≡ front ++ c ∷ rest → scalar c ≡ true
+  scalar_there front c rest e =
+      let all : scalars (c ∷ rest) ≡ true = scalars_back front (c ∷ rest) (ap scalars (sym e) ∙ scalars-chars text utf8) in
+      grind (arith, nat_tests)
 
-  pub none_more : (cs : List ℕ) (n c : ℕ) → (n < length cs) × (c ≡ get_or cs n c) → HasNone class (take n cs) → false ≡ is_separator (class c)
-      → HasNone class (take (n + 1) cs)
-  none_more cs n c h none f = subst (HasNone class) (sym (seen_more cs n c h)) (none_append (take n cs) (c ∷ []) none (sym f, tt))
+  -- a byte that begins no separator
+  unflagged_at : (c lead : ℕ) (flags : List Bool) (separates : Bool) → is_separator (class c) ≡ separates
+      → (is_separator (class c) ≡ true → get_or flags lead false ≡ true) → get_or flags lead false ≡ false → is_separator (class c) ≡ false
+  unflagged_at c lead flags false e tells f = e
+  unflagged_at c lead flags true e tells f = let g : get_or flags lead false ≡ true = tells e in absurd (cc)
 
--- the first characters of a text have no more bytes than it
-pub widths_in : (text : List ℕ) (n : ℕ) → IsUtf8 text → widths (take n (chars text)) ≤ length text
-widths_in text n utf8 = omega (
-  arith,
-  ap length (encodes-chars text utf8),
-  ap widths (take-append-drop n (chars text)),
-  widths_append (take n (chars text)) (drop n (chars text)),
-)
+  unflagged : (flags : List Bool) (n : ℕ) → TellLeads class flags → get_or flags (get_or text n 0) false ≡ false → NoneAt class text n
+  unflagged flags n tells f front c rest e w =
+      let lead : get_or text n 0 ≡ lead_of c = ap (λ i. get_or text i 0) (sym w) ∙ byte_at front c rest e in
+      unflagged_at c (lead_of c) flags (is_separator (class c)) refl (λ s. tells c (scalar_there front c rest e) s)
+      (ap (λ b. get_or flags b false) (sym lead) ∙ f)
+
+  unflagged_from_at : (flags : List Bool) (n m : ℕ) → TellLeads class flags → NoneBefore class text n
+      → ((i : ℕ) → n ≤ i → i < m → get_or flags (get_or text i 0) false ≡ false) → (front : List ℕ) (c : ℕ) (rest : List ℕ)
+      → chars text ≡ front ++ c ∷ rest → widths front < m → (less : Bool) → nat_lt (widths front) n ≡ less → is_separator (class c) ≡ false
+  unflagged_from_at flags n m tells h k front c rest e l true f = h front c rest e (grind (arith, nat_tests))
+  unflagged_from_at flags n m tells h k front c rest e l false f =
+      let behind : n ≤ widths front = grind (arith, nat_tests) in
+      unflagged flags (widths front) tells (k (widths front) behind l) front c rest e refl
+
+  pub unflagged_from : (flags : List Bool) (n m : ℕ) → TellLeads class flags → NoneBefore class text n
+      → ((i : ℕ) → n ≤ i → i < m → get_or flags (get_or text i 0) false ≡ false) → NoneBefore class text m
+  unflagged_from flags n m tells h k front c rest e l = unflagged_from_at flags n m tells h k front c rest e l (nat_lt (widths front) n) refl
+
+  -- no character begins there, or another does
+  pub within_character : (n : ℕ) → ¬ (IsCharBoundary text n) → NoneAt class text n
+  within_character n h front c rest e w = absurd (h (cut_at text front (c ∷ rest) n utf8 e w).bounds)
+
+  pub other_there : (n d : ℕ) (ds : List ℕ) → chars (drop n text) ≡ d ∷ ds → is_separator (class d) ≡ false → NoneAt class text n
+  other_there n d ds h f front c rest e w =
+      let both : c ∷ rest ≡ d ∷ ds = sym (cut_at text front (c ∷ rest) n utf8 e w).rest ∙ h in
+      let same : c ≡ d = cc in
+      ap (λ k. is_separator (class k)) same ∙ f
+
+  pub end_there : (n : ℕ) → chars (drop n text) ≡ [] → NoneAt class text n
+  end_there n h front c rest e w = let none : c ∷ rest ≡ [] = sym (cut_at text front (c ∷ rest) n utf8 e w).rest ∙ h in absurd (cc)
+
+  first_some : (cs : List ℕ) (c : ℕ) → slice_get cs 0 ≡ Some c → (ds : List ℕ) × (cs ≡ c ∷ ds)
+  first_some [] c e = absurd (cc)
+  first_some (d ∷ ds) c e = let same : d ≡ c = cc in (ds, ap (λ k. k ∷ ds) same)
+
+  first_none : (cs : List ℕ) → slice_get cs 0 ≡ None → cs ≡ []
+  first_none [] e = refl
+  first_none (d ∷ ds) e = absurd (cc)
+
+  pub begins_there : (n c : ℕ) → IsCharBoundary text n → slice_get (chars (drop n text)) 0 ≡ Some c → is_separator (class c) ≡ true → BeginsAt class text n c
+  begins_there n c b e f = let (ds, g) = first_some (chars (drop n text)) c e in record { bounds = b; rest = ds; begins = g; separates = f }
+
+  pub none_found : (n : ℕ) (o : Option ℕ) → o ≡ slice_get (chars (drop n text)) 0 → ((c : ℕ) → o ≡ Some c → is_separator (class c) ≡ false) → NoneAt class text n
+  none_found n None e h = end_there n (first_none (chars (drop n text)) (sym e))
+  none_found n (Some c) e h = let (ds, g) = first_some (chars (drop n text)) c (sym e) in other_there n c ds g (h c refl)
+
+  -- ---- the first separator
+
+  none_of : (pre x m : List ℕ) (n : ℕ) → chars text ≡ pre ++ (x ++ m) → widths pre + widths x ≤ n → NoneBefore class text n → HasNone class x
+  none_of pre [] m n e l h = tt
+  none_of pre (c ∷ x) m n e l h = (
+    h pre c (x ++ m) e (omega (arith, widths_more c x, width_is_some c)),
+    none_of (pre ++ c ∷ []) x m n (e ∙ sym (append_assoc pre (c ∷ []) (x ++ m)))
+        (omega (arith, widths_append pre (c ∷ []), one_width c, widths_more c x)) h,
+  )
+
+  pub found_there : (n c : ℕ) → BeginsAt class text n c → NoneBefore class text n → IsAt class (chars text) n c
+  found_there n c b h =
+      let parted : chars text ≡ chars (take n text) ++ chars (drop n text) =
+      ap chars (sym (take-append-drop n text)) ∙ chars-append (take n text) (drop n text) (IsUtf8-take text n utf8 b.bounds) in
+      let len : widths (chars (take n text)) ≡ n = front_len text n utf8 b.bounds in
+      record {
+        front = chars (take n text);
+        rest = b.rest;
+        whole = parted ∙ ap (λ cs. chars (take n text) ++ cs) b.begins;
+        none = none_of [] (chars (take n text)) (chars (drop n text)) n parted (omega (arith, len)) h;
+        bytes = len;
+        separates = b.separates;
+      }
+
+  pub none_there : (n : ℕ) → length text ≤ n → NoneBefore class text n → HasNone class (chars text)
+  none_there n l h = none_of [] (chars text) [] n (sym (append-nil (chars text))) (omega (arith, spelt text utf8)) h
 
 -- ---- LF behind CR
 

@@ -1,12 +1,18 @@
 -- The paragraphs that end in the first bytes of a text.
-use Rattle.std.specs.Prelude.{ℕ, ◌+◌, ◌-◌, ◌==◌, nat_le, List, [], ◌∷◌, if◌then◌else◌}
+use Rattle.std.specs.Prelude.{ℕ, ◌+◌, ◌-◌, ◌==◌, nat_le, List, drop, [], ◌∷◌, if◌then◌else◌}
 use Rattle.bx_paras.specs.declared.lengths.Lengths.{Lengths}
+use Rattle.bx_paras.specs.Paragraphs.{lengths}
 use Rattle.bx_paras.specs.Positions.{bytes_of}
+use Rattle.bx_ucd.specs.declared.class.Class.{Class}
 
 -- those of some paragraphs that end with a separator in the first k bytes
 abbrev pub ended_within : ℕ → List Lengths → List Lengths
 ended_within k [] = []
 ended_within k (p ∷ ps) = if p.separator == 0 then [] else if nat_le (bytes_of p) k then p ∷ ended_within (k - bytes_of p) ps else []
+
+-- those of a text from one offset on that end up to another
+abbrev pub ended_between : (ℕ → Class) → List ℕ → ℕ → ℕ → List Lengths
+ended_between class text start stop = ended_within (stop - start) (lengths class (drop start text))
 
 -- the first of some paragraphs
 abbrev pub first : List Lengths → Lengths

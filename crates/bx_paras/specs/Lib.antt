@@ -2,6 +2,7 @@ pub mod Paragraphs
 pub mod Positions
 pub mod Ended
 pub mod Scan
+pub mod Leads
 pub mod Windows
 pub mod OneBlock
 pub mod Flat

@@ -1,5 +1,5 @@
 -- Where the first separator stands in some characters.
-use Rattle.std.specs.Prelude.{◌≡◌, ℕ, true, false, List, [], ◌∷◌, ◌++◌, length, encode_utf8_all}
+use Rattle.std.specs.Prelude.{◌≡◌, ◌<◌, ℕ, true, false, List, [], ◌∷◌, ◌++◌, length, drop, chars, encode_utf8_all, IsCharBoundary}
 use Rattle.bx_ucd.specs.declared.class.Class.{Class}
 use Rattle.bx_paras.specs.Paragraphs.{is_separator}
 
@@ -15,4 +15,21 @@ pub record IsAt (class : ℕ → Class) (cs : List ℕ) (before c : ℕ) : Type 
   pub whole : cs ≡ front ++ c ∷ rest
   pub none : HasNone class front
   pub bytes : length (encode_utf8_all front) ≡ before
+  pub separates : is_separator (class c) ≡ true
+
+-- no separator begins at an offset of a text
+abbrev pub NoneAt : (ℕ → Class) → List ℕ → ℕ → Type 0
+NoneAt class text at =
+    (front : List ℕ) (c : ℕ) (rest : List ℕ) → chars text ≡ front ++ c ∷ rest → length (encode_utf8_all front) ≡ at → is_separator (class c) ≡ false
+
+-- no separator begins before an offset
+abbrev pub NoneBefore : (ℕ → Class) → List ℕ → ℕ → Type 0
+NoneBefore class text n =
+    (front : List ℕ) (c : ℕ) (rest : List ℕ) → chars text ≡ front ++ c ∷ rest → length (encode_utf8_all front) < n → is_separator (class c) ≡ false
+
+-- the separator c begins at an offset
+pub record BeginsAt (class : ℕ → Class) (text : List ℕ) (at c : ℕ) : Type 0 where
+  pub bounds : IsCharBoundary text at
+  pub rest : List ℕ
+  pub begins : chars (drop at text) ≡ c ∷ rest
   pub separates : is_separator (class c) ≡ true

@@ -131,7 +131,10 @@ impl Blocks {
     /// A paragraph and the offset at which it begins; none where there are not so many. No memory.
     #[tactic(auto, using(crate::proofs::Flats::total_flat_more, crate::proofs::Flats::length_flat_more, crate::proofs::Flats::total_flat_front, crate::proofs::Flats::length_flat_front))]
     pub fn get(&self, number: usize) -> Option<(usize, Lengths)>
-        ensures { MatchOption result (length (flat self.now.blocks) ≤ number) (λ p. (number < length (flat self.now.blocks)) × (p.0 ≡ total (take number (flat self.now.blocks))) × (p.1 ≡ get_or (flat self.now.blocks) number p.1)) }
+        ensures { MatchOption result (length (flat self.now.blocks) ≤ number)
+            (λ p. (number < length (flat self.now.blocks))
+            × (p.0 ≡ total (take number (flat self.now.blocks)))
+            × (p.1 ≡ get_or (flat self.now.blocks) number p.1)) }
     {
         let mut left = number;
         let mut start = 0;
@@ -256,7 +259,8 @@ impl Blocks {
         ensures front { flat (take result self.new.blocks) ≡ take number (flat self.old.blocks) }
         ensures back { flat (drop result self.new.blocks) ≡ drop number (flat self.old.blocks) }
         ensures spares { self.old.spares ≤ self.new.spares + 1 }
-        ensures before { (k : ℕ) → k ≤ length self.old.blocks → length (flat (take k self.old.blocks)) ≤ number → (take k self.new.blocks ≡ take k self.old.blocks) × (k ≤ length self.new.blocks) }
+        ensures before { (k : ℕ) → k ≤ length self.old.blocks → length (flat (take k self.old.blocks)) ≤ number
+            → (take k self.new.blocks ≡ take k self.old.blocks) × (k ≤ length self.new.blocks) }
     {
         let (block, within) = self.seek(number);
         if within == 0 {

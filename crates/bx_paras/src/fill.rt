@@ -1,13 +1,14 @@
 //! Paragraphs of a text put in among others.
 
-ghost use Rattle.std.specs.Prelude.{◌≡◌, ◌++◌, ◌+◌, ◌-◌, ◌*◌, ◌<◌, ◌≤◌, ◌^◌, length, take, drop, IsCharBoundary};
-ghost use Rattle.bx_paras.specs.Paragraphs.{lengths};
+ghost use Rattle.std.specs.Prelude.{◌≡◌, ◌++◌, ◌+◌, ◌*◌, ◌<◌, ◌≤◌, ◌^◌, length, take, drop, IsCharBoundary};
 ghost use Rattle.bx_paras.specs.Positions.{total};
-ghost use Rattle.bx_paras.specs.Ended.{ended_within};
+ghost use Rattle.bx_paras.specs.Ended.{ended_between};
 ghost use Rattle.bx_paras.specs.Flat.{flat, room_at};
+ghost use Rattle.bx_paras.specs.Leads.{TellLeads};
 ghost use Rattle.bx_paras.specs.Windows.{IsWindow};
 
 use crate::blocks::Blocks;
+use crate::leads::Leads;
 use crate::position::Position;
 use crate::scan::paragraph_from;
 use crate::window::Window;
@@ -21,26 +22,29 @@ fn fill<D: BidiData>(
     position: usize,
     text: &Text,
     source: &D,
+    leads: &Leads,
     start: usize,
     stop: usize,
     window: Window,
 ) -> (usize, usize)
     requires bounds { IsCharBoundary text.now.edited.text start }
+    requires leads { TellLeads (D.class_of source.now) leads.now.may_separate }
     requires window { IsWindow (D.class_of source.now) text.now.edited.text start window }
     requires position { position ≤ length blocks.old.blocks }
-    requires room { length (ended_within (stop - start) (lengths (D.class_of source.now) (drop start text.now.edited.text))) ≤ room_at blocks.old position }
-    requires short { total (flat blocks.old.blocks) + total (ended_within (stop - start) (lengths (D.class_of source.now) (drop start text.now.edited.text))) < 2 ^ 64 }
-    requires few { length (flat blocks.old.blocks) + length (ended_within (stop - start) (lengths (D.class_of source.now) (drop start text.now.edited.text))) < 2 ^ 64 }
+    requires room { length (ended_between (D.class_of source.now) text.now.edited.text start stop) ≤ room_at blocks.old position }
+    requires short { total (flat blocks.old.blocks) + total (ended_between (D.class_of source.now) text.now.edited.text start stop) < 2 ^ 64 }
+    requires few { length (flat blocks.old.blocks) + length (ended_between (D.class_of source.now) text.now.edited.text start stop) < 2 ^ 64 }
     ensures position { result.0 ≤ length blocks.new.blocks }
-    ensures front { flat (take result.0 blocks.new.blocks) ≡ flat (take position blocks.old.blocks) ++ ended_within (stop - start) (lengths (D.class_of source.now) (drop start text.now.edited.text)) }
+    ensures front { flat (take result.0 blocks.new.blocks)
+        ≡ flat (take position blocks.old.blocks) ++ ended_between (D.class_of source.now) text.now.edited.text start stop }
     ensures back { flat (drop result.0 blocks.new.blocks) ≡ flat (drop position blocks.old.blocks) }
-    ensures stop { result.1 ≡ start + total (ended_within (stop - start) (lengths (D.class_of source.now) (drop start text.now.edited.text))) }
+    ensures stop { result.1 ≡ start + total (ended_between (D.class_of source.now) text.now.edited.text start stop) }
 {
     let mut position = position;
     let mut at = start;
     let mut window = window;
     while at < stop {
-        let paragraph = paragraph_from(text, source, at, window);
+        let paragraph = paragraph_from(text, source, leads, at, window);
         if paragraph.separator == 0 || paragraph.bytes() > stop - at {
             return (position, at);
         }
@@ -57,23 +61,29 @@ pub fn replace<D: BidiData>(
     blocks: &mut Blocks,
     text: &Text,
     source: &D,
+    leads: &Leads,
     from: Position,
     to: usize,
     stop: usize,
     window: Window,
 ) -> usize
     requires bounds { IsCharBoundary text.now.edited.text from.start }
+    requires leads { TellLeads (D.class_of source.now) leads.now.may_separate }
     requires window { IsWindow (D.class_of source.now) text.now.edited.text from.start window }
     requires order { from.number ≤ to }
     requires inside { to ≤ length (flat blocks.old.blocks) }
-    requires room { 256 + length (ended_within (stop - from.start) (lengths (D.class_of source.now) (drop from.start text.now.edited.text))) ≤ 128 * blocks.old.spares }
-    requires short { total (flat blocks.old.blocks) + total (ended_within (stop - from.start) (lengths (D.class_of source.now) (drop from.start text.now.edited.text))) < 2 ^ 64 }
-    requires few { length (flat blocks.old.blocks) + length (ended_within (stop - from.start) (lengths (D.class_of source.now) (drop from.start text.now.edited.text))) < 2 ^ 64 }
-    ensures paragraphs { flat blocks.new.blocks ≡ take from.number (flat blocks.old.blocks) ++ (ended_within (stop - from.start) (lengths (D.class_of source.now) (drop from.start text.now.edited.text)) ++ drop to (flat blocks.old.blocks)) }
-    ensures stop { result ≡ from.start + total (ended_within (stop - from.start) (lengths (D.class_of source.now) (drop from.start text.now.edited.text))) }
+    requires room { 256 + length (ended_between (D.class_of source.now) text.now.edited.text from.start stop) ≤ 128 * blocks.old.spares }
+    requires short { total (flat blocks.old.blocks) + total (ended_between (D.class_of source.now) text.now.edited.text from.start stop) < 2 ^ 64 }
+    requires few { length (flat blocks.old.blocks) + length (ended_between (D.class_of source.now) text.now.edited.text from.start stop) < 2 ^ 64 }
+    ensures paragraphs { flat blocks.new.blocks
+        ≡ take from.number (flat blocks.old.blocks)
+        ++ (ended_between (D.class_of source.now) text.now.edited.text from.start stop ++ drop to (flat blocks.old.blocks)) }
+    ensures stop { result ≡ from.start + total (ended_between (D.class_of source.now) text.now.edited.text from.start stop) }
 {
     let position = blocks.take_out(from.number, to);
-    let (position, at) = fill(blocks, position, text, source, from.start, stop, window);
+    let (position, at) = fill(
+        blocks, position, text, source, leads, from.start, stop, window,
+    );
     blocks.join(position);
     blocks.release();
     at

@@ -6,6 +6,7 @@ ghost use Rattle.bx_text.specs.Text.{HasRoomFor};
 ghost use Rattle.bx_paras.specs.Paragraphs.{lengths, separator_count};
 ghost use Rattle.bx_paras.specs.Positions.{total, spans, separators, paragraph_of};
 ghost use Rattle.bx_paras.specs.Flat.{flat};
+ghost use Rattle.bx_paras.specs.Spots.{closed};
 ghost use Rattle.bx_paras.specs.Touched.{IsTouched};
 ghost use Rattle.bx_paras.specs.Index.{IndexState};
 ghost use Rattle.bx_paras.specs.Windows.{IsWindow};
@@ -14,6 +15,7 @@ use crate::block::BLOCK_CAPACITY;
 use crate::blocks::Blocks;
 use crate::error::ParasError;
 use crate::fill::replace;
+use crate::leads::leads_of;
 use crate::position::Position;
 use crate::scan::paragraph_from;
 use crate::walk::ParagraphWalk;
@@ -52,9 +54,14 @@ fn touched<D: BidiData>(
     source: &D,
     change: &Change,
 ) -> (Position, Position)
-    requires was { (old : List ℕ) × IsUtf8 old × (flat ended.now.blocks ++ record { body = last; separator = 0 } ∷ [] ≡ lengths (D.class_of source.now) old) × Leads old change.now text.now.edited.text }
-    requires short { total (flat ended.now.blocks ++ record { body = last; separator = 0 } ∷ []) ≤ largest_text }
-    ensures { (old : List ℕ) × IsTouched (D.class_of source.now) old change.now text.now.edited.text (flat ended.now.blocks) (record { body = last; separator = 0 }) result.0 result.1 }
+    requires was { (old : List ℕ)
+        × IsUtf8 old
+        × (closed ended.now.blocks last ≡ lengths (D.class_of source.now) old)
+        × Leads old change.now text.now.edited.text }
+    requires short { total (closed ended.now.blocks last) ≤ largest_text }
+    ensures { (old : List ℕ)
+        × IsTouched (D.class_of source.now) old change.now text.now.edited.text (flat ended.now.blocks)
+        (record { body = last; separator = 0 }) result.0 result.1 }
 {
     let _utf8 = text.len();
     let _ = source;
@@ -97,8 +104,10 @@ fn window_of<D: BidiData>(
     change: &Change,
     reached: (Position, Position),
 ) -> Window
-    requires touched { (old : List ℕ) × IsTouched (D.class_of source.now) old change.now text.now.edited.text (flat ended.now.blocks) (record { body = last; separator = 0 }) reached.0 reached.1 }
-    requires short { total (flat ended.now.blocks ++ record { body = last; separator = 0 } ∷ []) ≤ largest_text }
+    requires touched { (old : List ℕ)
+        × IsTouched (D.class_of source.now) old change.now text.now.edited.text (flat ended.now.blocks)
+        (record { body = last; separator = 0 }) reached.0 reached.1 }
+    requires short { total (closed ended.now.blocks last) ≤ largest_text }
     ensures { IsWindow (D.class_of source.now) text.now.edited.text reached.0.start result }
 {
     let _ = ended;
@@ -127,8 +136,9 @@ impl Index {
         let mut position = 0;
         let mut at = 0;
         let mut window = window_to_end(text, at);
+        let leads = leads_of(source, len);
         while at < len {
-            let paragraph = paragraph_from(text, source, at, window);
+            let paragraph = paragraph_from(text, source, &leads, at, window);
             if paragraph.separator == 0 {
                 return Ok(Index {
                     ended,
@@ -167,13 +177,18 @@ impl Index {
     /// was that of the text before the change, by the same data, and `ready` made room for the separators among what
     /// was added.
     pub fn edited<D: BidiData>(&mut self, text: &Text, source: &D, change: &Change)
-        requires was { (old : List ℕ) × IsUtf8 old × (self.old.paragraphs ≡ lengths (D.class_of source.now) old) × Leads old change.now text.now.edited.text }
-        requires room { HasRoomFor self.old.room (separator_count (D.class_of source.now) (take change.now.added (drop change.now.start text.now.edited.text))) }
+        requires was { (old : List ℕ)
+            × IsUtf8 old
+            × (self.old.paragraphs ≡ lengths (D.class_of source.now) old)
+            × Leads old change.now text.now.edited.text }
+        requires room { HasRoomFor self.old.room
+            (separator_count (D.class_of source.now) (take change.now.added (drop change.now.start text.now.edited.text))) }
         ensures { self.new ≡ record { paragraphs = lengths (D.class_of source.now) text.now.edited.text; room = None } }
     {
         let len = text.len();
         let reached = touched(&self.ended, self.last, text, source, change);
         let window = window_of(&self.ended, self.last, text, source, change, reached);
+        let leads = leads_of(source, window.stop.saturating_sub(window.start));
         let (first, last) = reached;
         if let Some(end) = last.end {
             let behind = end - change.removed + change.added;
@@ -181,6 +196,7 @@ impl Index {
                 &mut self.ended,
                 text,
                 source,
+                &leads,
                 first,
                 last.number + 1,
                 behind,
@@ -193,6 +209,7 @@ impl Index {
             &mut self.ended,
             text,
             source,
+            &leads,
             first,
             last.number,
             len,

@@ -6,6 +6,7 @@ mod blocks;
 mod error;
 mod fill;
 mod index;
+mod leads;
 mod lengths;
 mod position;
 mod scan;

@@ -1,33 +1,79 @@
 //! The paragraph that begins at an offset of a text.
 
-ghost use Rattle.std.specs.Prelude.{◌≡◌, ◌<◌, ◌+◌, ◌==◌, ◌&&◌, chars, take, drop, length, encode_utf8, if◌then◌else◌, IsCharBoundary, IsUtf8, MatchOption};
+ghost use Rattle.std.specs.Prelude.{◌≡◌, ℕ, ◌<◌, ◌≤◌, ◌+◌, ◌==◌, ◌&&◌, chars, take, drop, false, get_or, length, slice_get, encode_utf8, if◌then◌else◌, IsCharBoundary, IsUtf8, MatchOption};
 ghost use Rattle.bx_paras.specs.Paragraphs.{is_separator, begins_with_lf, lengths};
 ghost use Rattle.bx_paras.specs.Ended.{first};
-ghost use Rattle.bx_paras.specs.Scan.{HasNone, IsAt};
+ghost use Rattle.bx_paras.specs.Scan.{HasNone, NoneAt, BeginsAt, IsAt};
+ghost use Rattle.bx_paras.specs.Leads.{TellLeads};
 ghost use Rattle.bx_paras.specs.Windows.{IsWindow};
 
+use crate::leads::Leads;
 use crate::lengths::Lengths;
 use crate::window::Window;
 use bx_text::Text;
 use bx_ucd::{BidiData, Class};
 
 /// Whether a character is a paragraph separator.
-fn separates<D: BidiData>(source: &D, c: char) -> bool
+pub fn separates<D: BidiData>(source: &D, c: char) -> bool
     ensures { result ≡ is_separator (D.class_of source.now c) }
 {
     matches!(source.class(c), Class::B)
 }
 
+/// The first character of a text.
+fn first_char(text: &str) -> Option<char>
+    ensures { result ≡ slice_get (chars text.now) 0 }
+{
+    text.chars().next()
+}
+
+/// The character that begins at an offset of a text.
+fn char_at(text: &str, at: usize) -> Option<char>
+    requires { IsCharBoundary text.now at }
+    ensures { result ≡ slice_get (chars (drop at text.now)) 0 }
+{
+    first_char(&text[at..])
+}
+
+/// The separator that begins at an offset of a piece of text, if one does.
+fn separator_at<D: BidiData>(piece: &str, source: &D, at: usize) -> Option<char>
+    ensures { MatchOption result (NoneAt (D.class_of source.now) piece.now at) (λ c. BeginsAt (D.class_of source.now) piece.now at c) }
+{
+    if !piece.is_char_boundary(at) {
+        return None;
+    }
+    match char_at(piece, at) {
+        Some(c) if separates(source, c) => Some(c),
+        _ => None,
+    }
+}
+
+/// The offset of the first byte from one on that may begin a separator; the count of the bytes, where none may.
+fn next_lead(bytes: &[u8], leads: &Leads, from: usize) -> usize
+    requires { from ≤ length bytes.now }
+    ensures order { from ≤ result }
+    ensures inside { result ≤ length bytes.now }
+    ensures none_between { (at : ℕ) → from ≤ at → at < result → get_or leads.now.may_separate (get_or bytes.now at 0) false ≡ false }
+{
+    let mut at = from;
+    while at < bytes.len() && !leads.may_separate[bytes[at] as usize] {
+        at += 1;
+    }
+    at
+}
+
 /// The first paragraph separator of a piece of text, and how many bytes stand before it.
-fn separator_in<D: BidiData>(piece: &str, source: &D) -> Option<(usize, char)>
+fn separator_in<D: BidiData>(piece: &str, source: &D, leads: &Leads) -> Option<(usize, char)>
+    requires { TellLeads (D.class_of source.now) leads.now.may_separate }
     ensures { MatchOption result (HasNone (D.class_of source.now) (chars piece.now)) (λ found. IsAt (D.class_of source.now) (chars piece.now) found.0 found.1) }
 {
-    let mut before = 0;
-    for c in piece.chars() {
-        if separates(source, c) {
-            return Some((before, c));
+    let bytes = piece.as_bytes();
+    let mut at = next_lead(bytes, leads, 0);
+    while at < bytes.len() {
+        if let Some(c) = separator_at(piece, source, at) {
+            return Some((at, c));
         }
-        before += c.len_utf8();
+        at = next_lead(bytes, leads, at + 1);
     }
     None
 }
@@ -73,8 +119,15 @@ fn part_before(text: &Text, at: usize, stop: usize) -> &str
 
 /// The lengths of the paragraph that begins at an offset, or of what follows the offset of the one that holds it. Only
 /// what stands in the window is looked at, and the LF behind a CR. No memory.
-pub fn paragraph_from<D: BidiData>(text: &Text, source: &D, start: usize, window: Window) -> Lengths
-    requires { IsWindow (D.class_of source.now) text.now.edited.text start window }
+pub fn paragraph_from<D: BidiData>(
+    text: &Text,
+    source: &D,
+    leads: &Leads,
+    start: usize,
+    window: Window,
+) -> Lengths
+    requires leads { TellLeads (D.class_of source.now) leads.now.may_separate }
+    requires window { IsWindow (D.class_of source.now) text.now.edited.text start window }
     ensures first { result ≡ first (lengths (D.class_of source.now) (drop start text.now.edited.text)) }
     ensures utf8 { IsUtf8 text.now.edited.text }
 {
@@ -88,7 +141,7 @@ pub fn paragraph_from<D: BidiData>(text: &Text, source: &D, start: usize, window
             };
         }
         let piece = part_before(text, at, window.stop);
-        if let Some((before, c)) = separator_in(piece, source) {
+        if let Some((before, c)) = separator_in(piece, source, leads) {
             let end = at + before;
             return Lengths {
                 body: (end - start) as u32,

@@ -11,7 +11,9 @@ pub fn cut_at(blocks: &mut Vec<Block>, at: usize, within: usize, spare: Block)
     requires position { at < vec_len blocks.old }
     requires inside { within ≤ length (get_or blocks.old.items at []) }
     requires room { vec_len blocks.old < vec_capacity blocks.old }
-    ensures items { blocks.new.items ≡ take at blocks.old.items ++ take within (get_or blocks.old.items at []) ∷ drop within (get_or blocks.old.items at []) ∷ drop (at + 1) blocks.old.items }
+    ensures items { blocks.new.items
+        ≡ take at blocks.old.items
+        ++ take within (get_or blocks.old.items at []) ∷ drop within (get_or blocks.old.items at []) ∷ drop (at + 1) blocks.old.items }
     ensures len { vec_len blocks.new ≡ vec_len blocks.old + 1 }
     ensures capacity { vec_capacity blocks.old ≤ vec_capacity blocks.new }
 {
@@ -38,7 +40,9 @@ pub fn join_at(blocks: &mut Vec<Block>, at: usize)
     requires position { at + 1 < vec_len blocks.old }
     requires room { length (get_or blocks.old.items at []) + length (get_or blocks.old.items (at + 1) []) ≤ 128 }
     requires short { total (get_or blocks.old.items at []) + total (get_or blocks.old.items (at + 1) []) < 2 ^ 64 }
-    ensures items { blocks.new.items ≡ take at blocks.old.items ++ (get_or blocks.old.items at [] ++ get_or blocks.old.items (at + 1) []) ∷ drop (at + 2) blocks.old.items }
+    ensures items { blocks.new.items
+        ≡ take at blocks.old.items
+        ++ (get_or blocks.old.items at [] ++ get_or blocks.old.items (at + 1) []) ∷ drop (at + 2) blocks.old.items }
     ensures len { vec_len blocks.new + 1 ≡ vec_len blocks.old }
     ensures capacity { vec_capacity blocks.old ≤ vec_capacity blocks.new }
 {

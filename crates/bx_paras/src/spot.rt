@@ -76,7 +76,8 @@ fn last_filled(blocks: &Blocks, to: usize) -> (usize, usize)
 #[tactic(auto, using(crate::proofs::Flats::length_flat_more))]
 pub fn next_spot(blocks: &Blocks, spot: Spot) -> Option<Spot>
     requires { IsSpot blocks.now.blocks spot }
-    ensures { MatchOption result (spot.number ≡ length (flat blocks.now.blocks)) (λ s. (s.number ≡ spot.number + 1) × (spot.number < length (flat blocks.now.blocks)) × IsSpot blocks.now.blocks s) }
+    ensures { MatchOption result (spot.number ≡ length (flat blocks.now.blocks))
+        (λ s. (s.number ≡ spot.number + 1) × (spot.number < length (flat blocks.now.blocks)) × IsSpot blocks.now.blocks s) }
 {
     let lengths = blocks.block(spot.block)?;
     let number = spot.number + 1;

@@ -8,19 +8,19 @@ use Rattle.bx_paras.proofs.scan.paragraph_from.Goals as goal
 
 pub overflow_add-result : goal.overflow_add-result
 overflow_add-result g c =
-    let within = stop_within (g.D.BidiData.class_of c.args.source.now) c.args.text.now.edited.text c.args.start c.loop-at.at c.args.window c.requires
+    let within = stop_within (g.D.BidiData.class_of c.args.source.now) c.args.text.now.edited.text c.args.start c.loop-at.at c.args.window c.requires.window
     c.len-len.ensures.utf8 c.loop-at.invariant.bounds (omega (arith, c.if-at-window.true)) in
     omega (arith, within, c.len-len.ensures.short)
 
 pub overflow_cast-result : goal.overflow_cast-result
 overflow_cast-result g c =
-    let within = stop_within (g.D.BidiData.class_of c.args.source.now) c.args.text.now.edited.text c.args.start c.loop-at.at c.args.window c.requires
+    let within = stop_within (g.D.BidiData.class_of c.args.source.now) c.args.text.now.edited.text c.args.start c.loop-at.at c.args.window c.requires.window
     c.len-len.ensures.utf8 c.loop-at.invariant.bounds (omega (arith, c.if-at-window.true)) in
     omega (arith, within, c.len-len.ensures.short)
 
 pub overflow_cast-result-then-at-window : goal.overflow_cast-result-then-at-window
 overflow_cast-result-then-at-window g c =
-    let within = stop_within (g.D.BidiData.class_of c.args.source.now) c.args.text.now.edited.text c.args.start c.loop-at.at c.args.window c.requires
+    let within = stop_within (g.D.BidiData.class_of c.args.source.now) c.args.text.now.edited.text c.args.start c.loop-at.at c.args.window c.requires.window
     c.len-len.ensures.utf8 c.loop-at.invariant.bounds (omega (arith, c.if-at-window.true)) in
     omega (arith, within, c.len-len.ensures.short)
 

@@ -1,49 +1,27 @@
-use Rattle.std.proofs.Common.{◌∙◌, ◌+◌, length, take, chars, sym, subst, ap, arith, take_all}
-use Rattle.std.proofs.lemmas.Iterator.{YieldsList-from_chars}
-use Rattle.std.proofs.lemmas.Iterator.Consumers.{YieldsList-turn, YieldsList-end}
-use Rattle.std.proofs.lemmas.List.{length_push}
-use Rattle.bx_paras.specs.Scan.{HasNone}
-use Rattle.bx_paras.proofs.Cuts.{widths}
-use Rattle.bx_paras.proofs.Scans.{found_here, none_more, widths_next, widths_in}
+use Rattle.std.proofs.Common.{◌∙◌, ◌+◌, false, get_or, ap, sym, arith}
+use Rattle.bx_paras.proofs.Scans.{none_next, unflagged_from, found_there, none_there}
 use Rattle.bx_paras.proofs.scan.separator_in.Goals as goal
 
-pub returns-then-separates : goal.returns-then-separates
-returns-then-separates g c =
-    let t = YieldsList-turn (YieldsList-from_chars c.args.piece.now c.utf8.piece cc) c.loop-c.yielded _ c.loop-c.yielded_by _ _ c.in-Some.c c.in-Some.is
-    c.next.ensures.steps in
-    found_here (g.D.BidiData.class_of c.args.source.now) (chars c.args.piece.now) (length c.loop-c.yielded) c.in-Some.c c.loop-c.before t
-    c.loop-c.invariant.none c.loop-c.invariant.bytes
-    (sym c.if-separates.true ∙ c.separates.ensures)
+pub loop-at-init : goal.loop-at-init
+loop-at-init g c =
+    let flags = c.args.leads.now.may_separate in
+    unflagged_from (g.D.BidiData.class_of c.args.source.now) c.args.piece.now c.utf8.piece flags 0 c.next_lead-at.result c.requires
+    (λ front d rest e l. absurd (omega arith))
+    (λ i a b. ap (λ bs. get_or flags (get_or bs i 0) false) (sym c.as_bytes-bytes.ensures.value) ∙ c.next_lead-at.ensures.none_between i a b)
 
-pub overflow_add-before : goal.overflow_add-before
-overflow_add-before g c =
-    let t = YieldsList-turn (YieldsList-from_chars c.args.piece.now c.utf8.piece cc) c.loop-c.yielded _ c.loop-c.yielded_by _ _ c.in-Some.c c.in-Some.is
-    c.next.ensures.steps in
-    let w = widths_next (chars c.args.piece.now) (length c.loop-c.yielded) c.in-Some.c t in
-    let short = widths_in c.args.piece.now (length c.loop-c.yielded + 1) c.utf8.piece in
-    omega (arith, w, short, c.loop-c.invariant.bytes, c.len_utf8-before.ensures.len)
+pub returns-in-Some : goal.returns-in-Some
+returns-in-Some g c =
+    found_there (g.D.BidiData.class_of c.args.source.now) c.args.piece.now c.utf8.piece c.loop-at.at c.in-Some.c c.in-Some.ensures c.loop-at.invariant
 
-pub loop-c-preserved : goal.loop-c-preserved
-loop-c-preserved g c =
-    let t = YieldsList-turn (YieldsList-from_chars c.args.piece.now c.utf8.piece cc) c.loop-c.yielded _ c.loop-c.yielded_by _ _ c.in-Some.c c.in-Some.is
-    c.next.ensures.steps in
-    let n = length_push c.loop-c.yielded c.in-Some.c in
-    let none = none_more (g.D.BidiData.class_of c.args.source.now) (chars c.args.piece.now) (length c.loop-c.yielded) c.in-Some.c t c.loop-c.invariant.none
-    (sym c.if-separates.false ∙ c.separates.ensures) in
-    record {
-      none = subst (λ k. HasNone (g.D.BidiData.class_of c.args.source.now) (take k (chars c.args.piece.now))) (sym n) none;
-      bytes = omega (
-        arith,
-        widths_next (chars c.args.piece.now) (length c.loop-c.yielded) c.in-Some.c t,
-        c.loop-c.invariant.bytes,
-        c.len_utf8-before.ensures.len,
-        ap (λ k. widths (take k (chars c.args.piece.now))) n,
-      );
-    }
+pub loop-at-preserved : goal.loop-at-preserved
+loop-at-preserved g c =
+    let class = g.D.BidiData.class_of c.args.source.now in
+    let flags = c.args.leads.now.may_separate in
+    unflagged_from class c.args.piece.now c.utf8.piece flags (c.loop-at.at + 1) c.next_lead-at-in-loop-at.result c.requires
+    (none_next class c.args.piece.now c.utf8.piece c.loop-at.at c.loop-at.invariant c.in_default.ensures)
+    (λ i a b. ap (λ bs. get_or flags (get_or bs i 0) false) (sym c.as_bytes-bytes.ensures.value) ∙ c.next_lead-at-in-loop-at.ensures.none_between i a b)
 
 pub returns : goal.returns
 returns g c =
-    let t = YieldsList-end (YieldsList-from_chars c.args.piece.now c.utf8.piece cc) c.loop-c.yielded _ c.loop-c.yielded_by _ _ c.in-None.is
-    c.next.ensures.steps in
-    subst (HasNone (g.D.BidiData.class_of c.args.source.now)) (take_all (length c.loop-c.yielded) (chars c.args.piece.now) (omega (arith, t.1)))
-    c.loop-c.invariant.none
+    none_there (g.D.BidiData.class_of c.args.source.now) c.args.piece.now c.utf8.piece c.loop-at.at
+    (omega (arith, c.loop-at-test.false, c.as_bytes-bytes.ensures.len)) c.loop-at.invariant

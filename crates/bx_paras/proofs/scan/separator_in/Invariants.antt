@@ -1,10 +1,10 @@
--- The characters read so far have no separator, and this is how many bytes they have.
-use Rattle.std.proofs.Common.{◌≡◌, length, take, chars, encode_utf8_all}
-use Rattle.bx_paras.specs.Scan.{HasNone}
+-- No separator begins before the byte.
+use Rattle.std.proofs.Common.{◌-◌, length}
+use Rattle.bx_paras.specs.Scan.{NoneBefore}
 use Rattle.bx_paras.proofs.scan.separator_in.Given as goal
 
-abbrev pub invariant-loop-c : goal.invariant-loop-c
-invariant-loop-c g l = record {
-  none : HasNone (g.D.BidiData.class_of l.source) (take (length l.yielded) (chars l.piece));
-  bytes : l.before ≡ length (encode_utf8_all (take (length l.yielded) (chars l.piece)));
-}
+abbrev pub invariant-loop-at : goal.invariant-loop-at
+invariant-loop-at g l = NoneBefore (g.D.BidiData.class_of l.source) l.piece l.at
+
+abbrev pub decreases-loop-at : goal.decreases-loop-at
+decreases-loop-at g l = length l.piece - l.at

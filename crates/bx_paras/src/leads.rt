@@ -1,0 +1,74 @@
+//! The first bytes that paragraph separators may have in UTF-8.
+
+ghost use Rattle.std.specs.Prelude.{◌≡◌, ◌<◌, ℕ, true, false, length, get_or};
+ghost use Rattle.std.specs.Char.{IsScalar};
+ghost use Rattle.bx_paras.specs.Paragraphs.{is_separator};
+ghost use Rattle.bx_paras.specs.Leads.{lead_of, TellLeads};
+
+use crate::scan::separates;
+use bx_ucd::BidiData;
+
+/// Which bytes may begin a paragraph separator in UTF-8.
+#[derive(Drop)]
+pub struct Leads {
+    /// A flag for each byte.
+    pub may_separate: [bool; 256],
+}
+
+/// The first byte of a character in UTF-8.
+fn lead_byte(code: u32) -> u8
+    requires { code < 0x110000 }
+    ensures { result ≡ lead_of code }
+{
+    if code < 0x80 {
+        code as u8
+    } else if code < 0x800 {
+        (0xC0 + code / 0x40) as u8
+    } else if code < 0x10000 {
+        (0xE0 + code / 0x1000) as u8
+    } else {
+        (0xF0 + code / 0x40000) as u8
+    }
+}
+
+/// Below which code the characters are asked for, before a scan of so many bytes: the more, the longer it is.
+fn asked_below(bytes: usize) -> u32
+    ensures { result < 0x110000 }
+{
+    if bytes < 0x1000 {
+        0
+    } else if bytes < 0x100000 {
+        0x800
+    } else {
+        0x10000
+    }
+}
+
+/// Sets the flag of a character's first byte, if the character is a separator.
+fn mark<D: BidiData>(flags: &mut [bool; 256], source: &D, code: u32)
+    requires { code < 0x110000 }
+    ensures len { length flags.new ≡ 256 }
+    ensures same { (byte : ℕ) → get_or flags.old byte false ≡ true → get_or flags.new byte false ≡ true }
+    ensures marked { IsScalar code → is_separator (D.class_of source.now code) ≡ true → get_or flags.new (lead_of code) false ≡ true }
+{
+    if let Some(c) = char::from_u32(code) {
+        if separates(source, c) {
+            flags[lead_byte(code) as usize] = true;
+        }
+    }
+}
+
+/// The first bytes of separators, for a scan of so many bytes.
+pub fn leads_of<D: BidiData>(source: &D, bytes: usize) -> Leads
+    ensures { TellLeads (D.class_of source.now) result.may_separate }
+{
+    let limit = asked_below(bytes);
+    let mut may_separate = [false; 256];
+    for code in 0..limit {
+        mark(&mut may_separate, source, code);
+    }
+    for byte in lead_byte(limit) as usize..256 {
+        may_separate[byte] = true;
+    }
+    Leads { may_separate }
+}
