@@ -1,15 +1,16 @@
 -- Rows whose codes are equal and all tell their columns show the same.
-use Rattle.std.proofs.Common.{◌≡◌, ℕ, ◌+◌, ◌*◌, ◌-◌, ◌≤◌, ◌<◌, Bool, true, false, ◌&&◌, nat_le, nat_lt, if◌then◌else◌, List, [], ◌∷◌, ◌++◌, length}
+use Rattle.std.proofs.Common.{◌≡◌, ℕ, ◌+◌, ◌*◌, ◌-◌, ◌/◌, ◌%◌, ◌≤◌, ◌<◌, Bool, true, false, ◌&&◌, nat_eq, nat_le, nat_lt, if◌then◌else◌, List, [], ◌∷◌, ◌++◌, length}
 use Rattle.std.proofs.Common.{take, drop, set, get_or, zero, suc, refl, ap, sym, ◌∙◌, append_assoc, length-append, below_more, min, inl, inr, arith}
 use Rattle.std.proofs.lemmas.Bool.{cases_lt}
 use lib.Bits.{bit_or, bit_xor, xor_assoc, xor_self, xor_zero_l, xor_zero_r}
 use Rattle.std.specs.List.{list_all}
-use Rattle.std.proofs.lemmas.List.{same_lists, drop_more, get_or-drop, length-drop, length-map, length-take-le, map-append, set_at, take_more, take-map, take_all}
+use Rattle.std.proofs.lemmas.List.{same_lists, drop_more, get_or-drop, get_or-map, length-drop, length-map, length-take-le, map-append, set_at, take_more, take-map, take_all}
 use Rattle.std.proofs.lemmas.List.{drop-map}
 use Rattle.std.proofs.lemmas.Bool.Decides.{nat_tests}
 use Rattle.std.proofs.lemmas.Nat.{le_or_l, le_or_r}
 use Rattle.bx_grid.specs.Columns.{Col, Unknown, Glyph, are_equal, paste}
-use Rattle.bx_grid.specs.Codes.{is_byte, is_short, packed, no_code, is_code, code_in, code_of, codes_of}
+use Rattle.bx_grid.specs.Codes.{is_byte, is_short, packed, no_code, is_code, code_in, code_of, codes_of, columns_in, are_same_narrow}
+use Rattle.bx_grid.specs.Glyphs.{IsNarrow}
 use Rattle.bx_grid.specs.Seen.{seen, all_seen}
 use Rattle.bx_grid.specs.declared.column.Column.{Column}
 use Rattle.bx_grid.proofs.Equal.{are_equal_refl, lists_are}
@@ -121,6 +122,32 @@ pub same_by_codes : (xs ys : List Col) (a b : List ℕ) → a ≡ codes_of xs �
 same_by_codes xs ys a b ea eb e h =
     let same = rows_same xs ys (sym ea ∙ e ∙ eb) (ap (list_all is_code) (sym ea) ∙ h) in
     rw same (are_equal_refl ys)
+
+told_columns : (n c o x : ℕ) → c < 4 → o < 4 → x ≤ 1 → (((((n * 4 + c) * 4 + o) * 2 + x) / 8) % 4) ≡ c
+told_columns n c o x lc lo lx = omega arith
+
+narrow_by : (x : Col) → is_code (code_of x) ≡ true → columns_in (code_of x) ≡ 1 → IsNarrow x
+narrow_by Unknown h e = absurd (none_is h)
+narrow_by (Glyph text columns offset negative) h e =
+    let told = told_by (fits text columns offset) text columns offset negative refl h in
+    let here : columns_in (code_in (packed text) columns offset negative) ≡ 1 = ap columns_in (sym told.code) ∙ e in
+    sym (told_columns (packed text) columns offset (flag negative) told.narrow told.near (flag_low negative)) ∙ here
+
+pub narrow_told : (x y : Col) (a b : ℕ) → a ≡ code_of x → b ≡ code_of y → are_same_narrow a b ≡ true → (x ≡ y) × IsNarrow x
+narrow_told x y a b ea eb h =
+    let front = and_left (nat_eq a b && is_code a) (nat_eq (columns_in a) 1) h in
+    let same : nat_eq a b ≡ true = and_left (nat_eq a b) (is_code a) front in
+    let code : is_code a ≡ true = and_right (nat_eq a b) (is_code a) front in
+    let one : nat_eq (columns_in a) 1 ≡ true = and_right (nat_eq a b && is_code a) (nat_eq (columns_in a) 1) h in
+    let equal : a ≡ b = grind (arith, nat_tests) in
+    let narrow : columns_in a ≡ 1 = grind (arith, nat_tests) in
+    let told : is_code (code_of x) ≡ true = ap is_code (sym ea) ∙ code in
+    (code_same x y (sym ea ∙ equal ∙ eb) told, narrow_by x told (ap columns_in (sym ea) ∙ narrow))
+
+-- the code at an index
+pub code_at : (columns : List Column) (codes : List ℕ) (i : ℕ) (d : ℕ) → codes ≡ codes_of (all_seen columns) → i < length (all_seen columns)
+    → get_or codes i d ≡ code_of (get_or (all_seen columns) i Unknown)
+code_at columns codes i d e inside = ap (λ xs. get_or xs i d) e ∙ get_or-map code_of (all_seen columns) i Unknown d inside
 
 equal_by : (t : Bool) (xs ys : List Col) → are_equal xs ys ≡ t → (xs ≡ ys → ⊥) → are_equal xs ys ≡ false
 equal_by true xs ys e h = absurd (h (lists_are xs ys e))
