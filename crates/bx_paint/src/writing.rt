@@ -7,8 +7,8 @@ ghost use Rattle.bx_paint.specs.Painting as spec;
 ghost use Rattle.bx_paint.specs.Painting.{move_bytes, render_change, glyph_bytes, before_tail, leading_blanks, column_sent, columns_sent, tail_sent, row_sent};
 ghost use Rattle.bx_paint.specs.Painting.{rows_sent};
 
+use crate::numbers::write_number;
 use bx_grid::{Column, GlyphText, Grid, Row};
-use itoa::Buffer;
 use std::alloc::AllocError;
 
 /// Sends the cursor to a row and a column, from 0.
@@ -16,13 +16,12 @@ pub fn write_move(out: &mut Vec<u8>, row: u16, column: u16) -> Result<(), AllocE
     requires small { (row < 65535) × (column < 65535) }
     ensures { OnOk result (out.new.items ≡ out.old.items ++ move_bytes row column) }
 {
-    out.extend_from_slice(b"\x1b[")?;
-    let mut line = Buffer::new();
-    out.extend_from_slice(line.format(row + 1).as_bytes())?;
-    out.extend_from_slice(b";")?;
-    let mut index = Buffer::new();
-    out.extend_from_slice(index.format(column + 1).as_bytes())?;
-    out.extend_from_slice(b"H")?;
+    out.push(0x1B)?;
+    out.push(b'[')?;
+    write_number(out, row + 1)?;
+    out.push(b';')?;
+    write_number(out, column + 1)?;
+    out.push(b'H')?;
     Ok(())
 }
 
