@@ -1,5 +1,5 @@
 -- Rows whose codes are equal and all tell their columns show the same.
-use Rattle.std.proofs.Common.{◌≡◌, ℕ, ◌+◌, ◌*◌, ◌-◌, ◌/◌, ◌%◌, ◌≤◌, ◌<◌, Bool, true, false, ◌&&◌, nat_eq, nat_le, nat_lt, if◌then◌else◌, List, [], ◌∷◌, ◌++◌, length}
+use Rattle.std.proofs.Common.{◌≡◌, ℕ, ◌+◌, ◌*◌, ◌-◌, ◌/◌, ◌%◌, ◌≤◌, ◌<◌, Bool, true, false, not, ◌&&◌, nat_eq, nat_le, nat_lt, if◌then◌else◌, List, [], ◌∷◌, ◌++◌, length}
 use Rattle.std.proofs.Common.{take, drop, set, get_or, zero, suc, refl, ap, sym, ◌∙◌, append_assoc, length-append, below_more, min, inl, inr, arith}
 use Rattle.std.proofs.lemmas.Bool.{cases_lt}
 use lib.Bits.{bit_or, bit_xor, xor_assoc, xor_self, xor_zero_l, xor_zero_r}
@@ -8,12 +8,12 @@ use Rattle.std.proofs.lemmas.List.{same_lists, drop_more, get_or-drop, get_or-ma
 use Rattle.std.proofs.lemmas.List.{drop-map}
 use Rattle.std.proofs.lemmas.Bool.Decides.{nat_tests}
 use Rattle.std.proofs.lemmas.Nat.{le_or_l, le_or_r}
-use Rattle.bx_grid.specs.Columns.{Col, Unknown, Glyph, are_equal, paste}
+use Rattle.bx_grid.specs.Columns.{Col, Unknown, Glyph, col_eq, are_equal, paste}
 use Rattle.bx_grid.specs.Codes.{is_byte, is_short, packed, no_code, is_code, code_in, code_of, codes_of, columns_in, are_same_narrow}
 use Rattle.bx_grid.specs.Glyphs.{IsNarrow}
 use Rattle.bx_grid.specs.Seen.{seen, all_seen}
 use Rattle.bx_grid.specs.declared.column.Column.{Column}
-use Rattle.bx_grid.proofs.Equal.{are_equal_refl, lists_are}
+use Rattle.bx_grid.proofs.Equal.{are_equal_refl, lists_are, col_is}
 use Rattle.bx_grid.proofs.Pasted.{paste_around, three_parts}
 use Rattle.bx_grid.proofs.Reading.{and_left, and_right}
 
@@ -160,6 +160,28 @@ differ_by_codes xs ys a b ea eb h = sym (equal_by (are_equal xs ys) xs ys refl (
 pub as_many : (xs ys : List Column) (a b : List ℕ) → length xs ≡ length ys → a ≡ codes_of (all_seen xs) → b ≡ codes_of (all_seen ys) → length a ≡ length b
 as_many xs ys a b len ea eb =
     ap length ea ∙ length-map (all_seen xs) code_of ∙ length-map xs seen ∙ len ∙ sym (ap length eb ∙ length-map (all_seen ys) code_of ∙ length-map ys seen)
+
+unequal_by : (t : Bool) (x y : Col) → col_eq x y ≡ t → (x ≡ y → ⊥) → col_eq x y ≡ false
+unequal_by true x y e h = absurd (h (col_is x y e))
+unequal_by false x y e h = e
+
+codes_apart : (a b : ℕ) → not (nat_eq a b) ≡ true → a ≡ b → ⊥
+codes_apart a b h e = grind (arith, nat_tests)
+
+first_apart : (xs ys : List Col) → not (nat_eq (get_or (codes_of xs) 0 0) (get_or (codes_of ys) 0 0)) ≡ true → (n : ℕ) → 0 < n
+    → are_equal (take n xs) (take n ys) ≡ false
+first_apart xs ys h zero some = absurd (omega arith)
+first_apart [] [] h (suc n) some = absurd (cc h)
+first_apart [] (y ∷ ys) h (suc n) some = refl
+first_apart (x ∷ xs) [] h (suc n) some = refl
+first_apart (x ∷ xs) (y ∷ ys) h (suc n) some =
+    let differ : col_eq x y ≡ false = unequal_by (col_eq x y) x y refl (λ e. codes_apart (code_of x) (code_of y) h (ap code_of e)) in
+    rw differ refl
+
+-- columns whose first codes differ
+pub begin_otherwise : (xs ys : List Col) (codes others : List ℕ) → codes ≡ codes_of xs → others ≡ codes_of ys
+    → not (nat_eq (get_or codes 0 0) (get_or others 0 0)) ≡ true → (n : ℕ) → 0 < n → are_equal (take n xs) (take n ys) ≡ false
+begin_otherwise xs ys codes others ea eb h = first_apart xs ys (rw (ea, eb) at h)
 
 -- ---- the codes of a part of a row
 

@@ -68,8 +68,11 @@ fn write_glyph(
 fn is_same_front(old: &Row<'_>, new: &Row<'_>, count: u16) -> bool
     ensures { result ≡ are_equal (take count old.now) (take count new.now) }
 {
-    old.front(count as usize)
-        .is_same(&new.front(count as usize))
+    let count = count as usize;
+    if count > 0 && old.begins_otherwise(new) {
+        return false;
+    }
+    old.front(count).is_same(&new.front(count))
 }
 
 /// Whether the columns begin with a glyph of which a column differs from the old ones.
@@ -130,9 +133,11 @@ fn write_at(
     requires small { (row < 65535) × (length new.now < 65535) }
     requires same { length old.now ≡ length new.now }
     requires inside { index < length new.now }
-    ensures bytes { OnOk result (out.new.items ≡ out.old.items ++ (column_sent row index pen.near pen.negative (drop index old.now) (drop index new.now)).bytes) }
+    ensures bytes { OnOk result (out.new.items ≡ out.old.items
+        ++ (column_sent row index pen.near pen.negative (drop index old.now) (drop index new.now)).bytes) }
     ensures near { IfOk result (λ after. after.near ≡ (column_sent row index pen.near pen.negative (drop index old.now) (drop index new.now)).near) }
-    ensures rendition { IfOk result (λ after. after.negative ≡ (column_sent row index pen.near pen.negative (drop index old.now) (drop index new.now)).negative) }
+    ensures rendition { IfOk result (λ after. after.negative
+        ≡ (column_sent row index pen.near pen.negative (drop index old.now) (drop index new.now)).negative) }
 {
     if old.shares_narrow(new, index) {
         return Ok(Pen {
@@ -281,8 +286,10 @@ pub fn write_over_blanks(
     new: &Grid,
 ) -> Result<bool, AllocError>
     requires { blanks.now ≡ replicate new.now.width blank }
-    ensures bytes { OnOk result (out.new.items ≡ out.old.items ++ (rows_sent new.now.height 0 new.now.width false (replicate (new.now.height * new.now.width) blank) new.now.columns).bytes) }
-    ensures rendition { IfOk result (λ after. after ≡ (rows_sent new.now.height 0 new.now.width false (replicate (new.now.height * new.now.width) blank) new.now.columns).negative) }
+    ensures bytes { OnOk result (out.new.items ≡ out.old.items
+        ++ (rows_sent new.now.height 0 new.now.width false (replicate (new.now.height * new.now.width) blank) new.now.columns).bytes) }
+    ensures rendition { IfOk result (λ after. after
+        ≡ (rows_sent new.now.height 0 new.now.width false (replicate (new.now.height * new.now.width) blank) new.now.columns).negative) }
 {
     let mut negative = false;
     for row in 0..new.height() {
