@@ -1,18 +1,19 @@
 -- Rows whose codes are equal and all tell their columns show the same.
-use Rattle.std.proofs.Common.{◌≡◌, ℕ, ◌+◌, ◌*◌, ◌-◌, ◌≤◌, ◌<◌, Bool, true, false, ◌&&◌, nat_le, nat_lt, if◌then◌else◌, List, [], ◌∷◌, ◌++◌, length}
+use Rattle.std.proofs.Common.{◌≡◌, ℕ, ◌+◌, ◌*◌, ◌-◌, ◌/◌, ◌%◌, ◌≤◌, ◌<◌, Bool, true, false, not, ◌&&◌, nat_eq, nat_le, nat_lt, if◌then◌else◌, List, [], ◌∷◌, ◌++◌, length}
 use Rattle.std.proofs.Common.{take, drop, set, get_or, zero, suc, refl, ap, sym, ◌∙◌, append_assoc, length-append, below_more, min, inl, inr, arith}
 use Rattle.std.proofs.lemmas.Bool.{cases_lt}
 use lib.Bits.{bit_or, bit_xor, xor_assoc, xor_self, xor_zero_l, xor_zero_r}
 use Rattle.std.specs.List.{list_all}
-use Rattle.std.proofs.lemmas.List.{same_lists, drop_more, get_or-drop, length-drop, length-map, length-take-le, map-append, set_at, take_more, take-map, take_all}
+use Rattle.std.proofs.lemmas.List.{same_lists, drop_more, get_or-drop, get_or-map, length-drop, length-map, length-take-le, map-append, set_at, take_more, take-map, take_all}
 use Rattle.std.proofs.lemmas.List.{drop-map}
 use Rattle.std.proofs.lemmas.Bool.Decides.{nat_tests}
 use Rattle.std.proofs.lemmas.Nat.{le_or_l, le_or_r}
-use Rattle.bx_grid.specs.Columns.{Col, Unknown, Glyph, are_equal, paste}
-use Rattle.bx_grid.specs.Codes.{is_byte, is_short, packed, no_code, is_code, code_in, code_of, codes_of}
+use Rattle.bx_grid.specs.Columns.{Col, Unknown, Glyph, col_eq, are_equal, paste}
+use Rattle.bx_grid.specs.Codes.{is_byte, is_short, packed, no_code, is_code, code_in, code_of, codes_of, columns_in, are_same_narrow}
+use Rattle.bx_grid.specs.Glyphs.{IsNarrow}
 use Rattle.bx_grid.specs.Seen.{seen, all_seen}
 use Rattle.bx_grid.specs.declared.column.Column.{Column}
-use Rattle.bx_grid.proofs.Equal.{are_equal_refl, lists_are}
+use Rattle.bx_grid.proofs.Equal.{are_equal_refl, lists_are, col_is}
 use Rattle.bx_grid.proofs.Pasted.{paste_around, three_parts}
 use Rattle.bx_grid.proofs.Reading.{and_left, and_right}
 
@@ -122,6 +123,32 @@ same_by_codes xs ys a b ea eb e h =
     let same = rows_same xs ys (sym ea ∙ e ∙ eb) (ap (list_all is_code) (sym ea) ∙ h) in
     rw same (are_equal_refl ys)
 
+told_columns : (n c o x : ℕ) → c < 4 → o < 4 → x ≤ 1 → (((((n * 4 + c) * 4 + o) * 2 + x) / 8) % 4) ≡ c
+told_columns n c o x lc lo lx = omega arith
+
+narrow_by : (x : Col) → is_code (code_of x) ≡ true → columns_in (code_of x) ≡ 1 → IsNarrow x
+narrow_by Unknown h e = absurd (none_is h)
+narrow_by (Glyph text columns offset negative) h e =
+    let told = told_by (fits text columns offset) text columns offset negative refl h in
+    let here : columns_in (code_in (packed text) columns offset negative) ≡ 1 = ap columns_in (sym told.code) ∙ e in
+    sym (told_columns (packed text) columns offset (flag negative) told.narrow told.near (flag_low negative)) ∙ here
+
+pub narrow_told : (x y : Col) (a b : ℕ) → a ≡ code_of x → b ≡ code_of y → are_same_narrow a b ≡ true → (x ≡ y) × IsNarrow x
+narrow_told x y a b ea eb h =
+    let front = and_left (nat_eq a b && is_code a) (nat_eq (columns_in a) 1) h in
+    let same : nat_eq a b ≡ true = and_left (nat_eq a b) (is_code a) front in
+    let code : is_code a ≡ true = and_right (nat_eq a b) (is_code a) front in
+    let one : nat_eq (columns_in a) 1 ≡ true = and_right (nat_eq a b && is_code a) (nat_eq (columns_in a) 1) h in
+    let equal : a ≡ b = grind (arith, nat_tests) in
+    let narrow : columns_in a ≡ 1 = grind (arith, nat_tests) in
+    let told : is_code (code_of x) ≡ true = ap is_code (sym ea) ∙ code in
+    (code_same x y (sym ea ∙ equal ∙ eb) told, narrow_by x told (ap columns_in (sym ea) ∙ narrow))
+
+-- the code at an index
+pub code_at : (columns : List Column) (codes : List ℕ) (i : ℕ) (d : ℕ) → codes ≡ codes_of (all_seen columns) → i < length (all_seen columns)
+    → get_or codes i d ≡ code_of (get_or (all_seen columns) i Unknown)
+code_at columns codes i d e inside = ap (λ xs. get_or xs i d) e ∙ get_or-map code_of (all_seen columns) i Unknown d inside
+
 equal_by : (t : Bool) (xs ys : List Col) → are_equal xs ys ≡ t → (xs ≡ ys → ⊥) → are_equal xs ys ≡ false
 equal_by true xs ys e h = absurd (h (lists_are xs ys e))
 equal_by false xs ys e h = e
@@ -133,6 +160,28 @@ differ_by_codes xs ys a b ea eb h = sym (equal_by (are_equal xs ys) xs ys refl (
 pub as_many : (xs ys : List Column) (a b : List ℕ) → length xs ≡ length ys → a ≡ codes_of (all_seen xs) → b ≡ codes_of (all_seen ys) → length a ≡ length b
 as_many xs ys a b len ea eb =
     ap length ea ∙ length-map (all_seen xs) code_of ∙ length-map xs seen ∙ len ∙ sym (ap length eb ∙ length-map (all_seen ys) code_of ∙ length-map ys seen)
+
+unequal_by : (t : Bool) (x y : Col) → col_eq x y ≡ t → (x ≡ y → ⊥) → col_eq x y ≡ false
+unequal_by true x y e h = absurd (h (col_is x y e))
+unequal_by false x y e h = e
+
+codes_apart : (a b : ℕ) → not (nat_eq a b) ≡ true → a ≡ b → ⊥
+codes_apart a b h e = grind (arith, nat_tests)
+
+first_apart : (xs ys : List Col) → not (nat_eq (get_or (codes_of xs) 0 0) (get_or (codes_of ys) 0 0)) ≡ true → (n : ℕ) → 0 < n
+    → are_equal (take n xs) (take n ys) ≡ false
+first_apart xs ys h zero some = absurd (omega arith)
+first_apart [] [] h (suc n) some = absurd (cc h)
+first_apart [] (y ∷ ys) h (suc n) some = refl
+first_apart (x ∷ xs) [] h (suc n) some = refl
+first_apart (x ∷ xs) (y ∷ ys) h (suc n) some =
+    let differ : col_eq x y ≡ false = unequal_by (col_eq x y) x y refl (λ e. codes_apart (code_of x) (code_of y) h (ap code_of e)) in
+    rw differ refl
+
+-- columns whose first codes differ
+pub begin_otherwise : (xs ys : List Col) (codes others : List ℕ) → codes ≡ codes_of xs → others ≡ codes_of ys
+    → not (nat_eq (get_or codes 0 0) (get_or others 0 0)) ≡ true → (n : ℕ) → 0 < n → are_equal (take n xs) (take n ys) ≡ false
+begin_otherwise xs ys codes others ea eb h = first_apart xs ys (rw (ea, eb) at h)
 
 -- ---- the codes of a part of a row
 

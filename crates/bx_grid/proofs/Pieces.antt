@@ -75,10 +75,10 @@ row_erased row L k y fits hl =
     (omega (arith, length-map (drop k row) seen, length-drop k row, length-replicate (length row - k) y))
     ∙ rw (hl, none, take-map seen k row) (sym (append-nil (cut_before (all_seen (take k row)) ++ replicate (length row - k) y)))
 
-pub placed : (columns part : List Column) (w row k : ℕ) (news : List Col)
+pub row_put : (columns part : List Column) (w row k : ℕ) (news : List Col)
     → all_seen part ≡ put_in_row (all_seen (take ((row * w + w) - row * w) (drop (row * w) columns))) k news
     → all_seen (put_mid (row * w) ((row * w + w) - row * w) columns part) ≡ put w (all_seen columns) row k news
-placed columns part w row k news h =
+row_put columns part w row k news h =
     let e : (row * w + w) - row * w ≡ w = omega arith in
     let h' : all_seen part ≡ put_in_row (all_seen (take w (drop (row * w) columns))) k news =
     h ∙ ap (λ n. put_in_row (all_seen (take n (drop (row * w) columns))) k news) e in

@@ -106,16 +106,16 @@ all-append p (x ∷ xs) ys h g =
     rw (and_left (p x) (list_all p xs) h) (all-append p xs ys (and_right (p x) (list_all p xs) h) g)
 
 -- what stands in `CSI line ; column H`
-abbrev pub place_params : ℕ → ℕ → List ℕ
-place_params line column = decimal line ++ 0x3B ∷ decimal column
+abbrev pub move_params : ℕ → ℕ → List ℕ
+move_params line column = decimal line ++ 0x3B ∷ decimal column
 
-pub place_params_fit : (line column : ℕ) → line < 2 ^ 64 → column < 2 ^ 64 → list_all is_param (place_params line column) ≡ true
-place_params_fit line column l c =
+pub move_params_fit : (line column : ℕ) → line < 2 ^ 64 → column < 2 ^ 64 → list_all is_param (move_params line column) ≡ true
+move_params_fit line column l c =
     all-append is_param (decimal line) (0x3B ∷ decimal column)
     (digits_are_params (decimal line) (digits_decimal own line l))
     (digits_are_params (decimal column) (digits_decimal own column c))
 
-pub command_of-index : (line column : ℕ) → line < 2 ^ 64 → column < 2 ^ 64 → command_of (place_params line column) 0x48 ≡ Move line column
+pub command_of-index : (line column : ℕ) → line < 2 ^ 64 → column < 2 ^ 64 → command_of (move_params line column) 0x48 ≡ Move line column
 command_of-index line column l c =
     let parts = no_semicolon (decimal line) (digits_decimal own line l) (decimal column) in
     rw (parts.0, parts.1, number-decimal line l, number-decimal column c) refl

@@ -61,12 +61,12 @@ pub ends_put : (t : Terminal) (p : ℕ × ℕ) (negative : Bool) → t.position 
 ends_put t p negative ep en some =
     ap (λ q. run_put t q t.negative t.run) ep ∙ ap (λ n. run_put t (Some p) n t.run) en ∙ put_by t p negative t.run some
 
-unplaced : (t : Terminal) (negative : Option Bool) (run : List ℕ) → 0 < length run → run_put t None negative run ≡ all_unknown t
-unplaced t negative [] h = absurd (omega arith)
-unplaced t negative (b ∷ bs) h = refl
+put_nowhere : (t : Terminal) (negative : Option Bool) (run : List ℕ) → 0 < length run → run_put t None negative run ≡ all_unknown t
+put_nowhere t negative [] h = absurd (omega arith)
+put_nowhere t negative (b ∷ bs) h = refl
 
-pub ends_unplaced : (t : Terminal) → t.position ≡ None → 0 < length t.run → run_ended t ≡ all_unknown t
-ends_unplaced t e some = ap (λ q. run_put t q t.negative t.run) e ∙ unplaced t t.negative t.run some
+pub ends_nowhere : (t : Terminal) → t.position ≡ None → 0 < length t.run → run_ended t ≡ all_unknown t
+ends_nowhere t e some = ap (λ q. run_put t q t.negative t.run) e ∙ put_nowhere t t.negative t.run some
 
 put_half : (t : Terminal) (p : ℕ × ℕ) (fits : Bool) (new : List Col) → t.half_read ≡ [] → nat_le 1 (length new) && nat_le (p.1 + length new) t.width ≡ fits
     → (glyphs_put t p new).half_read ≡ []

@@ -1,5 +1,5 @@
 -- The codes of columns, by which rows are compared at once.
-use Rattle.std.specs.Prelude.{ℕ, ◌+◌, ◌*◌, Bool, ◌&&◌, nat_le, nat_lt, List, [], ◌∷◌, map, length, if◌then◌else◌}
+use Rattle.std.specs.Prelude.{ℕ, ◌+◌, ◌*◌, ◌/◌, ◌%◌, ◌==◌, Bool, ◌&&◌, nat_le, nat_lt, List, [], ◌∷◌, map, length, if◌then◌else◌}
 use Rattle.std.specs.List.{list_all}
 use Rattle.bx_grid.specs.Columns.{Col, Unknown, Glyph}
 
@@ -33,3 +33,11 @@ code_of (Glyph text columns offset negative) =
 
 abbrev pub codes_of : List Col → List ℕ
 codes_of columns = map code_of columns
+
+-- the columns of the glyph of which a code tells a column
+abbrev pub columns_in : ℕ → ℕ
+columns_in code = (code / 8) % 4
+
+-- both are the code of one glyph of one column
+abbrev pub are_same_narrow : ℕ → ℕ → Bool
+are_same_narrow code other = (code == other) && is_code code && (columns_in code == 1)

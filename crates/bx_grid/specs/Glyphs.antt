@@ -61,3 +61,8 @@ IsOfGlyph (Glyph text count offset negative) index other = (index ≤ other + of
 abbrev pub DifferInWholeGlyphs : List Col → List Col → Type 0
 DifferInWholeGlyphs old new = (i k : ℕ) → i < length old → IsOfGlyph (slice_index_or old i Unknown) i k
     → slice_index_or old i Unknown ≢ slice_index_or new i Unknown → slice_index_or old k Unknown ≢ slice_index_or new k Unknown
+
+-- the column at an index is one of a glyph of one column
+abbrev pub IsNarrow : Col → Type 0
+IsNarrow Unknown = ⊥
+IsNarrow (Glyph text count offset negative) = count ≡ 1

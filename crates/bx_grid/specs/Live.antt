@@ -21,6 +21,6 @@ terminal_of s = record {
 
 pub record IsLive (s : Inside) : Type 0 where
   pub sized : IsSized s.height s.width (length s.columns.items)
-  pub placed : IfSome s.position (λ p. (p.0 < s.height) × (p.1 < s.width))
+  pub position : IfSome s.position (λ p. (p.0 < s.height) × (p.1 < s.width))
   pub waits : fate s.half_read.items ≡ Waits
   pub uncut : AreUncutRows s.height s.width (all_seen s.columns.items)

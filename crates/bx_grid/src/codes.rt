@@ -4,7 +4,7 @@ ghost use Rattle.std.specs.Prelude.{◌≡◌, ◌≤◌, ◌-◌, ◌<◌, ◌^
 ghost use Rattle.std.specs.List.{list_all};
 ghost use Rattle.bx_grid.specs.Columns.{Glyph, are_equal};
 ghost use Rattle.bx_grid.specs.Codes as spec;
-ghost use Rattle.bx_grid.specs.Codes.{code_of, is_code, codes_of};
+ghost use Rattle.bx_grid.specs.Codes.{no_code, code_of, is_code, codes_of, are_same_narrow};
 ghost use Rattle.bx_grid.specs.Seen.{seen, all_seen};
 
 use crate::column::{Column, all_same};
@@ -63,28 +63,29 @@ pub fn note_codes(codes: &mut [u64], columns: &[Column], from: usize, to: usize)
     }
 }
 
-/// The bits in which codes differ. The whole of both is read, which is faster than to stop.
-fn differing_bits(codes: &[u64], others: &[u64]) -> u64
-    requires { length codes.now ≡ length others.now }
-    ensures same { result ≡ 0 → codes.now ≡ others.now }
-    ensures none { codes.now ≡ others.now → result ≡ 0 }
-{
-    let mut differing: u64 = 0;
-    for (i, code) in codes.iter().enumerate() {
-        differing |= *code ^ others[i];
-    }
-    differing
+/// The bits in which codes differ from others, and those that some of them have.
+#[derive(Clone, Copy)]
+struct Bits {
+    differing: u64,
+    any: u64,
 }
 
-/// Whether all these codes tell their columns.
-fn all_tell(codes: &[u64]) -> bool
-    ensures { result ≡ true → list_all is_code codes.now ≡ true }
+/// The bits of codes beside others. The whole of both is read, which is faster than to stop.
+fn bits_of(codes: &[u64], others: &[u64]) -> Bits
+    requires { length codes.now ≡ length others.now }
+    ensures same { result.differing ≡ 0 → codes.now ≡ others.now }
+    ensures none { codes.now ≡ others.now → result.differing ≡ 0 }
+    ensures told { result.any < no_code → list_all is_code codes.now ≡ true }
 {
-    let mut all: u64 = 0;
-    for code in codes {
-        all |= *code;
+    let mut bits = Bits {
+        differing: 0,
+        any: 0,
+    };
+    for (i, code) in codes.iter().enumerate() {
+        bits.differing |= *code ^ others[i];
+        bits.any |= *code;
     }
-    all < NO_CODE
+    bits
 }
 
 /// Whether columns show the same. Their codes tell it where they differ, and where all of them tell their columns.
@@ -96,8 +97,17 @@ pub fn are_same(columns: &[Column], codes: &[u64], others: &[Column], other_code
     if columns.len() != others.len() {
         return false;
     }
-    if differing_bits(codes, other_codes) != 0 {
+    let bits = bits_of(codes, other_codes);
+    if bits.differing != 0 {
         return false;
     }
-    all_tell(codes) || all_same(columns, others)
+    bits.any < NO_CODE || all_same(columns, others)
+}
+
+/// Whether two columns are the same one of a glyph of one column, as far as their codes tell it: not every such glyph has
+/// a code of its own.
+pub fn are_same_narrow(code: u64, other: u64) -> bool
+    ensures { result ≡ are_same_narrow code other }
+{
+    code == other && code < NO_CODE && code / 8 % 4 == 1
 }

@@ -35,10 +35,16 @@ impl ShortText {
         requires { length text.now ≤ 7 }
         ensures { result ≡ text.now }
     {
-        let mut bytes = [0; 7];
-        for (i, byte) in text.iter().enumerate() {
-            bytes[i] = *byte;
-        }
+        let bytes = match text {
+            [] => [0, 0, 0, 0, 0, 0, 0],
+            [a] => [*a, 0, 0, 0, 0, 0, 0],
+            [a, b] => [*a, *b, 0, 0, 0, 0, 0],
+            [a, b, c] => [*a, *b, *c, 0, 0, 0, 0],
+            [a, b, c, d] => [*a, *b, *c, *d, 0, 0, 0],
+            [a, b, c, d, e] => [*a, *b, *c, *d, *e, 0, 0],
+            [a, b, c, d, e, f] => [*a, *b, *c, *d, *e, *f, 0],
+            [a, b, c, d, e, f, g, ..] => [*a, *b, *c, *d, *e, *f, *g],
+        };
         ShortText {
             bytes,
             len: text.len() as u8,

@@ -1,11 +1,12 @@
 //! A row of a grid, or a part of one, lent.
 
-ghost use Rattle.std.specs.Prelude.{◌≡◌, ◌≤◌, length, take, drop};
-ghost use Rattle.bx_grid.specs.Columns.{are_equal};
+ghost use Rattle.std.specs.Prelude.{◌≡◌, ℕ, ◌≤◌, ◌<◌, length, take, drop, true, false, slice_index_or};
+ghost use Rattle.bx_grid.specs.Columns.{Unknown, are_equal};
+ghost use Rattle.bx_grid.specs.Glyphs.{IsNarrow};
 ghost use Rattle.bx_grid.specs.Codes.{codes_of};
 ghost use Rattle.bx_grid.specs.Seen.{all_seen};
 
-use crate::codes::are_same;
+use crate::codes::{are_same, are_same_narrow};
 use crate::column::Column;
 use std::marker::Model;
 
@@ -60,6 +61,31 @@ impl<'g> Row<'g> {
         ensures { result ≡ drop from self.now }
     {
         Row::new(&self.columns[from..], &self.codes[from..])
+    }
+
+    /// Whether both have the same glyph of one column at an index, as far as codes tell it. Where a glyph has no code of its
+    /// own it is false.
+    pub fn shares_narrow(&self, other: &Row<'_>, index: usize) -> bool
+        requires inside { index < length self.now }
+        requires also { index < length other.now }
+        ensures { result ≡ true → (slice_index_or self.now index Unknown ≡ slice_index_or other.now index Unknown)
+            × IsNarrow (slice_index_or self.now index Unknown) }
+    {
+        let codes = self.codes;
+        let others = other.codes;
+        are_same_narrow(codes[index], others[index])
+    }
+
+    /// Whether codes tell that both begin with different columns.
+    pub fn begins_otherwise(&self, other: &Row<'_>) -> bool
+        ensures { result ≡ true → (n : ℕ) → 0 < n → are_equal (take n self.now) (take n other.now) ≡ false }
+    {
+        let codes = self.codes;
+        let others = other.codes;
+        match (codes, others) {
+            ([code, ..], [other, ..]) => *code != *other,
+            _ => false,
+        }
     }
 
     /// Whether both show the same.

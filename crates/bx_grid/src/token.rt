@@ -152,7 +152,7 @@ fn number_of(digits: &[u8]) -> Option<u16>
     Some(n)
 }
 
-fn place_of(params: &[u8]) -> Command
+fn move_of(params: &[u8]) -> Command
     ensures { result ≡ capped (command_of params.now 0x48) }
 {
     let len = semicolon(params);
@@ -174,7 +174,7 @@ pub fn command_in(body: &[u8]) -> Command
     let len = params_len(body);
     let (params, rest) = body.split_at(len);
     match rest {
-        [b'H'] => place_of(params),
+        [b'H'] => move_of(params),
         [b'J'] => match params {
             [b'2'] => Command::Clear,
             _ => Command::Other,

@@ -14,10 +14,10 @@ use Rattle.bx_grid.proofs.Doing.{run, run-append}
 use Rattle.bx_grid.proofs.Equal.{lists_are}
 use Rattle.bx_grid.proofs.Reading.{and_left, and_right, all-push}
 use Rattle.bx_grid.proofs.Whole.{columns_some, whole-append, whole_along, whole_glyph}
-use Rattle.bx_paint.proofs.Rest.{partly, IsPlace, kept}
+use Rattle.bx_paint.proofs.Rest.{partly, IsAtColumn, kept}
 use Rattle.bx_paint.proofs.Glyphs.{glyph_sent, glyph_effect, by_glyph}
 use Rattle.bx_paint.proofs.Sequences.{screen, Leaves, Fits, moves, turned, renders}
-use Rattle.bx_paint.proofs.Shown.{Ready, ready_leaves, place_ready, ready_text}
+use Rattle.bx_paint.proofs.Shown.{Ready, ready_leaves, column_ready, ready_text}
 use Rattle.bx_paint.specs.Painting.{Sent, then_sent, move_bytes, render_bytes, render_change, glyph_bytes, columns_sent}
 use Rattle.bx_paint.specs.Changed.{glyphs_changed}
 
@@ -55,17 +55,17 @@ pub record Stands (p : PictureState) (w : Terminal × List Effect) (near negativ
   pub near_by : near ≡ true → Near p w negative above done rest below r c all
 
 inverted : (p : PictureState) (w : Terminal × List Effect) (negative glyph_negative : Bool) (above done rest below : List Col) (r c : ℕ) (all : List Effect)
-    → IsPlace r c p.width above done rest → c < p.width → Near p w negative above done rest below r c all
+    → IsAtColumn r c p.width above done rest → c < p.width → Near p w negative above done rest below r c all
     → Near p (run w (render_bytes glyph_negative)) glyph_negative above done rest below r c all
 inverted p w negative glyph_negative above done rest below r c all index small n =
     let columns = partly above done rest below in
     let l = ready_leaves p w negative above done rest below r c all n.ready in
-    let h = place_ready p (run w (render_bytes glyph_negative)) glyph_negative above done rest below r c all index
+    let h = column_ready p (run w (render_bytes glyph_negative)) glyph_negative above done rest below r c all index
     (renders p w columns l.0 negative glyph_negative all l.1 ∙ ap (λ q. (screen p columns q glyph_negative [], all)) (l.2 small)) in
     record { ready = h.0; plain = ap (are_ascii_printable) h.1 }
 
 rendered : (p : PictureState) (w : Terminal × List Effect) (negative glyph_negative : Bool) (above done rest below : List Col) (r c : ℕ) (all : List Effect)
-    → IsPlace r c p.width above done rest → c < p.width → Near p w negative above done rest below r c all
+    → IsAtColumn r c p.width above done rest → c < p.width → Near p w negative above done rest below r c all
     → Near p (run w (render_change negative glyph_negative)) glyph_negative above done rest below r c all
 rendered p w true true above done rest below r c all index small n = n
 rendered p w true false above done rest below r c all index small n = inverted p w true false above done rest below r c all index small n
@@ -94,7 +94,7 @@ text_stands p w g above done rest below r c all is h joins fits plain =
 
 drawn_by : (t : Bool) (p : PictureState) (w : Terminal × List Effect) (near negative : Bool) (g : WholeGlyph) (above done rest below : List Col) (r c : ℕ)
     (all : List Effect)
-    → Fits p → r < p.height → IsGlyph g → IsPlace r c p.width above done rest → length (columns_of g) ≤ length rest
+    → Fits p → r < p.height → IsGlyph g → IsAtColumn r c p.width above done rest → length (columns_of g) ≤ length rest
     → near && is_ascii_glyph g.text ≡ t → Stands p w near negative above done rest below r c all
     → Stands p (run w (glyph_bytes r c near negative g.text g.negative)) (is_ascii_glyph g.text) g.negative above (done ++ columns_of g)
     (drop (length (columns_of g)) rest) below r (c + length (columns_of g)) (all ++ Puts (r * p.width + c) g.text g.negative ∷ [])
@@ -115,7 +115,7 @@ drawn_by false p w near negative g above done rest below r c all fits rh is inde
     let there : run (run w move) change ≡ (screen p columns (Some (r, c)) g.negative [], all) =
     ap (λ v. run v change) (moves p w columns s.position negative all r c s.leaves rh (omega (arith, some, room, index.wide)) fits.height fits.width)
     ∙ turned p columns (Some (r, c)) negative g.negative all in
-    let h = place_ready p (run (run w move) change) g.negative above done rest below r c all index there in
+    let h = column_ready p (run (run w move) change) g.negative above done rest below r c all index there in
     let after = text_stands p (run (run w move) change) g above done rest below r c all is h.0 (joins_none g.negative h.0.pending g.text h.1)
     (omega (arith, room, index.wide)) (ap (are_ascii_printable) h.1) in
     rw (e, run-append w move (change ++ g.text), run-append (run w move) change g.text) after
@@ -155,7 +155,7 @@ stays p w near negative g above done before ys below r c d all is whole s =
 
 stands_by : (same : Bool) (p : PictureState) (w : Terminal × List Effect) (near negative : Bool) (g : WholeGlyph) (above done before olds over below : List Col)
     (r c : ℕ) (all : List Effect)
-    → Fits p → r < p.height → IsGlyph g → IsPlace r c p.width above done (olds ++ over) → AreWhole (before ++ (olds ++ over))
+    → Fits p → r < p.height → IsGlyph g → IsAtColumn r c p.width above done (olds ++ over) → AreWhole (before ++ (olds ++ over))
     → length (columns_of g) ≤ length olds → are_equal (take (length (columns_of g)) olds) (columns_of g) ≡ same
     → Stands p w near negative above done (olds ++ over) below r c all
     → Stands p (run w (glyph_sent r c near negative same g).bytes) (glyph_sent r c near negative same g).near (glyph_sent r c near negative same g).negative
@@ -178,7 +178,7 @@ stands_by false p w near negative g above done before olds over below r c all fi
 -- what is sent for these columns of the new row, from any index on
 abbrev Goal : PictureState → ℕ → List Col → List Col → List Col → List Col → Type 0
 Goal p r above over below news = (olds done before : List Col) (w : Terminal × List Effect) (c : ℕ) (near negative : Bool) (all : List Effect)
-    → IsPlace r c p.width above done (olds ++ over) → AreWhole (before ++ (olds ++ over)) → length olds ≡ length news
+    → IsAtColumn r c p.width above done (olds ++ over) → AreWhole (before ++ (olds ++ over)) → length olds ≡ length news
     → Stands p w near negative above done (olds ++ over) below r c all
     → Comes p (run w (columns_sent r c near negative olds news).bytes) (partly above (done ++ news) over below)
     (columns_sent r c near negative olds news).negative (all ++ glyphs_changed (r * p.width + c) olds news)
@@ -202,7 +202,7 @@ one_more p r above over below g xs fits rh is more olds done before w c near neg
     let count : length olds ≡ n + length xs = same ∙ length-append cg xs in
     let by = by_glyph alike g olds xs is refl in
     let after = stands_by alike p w near negative g above done before olds over below r c all fits rh is index whole (omega (arith, count)) refl s in
-    let index' : IsPlace r (c + n) p.width above (done ++ cg) (drop n olds ++ over) = record {
+    let index' : IsAtColumn r (c + n) p.width above (done ++ cg) (drop n olds ++ over) = record {
       high = index.high;
       at = length-append done cg ∙ omega (arith, index.at);
       wide = omega (arith, index.wide, length-append olds over, length-append (drop n olds) over, length-drop n olds, count);

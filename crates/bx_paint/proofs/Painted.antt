@@ -15,7 +15,7 @@ use Rattle.bx_grid.proofs.Whole.{whole-nil, whole-append, whole_along, whole_rig
 use Rattle.bx_paint.specs.Painting.{then_sent, before_tail, leading_blanks, columns_sent, tail_sent, row_sent, rows_sent, move_bytes, render_change}
 use Rattle.bx_paint.specs.Painting.{erase_bytes}
 use Rattle.bx_paint.specs.Changed.{glyphs_changed, tail_changed, row_changed, rows_changed}
-use Rattle.bx_paint.proofs.Rest.{partly, IsPlace, kept_blanks, put_partly}
+use Rattle.bx_paint.proofs.Rest.{partly, IsAtColumn, kept_blanks, put_partly}
 use Rattle.bx_paint.proofs.Tails.{blanks_first, front_le, front_blanks, whole_front}
 use Rattle.bx_paint.proofs.Sent.{leading_blanks_le, all_blank_is}
 use Rattle.bx_paint.proofs.Sequences.{screen, Leaves, plain_leaves, Fits, moves, turned, erases}
@@ -38,14 +38,14 @@ blanks_done k above done before olds below blanks whole =
     ∙ sym (append_assoc done (replicate k blank) (cut_after 0 (drop k olds))))
 
 -- blanks put over the rest of a tail, from its first column that is no blank
-tail_put : (r f w k m : ℕ) (above done before olds below : List Col) → IsPlace r f w above done olds → AreWhole (before ++ olds)
+tail_put : (r f w k m : ℕ) (above done before olds below : List Col) → IsAtColumn r f w above done olds → AreWhole (before ++ olds)
     → take k olds ≡ replicate k blank → k + m ≡ length olds
     → put w (partly above done olds below) r (f + k) (replicate m blank) ≡ above ++ ((done ++ replicate (length olds) blank) ++ below)
 tail_put r f w k m above done before olds below index whole first count =
     let start = done ++ replicate k blank in
     let news = replicate m blank in
     let left : length (drop k olds) ≡ m = length-drop k olds ∙ omega (arith, count) in
-    let there : IsPlace r (f + k) w above start (drop k olds) = record {
+    let there : IsAtColumn r (f + k) w above start (drop k olds) = record {
       high = index.high;
       at = length-append done (replicate k blank) ∙ omega (arith, index.at, length-replicate k blank);
       wide = omega (arith, left, count, index.wide);
@@ -73,7 +73,7 @@ erased_at p r c negative columns w q all fits rh small leaves =
 
 erased : (p : PictureState) (r f : ℕ) (negative : Bool) (above done before olds below : List Col) (w : Terminal × List Effect) (q : Option (ℕ × ℕ))
     (all : List Effect)
-    → Fits p → r < p.height → IsPlace r f p.width above done olds → AreWhole (before ++ olds)
+    → Fits p → r < p.height → IsAtColumn r f p.width above done olds → AreWhole (before ++ olds)
     → Leaves p w (partly above done olds below) q negative all → leading_blanks olds < length olds
     → run w (move_bytes r (f + leading_blanks olds) ++ (render_change negative false ++ erase_bytes))
     ≡ (screen p (above ++ ((done ++ replicate (length olds) blank) ++ below)) None false [], all ++ Erases (r * p.width + f + leading_blanks olds) ∷ [])
@@ -86,7 +86,7 @@ erased p r f negative above done before olds below w q all fits rh index whole l
 
 tail_by : (t : Bool) (p : PictureState) (r f : ℕ) (negative : Bool) (above done before olds below : List Col) (w : Terminal × List Effect) (q : Option (ℕ × ℕ))
     (all : List Effect)
-    → Fits p → r < p.height → IsPlace r f p.width above done olds → AreWhole (before ++ olds)
+    → Fits p → r < p.height → IsAtColumn r f p.width above done olds → AreWhole (before ++ olds)
     → Leaves p w (partly above done olds below) q negative all → list_all is_blank olds ≡ t
     → Comes p (run w (tail_sent r f negative olds).bytes) (above ++ ((done ++ replicate (length olds) blank) ++ below)) (tail_sent r f negative olds).negative
     (all ++ tail_changed (r * p.width + f) olds)
@@ -128,7 +128,7 @@ row_does p r negative above old new below w q all fits rh high wide wide' whole 
     let split : olds ++ rest ≡ old = take-append-drop f old in
     let parts_whole : AreWhole (olds ++ rest) = whole_along old (olds ++ rest) (sym split) whole in
     let there : cut_after 0 (olds ++ rest) ≡ old = ap (cut_after 0) split ∙ whole_right 0 old whole in
-    let begin : IsPlace r 0 p.width above [] (olds ++ rest) =
+    let begin : IsAtColumn r 0 p.width above [] (olds ++ rest) =
     record { high = high; at = refl; wide = omega (arith, ap length split, wide); whole = whole-nil } in
     let stands : Stands p w false negative above [] (olds ++ rest) below r 0 all = record {
       position = q;
@@ -141,9 +141,9 @@ row_does p r negative above old new below w q all fits rh high wide wide' whole 
     } in
     let first = columns_do p r above rest below front fits rh (whole_front new whole') olds [] [] w 0 false negative all begin parts_whole olen stands in
     let s = columns_sent r 0 false negative olds front in
-    let zero_place : r * p.width + 0 ≡ r * p.width = omega arith in
+    let zero_index : r * p.width + 0 ≡ r * p.width = omega arith in
     let effects = all ++ glyphs_changed (r * p.width + 0) olds front in
-    let index : IsPlace r f p.width above front rest =
+    let index : IsAtColumn r f p.width above front rest =
     record { high = high; at = refl; wide = omega (arith, rlen, fle, wide'); whole = whole_front new whole' } in
     let second = tail_by (list_all is_blank rest) p r f s.negative above front olds rest below (run w s.bytes) first.0 effects fits rh index parts_whole first.1
     refl in
@@ -153,7 +153,7 @@ row_does p r negative above old new below w q all fits rh high wide wide' whole 
     come_by p w (row_sent r negative old new) (then_sent s.bytes t) ((above ++ new) ++ below) (above ++ ((front ++ replicate (length rest) blank) ++ below))
     (all ++ row_changed (r * p.width) old new) (effects ++ tail_changed (r * p.width + f) rest)
     refl (append_assoc above new below ∙ ap (λ xs. above ++ (xs ++ below)) (sym new_is))
-    (ap (λ n. all ++ (glyphs_changed n olds front ++ tail_changed (r * p.width + f) rest)) (sym zero_place)
+    (ap (λ n. all ++ (glyphs_changed n olds front ++ tail_changed (r * p.width + f) rest)) (sym zero_index)
     ∙ sym (append_assoc all (glyphs_changed (r * p.width + 0) olds front) (tail_changed (r * p.width + f) rest)))
     (come_after p w s.bytes t.bytes _ _ _ second)
 

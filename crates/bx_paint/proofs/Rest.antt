@@ -72,7 +72,7 @@ abbrev pub partly : List Col → List Col → List Col → List Col → List Col
 partly above done rest below = above ++ ((done ++ cut_after 0 rest) ++ below)
 
 -- the next column to be painted is c
-pub record IsPlace (r c w : ℕ) (above done rest : List Col) : Type 0 where
+pub record IsAtColumn (r c w : ℕ) (above done rest : List Col) : Type 0 where
   pub high : length above ≡ r * w
   pub at : length done ≡ c
   pub wide : c + length rest ≡ w
@@ -88,7 +88,7 @@ row_put done rest new c whole at =
     rw (front, back, whole_left done whole, right_rest n rest) refl
 
 -- what is put there stands there
-pub put_partly : (above done rest below new : List Col) (r c w : ℕ) → IsPlace r c w above done rest
+pub put_partly : (above done rest below new : List Col) (r c w : ℕ) → IsAtColumn r c w above done rest
     → put w (partly above done rest below) r c new ≡ partly above (done ++ new) (drop (length new) rest) below
 put_partly above done rest below new r c w h =
     let row = done ++ cut_after 0 rest in

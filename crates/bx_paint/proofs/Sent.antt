@@ -1,14 +1,17 @@
 -- The parts of a row, and what is sent for them, one column after another.
 use Rattle.std.proofs.Common.{◌≡◌, ℕ, ◌+◌, ◌*◌, ◌-◌, ◌<◌, ◌≤◌, Bool, true, false, get_or, List, [], ◌∷◌, ◌++◌, length, take, drop, suc, refl, ap, sym, ◌∙◌}
-use Rattle.std.proofs.Common.{append_assoc, arith}
+use Rattle.std.proofs.Common.{append_assoc, nat_eq, replicate, arith}
 use Rattle.std.specs.List.{list_all}
-use Rattle.std.proofs.lemmas.List.{take_more, drop_more, drop-drop, map-append}
+use Rattle.std.proofs.lemmas.List.{take_more, drop_more, drop-drop, map-append, take-replicate, drop-replicate}
 use Rattle.bx_grid.specs.Seen.{seen, all_seen}
 use Rattle.bx_grid.specs.declared.column.Column.{Column}
 use Rattle.std.proofs.lemmas.List.Folds.{list_all-append}
 use Rattle.std.proofs.Math.Bool.{and-false, and-true}
-use Rattle.bx_grid.specs.Columns.{Col, Unknown, is_blank}
-use Rattle.bx_paint.specs.Painting.{Sent, then_sent, before_tail, leading_blanks, column_sent, columns_sent, tail_sent, tail_after, row_sent, rows_sent}
+use Rattle.bx_grid.specs.Columns.{Col, Unknown, Glyph, blank, is_blank, are_equal}
+use Rattle.bx_grid.specs.Glyphs.{IsNarrow}
+use Rattle.bx_grid.proofs.Equal.{are_equal_refl}
+use Rattle.std.proofs.Math.Nat.{mul-le-mul_right}
+use Rattle.bx_paint.specs.Painting.{Sent, then_sent, before_tail, leading_blanks, nothing_sent, column_sent, columns_sent, tail_sent, tail_after, row_sent, rows_sent}
 
 -- ---- the tail
 
@@ -146,3 +149,30 @@ row_more height row width negative negative' old new po pn out out' low eo en e 
     rows_more height row width negative negative' (drop (row * width) old) (drop (row * width) new) (drop ((row + 1) * width) old)
     (drop ((row + 1) * width) new) po pn out out' low
     eo en (rest_after row width old) (rest_after row width new) e eg
+
+-- ---- columns that both rows have
+
+narrow_by : (x : Col) (row column : ℕ) (near negative : Bool) (old new : List Col) → IsNarrow x
+    → column_sent row column near negative (x ∷ old) (x ∷ new) ≡ nothing_sent negative
+narrow_by Unknown row column near negative old new h = absurd h
+narrow_by (Glyph text count offset other) row column near negative old new h =
+    let x = Glyph text 1 offset other in
+    let same : are_equal (x ∷ []) (x ∷ []) ≡ true = are_equal_refl (x ∷ []) in
+    rw (h, same, and-false (nat_eq offset 0)) refl
+
+-- nothing is sent for a glyph of one column that stands there
+pub narrow_sent : (row i : ℕ) (near negative : Bool) (old new : List Col) → i < length old → i < length new
+    → get_or old i Unknown ≡ get_or new i Unknown → IsNarrow (get_or old i Unknown)
+    → column_sent row i near negative (drop i old) (drop i new) ≡ nothing_sent negative
+narrow_sent row i near negative old new low also e h =
+    let x = get_or old i Unknown in
+    let mine : drop i new ≡ x ∷ drop (i + 1) new = drop_more new i Unknown also ∙ ap (λ y. y ∷ drop (i + 1) new) (sym e) in
+    rw (drop_more old i Unknown low, mine) (narrow_by x row i near negative (drop (i + 1) old) (drop (i + 1) new) h)
+
+-- a row of blanks
+pub blank_row : (h row width : ℕ) → row < h → take width (drop (row * width) (replicate (h * width) blank)) ≡ replicate width blank
+blank_row h row width low =
+    let below : row + 1 ≤ h = omega arith in
+    let next : row * width + width ≤ h * width = omega (arith, mul-le-mul_right width below) in
+    ap (take width) (drop-replicate (row * width) (h * width) blank)
+    ∙ take-replicate width (h * width - row * width) blank (omega arith)

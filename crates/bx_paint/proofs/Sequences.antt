@@ -11,7 +11,7 @@ use Rattle.bx_grid.specs.Tokens.{is_param, command_of}
 use Rattle.bx_grid.specs.Effects.{Effect, Erases, pending_effects, command_effects}
 use Rattle.bx_grid.specs.Terminal.{Terminal, run_ended, after_command}
 use Rattle.bx_grid.specs.Picture.{PictureState}
-use Rattle.bx_grid.proofs.Reading.{at, IsFinal, place_params, place_params_fit, command_of-index}
+use Rattle.bx_grid.proofs.Reading.{at, IsFinal, move_params, move_params_fit, command_of-index}
 use Rattle.bx_grid.proofs.Doing.{run, sequence_does}
 use Rattle.bx_paint.specs.Painting.{move_bytes, render_bytes, render_change, erase_bytes}
 
@@ -88,9 +88,9 @@ pub moves : (p : PictureState) (w : Terminal × List Effect) (columns : List Col
 moves p w columns q negative all r c h rh cw ph pw =
     let r64 : r + 1 < 2 ^ 64 = omega arith in
     let c64 : c + 1 < 2 ^ 64 = omega arith in
-    obeys p w columns q negative all (place_params (r + 1) (c + 1)) 0x48 (Move (r + 1) (c + 1)) h
-    (place_params_fit (r + 1) (c + 1) r64 c64) final_H (command_of-index (r + 1) (c + 1) r64 c64)
-    ∙ moved_is p columns q negative (0x1B ∷ 0x5B ∷ place_params (r + 1) (c + 1)) all r c rh cw
+    obeys p w columns q negative all (move_params (r + 1) (c + 1)) 0x48 (Move (r + 1) (c + 1)) h
+    (move_params_fit (r + 1) (c + 1) r64 c64) final_H (command_of-index (r + 1) (c + 1) r64 c64)
+    ∙ moved_is p columns q negative (0x1B ∷ 0x5B ∷ move_params (r + 1) (c + 1)) all r c rh cw
 
 pub renders : (p : PictureState) (w : Terminal × List Effect) (columns : List Col) (q : Option (ℕ × ℕ)) (negative glyph_negative : Bool) (all : List Effect)
     → Leaves p w columns q negative all

@@ -11,7 +11,7 @@ use Rattle.bx_grid.specs.Picture.{PictureState}
 use Rattle.bx_grid.proofs.Doing.{run}
 use Rattle.bx_grid.proofs.Texts.{glyph_does}
 use Rattle.bx_grid.proofs.Whole.{columns_some, glyph_effects}
-use Rattle.bx_paint.proofs.Rest.{partly, IsPlace, put_partly}
+use Rattle.bx_paint.proofs.Rest.{partly, IsAtColumn, put_partly}
 use Rattle.bx_paint.proofs.Sequences.{screen, Leaves}
 
 -- ---- a run that is pending
@@ -34,10 +34,10 @@ record Flushed (p : PictureState) (t : Terminal) (columns : List Col) (r c : ℕ
   pub position : Option (ℕ × ℕ)
   pub effect : run_ended t ≡ screen p columns position negative []
   pub effects_are : pending_effects t ≡ effects
-  pub at_place : c < p.width → position ≡ Some (r, c)
+  pub at_column : c < p.width → position ≡ Some (r, c)
 
 flushed : (p : PictureState) (above start over below : List Col) (r from : ℕ) (negative : Bool) (pending : List ℕ)
-    → IsPlace r from p.width above start over → (1 ≤ length pending → 1 ≤ length (run_columns negative pending))
+    → IsAtColumn r from p.width above start over → (1 ≤ length pending → 1 ≤ length (run_columns negative pending))
     → from + length (run_columns negative pending) ≤ p.width
     → Flushed p (screen p (partly above start over below) (Some (r, from)) negative pending)
     (partly above (start ++ run_columns negative pending) (drop (length (run_columns negative pending)) over) below) r
@@ -47,7 +47,7 @@ flushed p above start over below r from negative [] index some fits = record {
   position = Some (r, from);
   effect = ap (λ xs. screen p (partly above xs over below) (Some (r, from)) negative []) (sym (append-nil start));
   effects_are = refl;
-  at_place = λ _. ap (λ x. Some (r, x)) (let e : from ≡ from + 0 = omega arith in e);
+  at_column = λ _. ap (λ x. Some (r, x)) (let e : from ≡ from + 0 = omega arith in e);
 }
 flushed p above start over below r from negative (b ∷ bs) index some fits =
     let new = run_columns negative (b ∷ bs) in
@@ -57,7 +57,7 @@ flushed p above start over below r from negative (b ∷ bs) index some fits =
       position = within p.width r (from + length new);
       effect = does.0 ∙ ap (λ cs. screen p cs (within p.width r (from + length new)) negative []) (put_partly above start over below new r from p.width index);
       effects_are = does.1;
-      at_place = within_is p.width r (from + length new);
+      at_column = within_is p.width r (from + length new);
     }
 
 -- ---- the state before a text
@@ -70,7 +70,7 @@ pub record Ready (p : PictureState) (w : Terminal × List Effect) (negative : Bo
     pub start : List Col
     pub over : List Col
     pub is : w.0 ≡ screen p (partly above start over below) (Some (r, from)) negative pending
-    pub index : IsPlace r from p.width above start over
+    pub index : IsAtColumn r from p.width above start over
     pub some : 1 ≤ length pending → 1 ≤ length (run_columns negative pending)
     pub done_is : start ++ run_columns negative pending ≡ done
     pub rest_is : drop (length (run_columns negative pending)) over ≡ rest
@@ -93,14 +93,14 @@ ready_leaves p w negative above done rest below r c all h =
             ∙ ap (λ xs. screen p (partly above done xs below) f.position negative []) h.rest_is;
         told = ap (λ ds. w.1 ++ ds) (ap pending_effects h.is ∙ f.effects_are) ∙ h.told;
       },
-      λ small. f.at_place (omega (arith, h.column, small)) ∙ ap (λ x. Some (r, x)) h.column,
+      λ small. f.at_column (omega (arith, h.column, small)) ∙ ap (λ x. Some (r, x)) h.column,
     )
 
 -- nothing is half read
-pub place_ready : (p : PictureState) (w : Terminal × List Effect) (negative : Bool) (above done rest below : List Col) (r c : ℕ) (all : List Effect)
-    → IsPlace r c p.width above done rest → w ≡ (screen p (partly above done rest below) (Some (r, c)) negative [], all)
+pub column_ready : (p : PictureState) (w : Terminal × List Effect) (negative : Bool) (above done rest below : List Col) (r c : ℕ) (all : List Effect)
+    → IsAtColumn r c p.width above done rest → w ≡ (screen p (partly above done rest below) (Some (r, c)) negative [], all)
     → (h : Ready p w negative above done rest below r c all) × (h.pending ≡ [])
-place_ready p w negative above done rest below r c all index is = (
+column_ready p w negative above done rest below r c all index is = (
   record {
     pending = [];
     from = c;

@@ -2,6 +2,7 @@
 #![tactic(auto)]
 
 mod error;
+mod numbers;
 mod painting;
 mod writing;
 

@@ -8,7 +8,7 @@ ghost use Rattle.bx_paint.specs.Changed.{changed, differing};
 ghost use Rattle.bx_paint.specs.Painting.{whole_bytes, changes_bytes, columns_changed, ended, render_change, move_bytes};
 
 use crate::error::PaintError;
-use crate::writing::{write_move, write_rendition, write_rows};
+use crate::writing::{write_move, write_over_blanks, write_rendition, write_rows};
 use bx_grid::{Cell, Grid, Picture};
 use std::alloc::{AllocError, Global};
 
@@ -33,11 +33,11 @@ fn write_whole(alloc: Global, out: &mut Vec<u8>, picture: &Picture) -> Result<()
 {
     let grid = picture.grid();
     let cursor = picture.cursor();
-    let Ok(blank) = Grid::blank(alloc, grid.height(), grid.width()) else {
+    let Ok(blanks) = Grid::blank(alloc, 1, grid.width()) else {
         return Err(AllocError);
     };
     out.extend_from_slice(b"\x1b[0m\x1b[2J")?;
-    let negative = write_rows(out, &blank, grid)?;
+    let negative = write_over_blanks(out, &blanks.row(0), grid)?;
     write_end(out, negative, cursor)
 }
 

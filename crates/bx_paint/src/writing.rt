@@ -1,14 +1,14 @@
 //! The bytes of a painting, written one after another.
 
-ghost use Rattle.std.specs.Prelude.{◌≡◌, ℕ, ◌+◌, ◌*◌, ◌<◌, ◌≤◌, ◌^◌, [], ◌∷◌, ◌++◌, length, true, false, IfOk, OnOk, OnErr, string_bytes, take, drop};
-ghost use Rattle.bx_grid.specs.Columns.{are_equal};
+ghost use Rattle.std.specs.Prelude.{◌≡◌, ℕ, ◌+◌, ◌*◌, ◌<◌, ◌≤◌, ◌^◌, [], ◌∷◌, ◌++◌, length, true, false, IfOk, OnOk, OnErr, string_bytes, take, drop, replicate};
+ghost use Rattle.bx_grid.specs.Columns.{blank, are_equal};
 ghost use Rattle.bx_grid.specs.Seen.{seen, all_seen};
 ghost use Rattle.bx_paint.specs.Painting as spec;
 ghost use Rattle.bx_paint.specs.Painting.{move_bytes, render_change, glyph_bytes, before_tail, leading_blanks, column_sent, columns_sent, tail_sent, row_sent};
 ghost use Rattle.bx_paint.specs.Painting.{rows_sent};
 
+use crate::numbers::write_number;
 use bx_grid::{Column, GlyphText, Grid, Row};
-use itoa::Buffer;
 use std::alloc::AllocError;
 
 /// Sends the cursor to a row and a column, from 0.
@@ -16,13 +16,12 @@ pub fn write_move(out: &mut Vec<u8>, row: u16, column: u16) -> Result<(), AllocE
     requires small { (row < 65535) × (column < 65535) }
     ensures { OnOk result (out.new.items ≡ out.old.items ++ move_bytes row column) }
 {
-    out.extend_from_slice(b"\x1b[")?;
-    let mut line = Buffer::new();
-    out.extend_from_slice(line.format(row + 1).as_bytes())?;
-    out.extend_from_slice(b";")?;
-    let mut index = Buffer::new();
-    out.extend_from_slice(index.format(column + 1).as_bytes())?;
-    out.extend_from_slice(b"H")?;
+    out.push(0x1B)?;
+    out.push(b'[')?;
+    write_number(out, row + 1)?;
+    out.push(b';')?;
+    write_number(out, column + 1)?;
+    out.push(b'H')?;
     Ok(())
 }
 
@@ -69,8 +68,11 @@ fn write_glyph(
 fn is_same_front(old: &Row<'_>, new: &Row<'_>, count: u16) -> bool
     ensures { result ≡ are_equal (take count old.now) (take count new.now) }
 {
-    old.front(count as usize)
-        .is_same(&new.front(count as usize))
+    let count = count as usize;
+    if count > 0 && old.begins_otherwise(new) {
+        return false;
+    }
+    old.front(count).is_same(&new.front(count))
 }
 
 /// Whether the columns begin with a glyph of which a column differs from the old ones.
@@ -119,6 +121,40 @@ fn write_column(
     }
 }
 
+/// Sends the glyph that begins at an index of a row, if a column of it differs.
+fn write_at(
+    out: &mut Vec<u8>,
+    row: u16,
+    index: usize,
+    pen: Pen,
+    old: &Row<'_>,
+    new: &Row<'_>,
+) -> Result<Pen, AllocError>
+    requires small { (row < 65535) × (length new.now < 65535) }
+    requires same { length old.now ≡ length new.now }
+    requires inside { index < length new.now }
+    ensures bytes { OnOk result (out.new.items ≡ out.old.items
+        ++ (column_sent row index pen.near pen.negative (drop index old.now) (drop index new.now)).bytes) }
+    ensures near { IfOk result (λ after. after.near ≡ (column_sent row index pen.near pen.negative (drop index old.now) (drop index new.now)).near) }
+    ensures rendition { IfOk result (λ after. after.negative
+        ≡ (column_sent row index pen.near pen.negative (drop index old.now) (drop index new.now)).negative) }
+{
+    if old.shares_narrow(new, index) {
+        return Ok(Pen {
+            near: false,
+            negative: pen.negative,
+        });
+    }
+    write_column(
+        out,
+        row,
+        index as u16,
+        pen,
+        &old.rest(index),
+        &new.rest(index),
+    )
+}
+
 /// Sends what differs in the columns of a row before its tail.
 fn write_columns(
     out: &mut Vec<u8>,
@@ -138,7 +174,7 @@ fn write_columns(
     };
     let count = new.columns().len();
     for i in 0..count {
-        pen = write_column(out, row, i as u16, pen, &old.rest(i), &new.rest(i))?;
+        pen = write_at(out, row, i, pen, old, new)?;
     }
     Ok(pen.negative)
 }
@@ -239,6 +275,25 @@ pub fn write_rows(out: &mut Vec<u8>, old: &Grid, new: &Grid) -> Result<bool, All
     let mut negative = false;
     for row in 0..new.height() {
         negative = write_row(out, row, negative, &old.row(row), &new.row(row))?;
+    }
+    Ok(negative)
+}
+
+/// Sends all rows of a grid that stand where blanks are, of which one row is given.
+pub fn write_over_blanks(
+    out: &mut Vec<u8>,
+    blanks: &Row<'_>,
+    new: &Grid,
+) -> Result<bool, AllocError>
+    requires { blanks.now ≡ replicate new.now.width blank }
+    ensures bytes { OnOk result (out.new.items ≡ out.old.items
+        ++ (rows_sent new.now.height 0 new.now.width false (replicate (new.now.height * new.now.width) blank) new.now.columns).bytes) }
+    ensures rendition { IfOk result (λ after. after
+        ≡ (rows_sent new.now.height 0 new.now.width false (replicate (new.now.height * new.now.width) blank) new.now.columns).negative) }
+{
+    let mut negative = false;
+    for row in 0..new.height() {
+        negative = write_row(out, row, negative, blanks, &new.row(row))?;
     }
     Ok(negative)
 }

@@ -77,7 +77,7 @@ fn picture_of(alloc: Global, height: u16, width: u16, words: &[String]) -> Resul
     Ok(Picture::new(grid, cursor))
 }
 
-/// The place of the first `then`, or the number of words.
+/// The index of the first `then`, or the number of words.
 fn end_of_picture(words: &[String]) -> usize
     ensures { result ≤ length words.now }
 {

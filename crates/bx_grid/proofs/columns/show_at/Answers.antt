@@ -1,13 +1,13 @@
 use Rattle.bx_grid.specs.Columns.{run_columns}
 use Rattle.bx_grid.proofs.Halves.{on_ok}
-use Rattle.bx_grid.proofs.Pieces.{placed}
+use Rattle.bx_grid.proofs.Pieces.{row_put}
 use Rattle.bx_grid.proofs.Uncut.{seen_row}
 use Rattle.bx_grid.proofs.columns.show_at.Goals as goal
 
 pub returns-else-is_err-clause-ok : goal.returns-else-is_err-clause-ok
 returns-else-is_err-clause-ok c =
     on_ok c.show_in_row-shown.result _ _
-    (λ e. placed c.args.columns.now c.show_in_row-shown.new.row c.args.width c.args.row c.args.from (run_columns c.args.negative c.args.run.now) e)
+    (λ e. row_put c.args.columns.now c.show_in_row-shown.new.row c.args.width c.args.row c.args.from (run_columns c.args.negative c.args.run.now) e)
     c.show_in_row-shown.ensures
 
 pub show_in_row-shown-requires-clause-uncut : goal.show_in_row-shown-requires-clause-uncut

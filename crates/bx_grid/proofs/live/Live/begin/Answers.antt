@@ -14,7 +14,7 @@ pushed c =
 pub invariant_of-self-then-byte-eq-ESCAPE : goal.invariant_of-self-then-byte-eq-ESCAPE
 invariant_of-self-then-byte-eq-ESCAPE c = record {
   sized = c.self.invariant.sized;
-  placed = c.self.invariant.placed;
+  position = c.self.invariant.position;
   uncut = c.self.invariant.uncut;
   waits = ap fate (pushed c ∙ ap (λ b. b ∷ []) c.if-byte-eq-ESCAPE.true);
 }

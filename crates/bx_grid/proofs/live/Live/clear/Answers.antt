@@ -12,4 +12,4 @@ invariant_of-self c =
     (take_at c.fill_blank.new.columns _ c.self.inside.columns.len (c.fill_blank.auto.columns ∙ c.as_mut_slice.ensures.len))
     (c.len-count.ensures ∙ sym c.as_mut_slice.ensures.len ∙ ap length c.as_mut_slice.ensures.value)
     (c.fill_blank.ensures ∙ ap (λ xs. paste (all_seen xs) 0 (replicate (count - 0) blank)) c.as_mut_slice.ensures.value) c.self.invariant.sized in
-    record { sized = sound.sized; placed = tt; waits = c.self.invariant.waits; uncut = sound.uncut }
+    record { sized = sound.sized; position = tt; waits = c.self.invariant.waits; uncut = sound.uncut }

@@ -3,7 +3,7 @@ use Rattle.std.proofs.lemmas.Bool.Decides.{nat_tests}
 use Rattle.bx_grid.specs.Terminal.{Terminal}
 use Rattle.bx_grid.specs.Live.{terminal_of}
 use Rattle.bx_grid.proofs.Halves.{on_ok}
-use Rattle.bx_grid.proofs.RunEnds.{ends_put, ends_unplaced}
+use Rattle.bx_grid.proofs.RunEnds.{ends_put, ends_nowhere}
 use Rattle.bx_grid.proofs.live.Live.end_run.Goals as goal
 
 some : (u t : Terminal) (bytes : List ℕ) → u ≡ t → bytes ≡ u.run → false ≡ nat_eq (length bytes) 0 → 0 < length t.run
@@ -16,7 +16,7 @@ some u t bytes e is h =
 pub returns-in-None : goal.returns-in-None
 returns-in-None c =
     let t = c.args.self.now in
-    c.forget.ensures ∙ sym (ends_unplaced t (sym (ap (λ (x : Terminal). x.position) c.self.view_is) ∙ c.in-None.is)
+    c.forget.ensures ∙ sym (ends_nowhere t (sym (ap (λ (x : Terminal). x.position) c.self.view_is) ∙ c.in-None.is)
     (some (terminal_of c.self.inside) t c.as_bytes.result.now c.self.view_is c.as_bytes.ensures.value c.if-is_empty.ensures))
 
 pub returns-in-Some-negative : goal.returns-in-Some-negative

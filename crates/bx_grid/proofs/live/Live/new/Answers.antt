@@ -13,7 +13,7 @@ invariant_of-result c =
     sym (length-map c.in_ok-columns.columns.items seen) ∙ ap length is ∙ length-replicate (c.args.height * c.args.width) Unknown in
     record {
       sized = record { low = c.requires.tall.0; high = c.requires.tall.1; narrow = c.requires.wide.0; wide = c.requires.wide.1; each = count };
-      placed = tt;
+      position = tt;
       waits = ap fate c.new-2.ensures.items;
       uncut = uncut_along c.args.height c.args.width _ _ (sym is) (uncut_unknown c.args.height c.args.width);
     }

@@ -62,7 +62,7 @@ invariant_of-self c =
     let sound = sound_unknown s.height s.width _ c.show_at.new.columns s.columns.items
     (take_at c.show_at.new.columns _ s.columns.len (c.show_at.auto.columns ∙ c.as_mut_slice.ensures.len))
     (c.in_err-show_at.ensures.err ∙ ap (λ xs. replicate (length xs) Unknown) c.as_mut_slice.ensures.value) c.self.invariant.sized in
-    record { sized = sound.sized; placed = c.self.invariant.placed; waits = c.self.invariant.waits; uncut = sound.uncut }
+    record { sized = sound.sized; position = c.self.invariant.position; waits = c.self.invariant.waits; uncut = sound.uncut }
 
 pub invariant_of-self-2 : goal.invariant_of-self-2
 invariant_of-self-2 c =
@@ -73,7 +73,7 @@ invariant_of-self-2 c =
     let length_new : length new ≡ count =
     run_length c.args.negative run ∙ sym (c.run_width-count.ensures ∙ ap run_width c.as_str.ensures.value) in
     let height : s.height ≡ c.args.self.now.height = ap (λ (t : Terminal). t.height) c.self.view_is in
-    let placed : IfSome c.if-end-self.self (λ p. (p.0 < s.height) × (p.1 < s.width)) =
+    let position : IfSome c.if-end-self.self (λ p. (p.0 < s.height) × (p.1 < s.width)) =
     elim c.if-end-self.branch [
       | then-end-self w ↦ rw w.self-is (omega (arith, height, c.requires.0), w.if-end-self.true)
       | else-end-self w ↦ rw w.self-is tt
@@ -86,4 +86,4 @@ invariant_of-self-2 c =
     ∙ ap (λ bytes. put s.width (all_seen s.columns.items) c.args.row c.args.column (run_columns c.args.negative bytes)) c.as_str-2.ensures.value)
     (alone_run c.args.negative run) (omega (arith, height, c.requires.0)) (omega (arith, length_new, c.if-count-self.false, c.ranges.column.fits))
     (record { sized = c.self.invariant.sized; uncut = c.self.invariant.uncut }) in
-    record { sized = sound.sized; placed = placed; waits = c.self.invariant.waits; uncut = sound.uncut }
+    record { sized = sound.sized; position = position; waits = c.self.invariant.waits; uncut = sound.uncut }

@@ -1,9 +1,0 @@
-use Rattle.std.proofs.Common.{◌≡◌, ◌≤◌, ◌<◌, ℕ, get_or}
-use lib.Bits.{bit_xor}
-use Rattle.bx_grid.proofs.codes.differing_bits.Given as goal
-
-abbrev pub invariant-loop-i : goal.invariant-loop-i
-invariant-loop-i l = record {
-  met : (k : ℕ) → k < l.i → bit_xor (get_or l.codes k 0) (get_or l.others k 0) ≤ l.differing;
-  none : l.codes ≡ l.others → l.differing ≡ 0;
-}
