@@ -13,7 +13,7 @@ use std::alloc::AllocError;
 
 /// The first character of a text, and the text behind it.
 #[inline(always)]
-pub(crate) fn first_char(text: &str) -> Option<(char, &str)>
+pub fn first_char(text: &str) -> Option<(char, &str)>
     ensures { MatchOption result (length text.now ≡ 0) (λ (c, rest). (text.now ≡ encode_utf8 c ++ rest.now) × (length rest.now < length text.now)) }
 {
     let mut chars = text.chars();

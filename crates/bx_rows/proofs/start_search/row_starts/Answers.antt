@@ -5,6 +5,7 @@ use Rattle.bx_cells.specs.Units.{units_from}
 use Rattle.bx_cells.proofs.Rest.{none-behind}
 use Rattle.bx_rows.specs.RowScan.{IsPlaced, IsRead, new_scan}
 use Rattle.bx_rows.proofs.RowReads.{placed-new, read-new, read-last, read-empty}
+use Rattle.bx_rows.proofs.NarrowSteps.{read-run}
 use Rattle.bx_rows.proofs.RowUnits.{starts-of-some, starts-of-none}
 use Rattle.bx_rows.proofs.start_search.row_starts.Goals as goal
 
@@ -44,13 +45,15 @@ loop-at-preserved g c =
     let body = c.args.body.now in
     let w = c.args.w in
     let i = c.loop-at.invariant in
-    let x = c.extent-unit.ensures.unit in
-    let here = ap (units_from class w body) (sym c.extent-unit.ensures.start) ∙ x.extent.here in
+    let most = c.narrow_run-run.ensures.most in
+    let within = i.placed.within in
     record {
-      placed = c.in_ok-scan.ensures.placed;
-      boundary = c.extent-unit.ensures.stop.1;
-      read = c.in_ok-scan.ensures.takes class x.unit (units_from class w body c.extent-unit.result.stop) x.extent
-          (subst (λ r. IsRead class w body c.loop-at.starts.items c.loop-at.scan r) here i.read);
+      placed = c.in_ok-next.ensures.placed;
+      boundary = c.in_ok-next.ensures.stop.1;
+      read = c.in_ok-next.ensures.read (subst (λ s. IsRead class w body c.loop-at.starts.items s (units_from class w body c.narrow_run-run.result.stop))
+          (sym c.take_run-scan.ensures.run)
+          (read-run class w body c.loop-at.starts.items c.loop-at.scan c.loop-at.at c.narrow_run-run.result (c.narrow_run-run.ensures.units w)
+          (omega (arith, most, within)) i.read));
     }
 
 pub returns-then-scan-eq0 : goal.returns-then-scan-eq0
