@@ -1,21 +1,22 @@
 -- Runs of units that have one column each: how they grow, and what a row is that takes one.
-use Rattle.std.proofs.Common.{◌≡◌, ℕ, zero, suc, ◌+◌, ◌-◌, ◌<◌, ◌≤◌, Bool, true, false, cond, Option, Some, None, List, [], ◌∷◌, ◌++◌, length, drop}
-use Rattle.std.proofs.Common.{refl, sym, ap, subst, ◌∙◌, ⊎_elim, arith, append_assoc}
-use Rattle.std.specs.Str.{IsCharBoundary}
+use Rattle.std.proofs.Common.{◌≡◌, ℕ, zero, suc, ◌+◌, ◌-◌, ◌<◌, ◌≤◌, Bool, true, false, cond, Some, None, List, [], ◌∷◌, ◌++◌, length, drop}
+use Rattle.std.proofs.Common.{refl, sym, ap, subst, ◌∙◌, ⊎_elim, arith, append_assoc, encode_utf8}
+use Rattle.std.specs.Str.{IsCharBoundary, IsUtf8}
 use Rattle.std.proofs.lemmas.Bool.{cases_lt}
 use Rattle.std.proofs.lemmas.List.{length_push, drop_all}
 use Rattle.bx_ucd.specs.declared.class.Class.{Class}
 use Rattle.bx_cells.specs.declared.unit.Unit.{Unit}
-use Rattle.bx_cells.specs.declared.simple_clusters.SimpleCluster.{SimpleCluster}
+use Rattle.bx_cells.specs.Simple.{begins, is_mark, own_columns}
 use Rattle.bx_cells.specs.SimpleAt.{IsSimpleAt}
 use Rattle.bx_cells.specs.SimpleFace.{simple_face}
 use Rattle.bx_cells.specs.Units.{units_from}
+use Rattle.bx_cells.proofs.OpenCluster.{IsOpen, open-first, open-mark, open-left, at-next, at-last}
 use Rattle.bx_rows.specs.declared.narrow_run.NarrowRun.{NarrowRun}
 use Rattle.bx_rows.specs.NarrowRuns.{AreNarrow, IsNarrowRun, IsRunIn, grown}
 use Rattle.bx_rows.specs.declared.row_scan.Scan.{Scan}
 use Rattle.bx_rows.specs.declared.start_search.RowStart.{RowStart}
 use Rattle.bx_rows.specs.RowScan.{Fits, IsRead, IsScan, with_run}
-use Rattle.bx_rows.specs.Wrapping.{columns_at, is_break, is_one_blank, up_to_last}
+use Rattle.bx_rows.specs.Wrapping.{columns_at, is_blank, is_break, is_one_blank, up_to_last}
 use Rattle.bx_rows.proofs.RowsFit.{last-length}
 use Rattle.bx_rows.proofs.RowUnits.{one-column}
 use Rattle.bx_rows.proofs.Scans.{ends-push, none-append, one-passes, scan-more, scan-break}
@@ -79,9 +80,69 @@ run-in-grown body at r stop false i more b =
     let sum = i.sum in let last = i.last in let order = i.order in
     record { last = omega (arith, last); from = i.from; order = omega (arith, order, more); next = i.next; sum = omega (arith, sum, more); boundary = b }
 
+-- a cluster of one column is open, after which a row may end as it stands, or not
+pub record HasOpen (class : ℕ → Class) (body : List ℕ) (start : ℕ) (b : Bool) (rest : List ℕ) : Type 0 where
+  pub first : ℕ
+  pub marked : Bool
+  pub cluster : IsOpen body start first marked rest
+  pub columns : own_columns first ≡ 1
+  pub end : b ≡ is_one_blank class (cond marked None (Some first))
+
+pub open-narrow : (class : ℕ → Class) (body : List ℕ) (start c : ℕ) (b : Bool) (rest : List ℕ) → drop start body ≡ encode_utf8 c ++ rest
+    → (begins c ≡ true) × (own_columns c ≡ 1) → b ≡ is_blank (class c) → HasOpen class body start b rest
+open-narrow class body start c b rest e h k =
+    record { first = c; marked = false; cluster = open-first body start c rest e h.0; columns = h.1; end = k }
+
+pub mark-narrow : (class : ℕ → Class) (body : List ℕ) (start m : ℕ) (b : Bool) (rest more : List ℕ) → HasOpen class body start b rest
+    → rest ≡ encode_utf8 m ++ more → is_mark m ≡ true → HasOpen class body start false more
+mark-narrow class body start m b rest more o e h = record {
+  first = o.first;
+  marked = true;
+  cluster = open-mark body start o.first o.marked rest m more o.cluster e h;
+  columns = o.columns;
+  end = refl;
+}
+
+-- the run with the open cluster, whose end the next character or the body's end tells
+pub record IsLonger (class : ℕ → Class) (body : List ℕ) (at : ℕ) (r : NarrowRun) : Type 0 where
+  pub place : IsRunIn body at r
+  pub units : (w : ℕ) → IsNarrowRun class w body at r
+
+longer : (class : ℕ → Class) (body : List ℕ) (at : ℕ) (r : NarrowRun) (first stop : ℕ) (k b : Bool) → IsRunIn body at r
+    → ((w : ℕ) → IsNarrowRun class w body at r) → IsSimpleAt body r.stop (record { first = first; columns = 1; is_marked = k; stop = stop })
+    → b ≡ is_one_blank class (cond k None (Some first)) → IsLonger class body at (grown r stop b)
+longer class body at r first stop k b place units s e = record {
+  place = run-in-grown body at r stop b place s.grows s.boundary;
+  units = λ w. run-grown class w body at r first stop k b (units w) s e;
+}
+
+pub longer-next : (class : ℕ → Class) (body : List ℕ) (at : ℕ) (r q : NarrowRun) (b : Bool) (rest more : List ℕ) (stop d : ℕ) → IsUtf8 body
+    → IsRunIn body at r → ((w : ℕ) → IsNarrowRun class w body at r) → HasOpen class body r.stop b rest → stop + length rest ≡ length body
+    → rest ≡ encode_utf8 d ++ more → begins d ≡ true → q ≡ grown r stop b → IsLonger class body at q
+longer-next class body at r q b rest more stop d u place units o e next begin is =
+    subst (IsLonger class body at) (sym is)
+    (longer class body at r o.first stop o.marked b place units
+    (at-next body r.stop o.first o.marked rest u place.boundary o.cluster stop d 1 more e next begin o.columns) o.end)
+
+pub longer-last : (class : ℕ → Class) (body : List ℕ) (at : ℕ) (r q : NarrowRun) (b : Bool) (rest : List ℕ) → IsUtf8 body → IsRunIn body at r
+    → ((w : ℕ) → IsNarrowRun class w body at r) → HasOpen class body r.stop b rest → length rest ≡ 0 → q ≡ grown r (length body) b
+    → IsLonger class body at q
+longer-last class body at r q b rest u place units o none is =
+    subst (IsLonger class body at) (sym is)
+    (longer class body at r o.first (length body) o.marked b place units
+    (at-last body r.stop o.first o.marked rest u place.boundary o.cluster (length body) 1 refl none o.columns) o.end)
+
 pub grown-stop : (r q : NarrowRun) (stop : ℕ) (b : Bool) → q ≡ grown r stop b → q.stop ≡ stop
 grown-stop r q stop true e = ap (λ x. x.stop) e
 grown-stop r q stop false e = ap (λ x. x.stop) e
+
+-- the next cluster is open
+pub open-behind : (class : ℕ → Class) (body : List ℕ) (r q : NarrowRun) (b k : Bool) (rest more : List ℕ) (stop d : ℕ) → IsUtf8 body
+    → IsCharBoundary body r.stop → HasOpen class body r.stop b rest → stop + length rest ≡ length body → rest ≡ encode_utf8 d ++ more
+    → (begins d ≡ true) × (own_columns d ≡ 1) → k ≡ is_blank (class d) → q ≡ grown r stop b → HasOpen class body q.stop k more
+open-behind class body r q b k rest more stop d u boundary o e next begin blank is =
+    subst (λ x. HasOpen class body x k more) (sym (grown-stop r q stop b is))
+    (open-narrow class body stop d k more (open-left body r.stop o.first o.marked rest u boundary o.cluster stop e ∙ next) begin blank)
 
 grown-count : (r : NarrowRun) (stop : ℕ) (b : Bool) → (grown r stop b).count ≡ r.count + 1
 grown-count r stop true = refl

@@ -6,7 +6,7 @@ ghost use Rattle.bx_rows.specs.Wrapping.{is_one_blank};
 
 use crate::wrapping::is_blank;
 use bx_cells::first_char;
-use bx_cells::simple::{Simple, simple_kind};
+use bx_cells::simple::{Simple, common_kind, simple_kind};
 use bx_ucd::BidiData;
 
 /// Units of one column each: the offset behind them, how many they are, how many of them there are up to the last after which
@@ -54,8 +54,8 @@ fn grown(run: NarrowRun, stop: usize, is_break: bool) -> NarrowRun
 }
 
 /// The units of one column that stand from an offset on, at most `most` of them, up to one that has more columns or whose
-/// characters do not tell it.
-#[inline(always)]
+/// characters do not tell it; none where the first character is no common one.
+#[inline(never)]
 pub(crate) fn narrow_run<D: BidiData>(body: &str, at: usize, most: u16, source: &D) -> NarrowRun
     requires { IsCharBoundary body.now at }
     ensures most { result.count ≤ most }
@@ -74,27 +74,31 @@ pub(crate) fn narrow_run<D: BidiData>(body: &str, at: usize, most: u16, source: 
     let Some((c, behind)) = first_char(&body[at..]) else {
         return run;
     };
-    if simple_kind(c) != Simple::Begins(1) {
+    let Simple::Begins(columns) = common_kind(c) else {
+        return run;
+    };
+    if columns != 1 {
         return run;
     }
-    let mut first = c;
-    let mut is_marked = false;
+    let mut is_break = is_blank(source.class(c));
     let mut rest = behind;
     'chars: while let Some((c, behind)) = first_char(rest) {
         match simple_kind(c) {
             Simple::Begins(columns) => {
                 let stop = body.len() - rest.len();
-                run = grown(run, stop, is_blank_cluster(first, is_marked, source));
-                if columns != 1 || run.count == most {
+                if columns != 1 {
+                    return grown(run, stop, is_break);
+                }
+                run = grown(run, stop, is_break);
+                if run.count == most {
                     return run;
                 }
-                first = c;
-                is_marked = false;
+                is_break = is_blank(source.class(c));
             }
-            Simple::Mark => is_marked = true,
+            Simple::Mark => is_break = false,
             Simple::Other => return run,
         }
         rest = behind;
     }
-    grown(run, body.len(), is_blank_cluster(first, is_marked, source))
+    grown(run, body.len(), is_break)
 }

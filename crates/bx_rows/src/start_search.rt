@@ -1,9 +1,10 @@
 //! Where the rows of a body begin, found with no list of its units.
-ghost use Rattle.std.specs.Prelude.{◌≡◌, ◌≤◌, ◌<◌, IfOk, length, ℕ};
+ghost use Rattle.std.specs.Prelude.{◌≡◌, ◌≤◌, ◌<◌, IfOk, List, length, ℕ};
 ghost use Rattle.std.specs.Str.{IsCharBoundary};
 ghost use Rattle.bx_cells.specs.Simple.{own_columns};
 ghost use Rattle.bx_cells.specs.SimpleFace.{simple_face};
 ghost use Rattle.bx_cells.specs.Units.{units_from};
+ghost use Rattle.bx_rows.specs.declared.start_search.RowStart.{RowStart};
 ghost use Rattle.bx_rows.specs.RowScan.{HasUnit, IsPlaced, IsRead};
 ghost use Rattle.bx_rows.specs.RowStarts.{row_starts};
 ghost use Rattle.bx_rows.specs.Wrapping.{columns_at};
@@ -12,7 +13,8 @@ use crate::error::RowError;
 use crate::narrow_run::{is_blank_cluster, narrow_run};
 use crate::row_scan::{Extent, Scan, new_scan, take_run, take_unit};
 use crate::wrapping::is_break;
-use bx_cells::{Face, SimpleCluster, ruled_unit, simple_cluster, simple_face};
+use bx_cells::simple::{Simple, common_kind};
+use bx_cells::{Face, SimpleCluster, first_char, ruled_unit, simple_cluster, simple_face};
 use bx_ucd::BidiData;
 use std::alloc::{AllocError, Global};
 
@@ -65,7 +67,36 @@ fn extent<D: BidiData>(body: &str, at: usize, source: &D, w: u16) -> Extent
     }
 }
 
+/// Whether a common character of one column begins at an offset.
+#[inline(always)]
+fn may_begin_run(body: &str, at: usize) -> bool
+    requires { IsCharBoundary body.now at }
+{
+    match first_char(&body[at..]) {
+        Some((c, _)) => common_kind(c) == Simple::Begins(1),
+        None => false,
+    }
+}
+
+/// Reads the units of one column that begin at an offset, as many as fit; gives the offset behind them.
+#[inline(always)]
+fn read_run<D: BidiData>(scan: Scan, body: &str, at: usize, source: &D, w: u16) -> (Scan, usize)
+    requires placed { IsPlaced w body.now scan at }
+    requires at { IsCharBoundary body.now at }
+    ensures placed { IsPlaced w body.now result.0 result.1 }
+    ensures stop { (at ≤ result.1) × IsCharBoundary body.now result.1 }
+    ensures read { (starts : List RowStart) → IsRead (D.class_of source.now) w body.now starts scan (units_from (D.class_of source.now) w body.now at)
+        → IsRead (D.class_of source.now) w body.now starts result.0 (units_from (D.class_of source.now) w body.now result.1) }
+{
+    if !may_begin_run(body, at) {
+        return (scan, at);
+    }
+    let run = narrow_run(body, at, w - scan.columns, source);
+    (take_run(scan, run, body, at, w), run.stop)
+}
+
 /// Reads the unit that begins at an offset, if one is left; gives the offset behind it.
+#[inline(always)]
 fn read_unit<D: BidiData>(
     starts: &mut Vec<RowStart>,
     scan: Scan,
@@ -113,9 +144,8 @@ pub fn row_starts<D: BidiData>(
     let mut scan = new_scan(first);
     let mut at = 0;
     while at < body.len() {
-        let run = narrow_run(body, at, w - scan.columns, source);
-        scan = take_run(scan, run, body, at, w);
-        let (next, stop) = read_unit(&mut starts, scan, body, run.stop, source, w)?;
+        let (narrow, behind) = read_run(scan, body, at, source, w);
+        let (next, stop) = read_unit(&mut starts, narrow, body, behind, source, w)?;
         scan = next;
         at = stop;
     }

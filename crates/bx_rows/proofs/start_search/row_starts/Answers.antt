@@ -5,7 +5,6 @@ use Rattle.bx_cells.specs.Units.{units_from}
 use Rattle.bx_cells.proofs.Rest.{none-behind}
 use Rattle.bx_rows.specs.RowScan.{IsPlaced, IsRead, new_scan}
 use Rattle.bx_rows.proofs.RowReads.{placed-new, read-new, read-last, read-empty}
-use Rattle.bx_rows.proofs.NarrowSteps.{read-run}
 use Rattle.bx_rows.proofs.RowUnits.{starts-of-some, starts-of-none}
 use Rattle.bx_rows.proofs.start_search.row_starts.Goals as goal
 
@@ -40,21 +39,11 @@ loop-at-init g c =
     }
 
 pub loop-at-preserved : goal.loop-at-preserved
-loop-at-preserved g c =
-    let class = g.D.BidiData.class_of c.args.source.now in
-    let body = c.args.body.now in
-    let w = c.args.w in
-    let i = c.loop-at.invariant in
-    let most = c.narrow_run-run.ensures.most in
-    let within = i.placed.within in
-    record {
-      placed = c.in_ok-next.ensures.placed;
-      boundary = c.in_ok-next.ensures.stop.1;
-      read = c.in_ok-next.ensures.read (subst (λ s. IsRead class w body c.loop-at.starts.items s (units_from class w body c.narrow_run-run.result.stop))
-          (sym c.take_run-scan.ensures.run)
-          (read-run class w body c.loop-at.starts.items c.loop-at.scan c.loop-at.at c.narrow_run-run.result (c.narrow_run-run.ensures.units w)
-          (omega (arith, most, within)) i.read));
-    }
+loop-at-preserved g c = record {
+  placed = c.in_ok-next.ensures.placed;
+  boundary = c.in_ok-next.ensures.stop.1;
+  read = c.in_ok-next.ensures.read (c.read_run-behind.ensures.read c.loop-at.starts.items c.loop-at.invariant.read);
+}
 
 pub returns-then-scan-eq0 : goal.returns-then-scan-eq0
 returns-then-scan-eq0 g c =
