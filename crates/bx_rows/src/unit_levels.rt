@@ -206,7 +206,6 @@ fn each_level<D: BidiData>(
 /// The levels of a row's units, by L1: the row's end counts, not the paragraph's. A unit has the level of its first
 /// character that X9 keeps, else that of the unit before it, else the paragraph level. The characters before the row are
 /// counted.
-#[tactic(auto, using(crate::proofs::Resets::one_each))]
 pub fn row_levels<D: BidiData>(
     alloc: Global,
     body: &str,
@@ -223,8 +222,7 @@ pub fn row_levels<D: BidiData>(
 {
     let units = &units[row.start..row.stop];
     let chars = chars_before(body, units);
-    let found = each_level(alloc, body, units, chars, levels, source)?;
-    Ok(found)
+    row_levels_behind(alloc, body, units, chars, levels, source)
 }
 
 /// What `row_levels` gives for a row of all these units, where it is known that `chars` characters of the body stand before
