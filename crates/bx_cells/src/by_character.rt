@@ -55,7 +55,8 @@ pub(crate) fn push_simple<D: BidiData>(
 ) -> Result<usize, AllocError>
     requires { IsCharBoundary body.now at }
     ensures within { IfOk result (λ next. (at ≤ next) × IsCharBoundary body.now next) }
-    ensures units { IfOk result (λ next. units.new.items ++ units_from (D.class_of source.now) w body.now next ≡ units.old.items ++ units_from (D.class_of source.now) w body.now at) }
+    ensures units { IfOk result (λ next. units.new.items ++ units_from (D.class_of source.now) w body.now next
+        ≡ units.old.items ++ units_from (D.class_of source.now) w body.now at) }
 {
     let Some((c, behind)) = first_char(&body[at..]) else {
         return Ok(at);

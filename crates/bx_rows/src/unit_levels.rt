@@ -2,7 +2,8 @@
 ghost use Rattle.std.specs.Prelude.{◌≡◌, ◌≤◌, ◌<◌, ◌++◌, All, IfOk, OnOk, chars, flat_map, length, map};
 ghost use Rattle.std.specs.List.{zip};
 ghost use Rattle.bx_cells.specs.Units.{StandsIn, unit_chars};
-ghost use Rattle.bx_rows.specs.RowLevels.{chars_before, levels_or_before, first_level, is_segment_separator, is_trailing, l1, level_at, row_levels, trails, unit_levels};
+ghost use Rattle.bx_rows.specs.RowLevels.{chars_before, first_level, is_segment_separator, is_trailing, l1, level_at};
+ghost use Rattle.bx_rows.specs.RowLevels.{levels_or_before, row_levels, trails, unit_levels};
 ghost use Rattle.bx_rows.specs.Wrapping.{row_units};
 
 use crate::error::RowError;
@@ -217,7 +218,8 @@ pub fn row_levels<D: BidiData>(
     requires units { All (StandsIn body.now) units.now }
     requires row { row.start ≤ row.stop }
     requires within { row.stop ≤ length units.now }
-    ensures levels { IfOk result (λ v. v.items ≡ row_levels (D.class_of source.now) body.now levels.now.paragraph levels.now.each.items (row_units units.now row)) }
+    ensures levels { IfOk result (λ v. v.items ≡ row_levels (D.class_of source.now) body.now levels.now.paragraph levels.now.each.items
+        (row_units units.now row)) }
     ensures one_each { IfOk result (λ v. length v.items ≡ length (row_units units.now row)) }
 {
     let units = &units[row.start..row.stop];
