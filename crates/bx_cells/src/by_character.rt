@@ -13,7 +13,7 @@ use std::alloc::AllocError;
 
 /// The first character of a text, and the text behind it.
 #[inline(always)]
-pub(crate) fn first_char(text: &str) -> Option<(char, &str)>
+pub fn first_char(text: &str) -> Option<(char, &str)>
     ensures { MatchOption result (length text.now ≡ 0) (λ (c, rest). (text.now ≡ encode_utf8 c ++ rest.now) × (length rest.now < length text.now)) }
 {
     let mut chars = text.chars();
@@ -55,7 +55,8 @@ pub(crate) fn push_simple<D: BidiData>(
 ) -> Result<usize, AllocError>
     requires { IsCharBoundary body.now at }
     ensures within { IfOk result (λ next. (at ≤ next) × IsCharBoundary body.now next) }
-    ensures units { IfOk result (λ next. units.new.items ++ units_from (D.class_of source.now) w body.now next ≡ units.old.items ++ units_from (D.class_of source.now) w body.now at) }
+    ensures units { IfOk result (λ next. units.new.items ++ units_from (D.class_of source.now) w body.now next
+        ≡ units.old.items ++ units_from (D.class_of source.now) w body.now at) }
 {
     let Some((c, behind)) = first_char(&body[at..]) else {
         return Ok(at);

@@ -31,7 +31,8 @@ pub(crate) fn push_by_rules<D: BidiData>(
     requires { IsCharBoundary body.now at }
     ensures within { IfOk result (λ next. (at ≤ next) × IsCharBoundary body.now next) }
     ensures further { at < length body.now → IfOk result (λ next. at < next) }
-    ensures units { IfOk result (λ next. units.new.items ++ units_from (D.class_of source.now) w body.now next ≡ units.old.items ++ units_from (D.class_of source.now) w body.now at) }
+    ensures units { IfOk result (λ next. units.new.items ++ units_from (D.class_of source.now) w body.now next
+        ≡ units.old.items ++ units_from (D.class_of source.now) w body.now at) }
 {
     let mut start = at;
     for cluster in body[at..].graphemes(true) {

@@ -12,7 +12,7 @@ pub mod simple;
 mod simple_clusters;
 mod unit;
 
-pub use by_character::simple_face;
+pub use by_character::{first_char, simple_face};
 pub use by_rules::ruled_unit;
 pub use clusters::units;
 pub use error::CellError;

@@ -29,7 +29,8 @@ use Rattle.bx_rows.proofs.Wraps.{fit_cons, fits_full, no_unit, rows_turn}
 
 -- ---- faces fit in the window
 
-sized-fits : (w n : ℕ) (a b : Bool) → (n == 0) ≡ a → nat_lt w n ≡ b → FitsWindow w (elim a [ true ↦ Mark 126 | false ↦ elim b [ true ↦ Mark 35 | false ↦ Own n ] ])
+sized-fits : (w n : ℕ) (a b : Bool) → (n == 0) ≡ a → nat_lt w n ≡ b
+    → FitsWindow w (elim a [ true ↦ Mark 126 | false ↦ elim b [ true ↦ Mark 35 | false ↦ Own n ] ])
 sized-fits w n true b e f = tt
 sized-fits w n false true e f = tt
 sized-fits w n false false e f = (grind (arith, nat_tests), grind (arith, nat_tests))
@@ -174,7 +175,8 @@ module _ (class : ℕ → Class) (body : List ℕ) (us : List Unit) where
       take_all (length body) (drop r.start us) (omega (arith, size, few))
       ∙ sym (take_all (r.stop - r.start) (drop r.start us) (omega (arith, size, next, some)))
 
-  chars-first : (u : Unit) (rest : List Unit) (n : ℕ) → 0 < length (take n (u ∷ rest)) → chars_before body (take n (u ∷ rest)) ≡ length (chars (take u.start body))
+  chars-first : (u : Unit) (rest : List Unit) (n : ℕ) → 0 < length (take n (u ∷ rest))
+      → chars_before body (take n (u ∷ rest)) ≡ length (chars (take u.start body))
   chars-first u rest zero h = absurd (omega (arith, h))
   chars-first u rest (suc n) h = refl
 

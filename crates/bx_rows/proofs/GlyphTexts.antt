@@ -32,7 +32,8 @@ mirror_image-more mirror cs k n c m x old new at one e f i pushed =
     ∙ ap (λ ys. encode_utf8_all (map f' ys)) (sym (take_more cs k c at.0))
     ∙ ap (λ j. encode_utf8_all (map f' (take j cs))) (sym one)
 
-pub mirror_image-all : (mirror : ℕ → Option ℕ) (cs : List ℕ) (k : ℕ) (text : List ℕ) → text ≡ encode_utf8_all (map (mirror_or mirror) (take k cs)) → length cs ≤ k
+pub mirror_image-all : (mirror : ℕ → Option ℕ) (cs : List ℕ) (k : ℕ) (text : List ℕ) → text ≡ encode_utf8_all (map (mirror_or mirror) (take k cs))
+    → length cs ≤ k
     → text ≡ encode_utf8_all (map (mirror_or mirror) cs)
 mirror_image-all mirror cs k text i all = i ∙ ap (λ ys. encode_utf8_all (map (mirror_or mirror) ys)) (take_all k cs all)
 

@@ -19,4 +19,5 @@ pub mod Scans
 pub mod RowReads
 pub mod RowUnits
 pub mod EachRow
+pub mod NarrowSteps
 mod Rows

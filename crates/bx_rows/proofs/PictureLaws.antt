@@ -96,7 +96,8 @@ one-kept (d ∷ ds) gs e a =
 
 sum-kept : (ds : List Drawn) → sum_by (λ d. d.columns) ds ≡ columns_of_glyphs (map glyph_of ds)
 sum-kept [] = refl
-sum-kept (d ∷ ds) = sum_by-cons (λ x. x.columns) d ds ∙ ap (λ n. d.columns + n) (sum-kept ds) ∙ sym (sum_by-cons (λ g. g.columns) (glyph_of d) (map glyph_of ds))
+sum-kept (d ∷ ds) =
+    sum_by-cons (λ x. x.columns) d ds ∙ ap (λ n. d.columns + n) (sum-kept ds) ∙ sym (sum_by-cons (λ g. g.columns) (glyph_of d) (map glyph_of ds))
 
 pub one_if_drawn : (class : ℕ → Class) (mirror : ℕ → Option ℕ) (w : ℕ) (body : List ℕ) (paragraph : ℕ) (us : List Unit) (levels : List ℕ) (ds : List Drawn)
     → map glyph_of ds ≡ draw class mirror w body paragraph us levels → All (HasFace class w body) us → All (λ d. is_one_glyph (cow_str_bytes d.text) ≡ true) ds

@@ -81,7 +81,8 @@ drawn-even class mirror w body paragraph us levels columns order n start mid new
     let all = in_order class mirror w body us (unit_columns w 0 us) levels (visual levels) in
     let mids : mid ≡ all = first ∙ ap (λ xs. xs ++ in_order class mirror w body us columns levels order) s
     ∙ same-order class mirror w body us columns levels order e f in
-    second ∙ ap (λ xs. xs ++ replicate (w - n) blank) mids ∙ ap (λ k. all ++ replicate (w - k) blank) h ∙ blanks-end (paragraph % 2) (w - columns_used w us) all even
+    second ∙ ap (λ xs. xs ++ replicate (w - n) blank) mids ∙ ap (λ k. all ++ replicate (w - k) blank) h
+    ∙ blanks-end (paragraph % 2) (w - columns_used w us) all even
 
 pub drawn-odd : (class : ℕ → Class) (mirror : ℕ → Option ℕ) (w : ℕ) (body : List ℕ) (paragraph : ℕ) (us : List Unit) (levels columns order : List ℕ) (n : ℕ)
     (start mid new : List Glyph) → 0 < paragraph % 2 → columns ≡ unit_columns w 0 us → order ≡ visual levels → n ≡ columns_used w us → start ≡ []

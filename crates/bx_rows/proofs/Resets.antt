@@ -3,7 +3,8 @@ use Rattle.std.proofs.Common.{◌≡◌, ℕ, zero, suc, ◌+◌, ◌-◌, min, 
 use Rattle.std.proofs.Common.{append_assoc, Option, Some, None, is_some, unwrap_or, refl, sym, ap, ap₂, ◌∙◌, arith}
 use Rattle.std.proofs.lemmas.List.{at_drop_more, reverse-append}
 use Rattle.bx_cells.specs.declared.unit.Unit.{Unit}
-use Rattle.bx_rows.specs.RowLevels.{CharLevel, chars_before, trails, only_trailing, level_at, l1, first_level, unit_levels, levels_or_before, row_chars, row_levels}
+use Rattle.bx_rows.specs.RowLevels.{CharLevel, chars_before, trails, only_trailing, level_at, l1, first_level, unit_levels}
+use Rattle.bx_rows.specs.RowLevels.{levels_or_before, row_chars, row_levels}
 use Rattle.bx_ucd.specs.declared.class.Class.{Class}
 use Rattle.bx_cells.specs.Units.{unit_chars}
 use Rattle.bx_rows.proofs.Pieces.{map-length}
@@ -71,7 +72,8 @@ drop-capped (suc n) (x ∷ xs) =
 pub drop_each_capped : (n : ℕ) (xs : List (Option ℕ)) → drop (min n (length xs)) xs ≡ drop n xs
 drop_each_capped = drop-capped
 
-levels_or_before-more : (counts : List ℕ) (level : ℕ) (rest : List (Option ℕ)) (l : ℕ) (left : List (Option ℕ)) (done new all : List ℕ) → level ≡ l → rest ≡ left
+levels_or_before-more : (counts : List ℕ) (level : ℕ) (rest : List (Option ℕ)) (l : ℕ) (left : List (Option ℕ)) (done new all : List ℕ) → level ≡ l
+    → rest ≡ left
     → new ≡ done ++ level ∷ [] → done ++ l ∷ levels_or_before l (unit_levels counts left) ≡ all → new ++ levels_or_before level (unit_levels counts rest) ≡ all
 levels_or_before-more counts level rest l left done new all e g pushed inv =
     ap (λ xs. xs ++ levels_or_before level (unit_levels counts rest)) pushed

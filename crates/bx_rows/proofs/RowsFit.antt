@@ -57,7 +57,7 @@ last-step true zero n h = omega arith
 last-step false zero n h = omega arith
 last-step b (suc m) n h = omega (arith, h)
 
-last-length : (p : Unit → Bool) (us : List Unit) → up_to_last p us ≤ length us
+pub last-length : (p : Unit → Bool) (us : List Unit) → up_to_last p us ≤ length us
 last-length p [] = omega arith
 last-length p (u ∷ us) = last-step (p u) (up_to_last p us) (length us) (last-length p us)
 

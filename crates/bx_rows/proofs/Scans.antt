@@ -25,14 +25,14 @@ none_fits w c u us h = ⊎_elim (fits_full (u ∷ us) w c 0) (past_fits w c u us
 
 -- ---- the last that passes
 
-none-append : (p : Unit → Bool) (front back : List Unit) → up_to_last p back ≡ 0 → up_to_last p (front ++ back) ≡ up_to_last p front
+pub none-append : (p : Unit → Bool) (front back : List Unit) → up_to_last p back ≡ 0 → up_to_last p (front ++ back) ≡ up_to_last p front
 none-append p [] back h = h
 none-append p (u ∷ us) back h = ap (λ m. elim m [ suc n ↦ suc (suc n) | zero ↦ elim (p u) [ true ↦ 1 | false ↦ 0 ] ]) (none-append p us back h)
 
-one-passes : (p : Unit → Bool) (u : Unit) (b : Bool) → p u ≡ b → up_to_last p (u ∷ []) ≡ elim b [ true ↦ 1 | false ↦ 0 ]
+pub one-passes : (p : Unit → Bool) (u : Unit) (b : Bool) → p u ≡ b → up_to_last p (u ∷ []) ≡ elim b [ true ↦ 1 | false ↦ 0 ]
 one-passes p u b h = ap (λ x. elim x [ true ↦ 1 | false ↦ 0 ]) h
 
-ends-push : (p : Unit → Bool) (us : List Unit) (u : Unit) → p u ≡ true → up_to_last p (us ++ u ∷ []) ≡ suc (length us)
+pub ends-push : (p : Unit → Bool) (us : List Unit) (u : Unit) → p u ≡ true → up_to_last p (us ++ u ∷ []) ≡ suc (length us)
 ends-push p [] u h = one-passes p u true h
 ends-push p (x ∷ us) u h = ap (λ m. elim m [ suc n ↦ suc (suc n) | zero ↦ elim (p x) [ true ↦ 1 | false ↦ 0 ] ]) (ends-push p us u h)
 

@@ -1,5 +1,5 @@
 -- The row that is being read, unit by unit, and what is known of it.
-use Rattle.std.specs.Prelude.{◌≡◌, ℕ, ◌+◌, ◌<◌, ◌≤◌, Bool, List, ◌∷◌, ◌++◌, map, length, take, drop, chars}
+use Rattle.std.specs.Prelude.{◌≡◌, ℕ, zero, suc, ◌+◌, ◌-◌, ◌<◌, ◌≤◌, Bool, List, ◌∷◌, ◌++◌, map, length, take, drop, chars}
 use Rattle.std.specs.Str.{IsCharBoundary}
 use Rattle.bx_ucd.specs.declared.class.Class.{Class}
 use Rattle.bx_cells.specs.declared.unit.Unit.{Unit}
@@ -53,6 +53,13 @@ pub record IsRead (class : ℕ → Class) (w : ℕ) (body : List ℕ) (starts : 
 -- a row of which nothing is read
 abbrev pub new_scan : RowStart → Scan
 new_scan start = record { start = start; next = start.offset; columns = 0; last = 0; count = 0; since = 0 }
+
+-- a row that also has `n` units of one column each, of which `m` stand up to the last break, behind which `next` begins
+abbrev pub with_run : Scan → ℕ → ℕ → ℕ → Scan
+with_run s n zero next =
+    record { start = s.start; next = s.next; columns = s.columns + n; last = s.last; count = s.count + n; since = s.since + n }
+with_run s n (suc m) next =
+    record { start = s.start; next = next; columns = s.columns + n; last = s.last + s.count + suc m; count = n - suc m; since = n - suc m }
 
 -- the unit has the extent, and is the first of those of a body from there on
 pub record HasExtent (class : ℕ → Class) (w : ℕ) (body : List ℕ) (e : Extent) (u : Unit) (rest : List Unit) : Type 0 where

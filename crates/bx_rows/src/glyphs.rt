@@ -158,7 +158,8 @@ pub(crate) fn push_face<'a, D: BidiData>(
     w: u16,
 ) -> Result<(), AllocError>
     requires { HasLetter face }
-    ensures { OnOk result (map glyph_of glyphs.new.items ≡ map glyph_of glyphs.old.items ++ face_glyphs (D.class_of source.now) (D.mirror_of source.now) w text.entry.now face columns level) }
+    ensures { OnOk result (map glyph_of glyphs.new.items ≡ map glyph_of glyphs.old.items
+        ++ face_glyphs (D.class_of source.now) (D.mirror_of source.now) w text.entry.now face columns level) }
 {
     match face {
         Face::Tab => push_blanks(glyphs, columns),

@@ -4,6 +4,7 @@
 mod drawn;
 mod error;
 mod glyphs;
+mod narrow_run;
 mod one_row;
 mod order;
 mod picture;

@@ -2,9 +2,11 @@
 ghost use Rattle.std.specs.Prelude.{◌≡◌, ◌≤◌, ◌<◌, ◌&&◌, ◌+◌, IfOk, List, chars, length, nat_le, nat_lt, false, take, true};
 ghost use Rattle.std.specs.Str.{IsCharBoundary};
 ghost use Rattle.bx_rows.specs.declared.start_search.RowStart.{RowStart};
-ghost use Rattle.bx_rows.specs.RowScan.{IsPlaced, Takes, new_scan};
+ghost use Rattle.bx_rows.specs.RowScan.{IsPlaced, Takes, new_scan, with_run};
+ghost use Rattle.bx_rows.specs.NarrowRuns.{IsRunIn};
 ghost use Rattle.bx_rows.specs.Wrapping.{columns_at};
 
+use crate::narrow_run::NarrowRun;
 use crate::start_search::RowStart;
 use crate::unit_levels::char_count;
 use crate::wrapping::columns_at;
@@ -98,6 +100,37 @@ fn advance(scan: Scan, unit: Extent, body: &str, w: u16) -> Scan
         last: scan.last,
         count: scan.count + 1,
         since: scan.since + columns_at(w, scan.since, unit.face),
+    }
+}
+
+/// The row with a run of units, which fit.
+#[inline(always)]
+pub(crate) fn take_run(scan: Scan, run: NarrowRun, body: &str, at: usize, w: u16) -> Scan
+    requires placed { IsPlaced w body.now scan at }
+    requires run { IsRunIn body.now at run }
+    requires fits { scan.columns + run.count ≤ w }
+    ensures placed { IsPlaced w body.now result run.stop }
+    ensures run { result ≡ with_run scan run.count run.last run.next }
+{
+    let columns = scan.columns + run.count;
+    if run.last == 0 {
+        return Scan {
+            start: scan.start,
+            next: scan.next,
+            columns,
+            last: scan.last,
+            count: scan.count + usize::from(run.count),
+            since: scan.since + run.count,
+        };
+    }
+    let behind = run.count - run.last;
+    Scan {
+        start: scan.start,
+        next: run.next,
+        columns,
+        last: scan.last + scan.count + usize::from(run.last),
+        count: usize::from(behind),
+        since: behind,
     }
 }
 

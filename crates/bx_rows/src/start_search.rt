@@ -1,18 +1,22 @@
 //! Where the rows of a body begin, found with no list of its units.
-ghost use Rattle.std.specs.Prelude.{◌≡◌, ◌≤◌, ◌<◌, IfOk, None, Some, cond, length, ℕ};
+ghost use Rattle.std.specs.Prelude.{◌≡◌, ◌≤◌, ◌<◌, IfOk, List, length, ℕ};
 ghost use Rattle.std.specs.Str.{IsCharBoundary};
 ghost use Rattle.bx_cells.specs.Simple.{own_columns};
 ghost use Rattle.bx_cells.specs.SimpleFace.{simple_face};
-ghost use Rattle.bx_rows.specs.RowScan.{HasUnit};
+ghost use Rattle.bx_cells.specs.Units.{units_from};
+ghost use Rattle.bx_rows.specs.declared.start_search.RowStart.{RowStart};
+ghost use Rattle.bx_rows.specs.RowScan.{HasUnit, IsPlaced, IsRead};
 ghost use Rattle.bx_rows.specs.RowStarts.{row_starts};
-ghost use Rattle.bx_rows.specs.Wrapping.{columns_at, is_one_blank};
+ghost use Rattle.bx_rows.specs.Wrapping.{columns_at};
 
 use crate::error::RowError;
-use crate::row_scan::{Extent, new_scan, take_unit};
-use crate::wrapping::{is_blank, is_break};
-use bx_cells::{Face, SimpleCluster, ruled_unit, simple_cluster, simple_face};
+use crate::narrow_run::{is_blank_cluster, narrow_run};
+use crate::row_scan::{Extent, Scan, new_scan, take_run, take_unit};
+use crate::wrapping::is_break;
+use bx_cells::simple::{Simple, common_kind};
+use bx_cells::{Face, SimpleCluster, first_char, ruled_unit, simple_cluster, simple_face};
 use bx_ucd::BidiData;
-use std::alloc::Global;
+use std::alloc::{AllocError, Global};
 
 /// Where a row begins: the offset of its first unit in the body, in bytes, and how many units and characters of the body
 /// stand before it.
@@ -35,17 +39,6 @@ fn sized_as<D: BidiData>(cluster: SimpleCluster, source: &D, w: u16) -> Face
     simple_face(cluster.first, cluster.columns, cluster.is_marked, source, w)
 }
 
-/// Whether a row may end after a simple cluster.
-#[inline(always)]
-fn is_blank_cluster<D: BidiData>(cluster: SimpleCluster, source: &D) -> bool
-    ensures { result ≡ is_one_blank (D.class_of source.now) (cond cluster.is_marked None (Some cluster.first)) }
-{
-    if cluster.is_marked {
-        return false;
-    }
-    is_blank(source.class(cluster.first))
-}
-
 /// The unit that begins at an offset, as far as rows ask for it.
 #[inline(always)]
 fn extent<D: BidiData>(body: &str, at: usize, source: &D, w: u16) -> Extent
@@ -60,7 +53,7 @@ fn extent<D: BidiData>(body: &str, at: usize, source: &D, w: u16) -> Extent
             start: at,
             stop: cluster.stop,
             face: sized_as(cluster, source, w),
-            is_break: is_blank_cluster(cluster, source),
+            is_break: is_blank_cluster(cluster.first, cluster.is_marked, source),
         },
         None => {
             let unit = ruled_unit(body, at, source, w);
@@ -72,6 +65,60 @@ fn extent<D: BidiData>(body: &str, at: usize, source: &D, w: u16) -> Extent
             }
         }
     }
+}
+
+/// Whether a common character of one column begins at an offset.
+#[inline(always)]
+fn may_begin_run(body: &str, at: usize) -> bool
+    requires { IsCharBoundary body.now at }
+{
+    match first_char(&body[at..]) {
+        Some((c, _)) => common_kind(c) == Simple::Begins(1),
+        None => false,
+    }
+}
+
+/// Reads the units of one column that begin at an offset, as many as fit; gives the offset behind them.
+#[inline(always)]
+fn read_run<D: BidiData>(scan: Scan, body: &str, at: usize, source: &D, w: u16) -> (Scan, usize)
+    requires placed { IsPlaced w body.now scan at }
+    requires at { IsCharBoundary body.now at }
+    ensures placed { IsPlaced w body.now result.0 result.1 }
+    ensures stop { (at ≤ result.1) × IsCharBoundary body.now result.1 }
+    ensures read { (starts : List RowStart) → IsRead (D.class_of source.now) w body.now starts scan (units_from (D.class_of source.now) w body.now at)
+        → IsRead (D.class_of source.now) w body.now starts result.0 (units_from (D.class_of source.now) w body.now result.1) }
+{
+    if !may_begin_run(body, at) {
+        return (scan, at);
+    }
+    let run = narrow_run(body, at, w - scan.columns, source);
+    (take_run(scan, run, body, at, w), run.stop)
+}
+
+/// Reads the unit that begins at an offset, if one is left; gives the offset behind it.
+#[inline(always)]
+fn read_unit<D: BidiData>(
+    starts: &mut Vec<RowStart>,
+    scan: Scan,
+    body: &str,
+    at: usize,
+    source: &D,
+    w: u16,
+) -> Result<(Scan, usize), AllocError>
+    requires placed { IsPlaced w body.now scan at }
+    requires at { IsCharBoundary body.now at }
+    ensures placed { IfOk result (λ r. IsPlaced w body.now r.0 r.1) }
+    ensures stop { IfOk result (λ r. (at ≤ r.1) × IsCharBoundary body.now r.1) }
+    ensures further { at < length body.now → IfOk result (λ r. at < r.1) }
+    ensures read { IsRead (D.class_of source.now) w body.now starts.old.items scan (units_from (D.class_of source.now) w body.now at)
+        → IfOk result (λ r. IsRead (D.class_of source.now) w body.now starts.new.items r.0 (units_from (D.class_of source.now) w body.now r.1)) }
+{
+    if at == body.len() {
+        return Ok((scan, at));
+    }
+    let unit = extent(body, at, source, w);
+    let scan = take_unit(starts, scan, unit, body, w)?;
+    Ok((scan, unit.stop))
 }
 
 /// Where the rows begin into which `wrap` cuts the units of a body in a window of `w` columns. It makes no unit, and is
@@ -97,9 +144,10 @@ pub fn row_starts<D: BidiData>(
     let mut scan = new_scan(first);
     let mut at = 0;
     while at < body.len() {
-        let unit = extent(body, at, source, w);
-        scan = take_unit(&mut starts, scan, unit, body, w)?;
-        at = unit.stop;
+        let (narrow, behind) = read_run(scan, body, at, source, w);
+        let (next, stop) = read_unit(&mut starts, narrow, body, behind, source, w)?;
+        scan = next;
+        at = stop;
     }
     if scan.last + scan.count == 0 {
         return Ok(starts);

@@ -2,7 +2,8 @@
 ghost use Rattle.std.specs.Prelude.{◌≡◌, ◌≤◌, ◌<◌, ◌++◌, All, IfOk, OnOk, chars, flat_map, length, map};
 ghost use Rattle.std.specs.List.{zip};
 ghost use Rattle.bx_cells.specs.Units.{StandsIn, unit_chars};
-ghost use Rattle.bx_rows.specs.RowLevels.{chars_before, levels_or_before, first_level, is_segment_separator, is_trailing, l1, level_at, row_levels, trails, unit_levels};
+ghost use Rattle.bx_rows.specs.RowLevels.{chars_before, first_level, is_segment_separator, is_trailing, l1, level_at};
+ghost use Rattle.bx_rows.specs.RowLevels.{levels_or_before, row_levels, trails, unit_levels};
 ghost use Rattle.bx_rows.specs.Wrapping.{row_units};
 
 use crate::error::RowError;
@@ -206,7 +207,6 @@ fn each_level<D: BidiData>(
 /// The levels of a row's units, by L1: the row's end counts, not the paragraph's. A unit has the level of its first
 /// character that X9 keeps, else that of the unit before it, else the paragraph level. The characters before the row are
 /// counted.
-#[tactic(auto, using(crate::proofs::Resets::one_each))]
 pub fn row_levels<D: BidiData>(
     alloc: Global,
     body: &str,
@@ -218,13 +218,13 @@ pub fn row_levels<D: BidiData>(
     requires units { All (StandsIn body.now) units.now }
     requires row { row.start ≤ row.stop }
     requires within { row.stop ≤ length units.now }
-    ensures levels { IfOk result (λ v. v.items ≡ row_levels (D.class_of source.now) body.now levels.now.paragraph levels.now.each.items (row_units units.now row)) }
+    ensures levels { IfOk result (λ v. v.items ≡ row_levels (D.class_of source.now) body.now levels.now.paragraph levels.now.each.items
+        (row_units units.now row)) }
     ensures one_each { IfOk result (λ v. length v.items ≡ length (row_units units.now row)) }
 {
     let units = &units[row.start..row.stop];
     let chars = chars_before(body, units);
-    let found = each_level(alloc, body, units, chars, levels, source)?;
-    Ok(found)
+    row_levels_behind(alloc, body, units, chars, levels, source)
 }
 
 /// What `row_levels` gives for a row of all these units, where it is known that `chars` characters of the body stand before

@@ -2,10 +2,10 @@
 mod pictures;
 mod vectors;
 
-use bx_cells::{Unit, units};
+use bx_cells::{Face, Unit, units};
 use bx_explicit::Base;
 use bx_resolve::levels;
-use bx_rows::{Row, has_one_row, row_levels, visual, wrap};
+use bx_rows::{Row, RowStart, has_one_row, row_levels, row_starts, units_of_row, visual, wrap};
 use bx_ucd::{Tables, sample_tables};
 use std::alloc::Global;
 use std::process::Abort;
@@ -122,6 +122,63 @@ fn a_body_of_no_units(rt: HostRuntime) -> Result<(), Fail> {
     let none: [Unit; 0] = [];
     let rows = wrap(rt.alloc(), "", &none, &tables, 4)?;
     assert_eq!(rt; rows.as_slice(), [Row { start: 0, stop: 0 }].as_slice());
+    Ok(())
+}
+
+/// Where a row begins.
+fn start(offset: usize, units: usize, chars: usize) -> RowStart {
+    RowStart {
+        offset,
+        units,
+        chars,
+    }
+}
+
+/// The rows of a body begin where they should.
+fn check_starts(
+    rt: &impl Abort,
+    alloc: Global,
+    body: &str,
+    w: u16,
+    wanted: &[RowStart],
+) -> Result<(), Fail> {
+    let tables = sample_tables(alloc)?;
+    let starts = row_starts(alloc, body, &tables, w)?;
+    assert_eq!(rt; starts.as_slice(), wanted, "in {body}");
+    Ok(())
+}
+
+#[test]
+fn where_rows_begin(rt: HostRuntime) -> Result<(), Fail> {
+    let words = [start(0, 0, 0), start(6, 6, 6)];
+    check_starts(&rt, rt.alloc(), "ab cd ef", 7, &words)?;
+    let hebrew = [start(0, 0, 0), start(7, 5, 5)];
+    check_starts(&rt, rt.alloc(), "a \u{5d0}\u{5d1} \u{5d2}", 5, &hebrew)?;
+    let marked_blank = [start(0, 0, 0), start(5, 3, 4)];
+    check_starts(&rt, rt.alloc(), "ab \u{301}cd", 3, &marked_blank)?;
+    Ok(())
+}
+
+#[test]
+fn units_of_the_last_row(rt: HostRuntime) -> Result<(), Fail> {
+    let tables = sample_tables(rt.alloc())?;
+    let body = "ab cd e\u{301}f";
+    let starts = row_starts(rt.alloc(), body, &tables, 7)?;
+    assert_eq!(rt; starts.len(), 2);
+    let own = units_of_row(rt.alloc(), body, &starts, 1, &tables, 7)?;
+    let wanted = [
+        Unit {
+            start: 6,
+            stop: 9,
+            face: Face::Own(1),
+        },
+        Unit {
+            start: 9,
+            stop: 10,
+            face: Face::Own(1),
+        },
+    ];
+    assert_eq!(rt; own.as_slice(), wanted.as_slice());
     Ok(())
 }
 

@@ -39,19 +39,11 @@ loop-at-init g c =
     }
 
 pub loop-at-preserved : goal.loop-at-preserved
-loop-at-preserved g c =
-    let class = g.D.BidiData.class_of c.args.source.now in
-    let body = c.args.body.now in
-    let w = c.args.w in
-    let i = c.loop-at.invariant in
-    let x = c.extent-unit.ensures.unit in
-    let here = ap (units_from class w body) (sym c.extent-unit.ensures.start) ∙ x.extent.here in
-    record {
-      placed = c.in_ok-scan.ensures.placed;
-      boundary = c.extent-unit.ensures.stop.1;
-      read = c.in_ok-scan.ensures.takes class x.unit (units_from class w body c.extent-unit.result.stop) x.extent
-          (subst (λ r. IsRead class w body c.loop-at.starts.items c.loop-at.scan r) here i.read);
-    }
+loop-at-preserved g c = record {
+  placed = c.in_ok-next.ensures.placed;
+  boundary = c.in_ok-next.ensures.stop.1;
+  read = c.in_ok-next.ensures.read (c.read_run-behind.ensures.read c.loop-at.starts.items c.loop-at.invariant.read);
+}
 
 pub returns-then-scan-eq0 : goal.returns-then-scan-eq0
 returns-then-scan-eq0 g c =

@@ -1,0 +1,125 @@
+use Rattle.std.proofs.Common.{ℕ, zero, suc, ◌≡◌, ◌<◌, ◌+◌, ◌-◌, length, drop, length-drop, refl, sym, ap, ◌∙◌, arith}
+use Rattle.std.proofs.lemmas.Str.{IsUtf8-past_char, IsUtf8-drop}
+use Rattle.bx_rows.specs.Wrapping.{is_blank}
+use Rattle.bx_rows.proofs.NarrowSteps.{open-narrow, mark-narrow, open-behind, longer-next, longer-last, grown-less, run-none, run-in-none}
+use Rattle.bx_rows.proofs.narrow_run.narrow_run.Goals as goal
+
+some-if : (n : ℕ) → (n ≡ 0 → ⊥) → 0 < n
+some-if zero h = absurd (h refl)
+some-if (suc n) h = omega arith
+
+pub chars-init : goal.chars-init
+chars-init g c =
+    let class = g.D.BidiData.class_of c.args.source.now in
+    let body = c.args.body.now in
+    let first = sym c.range_from.ensures.value ∙ c.in-Some.ensures.0 in
+    let shorter = c.in-Some.ensures.1 in
+    let whole = ap length c.range_from.ensures.value in
+    record {
+      text = IsUtf8-past_char (drop c.args.at body) _ c.in-Some.c (IsUtf8-drop body c.args.at c.utf8.body c.requires) first;
+      cluster = open-narrow class body c.args.at c.in-Some.c c.is_blank-is_break.result _ first
+          (c.in-Begins.ensures.0, c.in-Begins.ensures.1 ∙ c.if-columns-ne1.false) (c.is_blank-is_break.ensures ∙ ap is_blank c.class.ensures);
+      within = omega (arith, shorter, whole, length-drop c.args.at body);
+      most = some-if c.args.most c.if-most-eq0.false;
+      place = run-in-none body c.args.at c.requires;
+      units = λ w. run-none class w body c.args.at;
+    }
+
+pub returns-then-columns-ne1-2-clause-place : goal.returns-then-columns-ne1-2-clause-place
+returns-then-columns-ne1-2-clause-place g c =
+    let body = c.args.body.now in
+    let rest = c.chars.rest.now in
+    let i = c.chars.invariant in
+    let within = i.within in
+    let stop = length body - length rest in
+    let e : stop + length rest ≡ length body = omega arith in
+    (longer-next (g.D.BidiData.class_of c.args.source.now) body c.args.at c.chars.run c.grown.result c.chars.is_break rest _ stop c.in-Some-first_char.c
+    c.utf8.body i.place i.units i.cluster e c.in-Some-first_char.ensures.0 c.in-Begins-simple_kind.ensures.0 c.grown.ensures).place
+
+pub returns-then-columns-ne1-2-clause-units : goal.returns-then-columns-ne1-2-clause-units
+returns-then-columns-ne1-2-clause-units g c =
+    let body = c.args.body.now in
+    let rest = c.chars.rest.now in
+    let i = c.chars.invariant in
+    let within = i.within in
+    let stop = length body - length rest in
+    let e : stop + length rest ≡ length body = omega arith in
+    (longer-next (g.D.BidiData.class_of c.args.source.now) body c.args.at c.chars.run c.grown.result c.chars.is_break rest _ stop c.in-Some-first_char.c
+    c.utf8.body i.place i.units i.cluster e c.in-Some-first_char.ensures.0 c.in-Begins-simple_kind.ensures.0 c.grown.ensures).units
+
+pub returns-then-run-most-clause-place : goal.returns-then-run-most-clause-place
+returns-then-run-most-clause-place g c =
+    let body = c.args.body.now in
+    let rest = c.chars.rest.now in
+    let i = c.chars.invariant in
+    let within = i.within in
+    let stop = length body - length rest in
+    let e : stop + length rest ≡ length body = omega arith in
+    (longer-next (g.D.BidiData.class_of c.args.source.now) body c.args.at c.chars.run c.grown-run.result c.chars.is_break rest _ stop
+    c.in-Some-first_char.c c.utf8.body i.place i.units i.cluster e c.in-Some-first_char.ensures.0 c.in-Begins-simple_kind.ensures.0
+    c.grown-run.ensures).place
+
+pub returns-then-run-most-clause-units : goal.returns-then-run-most-clause-units
+returns-then-run-most-clause-units g c =
+    let body = c.args.body.now in
+    let rest = c.chars.rest.now in
+    let i = c.chars.invariant in
+    let within = i.within in
+    let stop = length body - length rest in
+    let e : stop + length rest ≡ length body = omega arith in
+    (longer-next (g.D.BidiData.class_of c.args.source.now) body c.args.at c.chars.run c.grown-run.result c.chars.is_break rest _ stop
+    c.in-Some-first_char.c c.utf8.body i.place i.units i.cluster e c.in-Some-first_char.ensures.0 c.in-Begins-simple_kind.ensures.0
+    c.grown-run.ensures).units
+
+pub chars-preserved-else-run-most : goal.chars-preserved-else-run-most
+chars-preserved-else-run-most g c =
+    let class = g.D.BidiData.class_of c.args.source.now in
+    let body = c.args.body.now in
+    let rest = c.chars.rest.now in
+    let i = c.chars.invariant in
+    let next = c.in-Some-first_char.ensures in
+    let shorter = next.1 in
+    let within = i.within in
+    let stop = length body - length rest in
+    let e : stop + length rest ≡ length body = omega arith in
+    let longer = longer-next class body c.args.at c.chars.run c.grown-run.result c.chars.is_break rest _ stop c.in-Some-first_char.c c.utf8.body i.place
+    i.units i.cluster e next.0 c.in-Begins-simple_kind.ensures.0 c.grown-run.ensures in
+    record {
+      text = IsUtf8-past_char rest _ c.in-Some-first_char.c i.text next.0;
+      cluster = open-behind class body c.chars.run c.grown-run.result c.chars.is_break c.is_blank-is_break-in-Begins-simple_kind.result rest _ stop
+          c.in-Some-first_char.c c.utf8.body i.place.boundary i.cluster e next.0
+          (c.in-Begins-simple_kind.ensures.0, c.in-Begins-simple_kind.ensures.1 ∙ c.if-columns-ne1-2.false)
+          (c.is_blank-is_break-in-Begins-simple_kind.ensures ∙ ap is_blank c.class-in-Begins-simple_kind.ensures) c.grown-run.ensures;
+      within = omega arith;
+      most = grown-less c.chars.run c.grown-run.result stop c.args.most c.chars.is_break c.grown-run.ensures i.most c.if-run-most.false;
+      place = longer.place;
+      units = longer.units;
+    }
+
+pub chars-preserved : goal.chars-preserved
+chars-preserved g c =
+    let i = c.chars.invariant in
+    let next = c.in-Some-first_char.ensures in
+    let shorter = next.1 in
+    let within = i.within in
+    record {
+      text = IsUtf8-past_char c.chars.rest.now _ c.in-Some-first_char.c i.text next.0;
+      cluster = mark-narrow (g.D.BidiData.class_of c.args.source.now) c.args.body.now c.chars.run.stop c.in-Some-first_char.c c.chars.is_break
+          c.chars.rest.now _ i.cluster next.0 c.in-Mark.ensures;
+      within = omega arith;
+      most = i.most;
+      place = i.place;
+      units = i.units;
+    }
+
+pub returns-clause-place : goal.returns-clause-place
+returns-clause-place g c =
+    let i = c.chars.invariant in
+    (longer-last (g.D.BidiData.class_of c.args.source.now) c.args.body.now c.args.at c.chars.run c.grown-2.result c.chars.is_break c.chars.rest.now
+    c.utf8.body i.place i.units i.cluster c.in_default-first_char.ensures c.grown-2.ensures).place
+
+pub returns-clause-units : goal.returns-clause-units
+returns-clause-units g c =
+    let i = c.chars.invariant in
+    (longer-last (g.D.BidiData.class_of c.args.source.now) c.args.body.now c.args.at c.chars.run c.grown-2.result c.chars.is_break c.chars.rest.now
+    c.utf8.body i.place i.units i.cluster c.in_default-first_char.ensures c.grown-2.ensures).units

@@ -1,0 +1,14 @@
+use Rattle.std.proofs.Common.{sym, ap, subst, ◌∙◌}
+use Rattle.bx_cells.specs.Units.{units_from}
+use Rattle.bx_rows.specs.RowScan.{IsRead}
+use Rattle.bx_rows.proofs.start_search.read_unit.Goals as goal
+
+pub returns-clause-read : goal.returns-clause-read
+returns-clause-read g c = λ read.
+    let class = g.D.BidiData.class_of c.args.source.now in
+    let body = c.args.body.now in
+    let w = c.args.w in
+    let x = c.extent-unit.ensures.unit in
+    let here = ap (units_from class w body) (sym c.extent-unit.ensures.start) ∙ x.extent.here in
+    c.in_ok-scan.ensures.takes class x.unit (units_from class w body c.extent-unit.result.stop) x.extent
+    (subst (λ r. IsRead class w body c.args.starts.now.items c.args.scan r) here read)

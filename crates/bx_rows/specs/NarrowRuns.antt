@@ -1,0 +1,36 @@
+-- Runs of units that have one column each, wherever they stand in a row.
+use Rattle.std.specs.Prelude.{◌≡◌, ℕ, ◌+◌, ◌≤◌, Bool, true, false, ⊤, List, [], ◌∷◌, ◌++◌, length, drop}
+use Rattle.std.specs.Str.{IsCharBoundary}
+use Rattle.bx_ucd.specs.declared.class.Class.{Class}
+use Rattle.bx_cells.specs.declared.unit.Unit.{Unit}
+use Rattle.bx_cells.specs.Units.{units_from}
+use Rattle.bx_rows.specs.declared.narrow_run.NarrowRun.{NarrowRun}
+use Rattle.bx_rows.specs.Wrapping.{columns_at, is_break, up_to_last}
+
+-- each unit has one column
+abbrev pub AreNarrow : ℕ → List Unit → Type 0
+AreNarrow w [] = ⊤
+AreNarrow w (u ∷ us) = ((c : ℕ) → columns_at w c u.face ≡ 1) × AreNarrow w us
+
+-- the run has the units of a body from an offset on
+pub record IsNarrowRun (class : ℕ → Class) (w : ℕ) (body : List ℕ) (at : ℕ) (r : NarrowRun) : Type 0 where
+  pub us : List Unit
+  pub units : units_from class w body at ≡ us ++ units_from class w body r.stop
+  pub narrow : AreNarrow w us
+  pub count_is : length us ≡ r.count
+  pub last_is : up_to_last (is_break class body) us ≡ r.last
+  pub next_is : units_from class w body r.next ≡ drop r.last us ++ units_from class w body r.stop
+
+-- a run stands in a body from an offset on
+pub record IsRunIn (body : List ℕ) (at : ℕ) (r : NarrowRun) : Type 0 where
+  pub last : r.last ≤ r.count
+  pub from : at ≤ r.next
+  pub order : r.next ≤ r.stop
+  pub next : IsCharBoundary body r.next
+  pub sum : at + r.count ≤ r.stop
+  pub boundary : IsCharBoundary body r.stop
+
+-- a run with one more unit, which ends at an offset
+abbrev pub grown : NarrowRun → ℕ → Bool → NarrowRun
+grown r stop true = record { stop = stop; count = r.count + 1; last = r.count + 1; next = stop }
+grown r stop false = record { stop = stop; count = r.count + 1; last = r.last; next = r.next }

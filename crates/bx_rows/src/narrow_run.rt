@@ -1,0 +1,104 @@
+//! Runs of units that have one column each.
+ghost use Rattle.std.specs.Prelude.{◌≡◌, ◌≤◌, ◌<◌, ◌+◌, None, Some, cond, ℕ};
+ghost use Rattle.std.specs.Str.{IsCharBoundary};
+ghost use Rattle.bx_rows.specs.NarrowRuns.{IsNarrowRun, IsRunIn, grown};
+ghost use Rattle.bx_rows.specs.Wrapping.{is_one_blank};
+
+use crate::wrapping::is_blank;
+use bx_cells::first_char;
+use bx_cells::simple::{Simple, common_kind, simple_kind};
+use bx_ucd::BidiData;
+
+/// Units of one column each: the offset behind them, how many they are, how many of them there are up to the last after which
+/// a row may end, and the offset behind that one, or that of the first if there is none.
+#[derive(Clone, Copy)]
+pub(crate) struct NarrowRun {
+    pub(crate) stop: usize,
+    pub(crate) count: u16,
+    pub(crate) last: u16,
+    pub(crate) next: usize,
+}
+
+/// Whether a row may end after a cluster of simple characters.
+#[inline(always)]
+pub(crate) fn is_blank_cluster<D: BidiData>(first: char, is_marked: bool, source: &D) -> bool
+    ensures { result ≡ is_one_blank (D.class_of source.now) (cond is_marked None (Some first)) }
+{
+    if is_marked {
+        return false;
+    }
+    is_blank(source.class(first))
+}
+
+/// The run with one more unit.
+#[inline(always)]
+fn grown(run: NarrowRun, stop: usize, is_break: bool) -> NarrowRun
+    requires { run.count < 65535 }
+    ensures { result ≡ grown run stop is_break }
+{
+    let count = run.count + 1;
+    if is_break {
+        return NarrowRun {
+            stop,
+            count,
+            last: count,
+            next: stop,
+        };
+    }
+    NarrowRun {
+        stop,
+        count,
+        last: run.last,
+        next: run.next,
+    }
+}
+
+/// The units of one column that stand from an offset on, at most `most` of them, up to one that has more columns or whose
+/// characters do not tell it; none where the first character is no common one.
+#[inline(never)]
+pub(crate) fn narrow_run<D: BidiData>(body: &str, at: usize, most: u16, source: &D) -> NarrowRun
+    requires { IsCharBoundary body.now at }
+    ensures most { result.count ≤ most }
+    ensures place { IsRunIn body.now at result }
+    ensures units { (w : ℕ) → IsNarrowRun (D.class_of source.now) w body.now at result }
+{
+    let mut run = NarrowRun {
+        stop: at,
+        count: 0,
+        last: 0,
+        next: at,
+    };
+    if most == 0 {
+        return run;
+    }
+    let Some((c, behind)) = first_char(&body[at..]) else {
+        return run;
+    };
+    let Simple::Begins(columns) = common_kind(c) else {
+        return run;
+    };
+    if columns != 1 {
+        return run;
+    }
+    let mut is_break = is_blank(source.class(c));
+    let mut rest = behind;
+    'chars: while let Some((c, behind)) = first_char(rest) {
+        match simple_kind(c) {
+            Simple::Begins(columns) => {
+                let stop = body.len() - rest.len();
+                if columns != 1 {
+                    return grown(run, stop, is_break);
+                }
+                run = grown(run, stop, is_break);
+                if run.count == most {
+                    return run;
+                }
+                is_break = is_blank(source.class(c));
+            }
+            Simple::Mark => is_break = false,
+            Simple::Other => return run,
+        }
+        rest = behind;
+    }
+    grown(run, body.len(), is_break)
+}
