@@ -154,18 +154,22 @@ impl PairSearch {
         }
     }
 
-    /// Begins a search of a sequence of so many characters.
-    pub fn begin(&mut self, count: usize)
-        requires small { count ≤ 2 ^ 32 }
-        ensures next { self.new.next ≡ 0 }
-        ensures count { self.new.count ≡ count }
-        ensures pairs { (bracket : ℕ → Option (Side × ℕ)) (cs : List ℕ) (ts : List Class) → pairs_after bracket self.new.progress 0 cs ts ≡ pairs bracket cs ts }
+    /// Begins a search of a sequence of so many characters. More than 4,294,967,295 are refused as if there were no memory.
+    pub fn begin(&mut self, count: usize) -> Result<(), BracketError>
+        ensures next { OnOk result (self.new.next ≡ 0) }
+        ensures count { OnOk result (self.new.count ≡ count) }
+        ensures pairs { OnOk result ((bracket : ℕ → Option (Side × ℕ)) (cs : List ℕ) (ts : List Class) → pairs_after bracket self.new.progress 0 cs ts
+            ≡ pairs bracket cs ts) }
     {
+        if count > u32::MAX as usize {
+            return Err(BracketError::OutOfMemory);
+        }
         self.openers.clear();
         self.closers.clear();
         self.count = count;
         self.next = 0;
         self.is_over = false;
+        Ok(())
     }
 
     /// Takes the character of the sequence at an index, of a current type. Those whose type is not ON may be left out.
