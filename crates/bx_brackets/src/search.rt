@@ -43,6 +43,7 @@ fn need_places(closers: &mut Vec<u32>, count: usize) -> Result<(), AllocError>
 }
 
 /// Takes an opener at an index. Whether the search ends there, for want of room.
+#[inline(never)]
 fn meet_opener(
     open: &mut OpenStack,
     closers: &mut Vec<u32>,
@@ -76,6 +77,7 @@ fn note_closer(closers: &mut Vec<u32>, opener: Option<usize>, closer: usize)
 }
 
 /// Takes a closer at an index.
+#[inline(always)]
 #[tactic(auto, using(crate::proofs::Closers::found_place))]
 fn meet_closer(
     open: &mut OpenStack,
@@ -96,6 +98,7 @@ fn meet_closer(
 }
 
 /// Takes a bracket at an index. Whether the search ends there, for want of room.
+#[inline(always)]
 fn meet_bracket(
     open: &mut OpenStack,
     closers: &mut Vec<u32>,
@@ -175,6 +178,7 @@ impl PairSearch {
     /// Takes the character of the sequence at an index, of a current type. Those whose type is not ON may be left out.
     /// Memory is taken at the first opener, 4 bytes for each character of the longest sequence so far, and want of it is the
     /// only refusal.
+    #[inline(always)]
     pub fn meet<D: BidiData>(
         &mut self,
         index: usize,
