@@ -56,7 +56,6 @@ impl Model for OpenStack {
 }
 
 /// The index of the last opener for a closer, where the first ones stand first.
-#[inline(never)]
 #[tactic(auto, using(crate::proofs::Close::find_here, crate::proofs::Close::find_more, crate::proofs::Close::below_here, crate::proofs::Close::below_more, crate::proofs::Close::take_it))]
 fn last_for(openers: &[(usize, char)], closer: char) -> Option<usize>
     ensures within { IfSome result (λ k. k < length openers.now) }

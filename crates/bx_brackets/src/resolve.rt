@@ -237,6 +237,7 @@ fn known_first(sos: Class) -> Known
 }
 
 /// Gives the next pair its types. What is then known.
+#[inline(always)]
 fn resolve_next(
     types: &mut [Class],
     was_nsm: &[bool],

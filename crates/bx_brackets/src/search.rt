@@ -6,7 +6,8 @@ ghost use Rattle.bx_ucd.specs.declared.data.Side.{Side};
 ghost use Rattle.bx_ucd.specs.declared.data.Side.TheVariants.{Opener, Closer};
 ghost use Rattle.bx_brackets.specs.Pairs.{bracket_at, pairs};
 ghost use Rattle.bx_brackets.specs.Resolve.{resolve_pairs};
-ghost use Rattle.bx_brackets.specs.Search.{Searching, IsSearched, progress, turn, after, pairs_after, pairs_in, with_closer, index_of, is_for, left_by, found_by};
+ghost use Rattle.bx_brackets.specs.Search.{Searching, IsSearched};
+ghost use Rattle.bx_brackets.specs.Search.{progress, turn, after, pairs_after, pairs_in, with_closer, index_of, is_for, left_by, found_by};
 
 use crate::error::BracketError;
 use crate::pairs_of::{OpenStack, bracket_at, canonical};
@@ -17,6 +18,7 @@ use std::marker::Model;
 
 /// Makes a place for the closer of each character, with none in it. The room grows to what is needed, and by a quarter at
 /// least.
+#[inline(never)]
 fn make_places(closers: &mut Vec<u32>, count: usize) -> Result<(), AllocError>
     requires none { length closers.old.items ≡ 0 }
     ensures ok { OnOk result (closers.new.items ≡ replicate count 0) }
@@ -43,7 +45,7 @@ fn need_places(closers: &mut Vec<u32>, count: usize) -> Result<(), AllocError>
 }
 
 /// Takes an opener at an index. Whether the search ends there, for want of room.
-#[inline(never)]
+#[inline(always)]
 fn meet_opener(
     open: &mut OpenStack,
     closers: &mut Vec<u32>,
