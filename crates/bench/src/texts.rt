@@ -24,8 +24,14 @@ fn unit_of(pattern: &str) -> &'static [char] {
         ]
     } else if pattern == "pairs" {
         &['\u{5d0}', '(', ')']
+    } else if pattern == "nested_pairs" {
+        &[
+            'a', '\u{5d0}', '(', '(', '(', ')', '(', ')', ')', '(', ')', ')',
+        ]
     } else if pattern == "isolates" {
         &['\u{2067}', 'a', '\u{2069}']
+    } else if pattern == "pairs_in_isolates" {
+        &['(', '\u{2067}', '(', ')', '\u{2069}', ')']
     } else if pattern == "empty_isolates" {
         &['\u{2067}', '\u{2069}']
     } else if pattern == "first_strong" {
@@ -52,6 +58,15 @@ fn unit_of(pattern: &str) -> &'static [char] {
             ' ', '1', '2', ' ', 'x', 'y', '.', ' ',
         ]
     }
+}
+
+/// A beginning, and then a pair of brackets over and over.
+fn pairs_behind(alloc: Global, start: &str, count: usize) -> Result<String, AllocError> {
+    let mut body = String::from_str(alloc, start)?;
+    for k in start.chars().count()..count {
+        body.push(if k % 2 == 0 { '(' } else { ')' })?;
+    }
+    Ok(body)
 }
 
 /// A text of terminators with a digit at its end, after a Hebrew letter.
@@ -134,6 +149,12 @@ pub fn text(alloc: Global, pattern: &str, count: usize) -> Result<String, AllocE
     }
     if pattern == "deep_isolates" {
         return deep_isolates(alloc, count);
+    }
+    if pattern == "rli_pairs" {
+        return pairs_behind(alloc, "\u{2067}", count);
+    }
+    if pattern == "two_letters_pairs" {
+        return pairs_behind(alloc, "a\u{5d0}", count);
     }
     if pattern == "one_number" {
         return before_a_number(alloc, count);

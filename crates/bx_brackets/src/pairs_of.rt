@@ -22,6 +22,7 @@ pub fn canonical(c: char) -> char
 }
 
 /// The bracket at a character of a type.
+#[inline(always)]
 pub fn bracket_at<D: BidiData>(source: &D, c: char, t: Class) -> Option<(Side, char)>
     ensures { result ≡ bracket_at (D.bracket_of source.now) c t }
 {
@@ -106,6 +107,7 @@ impl OpenStack {
     }
 
     /// Takes off the last opener that the closer meets, with what stands above it.
+    #[inline(always)]
     pub fn close(&mut self, closer: char) -> Option<usize>
         ensures index { result ≡ index_of (find (is_for closer) self.old) }
         ensures left { self.new ≡ left_by (find (is_for closer) self.old) closer self.old }

@@ -236,29 +236,27 @@ fn known_first(sos: Class) -> Known
     }
 }
 
-/// Gives the next pair its types. What is then known.
+/// Gives the next pair its types, and notes what is then known.
+#[inline(always)]
 fn resolve_next(
     types: &mut [Class],
     was_nsm: &[bool],
     embedding: Class,
     sos: Class,
-    known: Known,
+    known: &mut Known,
     pair: (usize, usize),
-) -> Known
+)
     requires within { IsPairWithin (length types.old) pair }
     requires as_long { length was_nsm.now ≡ length types.old }
-    requires known { IsKnown embedding sos types.old known }
+    requires known { IsKnown embedding sos types.old known.old }
     ensures types { types.new ≡ resolve_pair embedding sos was_nsm.now pair types.old }
-    ensures known { IsKnown embedding sos types.new result }
+    ensures known { IsKnown embedding sos types.new known.new }
 {
     let whole: &[Class] = &types[..];
     let before = context(sos, (known.index, known.context), whole, pair.0);
-    let clears = resolve_in(types, was_nsm, embedding, before, known.clears, pair);
-    Known {
-        index: pair.0,
-        context: before,
-        clears,
-    }
+    known.index = pair.0;
+    known.context = before;
+    known.clears = resolve_in(types, was_nsm, embedding, before, known.clears, pair);
 }
 
 /// Gives the bracket pairs of a sequence their types, pair by pair (N0), in place. `types` are those after W7,
@@ -278,7 +276,7 @@ pub fn resolve_pairs(
     let embedding = direction(level);
     let mut known = known_first(sos);
     for pair in pairs {
-        known = resolve_next(types, was_nsm, embedding, sos, known, *pair);
+        resolve_next(types, was_nsm, embedding, sos, &mut known, *pair);
     }
 }
 
@@ -300,7 +298,7 @@ pub fn resolve_closers(
     for i in 0..closers.len() {
         let close = closers[i] as usize;
         if i < close {
-            known = resolve_next(types, was_nsm, embedding, sos, known, (i, close));
+            resolve_next(types, was_nsm, embedding, sos, &mut known, (i, close));
         }
     }
 }

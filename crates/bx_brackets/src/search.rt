@@ -6,7 +6,8 @@ ghost use Rattle.bx_ucd.specs.declared.data.Side.{Side};
 ghost use Rattle.bx_ucd.specs.declared.data.Side.TheVariants.{Opener, Closer};
 ghost use Rattle.bx_brackets.specs.Pairs.{bracket_at, pairs};
 ghost use Rattle.bx_brackets.specs.Resolve.{resolve_pairs};
-ghost use Rattle.bx_brackets.specs.Search.{Searching, IsSearched, progress, turn, after, pairs_after, pairs_in, with_closer, index_of, is_for, left_by, found_by};
+ghost use Rattle.bx_brackets.specs.Search.{Searching, IsSearched};
+ghost use Rattle.bx_brackets.specs.Search.{progress, turn, after, pairs_after, pairs_in, with_closer, index_of, is_for, left_by, found_by};
 
 use crate::error::BracketError;
 use crate::pairs_of::{OpenStack, bracket_at, canonical};
@@ -17,6 +18,7 @@ use std::marker::Model;
 
 /// Makes a place for the closer of each character, with none in it. The room grows to what is needed, and by a quarter at
 /// least.
+#[inline(never)]
 fn make_places(closers: &mut Vec<u32>, count: usize) -> Result<(), AllocError>
     requires none { length closers.old.items ≡ 0 }
     ensures ok { OnOk result (closers.new.items ≡ replicate count 0) }
@@ -43,6 +45,7 @@ fn need_places(closers: &mut Vec<u32>, count: usize) -> Result<(), AllocError>
 }
 
 /// Takes an opener at an index. Whether the search ends there, for want of room.
+#[inline(always)]
 fn meet_opener(
     open: &mut OpenStack,
     closers: &mut Vec<u32>,
@@ -76,6 +79,7 @@ fn note_closer(closers: &mut Vec<u32>, opener: Option<usize>, closer: usize)
 }
 
 /// Takes a closer at an index.
+#[inline(always)]
 #[tactic(auto, using(crate::proofs::Closers::found_place))]
 fn meet_closer(
     open: &mut OpenStack,
@@ -96,6 +100,7 @@ fn meet_closer(
 }
 
 /// Takes a bracket at an index. Whether the search ends there, for want of room.
+#[inline(always)]
 fn meet_bracket(
     open: &mut OpenStack,
     closers: &mut Vec<u32>,
@@ -154,23 +159,28 @@ impl PairSearch {
         }
     }
 
-    /// Begins a search of a sequence of so many characters.
-    pub fn begin(&mut self, count: usize)
-        requires small { count ≤ 2 ^ 32 }
-        ensures next { self.new.next ≡ 0 }
-        ensures count { self.new.count ≡ count }
-        ensures pairs { (bracket : ℕ → Option (Side × ℕ)) (cs : List ℕ) (ts : List Class) → pairs_after bracket self.new.progress 0 cs ts ≡ pairs bracket cs ts }
+    /// Begins a search of a sequence of so many characters. More than 4,294,967,295 are refused as if there were no memory.
+    pub fn begin(&mut self, count: usize) -> Result<(), BracketError>
+        ensures next { OnOk result (self.new.next ≡ 0) }
+        ensures count { OnOk result (self.new.count ≡ count) }
+        ensures pairs { OnOk result ((bracket : ℕ → Option (Side × ℕ)) (cs : List ℕ) (ts : List Class) → pairs_after bracket self.new.progress 0 cs ts
+            ≡ pairs bracket cs ts) }
     {
+        if count > u32::MAX as usize {
+            return Err(BracketError::OutOfMemory);
+        }
         self.openers.clear();
         self.closers.clear();
         self.count = count;
         self.next = 0;
         self.is_over = false;
+        Ok(())
     }
 
     /// Takes the character of the sequence at an index, of a current type. Those whose type is not ON may be left out.
     /// Memory is taken at the first opener, 4 bytes for each character of the longest sequence so far, and want of it is the
     /// only refusal.
+    #[inline(always)]
     pub fn meet<D: BidiData>(
         &mut self,
         index: usize,

@@ -2,6 +2,8 @@ mod Rows
 pub mod Run
 pub mod NoBrackets
 pub mod ReadOn
+pub mod TextEnds
+pub mod PairsLeft
 pub mod Fused
 pub mod Written
 pub mod Apart

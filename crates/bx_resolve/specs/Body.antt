@@ -1,11 +1,17 @@
--- The characters of a paragraph body, which are read where they are first asked for.
-use Rattle.std.specs.Prelude.{◌≡◌, ℕ, ◌⊎◌, List, []}
+-- The characters of a text, and where they begin.
+use Rattle.std.specs.Prelude.{◌≡◌, ℕ, ◌-◌, ◌*◌, ◌<◌, ◌≤◌, List, chars, drop, length, slice_index_or}
+use Rattle.std.specs.Str.{IsCharBoundary}
 
--- `found` has nothing yet, or all characters
-abbrev pub IsRead : List ℕ → List ℕ → Type 0
-IsRead all found = (found ≡ []) ⊎ (found ≡ all)
+-- a text is the end of another
+pub record IsEndOf (text rest : List ℕ) : Type 0 where
+  pub shorter : length rest ≤ length text
+  pub same : drop (length text - length rest) text ≡ rest
 
--- all characters of a body, and those that are read
-pub record Reading : Type 0 where
-  pub chars : List ℕ
-  pub read : List ℕ
+-- the character at an index begins at an offset
+pub record IsOffset (text : List ℕ) (index offset : ℕ) : Type 0 where
+  pub boundary : IsCharBoundary text offset
+  pub rest : chars (drop offset text) ≡ drop index (chars text)
+
+-- the offsets of the first, the 9th, the 17th character and so on
+abbrev pub AreOffsets : List ℕ → List ℕ → Type 0
+AreOffsets text offsets = (k : ℕ) → k < length offsets → IsOffset text (k * 8) (slice_index_or offsets k 0)

@@ -1,5 +1,5 @@
 -- The levels of a paragraph: all rules, one after another.
-use Rattle.std.specs.Prelude.{◌≡◌, ℕ, List, [], ◌∷◌, ◌++◌, Option, Some, None, length, map, replicate, slice_index_or, slice_set}
+use Rattle.std.specs.Prelude.{◌≡◌, ℕ, List, [], ◌∷◌, ◌++◌, Option, Some, None, drop, length, map, replicate, slice_index_or, slice_set}
 use Rattle.bx_ucd.specs.declared.class.Class.{Class}
 use Rattle.bx_ucd.specs.declared.class.Class.TheVariants.{ON}
 use Rattle.bx_ucd.specs.declared.data.Side.{Side}
@@ -10,6 +10,7 @@ use Rattle.bx_explicit.specs.Explicit.{explicit_levels}
 use Rattle.bx_explicit.specs.Sequences.{RunSequence, sequences, direction}
 use Rattle.bx_brackets.specs.Pairs.{pairs}
 use Rattle.bx_brackets.specs.Resolve.{resolve_pairs}
+use Rattle.bx_brackets.specs.Search.{Progress, pairs_after}
 use Rattle.bx_resolve.specs.Weak.{weak, is_nsm}
 use Rattle.bx_resolve.specs.Neutral.{n1, n2, implicit}
 
@@ -68,3 +69,8 @@ paragraph_level_under class base chars = base_level base (map class chars)
 
 abbrev pub levels_under : (ℕ → Class) → (ℕ → Option (Side × ℕ)) → Base → List ℕ → List (Option ℕ)
 levels_under class bracket base chars = paragraph_levels class bracket (paragraph_level_under class base chars) chars
+
+-- the characters at the indexes `ps` are handed to a search, which goes on from there
+abbrev pub MeetsRun : (ℕ → Option (Side × ℕ)) → List ℕ → List Class → List ℕ → Progress → ℕ → Progress → ℕ → Type 0
+MeetsRun bracket chars ts ps before met after new_met = (rest : List ℕ)
+    → pairs_after bracket before met (chars_at chars (ps ++ rest)) (drop met ts) ≡ pairs_after bracket after new_met (chars_at chars rest) (drop new_met ts)

@@ -1,6 +1,6 @@
 //! The characters of a paragraph body, and their classes.
-ghost use Rattle.std.specs.Prelude.{◌≡◌, IfOk, OnOk, chars, map};
-ghost use Rattle.bx_resolve.specs.Body.{IsRead, Reading};
+ghost use Rattle.std.specs.Prelude.{◌≡◌, ℕ, ◌<◌, ◌^◌, ◌-◌, IfOk, MatchOption, List, [], ◌∷◌, chars, drop, length, map};
+ghost use Rattle.bx_resolve.specs.Body.{IsEndOf, AreOffsets};
 
 use bx_ucd::{BidiData, Class};
 use std::alloc::{AllocError, Global};
@@ -46,49 +46,105 @@ pub fn chars_of(alloc: Global, text: &str) -> Result<Vec<char>, AllocError>
     Ok(found)
 }
 
-/// A text whose characters are read where they are first asked for.
+/// The first character of a text, and the text behind it.
+#[inline(always)]
+pub fn first_char(text: &str) -> Option<(char, &str)>
+    ensures { MatchOption result ((chars text.now ≡ []) × (length text.now ≡ 0))
+        (λ (c, rest). (chars text.now ≡ c ∷ chars rest.now) × (length rest.now < length text.now) × IsEndOf text.now rest.now) }
+{
+    let mut chars = text.chars();
+    match chars.next() {
+        Some(c) => Some((c, chars.as_str())),
+        None => None,
+    }
+}
+
+/// The text behind so many characters, or the empty text at its end.
+#[tactic(auto, using(crate::proofs::TextEnds::end_self, crate::proofs::TextEnds::end_of_end, crate::proofs::TextEnds::drop_cons, crate::proofs::TextEnds::drop_none))]
+fn skip(text: &str, count: usize) -> &str
+    ensures chars { chars result.now ≡ drop count (chars text.now) }
+    ensures end { IsEndOf text.now result.now }
+    ensures shorter { 0 < count → 0 < length text.now → length result.now < length text.now }
+{
+    let mut rest = text;
+    let mut left = count;
+    while left > 0 {
+        let Some((_, behind)) = first_char(rest) else {
+            return rest;
+        };
+        rest = behind;
+        left -= 1;
+    }
+    rest
+}
+
+/// How many characters stand between two whose offsets are kept.
+const STEP: usize = 8;
+
+/// The offset of each 8th character of a text.
+fn offsets_of(alloc: Global, text: &str) -> Result<Vec<u32>, AllocError>
+    requires small { length text.now < 2 ^ 32 }
+    ensures { IfOk result (λ v. AreOffsets text.now v.items) }
+{
+    let mut offsets = Vec::with_capacity(alloc, count_for_room(text) / STEP + 1)?;
+    let mut rest = text;
+    while !rest.is_empty() {
+        offsets.push((text.len() - rest.len()) as u32)?;
+        rest = skip(rest, STEP);
+    }
+    Ok(offsets)
+}
+
+/// A paragraph body, with the offset of each 8th character once they are asked for.
 #[derive(Drop)]
-pub struct Text<'t> {
-    body: &'t str,
-    /// Nothing yet, or all characters.
-    each: Vec<char>,
+pub struct Body<'t> {
+    text: &'t str,
+    /// Nothing yet, or all of them.
+    offsets: Vec<u32>,
 }
 
-// Clauses see all characters, and those that are read.
-impl<'t> Model for Text<'t> {
-    ghost Value = { Reading };
+// Clauses see its characters.
+impl<'t> Model for Body<'t> {
+    ghost Value = { List ℕ };
 
-    ghost view = { λ t. record { chars = chars t.body.now; read = t.each.items } };
+    ghost view = { λ t. chars t.text.now };
 
-    ghost invariant = { λ t. IsRead (chars t.body.now) t.each.items };
+    ghost invariant = { λ t. (length t.text.now < 2 ^ 32) × AreOffsets t.text.now t.offsets.items };
 }
 
-impl<'t> Text<'t> {
-    /// A text of which nothing is read.
-    pub fn new(alloc: Global, body: &'t str) -> Self
-        ensures { result.chars ≡ chars body.now }
+impl<'t> Body<'t> {
+    /// A body of which no offset is known.
+    pub fn new(alloc: Global, text: &'t str) -> Self
+        requires small { length text.now < 2 ^ 32 }
+        ensures { result ≡ chars text.now }
     {
-        Text {
-            body,
-            each: Vec::new(alloc),
+        Body {
+            text,
+            offsets: Vec::new(alloc),
         }
     }
 
-    /// Reads its characters, unless they are read already.
+    /// Reads the offsets, unless they are read already.
     pub fn read(&mut self) -> Result<(), AllocError>
-        ensures same { self.new.chars ≡ self.old.chars }
-        ensures read { OnOk result (self.new.read ≡ self.old.chars) }
+        ensures { self.new ≡ self.old }
     {
-        if self.each.is_empty() {
-            self.each = chars_of(*self.each.allocator(), self.body)?;
+        if self.offsets.is_empty() {
+            self.offsets = offsets_of(*self.offsets.allocator(), self.text)?;
         }
         Ok(())
     }
 
-    /// The characters that are read.
-    pub fn chars(&self) -> &[char]
-        ensures { result.now ≡ self.now.read }
+    /// The text from the character at an index on. It walks over less than 8 characters where the offsets are read, and else
+    /// over all before the index.
+    pub fn rest_from(&self, index: usize) -> &str
+        ensures { chars result.now ≡ drop index self.now }
     {
-        &self.each
+        let k = index / STEP;
+        if k < self.offsets.len() {
+            let offset = self.offsets[k] as usize;
+            skip(&self.text[offset..], index % STEP)
+        } else {
+            skip(self.text, index)
+        }
     }
 }

@@ -2,6 +2,7 @@
 #![tactic(auto)]
 
 mod body;
+mod brackets;
 mod by_rules;
 mod error;
 mod formatted;

@@ -1,21 +1,20 @@
 //! The levels of a paragraph.
-ghost use Rattle.std.specs.Prelude.{◌≡◌, ◌≤◌, IfOk, OnOk, Some, chars, length, map, true};
-ghost use Rattle.bx_ucd.specs.Class.{direction};
-ghost use Rattle.bx_brackets.specs.Pairs.{pairs};
-ghost use Rattle.bx_brackets.specs.Resolve.{resolve_pairs};
+ghost use Rattle.std.specs.Prelude.{◌≡◌, ◌≤◌, IfOk, Some, chars, length, map, true};
 ghost use Rattle.bx_explicit.specs.Stack.{max_depth};
 ghost use Rattle.bx_resolve.specs.Weak.{weak};
 ghost use Rattle.bx_resolve.specs.Neutral.{implicit_at};
 ghost use Rattle.bx_resolve.specs.Levels.{paragraph_levels, paragraph_level_under, levels_under};
 ghost use Rattle.bx_resolve.specs.Plain.{is_unformatted, all_pass};
 
-use crate::body::{chars_of, classes_of};
+use crate::body::classes_of;
+use crate::brackets::resolve_brackets_of;
+use crate::by_rules::levels_by_rules;
 use crate::error::ResolveError;
 use crate::formatted::formatted_levels;
 use crate::neutral::implicit_at;
 use crate::paragraph::Levels;
 use crate::plain::{are_from_right, are_plain, are_plain_right, are_unformatted};
-use crate::scratch::{Ends, Scratch, may_have_brackets, resolve_neutral};
+use crate::scratch::{Ends, Scratch, resolve_neutral};
 use crate::weak::weak_in_one_pass;
 use bx_explicit::{Base, base_level};
 use bx_ucd::class::direction;
@@ -45,28 +44,6 @@ fn levels_from_right(alloc: Global, classes: &mut [Class]) -> Result<Vec<Option<
         .collect(alloc)
 }
 
-/// Gives the bracket pairs of a text that is one sequence their types (N0), in place. Its characters are read again only
-/// where one may be a bracket.
-#[tactic(auto, using(crate::proofs::NoBrackets::no_pairs))]
-fn resolve_brackets_of<D: BidiData>(
-    alloc: Global,
-    scratch: &mut Scratch,
-    body: &str,
-    source: &D,
-    types: &mut [Class],
-    ends: Ends,
-) -> Result<(), ResolveError>
-    requires as_long { length (chars body.now) ≡ length types.old }
-    requires marks { length scratch.old.marks.items ≡ length types.old }
-    ensures { OnOk result (types.new ≡ resolve_pairs (direction ends.level) ends.sos scratch.old.marks.items (pairs (D.bracket_of source.now) (chars body.now) types.old) types.old) }
-{
-    if !may_have_brackets(types) {
-        return Ok(());
-    }
-    let chars = chars_of(alloc, body)?;
-    scratch.resolve_brackets(source, &chars, types, ends)
-}
-
 /// The levels of a paragraph body of a level that has no formatting characters, and so is one sequence.
 #[tactic(auto, using(crate::proofs::PlainLengths::weak_length))]
 fn unformatted_levels<D: BidiData>(
@@ -90,7 +67,7 @@ fn unformatted_levels<D: BidiData>(
     };
     let mut scratch = Scratch::new(alloc);
     scratch.resolve_weak(classes, side)?;
-    resolve_brackets_of(alloc, &mut scratch, body, source, classes, ends)?;
+    resolve_brackets_of(&mut scratch, body, source, classes, ends)?;
     resolve_neutral(classes, ends);
     let each = found_levels(alloc, classes, paragraph)?;
     Ok(Levels { paragraph, each })
@@ -98,7 +75,7 @@ fn unformatted_levels<D: BidiData>(
 
 /// The levels of a paragraph body under a base (UAX #9, 3.3). A text of one direction in which no class needs a rule pays
 /// for none, one from right to left without L for W1 to W7 alone, and one with no formatting characters for no explicit
-/// rule. It takes memory, and is refused only where there is none.
+/// rule. It takes memory, and is refused only where there is none. A body of 4 GiB goes by the rules one after another.
 #[tactic(auto, using(crate::proofs::PlainLevels::plain_levels, crate::proofs::PlainLevels::plain_right_levels, crate::proofs::PlainLevels::from_right_levels))]
 pub fn levels<D: BidiData>(
     alloc: Global,
@@ -109,6 +86,9 @@ pub fn levels<D: BidiData>(
     ensures paragraph { IfOk result (λ v. v.paragraph ≡ paragraph_level_under (D.class_of source.now) base (chars body.now)) }
     ensures each { IfOk result (λ v. v.each.items ≡ levels_under (D.class_of source.now) (D.bracket_of source.now) base (chars body.now)) }
 {
+    if body.len() > u32::MAX as usize {
+        return levels_by_rules(alloc, body, source, base);
+    }
     let mut classes = classes_of(alloc, body, source)?;
     let paragraph = base_level(&classes, base);
     if paragraph == 0 && are_plain(&classes) {

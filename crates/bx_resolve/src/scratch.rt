@@ -2,17 +2,16 @@
 ghost use Rattle.std.specs.Prelude.{◌≡◌, OnOk, length, map};
 ghost use Rattle.std.specs.List.{list_any};
 ghost use Rattle.bx_ucd.specs.Class.{direction};
-ghost use Rattle.bx_brackets.specs.Pairs.{is_on, pairs};
+ghost use Rattle.bx_brackets.specs.Pairs.{is_on};
 ghost use Rattle.bx_brackets.specs.Resolve.{resolve_pairs};
 ghost use Rattle.bx_resolve.specs.Weak.{is_nsm, weak};
 ghost use Rattle.bx_resolve.specs.Neutral.{n1, n2};
 
-use crate::error::ResolveError;
 use crate::neutral::n1_n2;
 use crate::weak::weak_in_one_pass;
-use bx_brackets::{PairSearch, resolve_pairs};
+use bx_brackets::PairSearch;
+use bx_ucd::Class;
 use bx_ucd::class::direction;
-use bx_ucd::{BidiData, Class};
 use std::alloc::{AllocError, Global};
 
 /// The level of a sequence and the types before and after it.
@@ -26,8 +25,8 @@ pub struct Ends {
 /// Which characters of a sequence were NSM, and the search for its bracket pairs.
 #[derive(Drop)]
 pub struct Scratch {
-    marks: Vec<bool>,
-    search: PairSearch,
+    pub marks: Vec<bool>,
+    pub search: PairSearch,
 }
 
 /// Notes which types are NSM. The room grows to what is needed, and by a quarter at least.
@@ -64,27 +63,14 @@ impl Scratch {
         Ok(())
     }
 
-    /// Gives the bracket pairs of a sequence their types (N0), in place, where the marks are noted.
-    pub fn resolve_brackets<D: BidiData>(
-        &mut self,
-        source: &D,
-        chars: &[char],
-        types: &mut [Class],
-        ends: Ends,
-    ) -> Result<(), ResolveError>
-        requires as_long { length chars.now ≡ length types.old }
-        requires marks { length self.old.marks.items ≡ length types.old }
-        ensures { OnOk result (types.new ≡ resolve_pairs (direction ends.level) ends.sos self.old.marks.items (pairs (D.bracket_of source.now) chars.now types.old) types.old) }
+    /// Gives the bracket pairs that are found their types (N0), in place, where the marks are noted.
+    pub fn resolve_brackets(&self, types: &mut [Class], ends: Ends)
+        requires count { length types.old ≡ self.now.search.count }
+        requires marks { length self.now.marks.items ≡ length types.old }
+        ensures { types.new ≡ resolve_pairs (direction ends.level) ends.sos self.now.marks.items self.now.search.progress.pairs types.old }
     {
-        self.search.find(chars, types, source)?;
-        resolve_pairs(
-            types,
-            &self.marks,
-            self.search.pairs(),
-            ends.level,
-            ends.sos,
-        );
-        Ok(())
+        self.search
+            .resolve(types, &self.marks, ends.level, ends.sos);
     }
 }
 

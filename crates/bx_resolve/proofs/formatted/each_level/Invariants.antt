@@ -7,7 +7,7 @@ use Rattle.bx_resolve.proofs.formatted.each_level.Given as goal
 abbrev pub invariant-loop-walk : goal.invariant-loop-walk
 invariant-loop-walk g l = record {
   own : l.walk.explicit ≡ l.explicit;
-  text : l.room.letters.text.chars ≡ chars l.body;
+  text : l.room.body ≡ chars l.body;
   all : length l.each.items ≡ length (chars l.body);
   written : with_sequences (g.D.BidiData.bracket_of l.source) (chars l.body) l.explicit.kept.items
       (sequences l.explicit.level l.explicit.classes.items l.explicit.kept.items) (replicate (length (chars l.body)) None)

@@ -1,0 +1,21 @@
+-- What is met so far, and what is left to meet.
+use Rattle.std.proofs.Common.{◌≡◌, ◌≤◌, ◌++◌, ℕ, List, drop, chars, length}
+use denote.Text.{Utf8}
+use denote.Shadow.{shadow}
+use Rattle.bx_brackets.specs.Search.{pairs_after}
+use Rattle.bx_explicit.specs.LevelIndexes.{level_indexes}
+use Rattle.bx_resolve.specs.Levels.{chars_at}
+use Rattle.bx_resolve.proofs.brackets.meet_run.Given as goal
+
+abbrev pub invariant-loop-k : goal.invariant-loop-k
+invariant-loop-k g l = record {
+  text : shadow (Utf8 l.rest);
+  chars_are : chars l.rest ≡ drop l.k l.body;
+  next : l.search.next ≤ l.met;
+  count : l.search.count ≡ l.fn.search.count;
+  left : (more : List ℕ)
+      → pairs_after (g.D.BidiData.bracket_of l.source) l.fn.search.progress l.fn.met
+      (chars_at l.body (level_indexes l.level l.first (drop l.first l.kept) ++ more)) (drop l.fn.met l.types)
+      ≡ pairs_after (g.D.BidiData.bracket_of l.source) l.search.progress l.met
+      (chars_at l.body (level_indexes l.level l.k (drop l.k l.kept) ++ more)) (drop l.met l.types);
+}

@@ -1,0 +1,15 @@
+-- What is met so far, and what is left to meet.
+use Rattle.std.proofs.Common.{◌≡◌, ◌≤◌, drop, length}
+use Rattle.bx_brackets.specs.Search.{pairs_after}
+use Rattle.bx_explicit.specs.LevelIndexes.{indexes_from}
+use Rattle.bx_resolve.specs.Levels.{chars_at}
+use Rattle.bx_resolve.proofs.brackets.meet_sequence.Given as goal
+
+abbrev pub invariant-loop-first : goal.invariant-loop-first
+invariant-loop-first g l = record {
+  next : l.search.next ≤ l.met;
+  count : l.search.count ≡ l.fn.search.count;
+  left : pairs_after (g.D.BidiData.bracket_of l.source) l.fn.search.progress 0 (chars_at l.body (indexes_from l.level l.kept l.firsts)) l.types
+      ≡ pairs_after (g.D.BidiData.bracket_of l.source) l.search.progress l.met
+      (chars_at l.body (indexes_from l.level l.kept (drop l.first-index l.firsts))) (drop l.met l.types);
+}

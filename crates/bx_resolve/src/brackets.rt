@@ -1,0 +1,164 @@
+//! The bracket pairs of a sequence, found as its characters are read from the body.
+ghost use Rattle.std.specs.Prelude.{◌≡◌, ℕ, ◌≤◌, ◌++◌, List, IfOk, OnOk, chars, drop, length};
+ghost use Rattle.bx_ucd.specs.Class.{direction};
+ghost use Rattle.bx_brackets.specs.Pairs.{pairs};
+ghost use Rattle.bx_brackets.specs.Resolve.{resolve_pairs};
+ghost use Rattle.bx_brackets.specs.Search.{pairs_after};
+ghost use Rattle.bx_explicit.specs.LevelIndexes.{level_indexes, indexes_from};
+ghost use Rattle.bx_resolve.specs.Levels.{chars_at, MeetsRun};
+
+use crate::body::{Body, first_char};
+use crate::error::ResolveError;
+use crate::scratch::{Ends, Scratch, may_have_brackets};
+use bx_brackets::{BracketError, PairSearch};
+use bx_explicit::Kept;
+use bx_ucd::{BidiData, Class};
+
+/// Hands the characters of a text to a search, each with its type.
+fn meet_text<D: BidiData>(
+    search: &mut PairSearch,
+    text: &str,
+    types: &[Class],
+    source: &D,
+) -> Result<(), BracketError>
+    requires next { search.old.next ≡ 0 }
+    requires count { search.old.count ≡ length types.now }
+    ensures pairs { OnOk result (search.new.progress.pairs ≡ pairs_after (D.bracket_of source.now) search.old.progress 0 (chars text.now) types.now) }
+    ensures count { search.new.count ≡ search.old.count }
+{
+    let mut rest = text;
+    for index in 0..types.len() {
+        let Some((c, behind)) = first_char(rest) else {
+            return Ok(());
+        };
+        search.meet(index, c, types[index], source)?;
+        rest = behind;
+    }
+    Ok(())
+}
+
+/// Hands the characters of a run of a level to a search, from its first index on, where so many characters of the sequence
+/// are met already. It says how many are met then.
+fn meet_run<D: BidiData>(
+    search: &mut PairSearch,
+    body: &Body<'_>,
+    source: &D,
+    kept: &[Option<Kept>],
+    level: u8,
+    first: usize,
+    types: &[Class],
+    met: usize,
+) -> Result<usize, BracketError>
+    requires as_long { length body.now ≡ length kept.now }
+    requires next { search.old.next ≤ met }
+    requires count { search.old.count ≡ length types.now }
+    ensures met { IfOk result (λ m. MeetsRun (D.bracket_of source.now) body.now types.now (level_indexes level first (drop first kept.now)) search.old.progress met
+        search.new.progress m) }
+    ensures next { IfOk result (λ m. search.new.next ≤ m) }
+    ensures count { search.new.count ≡ search.old.count }
+{
+    let mut met = met;
+    let mut rest = body.rest_from(first);
+    for k in first..kept.len() {
+        let Some((c, behind)) = first_char(rest) else {
+            return Ok(met);
+        };
+        match kept[k] {
+            None => {}
+            Some(given) => {
+                if given.level != level {
+                    return Ok(met);
+                }
+                if met >= types.len() {
+                    return Ok(met);
+                }
+                search.meet(met, c, types[met], source)?;
+                met += 1;
+            }
+        }
+        rest = behind;
+    }
+    Ok(met)
+}
+
+/// Hands the characters of a sequence of a level to a search, from the first indexes of its runs, each with its type.
+fn meet_sequence<D: BidiData>(
+    search: &mut PairSearch,
+    body: &Body<'_>,
+    source: &D,
+    kept: &[Option<Kept>],
+    firsts: &[usize],
+    level: u8,
+    types: &[Class],
+) -> Result<(), BracketError>
+    requires as_long { length body.now ≡ length kept.now }
+    requires next { search.old.next ≡ 0 }
+    requires count { search.old.count ≡ length types.now }
+    ensures pairs { OnOk result (search.new.progress.pairs
+        ≡ pairs_after (D.bracket_of source.now) search.old.progress 0 (chars_at body.now (indexes_from level kept.now firsts.now)) types.now) }
+    ensures count { search.new.count ≡ search.old.count }
+{
+    let mut met = 0;
+    for first in firsts {
+        met = meet_run(search, body, source, kept, level, *first, types, met)?;
+    }
+    Ok(())
+}
+
+/// Gives the bracket pairs of a text that is one sequence their types (N0), in place. The text is read again only where one
+/// of its characters may be a bracket.
+#[tactic(auto, using(crate::proofs::NoBrackets::no_pairs))]
+pub fn resolve_brackets_of<D: BidiData>(
+    scratch: &mut Scratch,
+    body: &str,
+    source: &D,
+    types: &mut [Class],
+    ends: Ends,
+) -> Result<(), ResolveError>
+    requires marks { length scratch.old.marks.items ≡ length types.old }
+    ensures { OnOk result (types.new ≡ resolve_pairs (direction ends.level) ends.sos scratch.old.marks.items
+        (pairs (D.bracket_of source.now) (chars body.now) types.old) types.old) }
+{
+    if !may_have_brackets(types) {
+        return Ok(());
+    }
+    scratch.search.begin(types.len())?;
+    meet_text(&mut scratch.search, body, types, source)?;
+    scratch.resolve_brackets(types, ends);
+    Ok(())
+}
+
+/// Gives the bracket pairs of a sequence their types (N0), in place. Its characters are read where one may be a bracket.
+#[tactic(auto, using(crate::proofs::NoBrackets::no_pairs))]
+pub fn resolve_brackets_in<D: BidiData>(
+    scratch: &mut Scratch,
+    body: &mut Body<'_>,
+    source: &D,
+    kept: &[Option<Kept>],
+    firsts: &[usize],
+    types: &mut [Class],
+    ends: Ends,
+) -> Result<(), ResolveError>
+    requires as_long { length body.old ≡ length kept.now }
+    requires marks { length scratch.old.marks.items ≡ length types.old }
+    ensures types { OnOk result (types.new ≡ resolve_pairs (direction ends.level) ends.sos scratch.old.marks.items
+        (pairs (D.bracket_of source.now) (chars_at body.old (indexes_from ends.level kept.now firsts.now)) types.old) types.old) }
+    ensures body { body.new ≡ body.old }
+{
+    if !may_have_brackets(types) {
+        return Ok(());
+    }
+    body.read()?;
+    scratch.search.begin(types.len())?;
+    meet_sequence(
+        &mut scratch.search,
+        body,
+        source,
+        kept,
+        firsts,
+        ends.level,
+        types,
+    )?;
+    scratch.resolve_brackets(types, ends);
+    Ok(())
+}
