@@ -66,3 +66,11 @@ glyphs-are class mirror gs w body paragraph us levels l parts r drawn ew eb ep e
     drawn ∙ ap (λ n. draw class mirror n body paragraph us levels) ew ∙ ap (λ b. draw class mirror l.w b paragraph us levels) eb
     ∙ ap (λ p. draw class mirror l.w l.body p us levels) ep ∙ ap (λ vs. draw class mirror l.w l.body l.paragraph vs levels) eu
     ∙ ap (draw class mirror l.w l.body l.paragraph parts.units.items) el ∙ ap (row_glyphs class mirror l.w) er
+
+-- each row has the level of the paragraph
+pub row_level : (l : LayoutState) (class : ℕ → Class) (bracket : ℕ → Option (Side × ℕ)) (k : ℕ) → IsLayoutBy class bracket l → k < length l.starts
+    → l.paragraph ≡ (row_by class bracket l k).paragraph
+row_level l class bracket k is h =
+    let xs = rows_units class l.w l.body in
+    ap (λ r. r.paragraph)
+    (row-is l class bracket k (get_or xs k []) (row_levels class l.body l.paragraph l.each (get_or xs k [])) (k + 1 == length l.starts) is h refl refl refl)

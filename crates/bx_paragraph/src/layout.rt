@@ -131,7 +131,11 @@ impl ParagraphLayout {
     }
 
     /// The units of a row with their levels.
-    fn row<D: BidiData>(&self, row: usize, source: &D) -> Result<RowParts, ParagraphError>
+    pub(crate) fn row<D: BidiData>(
+        &self,
+        row: usize,
+        source: &D,
+    ) -> Result<RowParts, ParagraphError>
         requires data { IsLayoutBy (D.class_of source.now) (D.bracket_of source.now) self.now }
         requires row { row < length self.now.starts }
         ensures row { IfOk result (λ r. row_of_parts self.now r ≡ row_by (D.class_of source.now) (D.bracket_of source.now) self.now row) }
