@@ -13,6 +13,8 @@ mod files;
 #[cfg(test)]
 mod grid;
 #[cfg(test)]
+mod layout;
+#[cfg(test)]
 mod levels;
 #[cfg(test)]
 mod painting;
