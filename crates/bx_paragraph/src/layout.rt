@@ -6,18 +6,18 @@ ghost use Rattle.bx_terms.specs.Sizes.{is_side};
 ghost use Rattle.bx_cells.specs.Units.{HasFace, StandsIn};
 ghost use Rattle.bx_rows.specs.RowPicture.{columns_used};
 ghost use Rattle.bx_rows.specs.Shown.{glyph_of};
-ghost use Rattle.bx_paragraph.specs.BodyRows.{first_of, row_at, row_glyphs, row_of};
+ghost use Rattle.bx_paragraph.specs.BodyRows.{first_of, offsets_of, row_at, row_glyphs, row_of};
 ghost use Rattle.bx_paragraph.specs.Layout.{IsLayoutBy, OfRows, row_by};
 ghost use Rattle.bx_paragraph.specs.RowParts.{row_of_parts};
-ghost use Rattle.bx_paragraph.specs.Slots.{row_slots};
+ghost use Rattle.bx_paragraph.specs.Slots.{AreReordered, row_slots};
 
 use crate::error::ParagraphError;
-use crate::row_parts::{RowParts, units_of_row, whole_row};
+use crate::row_parts::{RowParts, whole_row};
 use crate::slot::Slot;
 use crate::slots::row_slots;
 use bx_explicit::Base;
 use bx_resolve::{Levels, levels};
-use bx_rows::{RowPicture, RowStart, draw, row_levels, row_starts};
+use bx_rows::{RowPicture, RowStart, draw, row_levels_behind, row_starts, units_of_row};
 use bx_ucd::BidiData;
 use std::alloc::Global;
 use std::marker::Model;
@@ -131,7 +131,11 @@ impl ParagraphLayout {
     }
 
     /// The units of a row with their levels.
-    fn row<D: BidiData>(&self, row: usize, source: &D) -> Result<RowParts, ParagraphError>
+    pub(crate) fn row<D: BidiData>(
+        &self,
+        row: usize,
+        source: &D,
+    ) -> Result<RowParts, ParagraphError>
         requires data { IsLayoutBy (D.class_of source.now) (D.bracket_of source.now) self.now }
         requires row { row < length self.now.starts }
         ensures row { IfOk result (λ r. row_of_parts self.now r ≡ row_by (D.class_of source.now) (D.bracket_of source.now) self.now row) }
@@ -142,9 +146,9 @@ impl ParagraphLayout {
     {
         let alloc = *self.starts.allocator();
         let body = self.body.as_str();
-        let units = units_of_row(alloc, body, row, source, self.w)?;
-        let whole = whole_row(&units);
-        let levels = row_levels(alloc, body, &units, whole, &self.levels, source)?;
+        let units = units_of_row(alloc, body, &self.starts, row, source, self.w)?;
+        let chars = self.starts[row].chars;
+        let levels = row_levels_behind(alloc, body, &units, chars, &self.levels, source)?;
         let is_last = row + 1 == self.starts.len();
         Ok(RowParts {
             units,
@@ -153,16 +157,18 @@ impl ParagraphLayout {
         })
     }
 
-    /// The slots of a row from left to right, each with its columns.
+    /// The slots of a row from left to right, each with its columns: one for each place of the row.
     ///
     /// Errors: `OutOfMemory`.
     pub fn slots<D: BidiData>(&self, row: usize, source: &D) -> Result<Vec<Slot>, ParagraphError>
         requires data { IsLayoutBy (D.class_of source.now) (D.bracket_of source.now) self.now }
         requires row { row < length self.now.starts }
-        ensures { IfOk result (λ v. v.items ≡ row_slots self.now.w (row_by (D.class_of source.now) (D.bracket_of source.now) self.now row)) }
+        ensures slots { IfOk result (λ v. v.items ≡ row_slots self.now.w (row_by (D.class_of source.now) (D.bracket_of source.now) self.now row)) }
+        ensures once { IfOk result (λ v. AreReordered (map (λ s. s.offset) v.items)
+            (offsets_of (row_by (D.class_of source.now) (D.bracket_of source.now) self.now row))) }
     {
         let parts = self.row(row, source)?;
-        row_slots(
+        let slots = row_slots(
             *parts.units.allocator(),
             self.body(),
             &parts.units,
@@ -170,7 +176,8 @@ impl ParagraphLayout {
             self.level(),
             parts.is_last,
             self.width(),
-        )
+        )?;
+        Ok(slots)
     }
 
     /// What a row shows, from left to right with its blanks.

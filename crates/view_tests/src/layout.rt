@@ -1,0 +1,146 @@
+//! The layout of a paragraph: each call once with ample memory.
+ghost use Rattle.std.specs.Prelude.{◌<◌, length};
+ghost use Rattle.bx_paragraph.specs.Layout.{IsLayoutBy};
+
+use bx_explicit::Base;
+use bx_paragraph::{ParagraphLayout, Visual};
+use bx_terms::is_side;
+use bx_ucd::{BidiData, sample_tables};
+use std::alloc::Global;
+use std::test::Fail;
+
+/// Adds the slots of a row, each as its offset and its column.
+fn add_slots<D: BidiData>(
+    line: &mut String,
+    alloc: Global,
+    layout: &ParagraphLayout,
+    row: usize,
+    source: &D,
+) -> Result<(), Fail>
+    requires data { IsLayoutBy (D.class_of source.now) (D.bracket_of source.now) layout.now }
+    requires row { row < length layout.now.starts }
+{
+    for slot in &layout.slots(row, source)? {
+        let (offset, column) = (slot.offset, slot.column);
+        line.push_str(format!(in alloc; " {offset}@{column}")?.as_str())?;
+    }
+    Ok(())
+}
+
+/// Adds the first and the last place of a row, how many it has, and its reading start and end.
+fn add_places<D: BidiData>(
+    line: &mut String,
+    alloc: Global,
+    layout: &ParagraphLayout,
+    row: usize,
+    source: &D,
+) -> Result<(), Fail>
+    requires data { IsLayoutBy (D.class_of source.now) (D.bracket_of source.now) layout.now }
+    requires row { row < length layout.now.starts }
+{
+    let first = layout.first(row);
+    let last = layout.last(row, source)?;
+    let count = layout.offsets(row, source)?.len();
+    let start = layout.reading_start(row, source)?.unwrap_or(99);
+    let end = layout.reading_end(row, source)?.unwrap_or(99);
+    line.push_str(format!(in alloc;
+        "; {first} to {last}, {count}, {start} on to {end}"
+    )?.as_str())?;
+    Ok(())
+}
+
+/// Adds what is right and left of a row's first place, that place's column, and where column 2 is entered.
+fn add_steps<D: BidiData>(
+    line: &mut String,
+    alloc: Global,
+    layout: &ParagraphLayout,
+    row: usize,
+    source: &D,
+) -> Result<(), Fail>
+    requires data { IsLayoutBy (D.class_of source.now) (D.bracket_of source.now) layout.now }
+    requires row { row < length layout.now.starts }
+{
+    let first = layout.first(row);
+    let right = layout
+        .beside(row, Visual::Right, first, source)?
+        .unwrap_or(99);
+    let left = layout
+        .beside(row, Visual::Left, first, source)?
+        .unwrap_or(99);
+    let column = layout.column_of(row, first, source)?;
+    let entry = layout.entry(row, 2, source)?.unwrap_or(99);
+    line.push_str(format!(in alloc; "; {left} {right} {column} {entry}|")?.as_str())?;
+    Ok(())
+}
+
+/// The rows of a text: slots, places and steps of each.
+fn told<D: BidiData>(
+    alloc: Global,
+    text: &str,
+    source: &D,
+    w: u16,
+    base: Base,
+) -> Result<String, Fail> {
+    if !is_side(w) {
+        return Err("no window".into());
+    }
+    let body = String::from_str(alloc, text)?;
+    let layout = ParagraphLayout::of(alloc, body, source, w, base)?;
+    let mut line = String::new(alloc);
+    for row in 0..layout.row_count() {
+        add_slots(&mut line, alloc, &layout, row, source)?;
+        add_places(&mut line, alloc, &layout, row, source)?;
+        add_steps(&mut line, alloc, &layout, row, source)?;
+    }
+    Ok(line)
+}
+
+#[test]
+fn latin_and_hebrew_in_two_rows(rt: HostRuntime) -> Result<(), Fail> {
+    let tables = sample_tables(rt.alloc())?;
+    let line = told(
+        rt.alloc(),
+        "a \u{5d0}\u{5d1} \u{5d2}",
+        &tables,
+        5,
+        Base::Auto,
+    )?;
+    assert_eq!(rt;
+        line.as_str(),
+        " 0@1 1@2 4@3 2@4 6@5; 0 to 6, 5, 0 on to 6; 99 1 1 1| 7@1 9@2; 7 to 9, 2, 7 on to 9; 99 9 1 9|"
+    );
+    Ok(())
+}
+
+#[test]
+fn hebrew_and_a_number(rt: HostRuntime) -> Result<(), Fail> {
+    let tables = sample_tables(rt.alloc())?;
+    let line = told(rt.alloc(), "\u{5d0}\u{5d1} 12", &tables, 8, Base::Auto)?;
+    assert_eq!(rt;
+        line.as_str(),
+        " 7@3 5@4 6@5 4@6 2@7 0@8; 0 to 7, 6, 0 on to 7; 2 99 8 7|"
+    );
+    Ok(())
+}
+
+/// What is told of a layout as a whole, and what its row of an offset shows.
+fn shown<D: BidiData>(alloc: Global, source: &D, offset: usize) -> Result<String, Fail> {
+    let body = String::from_str(alloc, "\u{5d0} (b")?;
+    let layout = ParagraphLayout::of(alloc, body, source, 9, Base::Rtl)?;
+    let (w, level, len) = (layout.width(), layout.level(), layout.body().len());
+    let is_rtl = layout.base() == Base::Rtl;
+    let mut line = format!(in alloc; "{w} {level} {len} {is_rtl}:")?;
+    let row = layout.row_of(offset);
+    for glyph in &layout.picture(row, source)?.glyphs {
+        line.push_str(glyph.text.as_str())?;
+    }
+    Ok(line)
+}
+
+#[test]
+fn a_picture_of_a_row(rt: HostRuntime) -> Result<(), Fail> {
+    let tables = sample_tables(rt.alloc())?;
+    let line = shown(rt.alloc(), &tables, 99)?;
+    assert_eq!(rt; line.as_str(), "9 1 5 true:     b) \u{5d0}");
+    Ok(())
+}
