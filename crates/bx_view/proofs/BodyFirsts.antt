@@ -30,9 +30,11 @@ unfolding with_offsets
 units-rise class w at [] h = omega arith
 units-rise class w at (g ∷ gs) h =
     let more = starts_of (map (unit_at class w) (with_offsets (at + length g) gs)) in
-    let same : at + length g + length (concat gs) + 1 ≡ at + length (concat (g ∷ gs)) + 1 = omega (arith, length-append g (concat gs)) in
-    (omega arith, rises-sooner (at + 1) (at + length g) more (at + length (concat (g ∷ gs)) + 1) (omega (arith, h.0))
-    (subst (Rises (at + length g) more) same (units-rise class w (at + length g) gs h.1)))
+    let same : at + length g + length (concat gs) + 1 ≡ at + length (concat (g ∷ gs)) + 1 = omega (arith, length-append g (concat gs)) in (
+      omega arith,
+      rises-sooner (at + 1) (at + length g) more (at + length (concat (g ∷ gs)) + 1) (omega (arith, h.0))
+          (subst (Rises (at + length g) more) same (units-rise class w (at + length g) gs h.1)),
+    )
 
 -- ---- where the rows begin
 

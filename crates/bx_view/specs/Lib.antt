@@ -2,3 +2,4 @@ pub mod TextRows
 pub mod Moves
 pub mod Top
 pub mod Standing
+pub mod Holding

@@ -1,7 +1,11 @@
 //! The rows of a whole text, the places of its cursor in them, the moves, and the rows that are shown.
 #![tactic(auto)]
 
+mod error;
+mod holder;
+mod in_text;
 mod moves;
 
 pub use bx_paragraph::Visual;
+pub use error::ViewError;
 pub use moves::{Logical, Vertical};
