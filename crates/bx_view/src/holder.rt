@@ -34,7 +34,7 @@ fn is_held(held: &[ParagraphLayout], i: usize, text: &Text, start: usize, stop: 
 
 /// Which of those that are held has the bytes between two offsets as its body: that of the number `recent` is asked
 /// first. No memory.
-fn position(
+pub(crate) fn position(
     held: &[ParagraphLayout],
     recent: usize,
     text: &Text,
@@ -80,7 +80,7 @@ fn drop_oldest<D: BidiData>(held: &mut Vec<ParagraphLayout>, source: &D, base: B
 
 /// Holds one more paragraph, in place of another where many are held, and alone where all have more bytes than two
 /// texts may have. It answers its place among them.
-fn hold<D: BidiData>(
+pub(crate) fn hold<D: BidiData>(
     held: &mut Vec<ParagraphLayout>,
     new: ParagraphLayout,
     source: &D,

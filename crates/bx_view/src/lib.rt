@@ -4,8 +4,11 @@
 mod error;
 mod holder;
 mod in_text;
+mod layout;
 mod moves;
+mod span;
 
 pub use bx_paragraph::Visual;
 pub use error::ViewError;
+pub use layout::Layout;
 pub use moves::{Logical, Vertical};

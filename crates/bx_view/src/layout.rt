@@ -1,0 +1,85 @@
+//! The layout of a text.
+ghost use Rattle.std.specs.Prelude.{◌≡◌, ◌<◌, [], true, length, IfOk};
+ghost use Rattle.bx_terms.specs.Sizes.{is_side};
+ghost use Rattle.bx_paras.specs.Paragraphs.{lengths};
+ghost use Rattle.bx_view.specs.Holding.{HoldsBody, IsViewBy, Keeps};
+ghost use Rattle.bx_view.specs.Standing.{body_at, count};
+
+use crate::error::ViewError;
+use crate::holder::{hold, position};
+use crate::span::body_span;
+use bx_explicit::Base;
+use bx_paragraph::ParagraphLayout;
+use bx_paras::Index;
+use bx_text::Text;
+use bx_ucd::BidiData;
+use std::alloc::Global;
+use std::marker::Model;
+
+/// The rows of a text in a window of so many columns, under a base direction. It holds a few paragraphs, laid out
+/// once, and no rows of the whole text.
+#[derive(Drop)]
+pub struct Layout {
+    base: Base,
+    w: u16,
+    held: Vec<ParagraphLayout>,
+    // the number of the one that was found last
+    recent: usize,
+}
+
+impl Model for Layout {
+    ghost use Rattle.std.specs.Prelude.{◌≡◌, true};
+    ghost use Rattle.bx_terms.specs.Sizes.{is_side};
+    ghost use Rattle.bx_view.specs.Holding.{ViewState};
+
+    ghost Value = { ViewState };
+
+    ghost view = { λ l. record { base = l.base; w = l.w; held = l.held.items } };
+
+    ghost invariant = { λ l. is_side l.w ≡ true };
+}
+
+impl Layout {
+    /// A layout in `w` columns, under a base direction: of whatever text its calls are given. No work, and no memory
+    /// before the first call.
+    pub fn of(alloc: Global, w: u16, base: Base) -> Layout
+        requires { is_side w ≡ true }
+        ensures { result ≡ record { base = base; w = w; held = [] } }
+    {
+        Layout {
+            base,
+            w,
+            held: Vec::new(alloc),
+            recent: 0,
+        }
+    }
+
+    /// The number among those held of a paragraph of the text, which is laid out if it is not held.
+    ///
+    /// Errors: `OutOfMemory`.
+    fn find<D: BidiData>(
+        &mut self,
+        text: &Text,
+        index: &Index,
+        source: &D,
+        number: usize,
+    ) -> Result<usize, ViewError>
+        requires data { IsViewBy (D.class_of source.now) (D.bracket_of source.now) self.old }
+        requires index { index.now.paragraphs ≡ lengths (D.class_of source.now) text.now.edited.text }
+        requires number { number < count (D.class_of source.now) text.now.edited.text }
+        ensures keeps { Keeps (D.class_of source.now) (D.bracket_of source.now) self.old self.new }
+        ensures body { IfOk result (HoldsBody (body_at (D.class_of source.now) text.now.edited.text number) self.new.held) }
+    {
+        let (start, stop) = body_span(text, index, source, number);
+        if let Some(i) = position(&self.held, self.recent, text, start, stop) {
+            self.recent = i;
+            return Ok(i);
+        }
+        let body = text.copy_range(start, stop)?;
+        let alloc = *self.held.allocator();
+        let layout = ParagraphLayout::of(alloc, body, source, self.w, self.base)?;
+        let i = hold(&mut self.held, layout, source, self.base, self.w)?;
+        self.recent = i;
+        Ok(i)
+    }
+}
