@@ -1,12 +1,12 @@
 -- A body's clusters one after another: the first of what is left, and the units of what is left behind it.
-use Rattle.std.proofs.Common.{◌≡◌, ℕ, ◌+◌, ◌<◌, ◌≤◌, true, List, [], ◌∷◌, ◌++◌, map, length, drop, refl, sym, ap, ap₂, subst, ◌∙◌, arith, append_assoc}
+use Rattle.std.proofs.Common.{◌≡◌, ℕ, zero, suc, ◌+◌, ◌<◌, ◌≤◌, true, List, [], ◌∷◌, ◌++◌, map, length, drop, refl, sym, ap, ap₂, subst, ◌∙◌, arith, append_assoc}
 use Rattle.std.proofs.Common.{append-nil, length-append, encode_utf8, encode_utf8_all}
 use Rattle.std.specs.List.{concat}
 use Rattle.std.specs.Str.{chars, IsUtf8, IsCharBoundary, all_scalars}
 use lib.Utf8.{scalar}
 use Rattle.std.proofs.lemmas.Bool.{and_parts, and_from}
 use Rattle.std.proofs.lemmas.List.{drop-drop, drop_at, drop_all, length-drop}
-use Rattle.std.proofs.lemmas.Str.{chars-nil, chars_past_char, encodes-append, encodes-chars, IsUtf8-past_char, IsUtf8-drop, IsCharBoundary-from_drop}
+use Rattle.std.proofs.lemmas.Str.{chars-nil, chars_past_char, encodes-append, encodes-chars, IsUtf8-past_char, IsUtf8-drop, IsCharBoundary-from_drop, IsCharBoundary-start}
 use Rattle.unicode_segmentation.specs.Grapheme.{graphemes, is_grapheme_break}
 use Rattle.unicode_segmentation.specs.Segments.{cut, segments, with_offsets}
 use Rattle.unicode_segmentation.proofs.SegmentsLemmas.{AllPieces, segments_nonempty}
@@ -14,7 +14,7 @@ use Rattle.bx_ucd.specs.declared.class.Class.{Class}
 use Rattle.bx_cells.specs.declared.unit.Unit.{Unit}
 use Rattle.bx_cells.specs.declared.unit.Face.{Face}
 use Rattle.bx_cells.specs.Faces.{face}
-use Rattle.bx_cells.specs.Units.{unit_at, units_from}
+use Rattle.bx_cells.specs.Units.{unit_at, units, units_from}
 use Rattle.bx_cells.proofs.Locality.{concat-own, TailsOwn, tails-own}
 
 -- ---- characters in front of a text
@@ -142,3 +142,51 @@ pub unit-next : (class : ℕ → Class) (w : ℕ) (body : List ℕ) (at : ℕ) (
     → f ≡ face class w p → units_from class w body at ≡ record { start = at; stop = at + length p; face = f } ∷ units_from class w body (at + length p)
 unit-next class w body at p ps f n e = n.units
     ∙ ap (λ x. record { start = at; stop = at + length p; face = x } ∷ units_from class w body (at + length p)) (sym e)
+
+-- ---- a unit among those of what is left
+
+-- the unit is the first of those from its own offset on, and `rest` are behind it
+pub record IsUnitAt (class : ℕ → Class) (w : ℕ) (body : List ℕ) (u : Unit) (rest : List Unit) : Type 0 where
+  pub units : units_from class w body u.start ≡ u ∷ rest
+  pub boundary : IsCharBoundary body u.start
+
+unit-first : (class : ℕ → Class) (w : ℕ) (body : List ℕ) (at : ℕ) (p : List ℕ) (ps : List (List ℕ)) (u : Unit) (rest : List Unit) → IsCharBoundary body at
+    → graphemes true (drop at body) ≡ p ∷ ps → unit_at class w (at, p) ∷ map (unit_at class w) (with_offsets (at + length p) ps) ≡ u ∷ rest
+    → IsUnitAt class w body u rest
+unfolding with_offsets
+unit-first class w body at p ps u rest b e h =
+    let head : unit_at class w (at, p) ≡ u = cc in
+    let start : at ≡ u.start = ap (λ x. x.start) head in
+    record {
+      units = ap (units_from class w body) (sym start) ∙ ap (λ x. map (unit_at class w) (with_offsets at x)) e ∙ h;
+      boundary = subst (IsCharBoundary body) start b;
+    }
+
+unit-later : (class : ℕ → Class) (w : ℕ) (body : List ℕ) → IsUtf8 body → (i : ℕ) (ps : List (List ℕ)) (at : ℕ) → IsCharBoundary body at
+    → graphemes true (drop at body) ≡ ps → (u : Unit) (rest : List Unit) → drop i (map (unit_at class w) (with_offsets at ps)) ≡ u ∷ rest
+    → IsUnitAt class w body u rest
+unfolding with_offsets
+unit-later class w body valid zero [] at b e u rest h = cc
+unit-later class w body valid (suc i) [] at b e u rest h = cc
+unit-later class w body valid zero (p ∷ ps) at b e u rest h = unit-first class w body at p ps u rest b e h
+unit-later class w body valid (suc i) (p ∷ ps) at b e u rest h =
+    let n = next-cluster class w body at p ps valid b e in unit-later class w body valid i ps (at + length p) n.boundary (sym n.own) u rest h
+
+-- each unit of a body is such
+pub unit-behind : (class : ℕ → Class) (w : ℕ) (body : List ℕ) (i : ℕ) (u : Unit) (rest : List Unit) → IsUtf8 body
+    → drop i (units class w body) ≡ u ∷ rest → IsUnitAt class w body u rest
+unit-behind class w body i u rest valid h =
+    unit-later class w body valid i (graphemes true body) 0 (IsCharBoundary-start body valid) refl u rest h
+
+few-from : (class : ℕ → Class) (w : ℕ) (body : List ℕ) → IsUtf8 body → (ps : List (List ℕ)) (at : ℕ) → IsCharBoundary body at
+    → graphemes true (drop at body) ≡ ps → at + length (map (unit_at class w) (with_offsets at ps)) ≤ length body
+unfolding with_offsets
+few-from class w body valid [] at b e = let within = b.0 in omega (arith, within)
+few-from class w body valid (p ∷ ps) at b e =
+    let n = next-cluster class w body at p ps valid b e in
+    omega (arith, cluster-grows body at p ps e, few-from class w body valid ps (at + length p) n.boundary (sym n.own))
+
+-- a body has no more units than bytes
+pub few-units : (class : ℕ → Class) (w : ℕ) (body : List ℕ) → IsUtf8 body → length (units class w body) ≤ length body
+few-units class w body valid =
+    let few = few-from class w body valid (graphemes true body) 0 (IsCharBoundary-start body valid) refl in omega (arith, few)

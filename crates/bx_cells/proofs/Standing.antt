@@ -1,13 +1,17 @@
 -- Units begin and end between characters, and show the faces of their texts.
-use Rattle.std.proofs.Common.{◌≡◌, ℕ, true, List, IsUtf8, All, ap, arith}
-use Rattle.std.proofs.lemmas.List.Elements.{All-map, All-weaker, All-same}
+use Rattle.std.proofs.Common.{◌≡◌, ℕ, ◌+◌, ◌-◌, true, List, [], ◌∷◌, length, take, drop, map, slice_range, IsUtf8, All, refl, sym, ap, ◌∙◌, arith}
+use Rattle.std.specs.Str.{IsCharBoundary}
+use Rattle.std.proofs.lemmas.List.{take_at}
+use Rattle.std.proofs.lemmas.List.Elements.{All-nil, All-cons, All-map, All-weaker, All-same, All-take}
+use Rattle.std.proofs.lemmas.Str.{IsUtf8-drop}
 use Rattle.unicode_segmentation.specs.Grapheme.{graphemes, is_grapheme_break}
 use Rattle.unicode_segmentation.specs.Segments.{with_offsets}
 use Rattle.unicode_segmentation.proofs.SegmentsLemmas.{IsPieceOf, All-IsPieceOf}
 use Rattle.bx_ucd.specs.declared.class.Class.{Class}
 use Rattle.bx_cells.specs.declared.unit.Unit.{Unit}
 use Rattle.bx_cells.specs.Faces.{face}
-use Rattle.bx_cells.specs.Units.{units, unit_at, StandsIn, HasFace}
+use Rattle.bx_cells.specs.Units.{units, units_from, unit_at, StandsIn, HasFace}
+use Rattle.bx_cells.proofs.Rest.{next-cluster, first-cluster}
 
 pub stand-units : (class : ℕ → Class) (w : ℕ) (body : List ℕ) → IsUtf8 body → All (StandsIn body) (units class w body)
 stand-units class w body u =
@@ -26,3 +30,37 @@ faces-units class w body u =
 
 pub faces_if_units : (class : ℕ → Class) (w : ℕ) (body : List ℕ) (us : List Unit) → IsUtf8 body → us ≡ units class w body → All (HasFace class w body) us
 faces_if_units class w body us u e = All-same (HasFace class w body) us (units class w body) e (faces-units class w body u)
+
+-- ---- the units of what is left from an offset on
+
+-- the bytes of the first cluster of what is left
+first-bytes : (body : List ℕ) (at : ℕ) (p : List ℕ) (ps : List (List ℕ)) → IsUtf8 body → IsCharBoundary body at → graphemes true (drop at body) ≡ p ∷ ps
+    → p ≡ slice_range body at (at + length p)
+first-bytes body at p ps u b e =
+    let f = first-cluster (drop at body) p ps (IsUtf8-drop body at u b) e in
+    let len : (at + length p) - at ≡ length p = omega arith in
+    sym (ap (take (length p)) f.bytes ∙ take_at p (drop (length p) (drop at body)) (length p) refl) ∙ ap (λ n. take n (drop at body)) (sym len)
+
+-- what holds of the unit of each cluster at its offset holds of all from an offset on
+all-from : (P : Unit → Type 0) (class : ℕ → Class) (w : ℕ) (body : List ℕ) → IsUtf8 body
+    → ((at : ℕ) (p : List ℕ) → IsCharBoundary body at → IsCharBoundary body (at + length p) → p ≡ slice_range body at (at + length p)
+    → P (unit_at class w (at, p)))
+    → (ps : List (List ℕ)) (at : ℕ) → IsCharBoundary body at → graphemes true (drop at body) ≡ ps → All P (map (unit_at class w) (with_offsets at ps))
+unfolding with_offsets
+all-from P class w body u each [] at b e = All-nil P
+all-from P class w body u each (p ∷ ps) at b e =
+    let n = next-cluster class w body at p ps u b e in
+    All-cons P (unit_at class w (at, p)) (map (unit_at class w) (with_offsets (at + length p) ps)) (each at p b n.boundary (first-bytes body at p ps u b e))
+    (all-from P class w body u each ps (at + length p) n.boundary (sym n.own))
+
+pub stand_if_taken : (class : ℕ → Class) (w n : ℕ) (body : List ℕ) (at : ℕ) (us : List Unit) → IsUtf8 body → IsCharBoundary body at
+    → us ≡ take n (units_from class w body at) → All (StandsIn body) us
+stand_if_taken class w n body at us u b e =
+    All-same (StandsIn body) us (take n (units_from class w body at)) e (All-take (StandsIn body) n (units_from class w body at)
+    (all-from (StandsIn body) class w body u (λ i p begins ends bytes. (omega arith, begins, ends)) (graphemes true (drop at body)) at b refl))
+
+pub faces_if_taken : (class : ℕ → Class) (w n : ℕ) (body : List ℕ) (at : ℕ) (us : List Unit) → IsUtf8 body → IsCharBoundary body at
+    → us ≡ take n (units_from class w body at) → All (HasFace class w body) us
+faces_if_taken class w n body at us u b e =
+    All-same (HasFace class w body) us (take n (units_from class w body at)) e (All-take (HasFace class w body) n (units_from class w body at)
+    (all-from (HasFace class w body) class w body u (λ i p begins ends bytes. ap (face class w) bytes) (graphemes true (drop at body)) at b refl))

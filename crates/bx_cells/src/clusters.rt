@@ -10,7 +10,7 @@ use bx_ucd::BidiData;
 use std::alloc::Global;
 
 /// How many units have room at once; a body of more bytes may take more room while it is read.
-const FIRST_ROOM: usize = 256;
+pub(crate) const FIRST_ROOM: usize = 256;
 
 /// The units of a body: by its characters where these tell them, else by the rules on breaks.
 fn listed<D: BidiData>(

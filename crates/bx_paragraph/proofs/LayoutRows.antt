@@ -1,6 +1,6 @@
 -- A row of a layout, by its units.
 use Rattle.std.proofs.Common.{◌≡◌, ℕ, zero, suc, ◌+◌, ◌-◌, ◌==◌, ◌<◌, Bool, List, [], ◌∷◌, length, take, get_or, Option, refl, sym, ap, ◌∙◌, arith}
-use Rattle.std.specs.Prelude.{chars}
+use Rattle.std.specs.Prelude.{chars, map, slice_get}
 use Rattle.std.proofs.Common.{ne_eqb}
 use Rattle.std.proofs.Math.Dec.{eqb-suc-suc}
 use Rattle.std.proofs.Math.Seq.{take-length}
@@ -12,7 +12,8 @@ use Rattle.bx_cells.specs.declared.unit.Unit.{Unit}
 use Rattle.bx_cells.specs.Units.{units}
 use Rattle.bx_rows.specs.RowLevels.{row_levels}
 use Rattle.bx_rows.specs.RowPicture.{Glyph, draw}
-use Rattle.bx_rows.specs.RowStarts.{start_of}
+use Rattle.bx_rows.specs.declared.row.Row.{Row}
+use Rattle.bx_rows.specs.RowStarts.{start_of, units_in, units_of_row}
 use Rattle.bx_rows.specs.Wrapping.{row_units, wrap}
 use Rattle.bx_paragraph.specs.declared.row_parts.RowParts.{RowParts}
 use Rattle.bx_paragraph.specs.BodyRows.{BodyRow, no_row, row_glyphs, row_with, rows_units, with_last}
@@ -66,3 +67,20 @@ glyphs-are class mirror gs w body paragraph us levels l parts r drawn ew eb ep e
     drawn ∙ ap (λ n. draw class mirror n body paragraph us levels) ew ∙ ap (λ b. draw class mirror l.w b paragraph us levels) eb
     ∙ ap (λ p. draw class mirror l.w l.body p us levels) ep ∙ ap (λ vs. draw class mirror l.w l.body l.paragraph vs levels) eu
     ∙ ap (draw class mirror l.w l.body l.paragraph parts.units.items) el ∙ ap (row_glyphs class mirror l.w) er
+
+units-at : (us : List Unit) (rs : List Row) (k : ℕ) → units_in us (slice_get rs k) ≡ get_or (map (row_units us) rs) k []
+units-at us [] k = refl
+units-at us (r ∷ rs) zero = refl
+units-at us (r ∷ rs) (suc k) = units-at us rs k
+
+-- the units of a row, by its number
+pub units-of-row : (class : ℕ → Class) (w : ℕ) (body : List ℕ) (k : ℕ) → units_of_row class w body k ≡ get_or (rows_units class w body) k []
+units-of-row class w body k = let us = units class w body in units-at us (wrap class w body us) k
+
+-- each row has the level of the paragraph
+pub row_level : (l : LayoutState) (class : ℕ → Class) (bracket : ℕ → Option (Side × ℕ)) (k : ℕ) → IsLayoutBy class bracket l → k < length l.starts
+    → l.paragraph ≡ (row_by class bracket l k).paragraph
+row_level l class bracket k is h =
+    let xs = rows_units class l.w l.body in
+    ap (λ r. r.paragraph)
+    (row-is l class bracket k (get_or xs k []) (row_levels class l.body l.paragraph l.each (get_or xs k [])) (k + 1 == length l.starts) is h refl refl refl)

@@ -54,10 +54,6 @@ row_slots w r = elim (r.is_last) [ true ↦ with_end r.paragraph (end_slot w r) 
 abbrev pub slot_offsets : ℕ → BodyRow → List ℕ
 slot_offsets w r = map (λ s. s.offset) (row_slots w r)
 
--- their offsets in reading order: from left to right at level 0, from right to left at level 1
-abbrev pub reading_order : ℕ → BodyRow → List ℕ
-reading_order w r = elim (r.paragraph % 2) [ zero ↦ slot_offsets w r | suc _ ↦ reverse (slot_offsets w r) ]
-
 -- the first of some offsets, if there is one
 abbrev pub first_in : List ℕ → Option ℕ
 first_in [] = None
@@ -68,34 +64,59 @@ abbrev pub next_in : ℕ → List ℕ → Option ℕ
 next_in offset [] = None
 next_in offset (p ∷ ps) = elim (p == offset) [ true ↦ first_in ps | false ↦ next_in offset ps ]
 
+-- offsets that are given from left to right, in the order in which a move to a side meets them
+abbrev pub toward : Visual → List ℕ → List ℕ
+toward Right offsets = offsets
+toward Left offsets = reverse offsets
+
 -- the offset of the next slot of a row to a side
 abbrev pub beside : ℕ → BodyRow → Visual → ℕ → Option ℕ
-beside w r Right offset = next_in offset (slot_offsets w r)
-beside w r Left offset = next_in offset (reverse (slot_offsets w r))
+beside w r side offset = next_in offset (toward side (slot_offsets w r))
 
--- the offset of a row's slot at its reading start (the leftmost at level 0, the rightmost at level 1), and at its reading end
+-- the side at which a paragraph of a level is read on: right at level 0, left at level 1
+abbrev pub reading_side : ℕ → Visual
+reading_side paragraph = elim (paragraph % 2) [ zero ↦ Right | suc _ ↦ Left ]
+
+abbrev pub opposite : Visual → Visual
+opposite Right = Left
+opposite Left = Right
+
+-- the offsets of a row's slots in reading order: from left to right at level 0, from right to left at level 1
+abbrev pub reading_order : ℕ → BodyRow → List ℕ
+reading_order w r = toward (reading_side r.paragraph) (slot_offsets w r)
+
+-- the offset of a row's slot at its reading start: the leftmost at level 0, the rightmost at level 1
 abbrev pub reading_start : ℕ → BodyRow → Option ℕ
 reading_start w r = first_in (reading_order w r)
 
+-- and of the one at its reading end, which a move from there meets first
 abbrev pub reading_end : ℕ → BodyRow → Option ℕ
-reading_end w r = first_in (reverse (reading_order w r))
+reading_end w r = first_in (toward (opposite (reading_side r.paragraph)) (slot_offsets w r))
 
--- a side is where the row's reading end is: right at level 0, left at level 1
+-- a side is where a row is read on
 abbrev pub reads_on : Visual → BodyRow → Bool
 reads_on Right r = elim (r.paragraph % 2) [ zero ↦ true | suc _ ↦ false ]
 reads_on Left r = elim (r.paragraph % 2) [ zero ↦ false | suc _ ↦ true ]
 
--- the column of the slot at an offset, from 1
+-- the column of the slot at an offset among some, from 1
+abbrev pub column_in : List Slot → ℕ → ℕ
+column_in ss offset = unwrap_or (option_map (λ s. s.column) (find (λ s. s.offset == offset) ss)) 1
+
+-- the same in a row
 abbrev pub column_of : ℕ → BodyRow → ℕ → ℕ
-column_of w r offset = unwrap_or (option_map (λ s. s.column) (find (λ s. s.offset == offset) (row_slots w r))) 1
+column_of w r offset = column_in (row_slots w r) offset
 
 -- a slot covers a column
 abbrev pub covers : ℕ → Slot → Bool
 covers column s = nat_le s.column column && nat_lt column (s.column + s.columns)
 
+-- the offset of the slot that covers a column, among some
+abbrev pub covering_in : List Slot → ℕ → Option ℕ
+covering_in ss column = option_map (λ s. s.offset) (find (covers column) ss)
+
 -- the offset of the unit that covers a column of a row
 abbrev pub covering : ℕ → BodyRow → ℕ → Option ℕ
-covering w r column = option_map (λ s. s.offset) (find (covers column) (row_slots w r))
+covering w r column = covering_in (row_slots w r) column
 
 -- the first of two that there is
 abbrev pub or_else : Option ℕ → Option ℕ → Option ℕ

@@ -12,12 +12,12 @@ ghost use Rattle.bx_paragraph.specs.RowParts.{row_of_parts};
 ghost use Rattle.bx_paragraph.specs.Slots.{row_slots};
 
 use crate::error::ParagraphError;
-use crate::row_parts::{RowParts, units_of_row, whole_row};
+use crate::row_parts::{RowParts, whole_row};
 use crate::slot::Slot;
 use crate::slots::row_slots;
 use bx_explicit::Base;
 use bx_resolve::{Levels, levels};
-use bx_rows::{RowPicture, RowStart, draw, row_levels, row_starts};
+use bx_rows::{RowPicture, RowStart, draw, row_levels_behind, row_starts, units_of_row};
 use bx_ucd::BidiData;
 use std::alloc::Global;
 use std::marker::Model;
@@ -131,7 +131,11 @@ impl ParagraphLayout {
     }
 
     /// The units of a row with their levels.
-    fn row<D: BidiData>(&self, row: usize, source: &D) -> Result<RowParts, ParagraphError>
+    pub(crate) fn row<D: BidiData>(
+        &self,
+        row: usize,
+        source: &D,
+    ) -> Result<RowParts, ParagraphError>
         requires data { IsLayoutBy (D.class_of source.now) (D.bracket_of source.now) self.now }
         requires row { row < length self.now.starts }
         ensures row { IfOk result (λ r. row_of_parts self.now r ≡ row_by (D.class_of source.now) (D.bracket_of source.now) self.now row) }
@@ -142,9 +146,9 @@ impl ParagraphLayout {
     {
         let alloc = *self.starts.allocator();
         let body = self.body.as_str();
-        let units = units_of_row(alloc, body, row, source, self.w)?;
-        let whole = whole_row(&units);
-        let levels = row_levels(alloc, body, &units, whole, &self.levels, source)?;
+        let units = units_of_row(alloc, body, &self.starts, row, source, self.w)?;
+        let chars = self.starts[row].chars;
+        let levels = row_levels_behind(alloc, body, &units, chars, &self.levels, source)?;
         let is_last = row + 1 == self.starts.len();
         Ok(RowParts {
             units,

@@ -1,9 +1,11 @@
 //! The rows of one paragraph: its body wrapped in a window, the slots of each row and their columns.
 #![tactic(auto)]
 
+mod cursor;
 mod error;
 mod layout;
 mod moves;
+mod reading;
 mod row_parts;
 mod slot;
 mod slots;

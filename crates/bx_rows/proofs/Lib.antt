@@ -18,4 +18,5 @@ pub mod RowsFit
 pub mod Scans
 pub mod RowReads
 pub mod RowUnits
+pub mod EachRow
 mod Rows

@@ -19,7 +19,7 @@ len-either : (b : Bool) (x n : ℕ) → x ≤ n → elim b [ true ↦ suc x | fa
 len-either true x n h = omega (arith, h)
 len-either false x n h = omega arith
 
-fit-length : (w c : ℕ) (us : List Unit) → fit_count_from w c us ≤ length us
+pub fit-length : (w c : ℕ) (us : List Unit) → fit_count_from w c us ≤ length us
 fit-length w c [] = omega arith
 fit-length w c (u ∷ us) = len-either (nat_lt c w && nat_le (c + columns_at w c u.face) w) (fit_count_from w (c + columns_at w c u.face) us) (length us)
     (fit-length w (c + columns_at w c u.face) us)
@@ -74,7 +74,7 @@ len-step : (b : Bool) (m n : ℕ) → m ≤ n → elim b [ true ↦ n | false �
 len-step true m n h = omega arith
 len-step false m n h = h
 
-row-within : (p : Unit → Bool) (w : ℕ) (us : List Unit) → row_len p w us ≤ fit_count w us
+pub row-within : (p : Unit → Bool) (w : ℕ) (us : List Unit) → row_len p w us ≤ fit_count w us
 row-within p w us =
     let n = fit_count w us in
     let last : up_to_last p (take n us) ≤ n = omega (arith, last-length p (take n us), take-length n us) in

@@ -1,11 +1,11 @@
 -- Where the rows of a body begin.
-use Rattle.std.specs.Prelude.{ℕ, List, [], ◌∷◌, map, length, take, drop, chars}
+use Rattle.std.specs.Prelude.{ℕ, zero, suc, ◌-◌, List, [], ◌∷◌, map, length, take, drop, chars, slice_get, Option, Some, None}
 use Rattle.bx_ucd.specs.declared.class.Class.{Class}
 use Rattle.bx_cells.specs.declared.unit.Unit.{Unit}
 use Rattle.bx_cells.specs.Units.{units}
 use Rattle.bx_rows.specs.declared.row.Row.{Row}
 use Rattle.bx_rows.specs.declared.start_search.RowStart.{RowStart}
-use Rattle.bx_rows.specs.Wrapping.{wrap}
+use Rattle.bx_rows.specs.Wrapping.{row_units, wrap}
 
 -- the offset at which the first of these units begins
 abbrev pub first_offset : List Unit → ℕ
@@ -21,3 +21,19 @@ start_of body us r =
 -- where the rows begin into which a body is wrapped
 abbrev pub row_starts : (ℕ → Class) → ℕ → List ℕ → List RowStart
 row_starts class w body = let us = units class w body in map (start_of body us) (wrap class w body us)
+
+-- the units of a row, if there is one
+abbrev pub units_in : List Unit → Option Row → List Unit
+units_in us None = []
+units_in us (Some r) = row_units us r
+
+-- the units of row number `k` of a body, from 0; none where it has no such row
+abbrev pub units_of_row : (ℕ → Class) → ℕ → List ℕ → ℕ → List Unit
+units_of_row class w body k = let us = units class w body in units_in us (slice_get (wrap class w body us) k)
+
+-- how many units the row has that begins at `start`, where the next begins at `next`; behind the last row there is none, and
+-- it has no more units than the body has bytes; a window of no columns has none in a row
+abbrev pub most_units : ℕ → List ℕ → RowStart → Option RowStart → ℕ
+most_units zero body start next = 0
+most_units (suc w) body start None = length body
+most_units (suc w) body start (Some next) = next.units - start.units

@@ -1,4 +1,5 @@
 //! The refusal of the calls that take memory.
+use bx_cells::CellError;
 use std::alloc::{AllocError, AllocFailed};
 use thiserror::Error;
 
@@ -18,6 +19,12 @@ impl From<AllocError> for RowError {
 
 impl<T: Drop> From<AllocFailed<T>> for RowError {
     fn from(_error: AllocFailed<T>) -> Self {
+        RowError::OutOfMemory
+    }
+}
+
+impl From<CellError> for RowError {
+    fn from(_error: CellError) -> Self {
         RowError::OutOfMemory
     }
 }

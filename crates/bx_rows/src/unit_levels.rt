@@ -1,5 +1,5 @@
 //! The levels of a row's units: L1, and a level for each unit.
-ghost use Rattle.std.specs.Prelude.{◌≡◌, ◌≤◌, ◌++◌, All, IfOk, OnOk, chars, flat_map, length, map};
+ghost use Rattle.std.specs.Prelude.{◌≡◌, ◌≤◌, ◌<◌, ◌++◌, All, IfOk, OnOk, chars, flat_map, length, map};
 ghost use Rattle.std.specs.List.{zip};
 ghost use Rattle.bx_cells.specs.Units.{StandsIn, unit_chars};
 ghost use Rattle.bx_rows.specs.RowLevels.{chars_before, levels_or_before, first_level, is_segment_separator, is_trailing, l1, level_at, row_levels, trails, unit_levels};
@@ -179,23 +179,24 @@ fn levels_or_before(
     Ok(found)
 }
 
-/// The levels of a row's units.
+/// The levels of a row's units, before which `chars` characters of the body stand.
 fn each_level<D: BidiData>(
     alloc: Global,
     body: &str,
     units: &[Unit],
-    row: Row,
+    chars: usize,
     levels: &Levels,
     source: &D,
 ) -> Result<Vec<u8>, AllocError>
     requires units { All (StandsIn body.now) units.now }
-    requires row { row.start ≤ row.stop }
-    requires within { row.stop ≤ length units.now }
-    ensures { IfOk result (λ v. v.items ≡ row_levels (D.class_of source.now) body.now levels.now.paragraph levels.now.each.items (row_units units.now row)) }
+    requires chars { 0 < length units.now → chars ≡ chars_before body.now units.now }
+    ensures { IfOk result (λ v. v.items ≡ row_levels (D.class_of source.now) body.now levels.now.paragraph levels.now.each.items units.now) }
 {
-    let units = &units[row.start..row.stop];
+    if units.is_empty() {
+        return Ok(Vec::new(alloc));
+    }
     let each = levels.each.as_slice();
-    let first = chars_before(body, units).min(each.len());
+    let first = chars.min(each.len());
     let classes = row_classes(alloc, body, units, source)?;
     let chars = with_levels(alloc, &classes, &each[first..])?;
     let reset = l1(alloc, &chars, levels.paragraph)?;
@@ -203,7 +204,8 @@ fn each_level<D: BidiData>(
 }
 
 /// The levels of a row's units, by L1: the row's end counts, not the paragraph's. A unit has the level of its first
-/// character that X9 keeps, else that of the unit before it, else the paragraph level.
+/// character that X9 keeps, else that of the unit before it, else the paragraph level. The characters before the row are
+/// counted.
 #[tactic(auto, using(crate::proofs::Resets::one_each))]
 pub fn row_levels<D: BidiData>(
     alloc: Global,
@@ -219,6 +221,28 @@ pub fn row_levels<D: BidiData>(
     ensures levels { IfOk result (λ v. v.items ≡ row_levels (D.class_of source.now) body.now levels.now.paragraph levels.now.each.items (row_units units.now row)) }
     ensures one_each { IfOk result (λ v. length v.items ≡ length (row_units units.now row)) }
 {
-    let found = each_level(alloc, body, units, row, levels, source)?;
+    let units = &units[row.start..row.stop];
+    let chars = chars_before(body, units);
+    let found = each_level(alloc, body, units, chars, levels, source)?;
+    Ok(found)
+}
+
+/// What `row_levels` gives for a row of all these units, where it is known that `chars` characters of the body stand before
+/// them: what is before the row is not read.
+#[tactic(auto, using(crate::proofs::Resets::one_each))]
+pub fn row_levels_behind<D: BidiData>(
+    alloc: Global,
+    body: &str,
+    units: &[Unit],
+    chars: usize,
+    levels: &Levels,
+    source: &D,
+) -> Result<Vec<u8>, RowError>
+    requires units { All (StandsIn body.now) units.now }
+    requires chars { 0 < length units.now → chars ≡ chars_before body.now units.now }
+    ensures levels { IfOk result (λ v. v.items ≡ row_levels (D.class_of source.now) body.now levels.now.paragraph levels.now.each.items units.now) }
+    ensures one_each { IfOk result (λ v. length v.items ≡ length units.now) }
+{
+    let found = each_level(alloc, body, units, chars, levels, source)?;
     Ok(found)
 }

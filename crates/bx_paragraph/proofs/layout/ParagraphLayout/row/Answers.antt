@@ -1,8 +1,7 @@
-use Rattle.std.proofs.Common.{[], ◌≡◌, ◌+◌, ◌∙◌, ap, get_or, length, sym, nat_eq, rules}
+use Rattle.std.proofs.Common.{◌≡◌, ◌+◌, ◌∙◌, ap, length, nat_eq, rules}
 use Rattle.bx_rows.specs.RowLevels.{row_levels}
-use Rattle.bx_rows.specs.Wrapping.{row_units}
-use Rattle.bx_paragraph.specs.BodyRows.{rows_units}
-use Rattle.bx_paragraph.proofs.LayoutRows.{row-is}
+use Rattle.bx_rows.specs.RowStarts.{units_of_row}
+use Rattle.bx_paragraph.proofs.LayoutRows.{row-is, units-of-row}
 use Rattle.bx_paragraph.proofs.layout.ParagraphLayout.row.Goals as goal
 
 pub returns-clause-row : goal.returns-clause-row
@@ -11,14 +10,11 @@ returns-clause-row g c =
     let l = c.args.self.now in
     let i = c.self.inside in
     let us = c.in_ok-units.units.items in
-    let whole = c.whole_row-whole.result in
     let count : c.len.result ≡ length i.starts.items = search rules in
     row-is l class (g.D.BidiData.bracket_of c.args.source.now) c.args.row us c.in_ok-levels.levels.items _ c.requires.data c.requires.row
-    (c.in_ok-units.ensures.units ∙ ap (λ b. get_or (rows_units class i.w b) c.args.row []) c.as_str-body.ensures.value
-    ∙ ap (λ m. get_or (rows_units class m.w m.body) c.args.row []) c.self.view_is)
-    (c.in_ok-levels.ensures.levels
-    ∙ ap (row_levels class c.as_str-body.result.now i.levels.paragraph i.levels.each.items) (ap (λ vs. row_units vs whole) (c.deref-2.ensures.value
-    ∙ sym c.deref.ensures.value) ∙ c.whole_row-whole.ensures.units ∙ c.deref.ensures.value)
+    (c.in_ok-units.ensures.units ∙ ap (λ b. units_of_row class i.w b c.args.row) c.as_str-body.ensures.value
+    ∙ ap (λ m. units_of_row class m.w m.body c.args.row) c.self.view_is ∙ units-of-row class l.w l.body c.args.row)
+    (c.in_ok-levels.ensures.levels ∙ ap (row_levels class c.as_str-body.result.now i.levels.paragraph i.levels.each.items) c.deref-2.ensures.value
     ∙ ap (λ b. row_levels class b i.levels.paragraph i.levels.each.items us) c.as_str-body.ensures.value
     ∙ ap (λ m. row_levels class m.body m.paragraph m.each us) c.self.view_is)
     (ap (nat_eq (c.args.row + 1)) (count ∙ ap (λ m. length m.starts) c.self.view_is))

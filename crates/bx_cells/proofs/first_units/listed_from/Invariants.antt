@@ -1,0 +1,16 @@
+-- The units so far, and the first of those of what is left, are the first of the units from the offset on.
+use Rattle.std.proofs.Common.{◌≡◌, ◌≤◌, ◌++◌, ◌-◌, length, take}
+use Rattle.std.specs.Str.{IsCharBoundary}
+use Rattle.bx_cells.specs.Units.{units_from}
+use Rattle.bx_cells.proofs.first_units.listed_from.Given as goal
+
+abbrev pub invariant-units : goal.invariant-units
+invariant-units g l = record {
+  boundary : IsCharBoundary l.body l.next;
+  within : length l.units.items ≤ l.count;
+  all : l.units.items ++ take (l.count - length l.units.items) (units_from (g.D.BidiData.class_of l.source) l.w l.body l.next)
+      ≡ take l.count (units_from (g.D.BidiData.class_of l.source) l.w l.body l.at);
+}
+
+abbrev pub decreases-units : goal.decreases-units
+decreases-units g l = length l.body - l.next

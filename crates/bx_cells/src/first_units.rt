@@ -1,0 +1,73 @@
+//! The first units of what a body has from an offset on.
+ghost use Rattle.std.specs.Prelude.{◌≡◌, ◌<◌, ◌∷◌, All, IfOk, length, take};
+ghost use Rattle.std.specs.Str.{IsCharBoundary};
+ghost use Rattle.bx_cells.specs.Units.{HasFace, StandsIn, units_from};
+
+use crate::by_character::simple_face;
+use crate::by_rules::ruled_unit;
+use crate::clusters::FIRST_ROOM;
+use crate::error::CellError;
+use crate::simple_clusters::simple_cluster;
+use crate::unit::Unit;
+use bx_ucd::BidiData;
+use std::alloc::{AllocError, Global};
+
+/// The unit that begins at an offset of a body: by its characters where these tell it, else by the rules on breaks.
+fn unit_at<D: BidiData>(body: &str, at: usize, source: &D, w: u16) -> Unit
+    requires start { IsCharBoundary body.now at }
+    requires some { at < length body.now }
+    ensures units { units_from (D.class_of source.now) w body.now at ≡ result ∷ units_from (D.class_of source.now) w body.now result.stop }
+    ensures stop { (at < result.stop) × IsCharBoundary body.now result.stop }
+{
+    match simple_cluster(body, at) {
+        Some(cluster) => Unit {
+            start: at,
+            stop: cluster.stop,
+            face: simple_face(cluster.first, cluster.columns, cluster.is_marked, source, w),
+        },
+        None => ruled_unit(body, at, source, w),
+    }
+}
+
+/// The first units of what a body has from an offset on, `count` of them, or all if there are fewer.
+fn listed_from<D: BidiData>(
+    alloc: Global,
+    body: &str,
+    at: usize,
+    count: usize,
+    source: &D,
+    w: u16,
+) -> Result<Vec<Unit>, AllocError>
+    requires { IsCharBoundary body.now at }
+    ensures { IfOk result (λ v. v.items ≡ take count (units_from (D.class_of source.now) w body.now at)) }
+{
+    let mut units = Vec::with_capacity(alloc, count.min(FIRST_ROOM))?;
+    let mut next = at;
+    'units: while units.len() < count && next < body.len() {
+        let unit = unit_at(body, next, source, w);
+        units.push(unit)?;
+        next = unit.stop;
+    }
+    Ok(units)
+}
+
+/// The first units of what a body has from an offset on, taken as a text of its own, in a window of `w` columns: `count` of
+/// them, or all if there are fewer. From an offset at which a unit of the body begins they are the body's own. What stands
+/// before the offset is not read. It is refused only where memory runs out.
+#[tactic(auto, using(crate::proofs::Standing::stand_if_taken, crate::proofs::Standing::faces_if_taken))]
+pub fn units_from<D: BidiData>(
+    alloc: Global,
+    body: &str,
+    at: usize,
+    count: usize,
+    source: &D,
+    w: u16,
+) -> Result<Vec<Unit>, CellError>
+    requires { IsCharBoundary body.now at }
+    ensures units { IfOk result (λ v. v.items ≡ take count (units_from (D.class_of source.now) w body.now at)) }
+    ensures stand { IfOk result (λ v. All (StandsIn body.now) v.items) }
+    ensures faces { IfOk result (λ v. All (HasFace (D.class_of source.now) w body.now) v.items) }
+{
+    let units = listed_from(alloc, body, at, count, source, w)?;
+    Ok(units)
+}

@@ -1,0 +1,191 @@
+//! Where the cursor may go in a row, and where it stands.
+ghost use Rattle.std.specs.Prelude.{◌≡◌, ◌<◌, ◌++◌, ◌∷◌, [], true, false, IfOk, length, map};
+ghost use Rattle.bx_paragraph.specs.BodyRows.{last_of, offsets_of};
+ghost use Rattle.bx_paragraph.specs.Layout.{IsLayoutBy, row_by};
+ghost use Rattle.bx_paragraph.specs.Slots.{beside, column_of, covering, entry, opposite, or_else, reading_end, reading_side, reading_start, slot_offsets, toward};
+
+use crate::error::ParagraphError;
+use crate::layout::ParagraphLayout;
+use crate::moves::Visual;
+use crate::reading::{column_in, covering_in, first_in, last_offset, next_in, offsets_toward};
+use crate::row_parts::RowParts;
+use bx_cells::Unit;
+use bx_ucd::BidiData;
+use std::alloc::{AllocError, Global};
+
+/// The side at which a paragraph of a level is read on.
+fn reading_side(level: u8) -> Visual
+    ensures { result ≡ reading_side level }
+{
+    if level % 2 == 0 {
+        Visual::Right
+    } else {
+        Visual::Left
+    }
+}
+
+/// The other side.
+fn opposite(side: Visual) -> Visual
+    ensures { result ≡ opposite side }
+{
+    match side {
+        Visual::Left => Visual::Right,
+        Visual::Right => Visual::Left,
+    }
+}
+
+/// Where each of some units begins.
+fn unit_offsets(alloc: Global, units: &[Unit]) -> Result<Vec<usize>, AllocError>
+    ensures { IfOk result (λ v. v.items ≡ map (λ u. u.start) units.now) }
+{
+    units.iter().map(|u| u.start).collect(alloc)
+}
+
+/// The offsets of the places of a row, whose body has `len` bytes.
+fn part_offsets(parts: &RowParts, len: usize) -> Result<Vec<usize>, AllocError>
+    ensures { IfOk result (λ v. v.items ≡ map (λ u. u.start) parts.now.units.items ++ elim (parts.now.is_last) [ true ↦ len ∷ [] | false ↦ [] ]) }
+{
+    let mut offsets = unit_offsets(*parts.units.allocator(), &parts.units)?;
+    if parts.is_last {
+        offsets.push(len)?;
+    }
+    Ok(offsets)
+}
+
+impl ParagraphLayout {
+    /// The offsets of a row's places in the order of the text, in bytes of the body: where each unit begins, and in the
+    /// last row where the body ends.
+    ///
+    /// Errors: `OutOfMemory`.
+    pub fn offsets<D: BidiData>(&self, row: usize, source: &D) -> Result<Vec<usize>, ParagraphError>
+        requires data { IsLayoutBy (D.class_of source.now) (D.bracket_of source.now) self.now }
+        requires row { row < length self.now.starts }
+        ensures { IfOk result (λ v. v.items ≡ offsets_of (row_by (D.class_of source.now) (D.bracket_of source.now) self.now row)) }
+    {
+        let parts = self.row(row, source)?;
+        let offsets = part_offsets(&parts, self.body().len())?;
+        Ok(offsets)
+    }
+
+    /// The offset of a row's last place: the body's end in the last row, else where the row's last unit begins.
+    ///
+    /// Errors: `OutOfMemory`.
+    pub fn last<D: BidiData>(&self, row: usize, source: &D) -> Result<usize, ParagraphError>
+        requires data { IsLayoutBy (D.class_of source.now) (D.bracket_of source.now) self.now }
+        requires row { row < length self.now.starts }
+        ensures { IfOk result (λ o. o ≡ last_of (row_by (D.class_of source.now) (D.bracket_of source.now) self.now row)) }
+    {
+        let offsets = self.offsets(row, source)?;
+        Ok(last_offset(&offsets))
+    }
+
+    /// The offsets of a row's slots in the order in which a move to a side meets them.
+    fn toward<D: BidiData>(
+        &self,
+        row: usize,
+        side: Visual,
+        source: &D,
+    ) -> Result<Vec<usize>, ParagraphError>
+        requires data { IsLayoutBy (D.class_of source.now) (D.bracket_of source.now) self.now }
+        requires row { row < length self.now.starts }
+        ensures { IfOk result (λ v. v.items
+            ≡ toward side (slot_offsets self.now.w (row_by (D.class_of source.now) (D.bracket_of source.now) self.now row))) }
+    {
+        let slots = self.slots(row, source)?;
+        let offsets = offsets_toward(*slots.allocator(), &slots, side)?;
+        Ok(offsets)
+    }
+
+    /// The offset of the slot that is next to one on a side, if the row has one there.
+    ///
+    /// Errors: `OutOfMemory`.
+    pub fn beside<D: BidiData>(
+        &self,
+        row: usize,
+        side: Visual,
+        offset: usize,
+        source: &D,
+    ) -> Result<Option<usize>, ParagraphError>
+        requires data { IsLayoutBy (D.class_of source.now) (D.bracket_of source.now) self.now }
+        requires row { row < length self.now.starts }
+        ensures { IfOk result (λ o. o ≡ beside self.now.w (row_by (D.class_of source.now) (D.bracket_of source.now) self.now row) side offset) }
+    {
+        let offsets = self.toward(row, side, source)?;
+        Ok(next_in(&offsets, offset))
+    }
+
+    /// The offset of the slot at a row's reading start: the leftmost at level 0, the rightmost at level 1.
+    ///
+    /// Errors: `OutOfMemory`.
+    #[tactic(auto, using(crate::proofs::LayoutRows::row_level))]
+    pub fn reading_start<D: BidiData>(
+        &self,
+        row: usize,
+        source: &D,
+    ) -> Result<Option<usize>, ParagraphError>
+        requires data { IsLayoutBy (D.class_of source.now) (D.bracket_of source.now) self.now }
+        requires row { row < length self.now.starts }
+        ensures { IfOk result (λ o. o ≡ reading_start self.now.w (row_by (D.class_of source.now) (D.bracket_of source.now) self.now row)) }
+    {
+        let offsets = self.toward(row, reading_side(self.level()), source)?;
+        Ok(first_in(&offsets))
+    }
+
+    /// The offset of the slot at a row's reading end: the rightmost at level 0, the leftmost at level 1.
+    ///
+    /// Errors: `OutOfMemory`.
+    #[tactic(auto, using(crate::proofs::LayoutRows::row_level))]
+    pub fn reading_end<D: BidiData>(
+        &self,
+        row: usize,
+        source: &D,
+    ) -> Result<Option<usize>, ParagraphError>
+        requires data { IsLayoutBy (D.class_of source.now) (D.bracket_of source.now) self.now }
+        requires row { row < length self.now.starts }
+        ensures { IfOk result (λ o. o ≡ reading_end self.now.w (row_by (D.class_of source.now) (D.bracket_of source.now) self.now row)) }
+    {
+        let side = opposite(reading_side(self.level()));
+        let offsets = self.toward(row, side, source)?;
+        Ok(first_in(&offsets))
+    }
+
+    /// The column, from 1, of the slot at an offset in a row; 1 where none stands there.
+    ///
+    /// Errors: `OutOfMemory`.
+    pub fn column_of<D: BidiData>(
+        &self,
+        row: usize,
+        offset: usize,
+        source: &D,
+    ) -> Result<u16, ParagraphError>
+        requires data { IsLayoutBy (D.class_of source.now) (D.bracket_of source.now) self.now }
+        requires row { row < length self.now.starts }
+        ensures { IfOk result (λ c. c ≡ column_of self.now.w (row_by (D.class_of source.now) (D.bracket_of source.now) self.now row) offset) }
+    {
+        let slots = self.slots(row, source)?;
+        Ok(column_in(&slots, offset))
+    }
+
+    /// The offset at which a row is entered in a column, from 1: that of the unit that covers it, else the row's reading end.
+    ///
+    /// Errors: `OutOfMemory`.
+    #[tactic(auto, using(crate::proofs::LayoutRows::row_level))]
+    pub fn entry<D: BidiData>(
+        &self,
+        row: usize,
+        column: u16,
+        source: &D,
+    ) -> Result<Option<usize>, ParagraphError>
+        requires data { IsLayoutBy (D.class_of source.now) (D.bracket_of source.now) self.now }
+        requires row { row < length self.now.starts }
+        ensures { IfOk result (λ o. o ≡ entry self.now.w (row_by (D.class_of source.now) (D.bracket_of source.now) self.now row) column) }
+    {
+        let slots = self.slots(row, source)?;
+        if let Some(offset) = covering_in(&slots, column) {
+            return Ok(Some(offset));
+        }
+        let side = opposite(reading_side(self.level()));
+        let offsets = offsets_toward(*slots.allocator(), &slots, side)?;
+        Ok(first_in(&offsets))
+    }
+}

@@ -1,0 +1,58 @@
+//! The units of one row, found from where it begins.
+ghost use Rattle.std.specs.Prelude.{◌≡◌, ◌≤◌, ◌<◌, All, IfOk, IfSome, Some, length, slice_get};
+ghost use Rattle.bx_rows.specs.declared.start_search.RowStart.{RowStart};
+ghost use Rattle.bx_cells.specs.Units.{HasFace, StandsIn};
+ghost use Rattle.bx_rows.specs.RowLevels.{chars_before};
+ghost use Rattle.bx_rows.specs.RowStarts.{most_units, row_starts, units_of_row};
+ghost use Rattle.bx_rows.specs.Shown.{IsRowOf};
+
+use crate::error::RowError;
+use crate::start_search::RowStart;
+use bx_cells::{Unit, units_from};
+use bx_ucd::BidiData;
+use std::alloc::Global;
+
+/// The start of row `number`, if there is such a row.
+fn start_of(starts: &[RowStart], number: usize) -> Option<RowStart>
+    ensures { result ≡ slice_get starts.now number }
+{
+    starts.get(number).copied()
+}
+
+/// How many units a row has at most.
+fn most_units(start: RowStart, next: Option<RowStart>, body: &str, w: u16) -> usize
+    requires { IfSome next (λ n. start.units ≤ n.units) }
+    ensures { result ≡ most_units w body.now start next }
+{
+    if w == 0 {
+        return 0;
+    }
+    match next {
+        Some(next) => next.units - start.units,
+        None => body.len(),
+    }
+}
+
+/// The units of row `number` (from 0) of a body in a window of `w` columns, by where its rows begin. No other row is read.
+/// Their offsets are the body's. It is refused only where memory runs out.
+pub fn units_of_row<D: BidiData>(
+    alloc: Global,
+    body: &str,
+    starts: &[RowStart],
+    number: usize,
+    source: &D,
+    w: u16,
+) -> Result<Vec<Unit>, RowError>
+    requires starts { starts.now ≡ row_starts (D.class_of source.now) w body.now }
+    requires number { number < length starts.now }
+    ensures units { IfOk result (λ v. v.items ≡ units_of_row (D.class_of source.now) w body.now number) }
+    ensures stand { IfOk result (λ v. All (StandsIn body.now) v.items) }
+    ensures faces { IfOk result (λ v. All (HasFace (D.class_of source.now) w body.now) v.items) }
+    ensures row { IfOk result (λ v. IsRowOf w v.items (record { start = 0; stop = length v.items })) }
+    ensures chars { (s : RowStart) → slice_get starts.now number ≡ Some s → IfOk result (λ v. 0 < length v.items → s.chars ≡ chars_before body.now v.items) }
+{
+    let start = starts[number];
+    let count = most_units(start, start_of(starts, number + 1), body, w);
+    let units = units_from(alloc, body, start.offset, count, source, w)?;
+    Ok(units)
+}
