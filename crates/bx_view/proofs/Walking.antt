@@ -1,23 +1,24 @@
 -- Rows of the text by the number of their paragraph and their number in it, and from row to row.
 use Rattle.std.proofs.Common.{◌≡◌, ℕ, zero, suc, ◌+◌, ◌-◌, ◌<◌, ◌≤◌, true, List, [], ◌∷◌, ◌++◌, map, length, take, drop, get_or, slice_get, Option, Some, None}
-use Rattle.std.proofs.Common.{IsUtf8, refl, sym, ap, subst, ◌∙◌, arith, length-append, length-drop}
+use Rattle.std.proofs.Common.{IsUtf8, IsCharBoundary, refl, sym, ap, subst, ◌∙◌, arith, length-append, length-drop}
 use Rattle.std.proofs.lemmas.List.{get_or-map, length-map, take_more, take_all}
 use Rattle.bx_ucd.specs.declared.class.Class.{Class}
 use Rattle.bx_ucd.specs.declared.data.Side.{Side}
 use Rattle.bx_explicit.specs.declared.base.Base.{Base}
+use Rattle.bx_text.specs.Edits.{IsRange}
 use Rattle.bx_paras.specs.Paragraphs.{Paragraph, bare, lengths, lengths_of, paragraphs}
 use Rattle.bx_paras.specs.Positions.{bytes_of, paragraph_of, total}
-use Rattle.bx_paragraph.specs.BodyRows.{BodyRow, body_rows, last_of}
+use Rattle.bx_paragraph.specs.BodyRows.{BodyRow, body_rows, last_of, no_row}
 use Rattle.bx_paragraph.specs.BodyRows.{row_at as row_at_body, row_of as row_of_body, first_of as first_of_body}
 use Rattle.bx_paragraph.specs.Slots.{column_of}
 use Rattle.bx_view.specs.Moves.{row_after, row_before, row_end, row_home}
-use Rattle.bx_view.specs.Standing.{IsRow, count, paragraph_at, rows_ahead, rows_in, start_at}
+use Rattle.bx_view.specs.Standing.{IsRow, body_at, count, paragraph_at, rows_ahead, rows_in, start_at}
 use Rattle.bx_view.specs.TextRows.{TextRow, cell_of, first, no_text_row, row_at, row_of, text_row, text_rows}
 use Rattle.bx_view.proofs.Around.{BodyFirsts, all-rise, count-around, from, from-append, own, own-some, own-within, row-falls, row-there}
 use Rattle.bx_view.proofs.BodyFirsts.{body-firsts}
-use Rattle.bx_view.proofs.Numbers.{ahead, among, behind, body-utf8, falls-at, here, parts-at}
+use Rattle.bx_view.proofs.Numbers.{ahead, among, behind, body-range, body-utf8, falls-at, here, parts-at}
 use Rattle.bx_view.proofs.Parts.{AreEnded, AreUtf8, text-parts}
-use Rattle.bx_view.proofs.Rising.{Rises, rises-apart}
+use Rattle.bx_view.proofs.Rising.{Rises, rises-apart, rises-below}
 
 slice-at : {X : Type 0} (xs : List X) (n : ℕ) (d : X) → n < length xs → slice_get xs n ≡ Some (get_or xs n d)
 slice-at [] n d h = absurd (omega (arith, h))
@@ -78,6 +79,23 @@ module _ (class : ℕ → Class) (bracket : ℕ → Option (Side × ℕ)) (base 
 
   pub row-within : (number k n : ℕ) → Row number k n → n < length rows
   row-within number k n is = omega (arith, is.is, is.row, count-is number is.paragraph)
+
+  -- it begins in its paragraph's body, and so in the text
+  first-within : (number k : ℕ) (within : number < count class text) → k < length (mine number)
+      → first_of_body (row_at_body (mine number) k) ≤ length (body_at class text number)
+  first-within number k within h =
+      let body = body_at class text number in
+      let f = bodies body (body-utf8 class text number within utf8) in
+      let rise : Rises 0 (map first_of_body (mine number)) (length body + 1) = subst (λ os. Rises 0 os (length body + 1)) (sym f.firsts) (omega arith, f.rise) in
+      let below = rises-below 0 (map first_of_body (mine number)) (length body + 1) k 0 rise (omega (arith, h, length-map (mine number) first_of_body)) in
+      omega (arith, below, get_or-map first_of_body (mine number) k no_row 0 h)
+
+  pub first-short : (number k n : ℕ) → Row number k n → begins number + first_of_body (row_at_body (mine number) k) ≤ length text
+  first-short number k n is =
+      let range : IsRange text (begins number) (begins number + length (body_at class text number)) = body-range class text number is.paragraph utf8 in
+      let bounds : IsCharBoundary text (begins number + length (body_at class text number)) = range.stop_bounds in
+      let inside : begins number + length (body_at class text number) ≤ length text = bounds.0 in
+      omega (arith, first-within number k is.paragraph is.row, inside)
 
   -- ---- the row that an offset falls in
 

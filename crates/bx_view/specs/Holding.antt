@@ -1,9 +1,11 @@
 -- What a layout of a text is seen as: some paragraphs, laid out under its base direction and in its columns.
-use Rattle.std.specs.Prelude.{◌≡◌, ℕ, ◌<◌, List, length, All, HoldsAt, Option}
+use Rattle.std.specs.Prelude.{◌≡◌, ℕ, ◌<◌, true, List, length, All, HoldsAt, Option}
+use Rattle.bx_terms.specs.Sizes.{is_side}
 use Rattle.bx_ucd.specs.declared.class.Class.{Class}
 use Rattle.bx_ucd.specs.declared.data.Side.{Side}
 use Rattle.bx_explicit.specs.declared.base.Base.{Base}
-use Rattle.bx_paragraph.specs.Layout.{IsLayoutBy, LayoutState}
+use Rattle.bx_paragraph.specs.Layout.{IsLayoutBy, LayoutState, rows_by}
+use Rattle.bx_view.specs.Standing.{rows_in}
 
 pub record ViewState : Type 0 where
   pub base : Base
@@ -30,3 +32,11 @@ pub record Keeps (class : ℕ → Class) (bracket : ℕ → Option (Side × ℕ)
 pub record HoldsBody (body : List ℕ) (held : List LayoutState) (i : ℕ) : Type 0 where
   pub within : i < length held
   pub body_is : HoldsAt (λ l. l.body ≡ body) held i
+
+-- the layout of paragraph `number` of a text
+pub record IsOfText (class : ℕ → Class) (bracket : ℕ → Option (Side × ℕ)) (v : ViewState) (text : List ℕ) (number : ℕ) (l : LayoutState) : Type 0 where
+  pub side : is_side v.w ≡ true
+  pub by : IsLayoutBy class bracket l
+  pub w_is : l.w ≡ v.w
+  pub rows_are : rows_by class bracket l ≡ rows_in class bracket v.base v.w text number
+  pub count_is : length l.starts ≡ length (rows_in class bracket v.base v.w text number)

@@ -3,3 +3,4 @@ pub mod Moves
 pub mod Top
 pub mod Standing
 pub mod Holding
+pub mod Cursor

@@ -1,13 +1,18 @@
 //! The layout of a text.
-ghost use Rattle.std.specs.Prelude.{◌≡◌, ◌<◌, [], true, length, IfOk};
+ghost use Rattle.std.specs.Prelude.{◌≡◌, ◌<◌, ◌≤◌, [], true, length, IfOk, IsUtf8};
 ghost use Rattle.bx_terms.specs.Sizes.{is_side};
+ghost use Rattle.bx_text.specs.Edits.{largest_text};
 ghost use Rattle.bx_paras.specs.Paragraphs.{lengths};
-ghost use Rattle.bx_view.specs.Holding.{HoldsBody, IsViewBy, Keeps};
+ghost use Rattle.bx_view.specs.Cursor.{StandsOn};
+ghost use Rattle.bx_view.specs.Holding.{HoldsBody, IsOfText, IsViewBy, Keeps};
+ghost use Rattle.bx_view.specs.Moves.{row_end, row_home};
 ghost use Rattle.bx_view.specs.Standing.{body_at, count};
+ghost use Rattle.bx_view.specs.TextRows.{cell_of, row_of, text_rows};
 
+use crate::cursor::RowAt;
 use crate::error::ViewError;
 use crate::holder::{hold, position};
-use crate::span::body_span;
+use crate::span::{body_span, paragraph_under};
 use bx_explicit::Base;
 use bx_paragraph::ParagraphLayout;
 use bx_paras::Index;
@@ -81,5 +86,97 @@ impl Layout {
         let i = hold(&mut self.held, layout, source, self.base, self.w)?;
         self.recent = i;
         Ok(i)
+    }
+
+    /// A paragraph of the text that is held.
+    fn paragraph<D: BidiData>(
+        &self,
+        text: &Text,
+        source: &D,
+        number: usize,
+        held: usize,
+    ) -> &ParagraphLayout
+        requires data { IsViewBy (D.class_of source.now) (D.bracket_of source.now) self.now }
+        requires held { HoldsBody (body_at (D.class_of source.now) text.now.edited.text number) self.now.held held }
+        ensures { IsOfText (D.class_of source.now) (D.bracket_of source.now) self.now text.now.edited.text number result.now }
+    {
+        let _ = text;
+        let _ = source;
+        let _ = number;
+        &self.held[held]
+    }
+
+    /// The row that an offset of the text falls in.
+    ///
+    /// Errors: `OutOfMemory`.
+    fn row_at<D: BidiData>(
+        &mut self,
+        text: &Text,
+        index: &Index,
+        source: &D,
+        offset: usize,
+    ) -> Result<RowAt, ViewError>
+        requires data { IsViewBy (D.class_of source.now) (D.bracket_of source.now) self.old }
+        requires index { index.now.paragraphs ≡ lengths (D.class_of source.now) text.now.edited.text }
+        ensures keeps { Keeps (D.class_of source.now) (D.bracket_of source.now) self.old self.new }
+        ensures row { IfOk result (λ at. StandsOn (D.class_of source.now) (D.bracket_of source.now) self.new text.now.edited.text at
+            (row_of (text_rows (D.class_of source.now) (D.bracket_of source.now) self.new.base self.new.w text.now.edited.text) offset)) }
+        ensures begun { IfOk result (λ at. at.start ≤ offset) }
+        ensures utf8 { IsUtf8 text.now.edited.text }
+        ensures short { length text.now.edited.text ≤ largest_text }
+    {
+        let (number, start) = paragraph_under(text, index, source, offset);
+        let held = self.find(text, index, source, number)?;
+        let paragraph = self.paragraph(text, source, number, held);
+        let row = paragraph.row_of(offset - start);
+        Ok(RowAt {
+            paragraph: number,
+            start,
+            row,
+            held,
+        })
+    }
+
+    /// The column, from 1, of the cell of a place.
+    ///
+    /// Errors: `OutOfMemory`.
+    pub fn cell_of<D: BidiData>(
+        &mut self,
+        text: &Text,
+        index: &Index,
+        source: &D,
+        place: usize,
+    ) -> Result<u16, ViewError>
+        requires data { IsViewBy (D.class_of source.now) (D.bracket_of source.now) self.old }
+        requires index { index.now.paragraphs ≡ lengths (D.class_of source.now) text.now.edited.text }
+        ensures keeps { Keeps (D.class_of source.now) (D.bracket_of source.now) self.old self.new }
+        ensures cell { IfOk result (λ column. column
+            ≡ cell_of self.old.w (text_rows (D.class_of source.now) (D.bracket_of source.now) self.old.base self.old.w text.now.edited.text) place) }
+    {
+        let at = self.row_at(text, index, source, place)?;
+        let paragraph = self.paragraph(text, source, at.paragraph, at.held);
+        let column = paragraph.column_of(at.row, place - at.start, source)?;
+        Ok(column)
+    }
+
+    /// The first offset of the row that a place falls in.
+    ///
+    /// Errors: `OutOfMemory`.
+    pub fn row_home<D: BidiData>(
+        &mut self,
+        text: &Text,
+        index: &Index,
+        source: &D,
+        place: usize,
+    ) -> Result<usize, ViewError>
+        requires data { IsViewBy (D.class_of source.now) (D.bracket_of source.now) self.old }
+        requires index { index.now.paragraphs ≡ lengths (D.class_of source.now) text.now.edited.text }
+        ensures keeps { Keeps (D.class_of source.now) (D.bracket_of source.now) self.old self.new }
+        ensures home { IfOk result (λ home. home
+            ≡ row_home (text_rows (D.class_of source.now) (D.bracket_of source.now) self.old.base self.old.w text.now.edited.text) place) }
+    {
+        let at = self.row_at(text, index, source, place)?;
+        let paragraph = self.paragraph(text, source, at.paragraph, at.held);
+        Ok(at.start + paragraph.first(at.row))
     }
 }
