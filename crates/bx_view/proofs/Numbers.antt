@@ -208,3 +208,28 @@ module _ (class : ℕ → Class) (text : List ℕ) where
         ended = ends-before offset (start_at class text n + bytes_of (lengths_of (paragraph_at class text n))) (drop (n + 1) all)
             (λ some. omega (arith, h.ended (omega (arith, some, length-drop (n + 1) all, lengths-count)), next-start n within));
       }
+
+-- ---- a span that an index tells
+
+pub record IsSpan (class : ℕ → Class) (text : List ℕ) (n a b : ℕ) : Type 0 where
+  pub start : a ≡ start_at class text n
+  pub body : slice_range text a b ≡ body_at class text n
+  pub range : IsRange text a b
+  pub order : a ≤ b
+  pub within : b ≤ length text
+
+pub span-told : (class : ℕ → Class) (text : List ℕ) (ls : List Lengths) (n a b : ℕ) → IsUtf8 text → n < count class text → ls ≡ lengths class text
+    → ◌≡◌ {A = Option (ℕ × ℕ)} (slice_get (spans ls) n) (Some (a, b)) → IsSpan class text n a b
+span-told class text ls n a b utf8 within same e =
+    let told = span-is class text n within a b (ap (λ ks. slice_get (spans ks) n) (sym same) ∙ e) in
+    let stop = start_at class text n + length (body_at class text n) in
+    let range : IsRange text (start_at class text n) stop = body-range class text n within utf8 in
+    let bounds : IsCharBoundary text stop = range.stop_bounds in
+    let inside : stop ≤ length text = bounds.0 in
+    record {
+      start = told.0;
+      body = ap (λ k. slice_range text k b) told.0 ∙ ap (slice_range text (start_at class text n)) told.1 ∙ body-is class text n within utf8;
+      range = subst (IsRange text a) (sym told.1) (subst (λ k. IsRange text k stop) (sym told.0) range);
+      order = omega (arith, told.0, told.1);
+      within = omega (arith, told.1, inside);
+    }

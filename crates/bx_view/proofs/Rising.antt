@@ -31,6 +31,22 @@ rises-moved at low [] high r = omega (arith, r)
 rises-moved at low (o ∷ os) high r =
     (omega (arith, r.0), rises-sooner (at + o + 1) (at + (o + 1)) (map (λ o. at + o) os) (at + high) (omega arith) (rises-moved at (o + 1) os high r.1))
 
+pub rises-past : (low : ℕ) (os : List ℕ) (high k d : ℕ) → Rises low os high → k < length os → low ≤ get_or os k d
+rises-past low [] high k d r h = absurd (omega (arith, h))
+rises-past low (o ∷ os) high zero d r h = r.0
+rises-past low (o ∷ os) high (suc k) d r h = omega (arith, r.0, rises-past (o + 1) os high k d r.1 (omega (arith, h)))
+
+pub rises-below : (low : ℕ) (os : List ℕ) (high k d : ℕ) → Rises low os high → k < length os → get_or os k d < high
+rises-below low [] high k d r h = absurd (omega (arith, h))
+rises-below low (o ∷ os) high zero d r h = omega (arith, rises-within (o + 1) os high r.1)
+rises-below low (o ∷ os) high (suc k) d r h = rises-below (o + 1) os high k d r.1 (omega (arith, h))
+
+pub rises-apart : (low : ℕ) (os : List ℕ) (high n m d : ℕ) → Rises low os high → n < m → m < length os → get_or os n d < get_or os m d
+rises-apart low [] high n m d r h l = absurd (omega (arith, l))
+rises-apart low (o ∷ os) high n zero d r h l = absurd (omega (arith, h))
+rises-apart low (o ∷ os) high zero (suc m) d r h l = omega (arith, rises-past (o + 1) os high m d r.1 (omega (arith, l)))
+rises-apart low (o ∷ os) high (suc n) (suc m) d r h l = rises-apart (o + 1) os high n m d r.1 (omega (arith, h)) (omega (arith, l))
+
 -- ---- how many are at an offset or before it
 
 module _ (offset : ℕ) where

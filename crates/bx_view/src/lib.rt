@@ -1,7 +1,15 @@
 //! The rows of a whole text, the places of its cursor in them, the moves, and the rows that are shown.
 #![tactic(auto)]
 
+mod cursor;
+mod error;
+mod holder;
+mod in_text;
+mod layout;
 mod moves;
+mod span;
 
 pub use bx_paragraph::Visual;
+pub use error::ViewError;
+pub use layout::Layout;
 pub use moves::{Logical, Vertical};

@@ -1,0 +1,95 @@
+-- What the rows of a paragraph that is held tell of the rows of the text.
+use Rattle.std.proofs.Common.{◌≡◌, ℕ, ◌+◌, ◌-◌, ◌<◌, ◌≤◌, true, List, length, get_or, nat_le, Option, IsUtf8, sym, ap, ap₂, subst, ◌∙◌, arith, leb-true}
+use Rattle.std.proofs.lemmas.Bool.{and_parts}
+use Rattle.bx_terms.specs.Sizes.{is_side}
+use Rattle.bx_ucd.specs.declared.class.Class.{Class}
+use Rattle.bx_ucd.specs.declared.data.Side.{Side}
+use Rattle.bx_paras.specs.Paragraphs.{lengths}
+use Rattle.bx_paras.specs.Positions.{paragraph_of}
+use Rattle.bx_paragraph.specs.BodyRows.{BodyRow, body_rows, first_of, last_of}
+use Rattle.bx_paragraph.specs.BodyRows.{row_at as row_at_body, row_of as row_of_body}
+use Rattle.bx_paragraph.specs.Layout.{IsLayoutBy, LayoutState, row_by, rows_by}
+use Rattle.bx_paragraph.specs.Slots.{column_of}
+use Rattle.bx_paragraph.proofs.Starts.{row_count}
+use Rattle.bx_view.specs.declared.cursor.RowAt.{RowAt}
+use Rattle.bx_view.specs.Cursor.{StandsOn}
+use Rattle.bx_view.specs.Holding.{HoldsBody, IsHeld, IsOfText, IsViewBy, Keeps, ViewState}
+use Rattle.bx_view.specs.Moves.{row_end, row_home}
+use Rattle.bx_view.specs.Standing.{body_at, rows_in, start_at}
+use Rattle.bx_view.specs.TextRows.{TextRow, cell_of, first, row_at, row_of, text_row, text_rows}
+use Rattle.bx_view.proofs.Walking.{first-short, row-is, row-under}
+
+pub side-some : (w : ℕ) → is_side w ≡ true → 1 ≤ w
+side-some w e = leb-true 1 w (and_parts (nat_le 1 w) (nat_le w 500) e).0
+
+module _ (class : ℕ → Class) (bracket : ℕ → Option (Side × ℕ)) where
+  abbrev of : ViewState → List ℕ → List TextRow
+  of v text = text_rows class bracket v.base v.w text
+
+  -- a paragraph that is held
+  pub of-text : (v : ViewState) (text : List ℕ) (number held : ℕ) (l : LayoutState) → is_side v.w ≡ true → IsViewBy class bracket v
+      → HoldsBody (body_at class text number) v.held held → l ≡ get_or v.held held l → IsOfText class bracket v text number l
+  of-text v text number held l side all h e =
+      let is : IsHeld class bracket v.base v.w l = subst (IsHeld class bracket v.base v.w) (sym e) (all held l h.within) in
+      let body : l.body ≡ body_at class text number = ap (λ (x : LayoutState). x.body) e ∙ h.body_is l in
+      let same : rows_by class bracket l ≡ rows_in class bracket v.base v.w text number =
+      ap (λ b. body_rows class bracket b l.w l.body) is.base_is ∙ ap (λ w. body_rows class bracket v.base w l.body) is.w_is
+      ∙ ap (body_rows class bracket v.base v.w) body in
+      record {
+        side = side;
+        by = is.rows;
+        w_is = is.w_is;
+        rows_are = same;
+        count_is = row_count l (ap is_side is.w_is ∙ side) class bracket is.rows ∙ ap length same;
+      }
+
+  -- the row that an offset falls in
+  pub stands : (v : ViewState) (text : List ℕ) (offset : ℕ) (at : RowAt) (l : LayoutState) → IsUtf8 text
+      → at.paragraph ≡ paragraph_of (lengths class text) offset → at.start ≡ start_at class text at.paragraph
+      → HoldsBody (body_at class text at.paragraph) v.held at.held → IsOfText class bracket v text at.paragraph l
+      → at.row ≡ row_of_body (rows_by class bracket l) (offset - at.start) → StandsOn class bracket v text at (row_of (of v text) offset)
+  stands v text offset at l utf8 number start held is row = record {
+    start_is = start;
+    is = row-under class bracket v.base v.w (side-some v.w is.side) text utf8 offset at.paragraph at.row number
+        (row ∙ ap (λ rs. row_of_body rs (offset - at.start)) is.rows_are
+        ∙ ap (λ s. row_of_body (rows_in class bracket v.base v.w text at.paragraph) (offset - s)) start);
+    held_is = held;
+  }
+
+  -- row `n` of the text is a row of the paragraph that is held
+  module _ (v : ViewState) (text : List ℕ) (at : RowAt) (n : ℕ) (l : LayoutState) (utf8 : IsUtf8 text)
+      (on : StandsOn class bracket v text at n) (is : IsOfText class bracket v text at.paragraph l) where
+    pub row-counted : at.row < length l.starts
+    row-counted = let within = on.is.row in omega (arith, within, is.count_is)
+
+    pub first-fits : at.start + first_of (row_by class bracket l at.row) ≤ length text
+    first-fits = subst (λ s. s + first_of (row_by class bracket l at.row) ≤ length text) (sym on.start_is)
+        (subst (λ rs. start_at class text at.paragraph + first_of (row_at_body rs at.row) ≤ length text) (sym is.rows_are)
+        (first-short class bracket v.base v.w (side-some v.w is.side) text utf8 at.paragraph at.row n on.is))
+
+    pub row-told : row_at (of v text) n ≡ text_row at.start (row_by class bracket l at.row)
+    row-told = row-is class bracket v.base v.w (side-some v.w is.side) text utf8 at.paragraph at.row n on.is
+        ∙ ap (λ rs. text_row (start_at class text at.paragraph) (row_at_body rs at.row)) (sym is.rows_are)
+        ∙ ap (λ s. text_row s (row_by class bracket l at.row)) (sym on.start_is)
+
+  -- ---- as the calls promise it, by the base direction and the columns that the layout had before
+
+  module _ (old v : ViewState) (text : List ℕ) (place : ℕ) (at : RowAt) (l : LayoutState) (keeps : Keeps class bracket old v)
+      (utf8 : IsUtf8 text) (on : StandsOn class bracket v text at (row_of (of v text) place)) (is : IsOfText class bracket v text at.paragraph l) where
+    here : row_at (of v text) (row_of (of v text) place) ≡ text_row at.start (row_by class bracket l at.row)
+    here = row-told v text at (row_of (of v text) place) l utf8 on is
+
+    pub cell-told : (c : ℕ) → c ≡ column_of l.w (row_by class bracket l at.row) (place - at.start) → c ≡ cell_of old.w (of old text) place
+    cell-told c e =
+        e ∙ ap (λ w. column_of w (row_by class bracket l at.row) (place - at.start)) is.w_is
+        ∙ sym (ap (λ (r : TextRow). column_of v.w r.row (place - r.start)) here)
+        ∙ ap₂ (λ b w. cell_of w (text_rows class bracket b w text) place) keeps.base keeps.w
+
+    pub home-told : (o : ℕ) → o ≡ first_of (row_by class bracket l at.row) → at.start + o ≡ row_home (of old text) place
+    home-told o e =
+        ap (λ k. at.start + k) e ∙ sym (ap first here) ∙ ap₂ (λ b w. row_home (text_rows class bracket b w text) place) keeps.base keeps.w
+
+    pub end-told : (o : ℕ) → o ≡ last_of (row_by class bracket l at.row) → at.start + o ≡ row_end (of old text) place
+    end-told o e =
+        ap (λ k. at.start + k) e ∙ sym (ap (λ (r : TextRow). r.start + last_of r.row) here)
+        ∙ ap₂ (λ b w. row_end (text_rows class bracket b w text) place) keeps.base keeps.w

@@ -1,0 +1,202 @@
+-- Rows of the text by the number of their paragraph and their number in it, and from row to row.
+use Rattle.std.proofs.Common.{◌≡◌, ℕ, zero, suc, ◌+◌, ◌-◌, ◌<◌, ◌≤◌, true, List, [], ◌∷◌, ◌++◌, map, length, take, drop, get_or, slice_get, Option, Some, None}
+use Rattle.std.proofs.Common.{IsUtf8, IsCharBoundary, refl, sym, ap, subst, ◌∙◌, arith, length-append, length-drop}
+use Rattle.std.proofs.lemmas.List.{get_or-map, length-map, take_more, take_all}
+use Rattle.bx_ucd.specs.declared.class.Class.{Class}
+use Rattle.bx_ucd.specs.declared.data.Side.{Side}
+use Rattle.bx_explicit.specs.declared.base.Base.{Base}
+use Rattle.bx_text.specs.Edits.{IsRange}
+use Rattle.bx_paras.specs.Paragraphs.{Paragraph, bare, lengths, lengths_of, paragraphs}
+use Rattle.bx_paras.specs.Positions.{bytes_of, paragraph_of, total}
+use Rattle.bx_paragraph.specs.BodyRows.{BodyRow, body_rows, last_of, no_row}
+use Rattle.bx_paragraph.specs.BodyRows.{row_at as row_at_body, row_of as row_of_body, first_of as first_of_body}
+use Rattle.bx_paragraph.specs.Slots.{column_of}
+use Rattle.bx_view.specs.Moves.{row_after, row_before, row_end, row_home}
+use Rattle.bx_view.specs.Standing.{IsRow, body_at, count, paragraph_at, rows_ahead, rows_in, start_at}
+use Rattle.bx_view.specs.TextRows.{TextRow, cell_of, first, no_text_row, row_at, row_of, text_row, text_rows}
+use Rattle.bx_view.proofs.Around.{BodyFirsts, all-rise, count-around, from, from-append, own, own-some, own-within, row-falls, row-there}
+use Rattle.bx_view.proofs.BodyFirsts.{body-firsts}
+use Rattle.bx_view.proofs.Numbers.{ahead, among, behind, body-range, body-utf8, falls-at, here, parts-at}
+use Rattle.bx_view.proofs.Parts.{AreEnded, AreUtf8, text-parts}
+use Rattle.bx_view.proofs.Rising.{Rises, rises-apart, rises-below}
+
+slice-at : {X : Type 0} (xs : List X) (n : ℕ) (d : X) → n < length xs → slice_get xs n ≡ Some (get_or xs n d)
+slice-at [] n d h = absurd (omega (arith, h))
+slice-at (x ∷ xs) zero d h = refl
+slice-at (x ∷ xs) (suc n) d h = slice-at xs n d (omega (arith, h))
+
+slice-past : {X : Type 0} (xs : List X) (n : ℕ) → length xs ≤ n → slice_get xs n ≡ None
+slice-past [] n h = refl
+slice-past (x ∷ xs) zero h = absurd (omega (arith, h))
+slice-past (x ∷ xs) (suc n) h = slice-past xs n (omega (arith, h))
+
+module _ (class : ℕ → Class) (bracket : ℕ → Option (Side × ℕ)) (base : Base) (w : ℕ) (some : 1 ≤ w) (text : List ℕ) (utf8 : IsUtf8 text) where
+  abbrev pub rows : List TextRow
+  rows = text_rows class bracket base w text
+
+  abbrev all : List Paragraph
+  all = paragraphs class text
+
+  abbrev mine : ℕ → List BodyRow
+  mine number = rows_in class bracket base w text number
+
+  abbrev before : ℕ → ℕ
+  before number = rows_ahead class bracket base w text number
+
+  abbrev begins : ℕ → ℕ
+  begins number = start_at class text number
+
+  abbrev Row : ℕ → ℕ → ℕ → Type 0
+  Row number k n = IsRow class bracket base w text number k n
+
+  bodies : (body : List ℕ) → IsUtf8 body → BodyFirsts body (body_rows class bracket base w body)
+  bodies = body-firsts class bracket base w some
+
+  around-utf8 : (number : ℕ) (within : number < count class text) → AreUtf8 (ahead class text number within ++ here class text number within ∷ behind class text number within)
+  around-utf8 number within = subst AreUtf8 (parts-at class text number within) (text-parts class text utf8).utf8
+
+  around-ended : (number : ℕ) (within : number < count class text) → AreEnded (ahead class text number within ++ here class text number within ∷ behind class text number within)
+  around-ended number within = subst AreEnded (parts-at class text number within) (text-parts class text utf8).ended
+
+  -- ---- a row by the number of its paragraph
+
+  -- each paragraph has a row
+  pub some-row : (number : ℕ) → number < count class text → 0 < length (mine number)
+  some-row number within = own-some class bracket base w bodies (paragraph_at class text number) (body-utf8 class text number within utf8)
+
+  -- what it is
+  pub row-is : (number k n : ℕ) → Row number k n → row_at rows n ≡ text_row (begins number) (row_at_body (mine number) k)
+  row-is number k n is =
+      ap (row_at rows) is.is
+      ∙ row-there class bracket base w bodies text number (begins number) (paragraph_at class text number) (take number all) (drop (number + 1) all)
+      (among class text number is.paragraph) k is.row
+
+  count-is : (number : ℕ) → number < count class text
+      → length rows ≡ before number + length (mine number) + length (from class bracket base w (begins number + bytes_of (lengths_of (paragraph_at class text number))) (drop (number + 1) all))
+  count-is number within =
+      count-around class bracket base w bodies text number (begins number) (paragraph_at class text number) (take number all) (drop (number + 1) all)
+      (among class text number within)
+
+  pub row-within : (number k n : ℕ) → Row number k n → n < length rows
+  row-within number k n is = omega (arith, is.is, is.row, count-is number is.paragraph)
+
+  -- it begins in its paragraph's body, and so in the text
+  first-within : (number k : ℕ) (within : number < count class text) → k < length (mine number)
+      → first_of_body (row_at_body (mine number) k) ≤ length (body_at class text number)
+  first-within number k within h =
+      let body = body_at class text number in
+      let f = bodies body (body-utf8 class text number within utf8) in
+      let rise : Rises 0 (map first_of_body (mine number)) (length body + 1) = subst (λ os. Rises 0 os (length body + 1)) (sym f.firsts) (omega arith, f.rise) in
+      let below = rises-below 0 (map first_of_body (mine number)) (length body + 1) k 0 rise (omega (arith, h, length-map (mine number) first_of_body)) in
+      omega (arith, below, get_or-map first_of_body (mine number) k no_row 0 h)
+
+  pub first-short : (number k n : ℕ) → Row number k n → begins number + first_of_body (row_at_body (mine number) k) ≤ length text
+  first-short number k n is =
+      let range : IsRange text (begins number) (begins number + length (body_at class text number)) = body-range class text number is.paragraph utf8 in
+      let bounds : IsCharBoundary text (begins number + length (body_at class text number)) = range.stop_bounds in
+      let inside : begins number + length (body_at class text number) ≤ length text = bounds.0 in
+      omega (arith, first-within number k is.paragraph is.row, inside)
+
+  -- ---- the row that an offset falls in
+
+  pub row-under : (offset number k : ℕ) → number ≡ paragraph_of (lengths class text) offset → k ≡ row_of_body (mine number) (offset - begins number)
+      → Row number k (row_of rows offset)
+  row-under offset number k e f =
+      let falls = falls-at class text offset number utf8 e in
+      let u = body-utf8 class text number falls.within utf8 in
+      let whole = row-falls class bracket base w bodies text number (begins number) (paragraph_at class text number) (take number all) (drop (number + 1) all)
+      (among class text number falls.within) offset (around-utf8 number falls.within) (around-ended number falls.within) falls.begun falls.ended in
+      record {
+        paragraph = falls.within;
+        row = omega (arith, f, own-within class bracket base w bodies (paragraph_at class text number) (offset - begins number) u);
+        is = omega (arith, whole, f);
+      }
+
+  -- ---- the next row and the one before
+
+  pub ahead-next : (number : ℕ) → number < count class text → before (number + 1) ≡ before number + length (mine number)
+  ahead-next number within =
+      let p = paragraph_at class text number in
+      let start = 0 + total (map lengths_of (take number all)) in
+      let own-rows = from class bracket base w start (p ∷ []) in
+      ap (λ ps. length (from class bracket base w 0 ps)) (take_more all number (bare []) within)
+      ∙ ap length (from-append class bracket base w 0 (take number all) (p ∷ []))
+      ∙ omega (
+        arith,
+        length-append (from class bracket base w 0 (take number all)) own-rows,
+        length-append (map (text_row start) (own class bracket base w p)) [],
+        length-map (own class bracket base w p) (text_row start),
+      )
+
+  pub next-in : (number k n : ℕ) → Row number k n → k + 1 < length (mine number) → Row number (k + 1) (n + 1)
+  next-in number k n is more = record { paragraph = is.paragraph; row = more; is = omega (arith, is.is) }
+
+  pub next-over : (number k n : ℕ) → Row number k n → k + 1 ≡ length (mine number) → number + 1 < count class text → Row (number + 1) 0 (n + 1)
+  next-over number k n is last more = record {
+    paragraph = more;
+    row = some-row (number + 1) more;
+    is = omega (arith, is.is, last, ahead-next number is.paragraph);
+  }
+
+  pub next-none : (number k n : ℕ) → Row number k n → k + 1 ≡ length (mine number) → number + 1 ≡ count class text → n + 1 ≡ length rows
+  next-none number k n is last none =
+      let whole : take (number + 1) all ≡ all = take_all (number + 1) all (omega (arith, none)) in
+      let same : before (number + 1) ≡ length rows = ap (λ ps. length (from class bracket base w 0 ps)) whole in
+      omega (arith, is.is, last, ahead-next number is.paragraph, same)
+
+  pub before-in : (number k n : ℕ) → Row number (suc k) n → Row number k (n - 1)
+  before-in number k n is = record { paragraph = is.paragraph; row = omega (arith, is.row); is = omega (arith, is.is) }
+
+  pub before-over : (number k n : ℕ) → Row (number + 1) 0 n → k + 1 ≡ length (mine number) → Row number k (n - 1)
+  before-over number k n is last =
+      let within : number < count class text = omega (arith, is.paragraph) in
+      record { paragraph = within; row = omega (arith, last); is = omega (arith, is.is, last, ahead-next number within) }
+
+  pub before-some : (number k n : ℕ) → Row number k n → 0 < number + k → 0 < n
+  before-some zero k n is h = omega (arith, is.is, h)
+  before-some (suc number) k n is h =
+      let within : number < count class text = omega (arith, is.paragraph) in
+      let next : number + 1 ≡ suc number = omega arith in
+      let same : before (number + 1) ≡ before (suc number) = ap before next in
+      omega (arith, is.is, ahead-next number within, some-row number within, same)
+
+  pub before-none : (n : ℕ) → Row 0 0 n → n ≡ 0
+  before-none n is = omega (arith, is.is)
+
+  -- ---- as the moves ask for them
+
+  pub after-some : (number k n : ℕ) → Row number k (n + 1) → row_after rows n ≡ Some (text_row (begins number) (row_at_body (mine number) k))
+  after-some number k n is = slice-at rows (n + 1) no_text_row (row-within number k (n + 1) is) ∙ ap Some (row-is number k (n + 1) is)
+
+  pub after-none : (n : ℕ) → n + 1 ≡ length rows → row_after rows n ≡ None
+  after-none n e = slice-past rows (n + 1) (omega (arith, e))
+
+  pub ahead-some : (number k n : ℕ) → Row number k n → row_before rows (suc n) ≡ Some (text_row (begins number) (row_at_body (mine number) k))
+  ahead-some number k n is = slice-at rows n no_text_row (row-within number k n is) ∙ ap Some (row-is number k n is)
+
+  -- ---- what the rows of an offset tell
+
+  module _ (offset number k : ℕ) (e : number ≡ paragraph_of (lengths class text) offset) (f : k ≡ row_of_body (mine number) (offset - begins number)) where
+    pub row-there-is : row_at rows (row_of rows offset) ≡ text_row (begins number) (row_at_body (mine number) k)
+    row-there-is = row-is number k (row_of rows offset) (row-under offset number k e f)
+
+    pub cell-is : cell_of w rows offset ≡ column_of w (row_at_body (mine number) k) (offset - begins number)
+    cell-is = ap (λ r. column_of w r.row (offset - r.start)) row-there-is
+
+    pub home-is : row_home rows offset ≡ begins number + first_of_body (row_at_body (mine number) k)
+    home-is = ap first row-there-is
+
+    pub end-is : row_end rows offset ≡ begins number + last_of (row_at_body (mine number) k)
+    end-is = ap (λ r. r.start + last_of r.row) row-there-is
+
+  -- ---- where rows begin tells which is before which
+
+  pub firsts-rise : (n m : ℕ) → n < m → m < length rows → first (row_at rows n) < first (row_at rows m)
+  firsts-rise n m h within =
+      let parts = text-parts class text utf8 in
+      let rise = all-rise class bracket base w bodies 0 all parts.utf8 parts.ended in
+      let count = length-map rows first in
+      let apart = rises-apart 0 (map first rows) (0 + total (map lengths_of all) + 1) n m 0 rise h (omega (arith, within, count)) in
+      let left = get_or-map first rows n no_text_row 0 (omega (arith, h, within)) in
+      let right = get_or-map first rows m no_text_row 0 within in
+      omega (arith, apart, left, right)

@@ -1,0 +1,24 @@
+use Rattle.std.proofs.Common.{◌≡◌, ◌+◌, ◌≤◌, length, arith}
+use Rattle.bx_paragraph.specs.BodyRows.{first_of}
+use Rattle.bx_paragraph.specs.Layout.{row_by}
+use Rattle.bx_view.proofs.Told.{first-fits, home-told}
+use Rattle.bx_view.proofs.layout.Layout.row_home.Goals as goal
+
+pub overflow_add-result : goal.overflow_add-result
+overflow_add-result g c =
+    let class = g.D.BidiData.class_of c.args.source.now in
+    let bracket = g.D.BidiData.bracket_of c.args.source.now in
+    let first : c.first.result ≡ first_of (row_by class bracket c.paragraph-paragraph.result.now c.in_ok-at.at.row) =
+    c.first.ensures class bracket c.paragraph-paragraph.ensures.by in
+    let fits : c.in_ok-at.at.start + first_of (row_by class bracket c.paragraph-paragraph.result.now c.in_ok-at.at.row) ≤ length c.args.text.now.edited.text =
+    first-fits class bracket c.row_at.new.self c.args.text.now.edited.text c.in_ok-at.at _ c.paragraph-paragraph.result.now c.row_at.ensures.utf8
+    c.in_ok-at.ensures.row c.paragraph-paragraph.ensures in
+    omega (arith, first, fits, c.row_at.ensures.short)
+
+pub returns-clause-home : goal.returns-clause-home
+returns-clause-home g c =
+    let class = g.D.BidiData.class_of c.args.source.now in
+    let bracket = g.D.BidiData.bracket_of c.args.source.now in
+    home-told class bracket c.args.self.now c.row_at.new.self c.args.text.now.edited.text c.args.place c.in_ok-at.at c.paragraph-paragraph.result.now
+    c.row_at.ensures.keeps c.row_at.ensures.utf8 c.in_ok-at.ensures.row c.paragraph-paragraph.ensures c.first.result
+    (c.first.ensures class bracket c.paragraph-paragraph.ensures.by)

@@ -1,0 +1,42 @@
+-- What a layout of a text is seen as: some paragraphs, laid out under its base direction and in its columns.
+use Rattle.std.specs.Prelude.{◌≡◌, ℕ, ◌<◌, true, List, length, All, HoldsAt, Option}
+use Rattle.bx_terms.specs.Sizes.{is_side}
+use Rattle.bx_ucd.specs.declared.class.Class.{Class}
+use Rattle.bx_ucd.specs.declared.data.Side.{Side}
+use Rattle.bx_explicit.specs.declared.base.Base.{Base}
+use Rattle.bx_paragraph.specs.Layout.{IsLayoutBy, LayoutState, rows_by}
+use Rattle.bx_view.specs.Standing.{rows_in}
+
+pub record ViewState : Type 0 where
+  pub base : Base
+  pub w : ℕ
+  pub held : List LayoutState
+
+-- a paragraph laid out under a base direction, in so many columns, by some data
+pub record IsHeld (class : ℕ → Class) (bracket : ℕ → Option (Side × ℕ)) (base : Base) (w : ℕ) (l : LayoutState) : Type 0 where
+  pub base_is : l.base ≡ base
+  pub w_is : l.w ≡ w
+  pub rows : IsLayoutBy class bracket l
+
+-- all that is held is by some data
+abbrev pub IsViewBy : (ℕ → Class) → (ℕ → Option (Side × ℕ)) → ViewState → Type 0
+IsViewBy class bracket v = All (IsHeld class bracket v.base v.w) v.held
+
+-- what is held changed, and nothing else: it is still by the data
+pub record Keeps (class : ℕ → Class) (bracket : ℕ → Option (Side × ℕ)) (old new : ViewState) : Type 0 where
+  pub base : new.base ≡ old.base
+  pub w : new.w ≡ old.w
+  pub held : IsViewBy class bracket new
+
+-- number `i` of those that are held has this body
+pub record HoldsBody (body : List ℕ) (held : List LayoutState) (i : ℕ) : Type 0 where
+  pub within : i < length held
+  pub body_is : HoldsAt (λ l. l.body ≡ body) held i
+
+-- the layout of paragraph `number` of a text
+pub record IsOfText (class : ℕ → Class) (bracket : ℕ → Option (Side × ℕ)) (v : ViewState) (text : List ℕ) (number : ℕ) (l : LayoutState) : Type 0 where
+  pub side : is_side v.w ≡ true
+  pub by : IsLayoutBy class bracket l
+  pub w_is : l.w ≡ v.w
+  pub rows_are : rows_by class bracket l ≡ rows_in class bracket v.base v.w text number
+  pub count_is : length l.starts ≡ length (rows_in class bracket v.base v.w text number)

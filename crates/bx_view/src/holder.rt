@@ -1,0 +1,108 @@
+//! The paragraphs that a layout holds.
+ghost use Rattle.std.specs.Prelude.{◌≡◌, ◌+◌, ◌-◌, ◌<◌, ◌≤◌, ◌++◌, ◌∷◌, [], true, All, HoldsAt, IfOk, IfSome, IsTrue, length, slice_range};
+ghost use Rattle.bx_terms.specs.Sizes.{is_side};
+ghost use Rattle.bx_paragraph.specs.Layout.{IsLayoutBy};
+ghost use Rattle.bx_view.specs.Holding.{HoldsBody, IsHeld, IsViewBy, Keeps};
+ghost use Rattle.bx_view.specs.Standing.{body_at, count};
+
+use crate::error::ViewError;
+use crate::in_text::stands_at;
+use bx_explicit::Base;
+use bx_paragraph::ParagraphLayout;
+use bx_paras::Index;
+use bx_terms::LARGEST_TEXT;
+use bx_text::Text;
+use bx_ucd::BidiData;
+use std::alloc::{AllocError, Global};
+use std::marker::Model;
+
+// More than the rows of any window.
+const MOST_HELD: usize = 512;
+
+/// Whether a paragraph that is held has the bytes between two offsets of a text as its body. No memory.
+fn is_held(held: &[ParagraphLayout], i: usize, text: &Text, start: usize, stop: usize) -> bool
+    requires order { start ≤ stop }
+    requires within { stop ≤ length text.now.edited.text }
+    ensures { IsTrue result → HoldsBody (slice_range text.now.edited.text start stop) held.now i }
+{
+    if i >= held.len() {
+        return false;
+    }
+    let body = held[i].body();
+    body.len() == stop - start && stands_at(text, start, body.as_bytes())
+}
+
+/// Which of those that are held has the bytes between two offsets as its body: that of the number `recent` is asked
+/// first. No memory.
+pub(crate) fn position(
+    held: &[ParagraphLayout],
+    recent: usize,
+    text: &Text,
+    start: usize,
+    stop: usize,
+) -> Option<usize>
+    requires order { start ≤ stop }
+    requires within { stop ≤ length text.now.edited.text }
+    ensures { IfSome result (HoldsBody (slice_range text.now.edited.text start stop) held.now) }
+{
+    if is_held(held, recent, text, start, stop) {
+        return Some(recent);
+    }
+    for i in 0..held.len() {
+        if is_held(held, i, text, start, stop) {
+            return Some(i);
+        }
+    }
+    None
+}
+
+/// How many bytes the bodies have that are held.
+fn bytes_held(held: &[ParagraphLayout]) -> usize {
+    let mut bytes: usize = 0;
+    for layout in held {
+        bytes = bytes.saturating_add(layout.body().len());
+    }
+    bytes
+}
+
+/// Where many are held, drops the one that was held first.
+fn drop_oldest<D: BidiData>(held: &mut Vec<ParagraphLayout>, source: &D, base: Base, w: u16)
+    requires { All (IsHeld (D.class_of source.now) (D.bracket_of source.now) base w) held.old.items }
+    ensures { All (IsHeld (D.class_of source.now) (D.bracket_of source.now) base w) held.new.items }
+{
+    let _ = source;
+    let _ = base;
+    let _ = w;
+    if held.len() >= MOST_HELD {
+        held.remove(0);
+    }
+}
+
+/// Holds one more paragraph, in place of another where many are held, and alone where all have more bytes than two
+/// texts may have. It answers its place among them.
+pub(crate) fn hold<D: BidiData>(
+    held: &mut Vec<ParagraphLayout>,
+    new: ParagraphLayout,
+    source: &D,
+    base: Base,
+    w: u16,
+) -> Result<usize, AllocError>
+    requires held { All (IsHeld (D.class_of source.now) (D.bracket_of source.now) base w) held.old.items }
+    requires new { IsHeld (D.class_of source.now) (D.bracket_of source.now) base w new }
+    ensures held { All (IsHeld (D.class_of source.now) (D.bracket_of source.now) base w) held.new.items }
+    ensures new { IfOk result (HoldsBody new.body held.new.items) }
+{
+    let _ = source;
+    let _ = base;
+    let _ = w;
+    let count = held.len();
+    let bytes = bytes_held(held).saturating_add(new.body().len());
+    if count > 0 && bytes > 2 * LARGEST_TEXT {
+        held.truncate(1);
+        held[0] = new;
+        return Ok(0);
+    }
+    drop_oldest(held, source, base, w);
+    held.push(new)?;
+    Ok(held.len() - 1)
+}

@@ -1,0 +1,31 @@
+//! Bytes compared with those of a text where they stand.
+ghost use Rattle.std.specs.Prelude.{◌≡◌, ◌+◌, ◌≤◌, ◌↔◌, drop, length, take, IsTrue};
+
+use bx_text::Text;
+
+/// Whether these are the same bytes.
+fn are_same(left: &[u8], right: &[u8]) -> bool
+    ensures { IsTrue result ↔ (left.now ≡ right.now) }
+{
+    left == right
+}
+
+/// Whether these bytes stand in the text at an offset. No memory.
+pub(crate) fn stands_at(text: &Text, start: usize, bytes: &[u8]) -> bool
+    requires { start + length bytes.now ≤ length text.now.edited.text }
+    ensures { IsTrue result → take (length bytes.now) (drop start text.now.edited.text) ≡ bytes.now }
+{
+    let _short = text.len();
+    let mut at = 0;
+    while at < bytes.len() {
+        let Some(piece) = text.piece_at(start + at) else {
+            return false;
+        };
+        let count = piece.len().min(bytes.len() - at);
+        if !are_same(&piece.as_bytes()[..count], &bytes[at..at + count]) {
+            return false;
+        }
+        at += count;
+    }
+    true
+}

@@ -1,0 +1,182 @@
+//! The layout of a text.
+ghost use Rattle.std.specs.Prelude.{◌≡◌, ◌<◌, ◌≤◌, [], true, length, IfOk, IsUtf8};
+ghost use Rattle.bx_terms.specs.Sizes.{is_side};
+ghost use Rattle.bx_text.specs.Edits.{largest_text};
+ghost use Rattle.bx_paras.specs.Paragraphs.{lengths};
+ghost use Rattle.bx_view.specs.Cursor.{StandsOn};
+ghost use Rattle.bx_view.specs.Holding.{HoldsBody, IsOfText, IsViewBy, Keeps};
+ghost use Rattle.bx_view.specs.Moves.{row_end, row_home};
+ghost use Rattle.bx_view.specs.Standing.{body_at, count};
+ghost use Rattle.bx_view.specs.TextRows.{cell_of, row_of, text_rows};
+
+use crate::cursor::RowAt;
+use crate::error::ViewError;
+use crate::holder::{hold, position};
+use crate::span::{body_span, paragraph_under};
+use bx_explicit::Base;
+use bx_paragraph::ParagraphLayout;
+use bx_paras::Index;
+use bx_text::Text;
+use bx_ucd::BidiData;
+use std::alloc::Global;
+use std::marker::Model;
+
+/// The rows of a text in a window of so many columns, under a base direction. It holds a few paragraphs, laid out
+/// once, and no rows of the whole text.
+#[derive(Drop)]
+pub struct Layout {
+    base: Base,
+    w: u16,
+    held: Vec<ParagraphLayout>,
+    // the number of the one that was found last
+    recent: usize,
+}
+
+impl Model for Layout {
+    ghost use Rattle.std.specs.Prelude.{◌≡◌, true};
+    ghost use Rattle.bx_terms.specs.Sizes.{is_side};
+    ghost use Rattle.bx_view.specs.Holding.{ViewState};
+
+    ghost Value = { ViewState };
+
+    ghost view = { λ l. record { base = l.base; w = l.w; held = l.held.items } };
+
+    ghost invariant = { λ l. is_side l.w ≡ true };
+}
+
+impl Layout {
+    /// A layout in `w` columns, under a base direction: of whatever text its calls are given. No work, and no memory
+    /// before the first call.
+    pub fn of(alloc: Global, w: u16, base: Base) -> Layout
+        requires { is_side w ≡ true }
+        ensures { result ≡ record { base = base; w = w; held = [] } }
+    {
+        Layout {
+            base,
+            w,
+            held: Vec::new(alloc),
+            recent: 0,
+        }
+    }
+
+    /// The number among those held of a paragraph of the text, which is laid out if it is not held.
+    ///
+    /// Errors: `OutOfMemory`.
+    fn find<D: BidiData>(
+        &mut self,
+        text: &Text,
+        index: &Index,
+        source: &D,
+        number: usize,
+    ) -> Result<usize, ViewError>
+        requires data { IsViewBy (D.class_of source.now) (D.bracket_of source.now) self.old }
+        requires index { index.now.paragraphs ≡ lengths (D.class_of source.now) text.now.edited.text }
+        requires number { number < count (D.class_of source.now) text.now.edited.text }
+        ensures keeps { Keeps (D.class_of source.now) (D.bracket_of source.now) self.old self.new }
+        ensures body { IfOk result (HoldsBody (body_at (D.class_of source.now) text.now.edited.text number) self.new.held) }
+    {
+        let (start, stop) = body_span(text, index, source, number);
+        if let Some(i) = position(&self.held, self.recent, text, start, stop) {
+            self.recent = i;
+            return Ok(i);
+        }
+        let body = text.copy_range(start, stop)?;
+        let alloc = *self.held.allocator();
+        let layout = ParagraphLayout::of(alloc, body, source, self.w, self.base)?;
+        let i = hold(&mut self.held, layout, source, self.base, self.w)?;
+        self.recent = i;
+        Ok(i)
+    }
+
+    /// A paragraph of the text that is held.
+    fn paragraph<D: BidiData>(
+        &self,
+        text: &Text,
+        source: &D,
+        number: usize,
+        held: usize,
+    ) -> &ParagraphLayout
+        requires data { IsViewBy (D.class_of source.now) (D.bracket_of source.now) self.now }
+        requires held { HoldsBody (body_at (D.class_of source.now) text.now.edited.text number) self.now.held held }
+        ensures { IsOfText (D.class_of source.now) (D.bracket_of source.now) self.now text.now.edited.text number result.now }
+    {
+        let _ = text;
+        let _ = source;
+        let _ = number;
+        &self.held[held]
+    }
+
+    /// The row that an offset of the text falls in.
+    ///
+    /// Errors: `OutOfMemory`.
+    fn row_at<D: BidiData>(
+        &mut self,
+        text: &Text,
+        index: &Index,
+        source: &D,
+        offset: usize,
+    ) -> Result<RowAt, ViewError>
+        requires data { IsViewBy (D.class_of source.now) (D.bracket_of source.now) self.old }
+        requires index { index.now.paragraphs ≡ lengths (D.class_of source.now) text.now.edited.text }
+        ensures keeps { Keeps (D.class_of source.now) (D.bracket_of source.now) self.old self.new }
+        ensures row { IfOk result (λ at. StandsOn (D.class_of source.now) (D.bracket_of source.now) self.new text.now.edited.text at
+            (row_of (text_rows (D.class_of source.now) (D.bracket_of source.now) self.new.base self.new.w text.now.edited.text) offset)) }
+        ensures begun { IfOk result (λ at. at.start ≤ offset) }
+        ensures utf8 { IsUtf8 text.now.edited.text }
+        ensures short { length text.now.edited.text ≤ largest_text }
+    {
+        let (number, start) = paragraph_under(text, index, source, offset);
+        let held = self.find(text, index, source, number)?;
+        let paragraph = self.paragraph(text, source, number, held);
+        let row = paragraph.row_of(offset - start);
+        Ok(RowAt {
+            paragraph: number,
+            start,
+            row,
+            held,
+        })
+    }
+
+    /// The column, from 1, of the cell of a place.
+    ///
+    /// Errors: `OutOfMemory`.
+    pub fn cell_of<D: BidiData>(
+        &mut self,
+        text: &Text,
+        index: &Index,
+        source: &D,
+        place: usize,
+    ) -> Result<u16, ViewError>
+        requires data { IsViewBy (D.class_of source.now) (D.bracket_of source.now) self.old }
+        requires index { index.now.paragraphs ≡ lengths (D.class_of source.now) text.now.edited.text }
+        ensures keeps { Keeps (D.class_of source.now) (D.bracket_of source.now) self.old self.new }
+        ensures cell { IfOk result (λ column. column
+            ≡ cell_of self.old.w (text_rows (D.class_of source.now) (D.bracket_of source.now) self.old.base self.old.w text.now.edited.text) place) }
+    {
+        let at = self.row_at(text, index, source, place)?;
+        let paragraph = self.paragraph(text, source, at.paragraph, at.held);
+        let column = paragraph.column_of(at.row, place - at.start, source)?;
+        Ok(column)
+    }
+
+    /// The first offset of the row that a place falls in.
+    ///
+    /// Errors: `OutOfMemory`.
+    pub fn row_home<D: BidiData>(
+        &mut self,
+        text: &Text,
+        index: &Index,
+        source: &D,
+        place: usize,
+    ) -> Result<usize, ViewError>
+        requires data { IsViewBy (D.class_of source.now) (D.bracket_of source.now) self.old }
+        requires index { index.now.paragraphs ≡ lengths (D.class_of source.now) text.now.edited.text }
+        ensures keeps { Keeps (D.class_of source.now) (D.bracket_of source.now) self.old self.new }
+        ensures home { IfOk result (λ home. home
+            ≡ row_home (text_rows (D.class_of source.now) (D.bracket_of source.now) self.old.base self.old.w text.now.edited.text) place) }
+    {
+        let at = self.row_at(text, index, source, place)?;
+        let paragraph = self.paragraph(text, source, at.paragraph, at.held);
+        Ok(at.start + paragraph.first(at.row))
+    }
+}
