@@ -1,27 +1,27 @@
 -- The glyphs of a row's picture, put one after another into a row of a grid.
 use Rattle.std.proofs.Common.{◌≡◌, ℕ, ◌+◌, ◌-◌, ◌*◌, ◌<◌, ◌≤◌, Bool, true, false, not, ◌&&◌, ◌||◌, nat_le, List, [], ◌∷◌, ◌++◌, length, map, take}
-use Rattle.std.proofs.Common.{replicate, get_or, chars, refl, ap, sym, subst, ◌∙◌, append_assoc, length-append, sum_by, arith}
+use Rattle.std.proofs.Common.{get_or, chars, refl, ap, sym, subst, ◌∙◌, length-append, sum_by, arith}
 use Rattle.std.specs.Prelude.{All, flat_map}
 use Rattle.std.specs.Cow.{cow_str_bytes}
-use Rattle.std.proofs.Math.Nat.{mul-le-mul_right}
 use Rattle.std.proofs.lemmas.Bool.Decides.{nat_tests}
 use Rattle.std.proofs.lemmas.Grind.{flat_map-append}
-use Rattle.std.proofs.lemmas.List.{map_more, append-nil, length-take-le, take-append-drop}
+use Rattle.std.proofs.lemmas.List.{map_more, append-nil}
 use Rattle.std.proofs.lemmas.List.Concat.{flat_map-cons}
 use Rattle.std.proofs.lemmas.List.Sums.{sum_by-cons, sum_by_more, sum_by_more_le}
 use Rattle.unicode_width.specs.Width.{str_width}
 use Rattle.bx_terms.specs.Characters.{are_ascii_printable, are_printable, is_ascii_glyph}
 use Rattle.bx_terms.specs.Glyphs.{is_one_glyph, run_width}
-use Rattle.bx_grid.specs.Columns.{Col, blank, paste, run_columns, glyph_columns}
-use Rattle.bx_grid.specs.Picture.{GridState, HasRoom, IsWithin, IsGrid}
-use Rattle.bx_grid.proofs.Laid.{plain_is_one, plain_run_width, blank_next, laid_next}
+use Rattle.bx_grid.specs.Columns.{Col, paste, run_columns, glyph_columns}
+use Rattle.bx_grid.specs.Picture.{GridState, HasRoom, IsWithin}
+use Rattle.bx_grid.proofs.Laid.{plain_is_one, plain_run_width}
 use Rattle.bx_grid.proofs.Puts.{length-glyph}
 use Rattle.bx_grid.proofs.Reading.{and_left, and_right}
 use Rattle.bx_rows.specs.declared.drawn.Drawn.{Drawn}
 use Rattle.bx_rows.specs.RowPicture.{Glyph}
 use Rattle.bx_rows.specs.Shown.{glyph_of}
-use Rattle.bx_editor.specs.Drawing.{IsBlankFrom, with_row}
+use Rattle.bx_editor.specs.Drawing.{with_row}
 use Rattle.bx_editor.specs.Picture.{side_by_side}
+use Rattle.bx_editor.proofs.PutOn.{IsRoomy, put_next, put_none, room_next, within_next}
 
 -- ---- one glyph
 
@@ -97,18 +97,8 @@ pub record IsPut (old : GridState) (row : ℕ) (ds : List Drawn) (i : ℕ) (new 
   pub at : column ≡ columns_in (take i ds) + 1
   pub grid : new ≡ with_row old row (glyphs_columns (take i ds))
 
--- the row is inside, and blank with all behind it
-pub record IsRoomy (old : GridState) (row : ℕ) : Type 0 where
-  pub inside : row * old.width + old.width ≤ length old.columns
-  pub blank : IsBlankFrom old row
-
-pub put_none : (old : GridState) (row : ℕ) (ds : List Drawn) → IsRoomy old row → IsPut old row ds 0 old 1
-put_none old row ds h =
-    let k = row * old.width in
-    let same : old.columns ≡ take k old.columns ++ ([] ++ replicate (length old.columns - k - 0) blank) =
-    let whole : length old.columns - k - 0 ≡ length old.columns - k = omega arith in
-    sym (ap (λ n. take k old.columns ++ replicate n blank) whole ∙ ap (λ cs. take k old.columns ++ cs) (sym h.blank) ∙ take-append-drop k old.columns) in
-    record { at = refl; grid = ap (λ cs. record old { columns = cs }) same }
+pub none_put : (old : GridState) (row : ℕ) (ds : List Drawn) → IsRoomy old row → IsPut old row ds 0 old 1
+none_put old row ds h = record { at = refl; grid = put_none old row h }
 
 -- glyph number `i` comes next, and has room
 pub record IsNext (old : GridState) (row : ℕ) (ds : List Drawn) (i : ℕ) (d : Drawn) : Type 0 where
@@ -119,12 +109,6 @@ pub record IsNext (old : GridState) (row : ℕ) (ds : List Drawn) (i : ℕ) (d :
   pub one : is_one_glyph (cow_str_bytes d.text) ≡ true
   pub width : run_width (cow_str_bytes d.text) ≡ d.columns
 
-abbrev pub front : GridState → ℕ → List Col
-front old row = take (row * old.width) old.columns
-
-length-front : (old : GridState) (row : ℕ) → IsRoomy old row → length (front old row) ≡ row * old.width
-length-front old row h = length-take-le (row * old.width) old.columns (omega (arith, h.inside))
-
 more-columns : (ds : List Drawn) (i : ℕ) (d : Drawn) → i < length ds → get_or ds i d ≡ d → columns_in (take (i + 1) ds) ≡ columns_in (take i ds) + d.columns
 more-columns ds i d inside is = sum_by_more (λ x. x.columns) ds i d inside ∙ ap (λ (x : Drawn). columns_in (take i ds) + x.columns) is
 
@@ -134,88 +118,42 @@ fit-columns ds i d inside is =
     let one : (get_or ds i d).columns ≡ d.columns = ap (λ (x : Drawn). x.columns) is in
     omega (arith, le, one)
 
-index_is : (old : GridState) (row : ℕ) (ds : List Drawn) (i column : ℕ) → IsRoomy old row → column ≡ columns_in (take i ds) + 1
-    → (row + 1 - 1) * old.width + (column - 1) ≡ length (front old row ++ glyphs_columns (take i ds))
-index_is old row ds i column h at =
-    let line : row + 1 - 1 ≡ row = omega arith in
-    rw line (omega (arith, at, length-front old row h, length-glyphs (take i ds), length-append (front old row) (glyphs_columns (take i ds))))
-
 pub within : (old : GridState) (row : ℕ) (ds : List Drawn) (i : ℕ) (new : GridState) (column : ℕ) (d : Drawn) → row < old.height
     → IsNext old row ds i d → IsPut old row ds i new column → IsWithin new.height new.width (row + 1) column
 within old row ds i new column d low n p =
-    let height : new.height ≡ old.height = ap (λ (g : GridState). g.height) p.grid in
-    let width : new.width ≡ old.width = ap (λ (g : GridState). g.width) p.grid in
+    let len = length-glyphs (take i ds) in
     let fit = fit-columns ds i d n.inside n.is in
     let some = glyph_some (cow_str_bytes d.text) n.one in
-    record {
-      top = omega arith;
-      bottom = omega (arith, height, low);
-      left = omega (arith, p.at);
-      right = omega (arith, width, p.at, fit, some, n.width, n.fills);
-    }
+    within_next old row (glyphs_columns (take i ds)) new column low p.grid (omega (arith, p.at, len)) (omega (arith, len, fit, some, n.width, n.fills))
 
 pub room : (old : GridState) (row : ℕ) (ds : List Drawn) (i : ℕ) (new : GridState) (column : ℕ) (d : Drawn)
     → IsNext old row ds i d → IsPut old row ds i new column → HasRoom new (row + 1) column (run_width (cow_str_bytes d.text))
 room old row ds i new column d n p =
-    let before = front old row ++ glyphs_columns (take i ds) in
-    let left = length old.columns - row * old.width - length (glyphs_columns (take i ds)) in
+    let len = length-glyphs (take i ds) in
     let fit = fit-columns ds i d n.inside n.is in
-    let width : new.width ≡ old.width = ap (λ (g : GridState). g.width) p.grid in
-    let columns : new.columns ≡ before ++ replicate left blank =
-    ap (λ (g : GridState). g.columns) p.grid ∙ sym (append_assoc (front old row) (glyphs_columns (take i ds)) (replicate left blank)) in
-    let index = index_is old row ds i column n.roomy p.at in
-    record {
-      fits = omega (arith, width, p.at, fit, n.width, n.fills);
-      blank = rw (width, columns) (blank_next before ((row + 1 - 1) * old.width + (column - 1)) (run_width (cow_str_bytes d.text)) left index
-          (omega (arith, fit, n.width, n.fills, n.roomy.inside, length-glyphs (take i ds))));
-    }
+    room_next old row (glyphs_columns (take i ds)) new column (run_width (cow_str_bytes d.text)) n.roomy p.grid (omega (arith, p.at, len))
+    (omega (arith, len, fit, n.width, n.fills))
 
-put_columns : (old : GridState) (row : ℕ) (ds : List Drawn) (i column : ℕ) (d : Drawn) → IsNext old row ds i d → column ≡ columns_in (take i ds) + 1
-    → paste (front old row ++ (glyphs_columns (take i ds) ++ replicate (length old.columns - row * old.width - length (glyphs_columns (take i ds))) blank))
-    ((row + 1 - 1) * old.width + (column - 1)) (run_columns d.negative (cow_str_bytes d.text))
-    ≡ front old row ++ (glyphs_columns (take (i + 1) ds) ++ replicate (length old.columns - row * old.width - length (glyphs_columns (take (i + 1) ds))) blank)
-put_columns old row ds i column d n at =
-    let a = front old row in
-    let b = glyphs_columns (take i ds) in
-    let text = cow_str_bytes d.text in
-    let one = glyph_columns text d.columns d.negative in
-    let index = (row + 1 - 1) * old.width + (column - 1) in
-    let m = length old.columns - row * old.width - length b in
-    let after = length old.columns - row * old.width - length (glyphs_columns (take (i + 1) ds)) in
-    let len : length one ≡ d.columns = length-glyph text d.columns 0 d.columns d.negative in
-    let fit = fit-columns ds i d n.inside n.is in
-    let now = length-glyphs (take i ds) in
-    let later = length-glyphs (take (i + 1) ds) in
-    let more = more-columns ds i d n.inside n.is in
-    let run : run_columns d.negative text ≡ one = glyph_run text d.negative n.one ∙ ap (λ k. glyph_columns text k d.negative) n.width in
-    let next : glyphs_columns (take (i + 1) ds) ≡ b ++ one =
-    glyphs-more ds i d n.inside ∙ ap (λ (x : Drawn). b ++ glyph_columns (cow_str_bytes x.text) x.columns x.negative) n.is in
-    let split : m ≡ length one + after = omega (arith, len, fit, now, later, more, n.fills, n.roomy.inside) in
-    ap (λ cs. paste (a ++ (b ++ replicate m blank)) index cs) run
-    ∙ ap (λ cs. paste cs index one) (sym (append_assoc a b (replicate m blank)))
-    ∙ laid_next (a ++ b) one index m after (index_is old row ds i column n.roomy at) split
-    ∙ append_assoc (a ++ b) one (replicate after blank)
-    ∙ append_assoc a b (one ++ replicate after blank)
-    ∙ ap (λ cs. a ++ cs) (sym (append_assoc b one (replicate after blank)))
-    ∙ ap (λ cs. a ++ (cs ++ replicate after blank)) (sym next)
-
-pub put_next : (old : GridState) (row : ℕ) (ds : List Drawn) (i : ℕ) (new later : GridState) (column : ℕ) (d : Drawn)
+pub next_put : (old : GridState) (row : ℕ) (ds : List Drawn) (i : ℕ) (new later : GridState) (column : ℕ) (d : Drawn)
     → IsNext old row ds i d → IsPut old row ds i new column
     → later ≡ record new { columns = paste new.columns ((row + 1 - 1) * new.width + (column - 1)) (run_columns d.negative (cow_str_bytes d.text)) }
     → IsPut old row ds (i + 1) later (column + d.columns)
-put_next old row ds i new later column d n p e = record {
-  at = omega (arith, p.at, more-columns ds i d n.inside n.is);
-  grid = e
-      ∙ ap (λ (g : GridState). record g { columns = paste g.columns ((row + 1 - 1) * g.width + (column - 1)) (run_columns d.negative (cow_str_bytes d.text)) }) p.grid
-      ∙ ap (λ cs. record old { columns = cs }) (put_columns old row ds i column d n p.at);
-}
-
--- a row that stands in a grid has room
-pub roomy : (g : GridState) (row : ℕ) → IsGrid g.height g.width g.columns → row < g.height → IsBlankFrom g row → IsRoomy g row
-roomy g row grid low blank =
-    let le : (row + 1) * g.width ≤ g.height * g.width = mul-le-mul_right g.width (omega arith) in
-    let one : (row + 1) * g.width ≡ row * g.width + g.width = omega arith in
-    record { inside = omega (arith, le, one, grid.sized.each); blank = blank }
+next_put old row ds i new later column d n p e =
+    let done = glyphs_columns (take i ds) in
+    let text = cow_str_bytes d.text in
+    let one = glyph_columns text d.columns d.negative in
+    let len = length-glyphs (take i ds) in
+    let wide : length one ≡ d.columns = length-glyph text d.columns 0 d.columns d.negative in
+    let fit = fit-columns ds i d n.inside n.is in
+    let run : run_columns d.negative text ≡ one = glyph_run text d.negative n.one ∙ ap (λ k. glyph_columns text k d.negative) n.width in
+    let next : glyphs_columns (take (i + 1) ds) ≡ done ++ one =
+    glyphs-more ds i d n.inside ∙ ap (λ (x : Drawn). done ++ glyph_columns (cow_str_bytes x.text) x.columns x.negative) n.is in
+    record {
+      at = omega (arith, p.at, more-columns ds i d n.inside n.is);
+      grid = put_next old row done one (run_columns d.negative text) new later column n.roomy p.grid (omega (arith, p.at, len))
+          (omega (arith, len, wide, fit, n.fills)) run e
+          ∙ ap (with_row old row) (sym next);
+    }
 
 pub is_next : (old : GridState) (row : ℕ) (ds items : List Drawn) (i : ℕ) (d : Drawn) → IsRoomy old row → columns_in ds ≡ old.width
     → items ≡ ds → i < length items → d ≡ get_or items i d → All (λ x. is_one_glyph (cow_str_bytes x.text) ≡ true) ds

@@ -3,6 +3,8 @@
 
 mod drawing;
 pub mod message;
+mod status;
 
 pub use drawing::put_row;
 pub use message::Message;
+pub use status::{put_text, status_line};

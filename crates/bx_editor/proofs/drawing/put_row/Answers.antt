@@ -2,7 +2,8 @@ use Rattle.std.proofs.Common.{◌≡◌, ◌+◌, ◌-◌, ◌*◌, sym, subst}
 use Rattle.bx_terms.specs.Glyphs.{run_width}
 use Rattle.bx_grid.specs.Columns.{paste, run_columns}
 use Rattle.bx_grid.specs.Picture.{HasRoom}
-use Rattle.bx_editor.proofs.RowGlyphs.{is_next, put_next, room, roomy, within}
+use Rattle.bx_editor.proofs.PutOn.{roomy}
+use Rattle.bx_editor.proofs.RowGlyphs.{is_next, next_put, room, within}
 use Rattle.bx_editor.proofs.drawing.put_row.Goals as goal
 
 pub put-requires-clause-inside : goal.put-requires-clause-inside
@@ -31,7 +32,7 @@ loop-glyph-preserved c =
     let old = c.args.grid.now in
     let ds = c.args.picture.now.glyphs.items in
     let g = c.loop-glyph.grid in
-    put_next old c.args.row ds c.loop-glyph.glyph-index g c.put.new.self c.loop-glyph.column c.glyph-item.result
+    next_put old c.args.row ds c.loop-glyph.glyph-index g c.put.new.self c.loop-glyph.column c.glyph-item.result
     (is_next old c.args.row ds c.deref-glyph-items.result.now c.loop-glyph.glyph-index c.glyph-item.result
     (roomy old c.args.row c.columns-columns.ensures.grid c.requires.inside c.requires.blank) c.requires.columns
     c.deref-glyph-items.ensures.value c.loop-glyph-test.true c.glyph-item.is c.requires.glyphs c.requires.widths)
