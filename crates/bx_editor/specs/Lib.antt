@@ -3,3 +3,4 @@ pub mod Editor
 pub mod Keys
 pub mod Status
 pub mod Picture
+pub mod Drawing

@@ -1,6 +1,6 @@
 -- The status row: whether there are changes, where the cursor stands, and a message.
 use Rattle.std.specs.Prelude.{ℕ, ◌+◌, nat_le, nat_lt, List, [], ◌∷◌, ◌++◌, map, take, replicate, count_by, slice_index_or, Option, Some, None, codes, decimal}
-use Rattle.std.specs.Prelude.{false, if◌then◌else◌}
+use Rattle.std.specs.Prelude.{Bool, false, if◌then◌else◌}
 use Rattle.bx_explicit.specs.declared.base.Base.TheVariants.{Auto, Ltr, Rtl}
 use Rattle.bx_ucd.specs.declared.class.Class.{Class}
 use Rattle.bx_paras.specs.Paragraphs.{Paragraph, paragraphs, lengths_of}
@@ -37,14 +37,17 @@ unit_number class width ps k place =
     let start = (slice_index_or (spans (map lengths_of ps)) k (0, 0)).0 in
     units_before class width start place (slice_index_or (map (λ p. p.body) ps) k []) + 1
 
--- a star where there are changes, the numbers of the paragraph and of the unit in it, and the message
+-- a star where there are changes, the numbers of a paragraph and of a unit in it, both from 1, and a message
+abbrev pub status_line : Bool → ℕ → ℕ → Option Message → List ℕ
+status_line changed paragraph unit message =
+    (if changed then codes "* " else codes "- ") ++ (decimal paragraph ++ (codes ":" ++ (decimal unit ++ message_part message)))
+
+-- that of an editor: where the cursor stands
 abbrev pub status_text : Data → Editor → List ℕ
 status_text d e =
     let ps = paragraphs d.class e.content.text in
     let k = paragraph_of (map lengths_of ps) e.place in
-    (if e.changed then codes "* " else codes "- ")
-    ++ decimal (k + 1) ++ codes ":" ++ decimal (unit_number d.class e.width ps k e.place)
-    ++ message_part e.message
+    status_line e.changed (k + 1) (unit_number d.class e.width ps k e.place) e.message
 
 -- a text of characters from SPACE to TILDE, cut or filled up with blanks to the width
 abbrev pub text_columns : ℕ → List ℕ → List Col

@@ -12,7 +12,7 @@ use Rattle.std.proofs.lemmas.Str.{chars-IsAscii}
 use Rattle.unicode_width.specs.Width.{str_width}
 use Rattle.unicode_width.proofs.Rules.{str_width-printable}
 use Rattle.bx_terms.specs.Characters.{are_ascii_printable, are_printable, is_ascii_glyph, is_ascii_printable, is_control}
-use Rattle.bx_terms.specs.Glyphs.{is_one_glyph}
+use Rattle.bx_terms.specs.Glyphs.{is_one_glyph, run_width}
 use Rattle.bx_ucd.specs.declared.class.Class.{Class}
 use Rattle.bx_ucd.specs.declared.class.Class.TheVariants.{L, R, AL, EN, ES, ET, AN, CS, NSM, BN, B, S, WS, ON, LRE, RLE, LRO, RLO, PDF, LRI, RLI, FSI, PDI}
 use Rattle.bx_cells.specs.declared.unit.Face.{Face}
@@ -113,14 +113,18 @@ tells-shown class mirror w n (suc k) text h = tells-either class w n text (mirro
 
 -- ---- the glyphs of own text
 
+-- one glyph, of as many columns as a run of its text takes
 abbrev pub IsOneGlyph : Glyph → Type 0
-IsOneGlyph g = is_one_glyph g.text ≡ true
+IsOneGlyph g = (is_one_glyph g.text ≡ true) × (run_width g.text ≡ g.columns)
 
-letters-one : (text : List ℕ) → are_ascii_printable text ≡ true → All (λ b. is_one_glyph (b ∷ []) ≡ true) text
-letters-one [] e = All-nil (λ b. is_one_glyph (b ∷ []) ≡ true)
+letter-one : (b : ℕ) (negative : Bool) → is_ascii_printable b ≡ true → IsOneGlyph (glyph (b ∷ []) 1 negative)
+letter-one b negative h = (or_left (is_ascii_printable b) _ h, rw h refl)
+
+letters-one : (text : List ℕ) → are_ascii_printable text ≡ true → All (λ b. IsOneGlyph (glyph (b ∷ []) 1 false)) text
+letters-one [] e = All-nil (λ b. IsOneGlyph (glyph (b ∷ []) 1 false))
 letters-one (b ∷ bs) e =
     let p = and_parts (is_ascii_printable b) (are_ascii_printable bs) e in
-    All-cons (λ x. is_one_glyph (x ∷ []) ≡ true) b bs (or_left (is_ascii_printable b) _ p.0) (letters-one bs p.1)
+    All-cons (λ x. IsOneGlyph (glyph (x ∷ []) 1 false)) b bs (letter-one b false p.0) (letters-one bs p.1)
 
 no-control-by : (c : ℕ) (cs : List ℕ) (a b : Bool) → is_control c ≡ a → list_any is_control cs ≡ b → (a || b) ≡ false
     → (list_any is_control cs ≡ false → list_all (λ x. not (is_control x)) cs ≡ true) → (not (is_control c) && list_all (λ x. not (is_control x)) cs) ≡ true
@@ -132,11 +136,12 @@ no-control : (cs : List ℕ) → list_any is_control cs ≡ false → list_all (
 no-control [] e = refl
 no-control (c ∷ cs) e = no-control-by c cs (is_control c) (list_any is_control cs) refl refl e (no-control cs)
 
-whole-one : (text : List ℕ) (n : ℕ) → are_ascii_printable text ≡ false → Tells (chars text) (Own n) → is_one_glyph text ≡ true
+whole-one : (text : List ℕ) (n : ℕ) → are_ascii_printable text ≡ false → Tells (chars text) (Own n) → IsOneGlyph (glyph text n false)
 whole-one text n e h =
     let wide : nat_le 1 (str_width false (chars text)) ≡ true = Rattle.std.proofs.lemmas.Bool.le-leb 1 _ (subst (λ k. 1 ≤ k) (sym h.1) h.2) in
-    or_right (is_ascii_glyph text) _
-    (and_from (are_printable text && not (are_ascii_printable text)) _ (and_from (are_printable text) _ (no-control (chars text) h.0) (ap not e)) wide)
+    let one = or_right (is_ascii_glyph text) _
+    (and_from (are_printable text && not (are_ascii_printable text)) _ (and_from (are_printable text) _ (no-control (chars text) h.0) (ap not e)) wide) in
+    (one, rw e h.1)
 
 text-one : (text : List ℕ) (n : ℕ) (b : Bool) → are_ascii_printable text ≡ b → Tells (chars text) (Own n)
     → All IsOneGlyph (elim b [ true ↦ map (λ x. glyph (x ∷ []) 1 false) text | false ↦ glyph text n false ∷ [] ])
@@ -165,9 +170,9 @@ text-sum text n false e h = sum_by-cons (λ g. g.columns) (glyph text n false) [
 
 pub face-one : (class : ℕ → Class) (mirror : ℕ → Option ℕ) (w columns level : ℕ) (text : List ℕ) (f : Face) → Tells (chars text) f
     → All IsOneGlyph (face_glyphs class mirror w text f columns level)
-face-one class mirror w columns level text Tab h = All-replicate IsOneGlyph columns blank refl
+face-one class mirror w columns level text Tab h = All-replicate IsOneGlyph columns blank (refl, refl)
 face-one class mirror w columns level text (Mark letter) h =
-    All-cons IsOneGlyph (glyph (letter ∷ []) 1 true) [] (or_left (is_ascii_printable letter) _ h) (All-nil IsOneGlyph)
+    All-cons IsOneGlyph (glyph (letter ∷ []) 1 true) [] (letter-one letter true h) (All-nil IsOneGlyph)
 face-one class mirror w columns level text (Own n) h =
     let own = shown_text class mirror w n level text in
     text-one own n (are_ascii_printable own) refl (tells-shown class mirror w n (level % 2) text h)

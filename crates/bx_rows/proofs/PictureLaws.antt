@@ -2,8 +2,6 @@
 use Rattle.std.proofs.Common.{◌≡◌, ℕ, zero, suc, ◌+◌, ◌-◌, ◌%◌, ◌≤◌, List, [], ◌∷◌, ◌++◌, length, map, replicate, sum_by, get_or, drop, Option, true, All, refl}
 use Rattle.std.proofs.Common.{sym, subst, ap, ◌∙◌, arith}
 use Rattle.std.specs.Prelude.{flat_map}
-use Rattle.std.specs.Cow.{cow_str_bytes}
-use Rattle.bx_terms.specs.Glyphs.{is_one_glyph}
 use Rattle.bx_rows.specs.declared.drawn.Drawn.{Drawn}
 use Rattle.bx_rows.specs.Shown.{glyph_of}
 use Rattle.std.proofs.lemmas.List.Elements.{All-append, All-cons, All-nil, All-rest, All-replicate, All-take, All-drop}
@@ -39,8 +37,8 @@ all-chosen f (k ∷ ks) a = All-append IsOneGlyph (f k) (flat_map f ks) (a k) (a
 
 blanks-one : (odd n : ℕ) (glyphs : List Glyph) → All IsOneGlyph glyphs
     → All IsOneGlyph (elim odd [ zero ↦ glyphs ++ replicate n blank | suc _ ↦ replicate n blank ++ glyphs ])
-blanks-one zero n glyphs a = All-append IsOneGlyph glyphs (replicate n blank) a (All-replicate IsOneGlyph n blank refl)
-blanks-one (suc k) n glyphs a = All-append IsOneGlyph (replicate n blank) glyphs (All-replicate IsOneGlyph n blank refl) a
+blanks-one zero n glyphs a = All-append IsOneGlyph glyphs (replicate n blank) a (All-replicate IsOneGlyph n blank (refl, refl))
+blanks-one (suc k) n glyphs a = All-append IsOneGlyph (replicate n blank) glyphs (All-replicate IsOneGlyph n blank (refl, refl)) a
 
 pub draw-one : (class : ℕ → Class) (mirror : ℕ → Option ℕ) (w : ℕ) (body : List ℕ) (paragraph : ℕ) (us : List Unit) (levels : List ℕ)
     → All (HasFace class w body) us → All IsOneGlyph (draw class mirror w body paragraph us levels)
@@ -87,11 +85,11 @@ draw-sum class mirror w body paragraph us levels a e fits =
 
 -- ---- the same of the glyphs as they are kept
 
-one-kept : (ds : List Drawn) (gs : List Glyph) → map glyph_of ds ≡ gs → All IsOneGlyph gs → All (λ d. is_one_glyph (cow_str_bytes d.text) ≡ true) ds
-one-kept [] gs e a = All-nil (λ d. is_one_glyph (cow_str_bytes d.text) ≡ true)
+one-kept : (ds : List Drawn) (gs : List Glyph) → map glyph_of ds ≡ gs → All IsOneGlyph gs → All (λ d. IsOneGlyph (glyph_of d)) ds
+one-kept [] gs e a = All-nil (λ d. IsOneGlyph (glyph_of d))
 one-kept (d ∷ ds) gs e a =
     let all = subst (All IsOneGlyph) (sym e) a in
-    All-cons (λ x. is_one_glyph (cow_str_bytes x.text) ≡ true) d ds (all 0 (glyph_of d) (omega arith))
+    All-cons (λ x. IsOneGlyph (glyph_of x)) d ds (all 0 (glyph_of d) (omega arith))
     (one-kept ds (map glyph_of ds) refl (All-rest IsOneGlyph (glyph_of d) (map glyph_of ds) (glyph_of d ∷ map glyph_of ds) refl all))
 
 sum-kept : (ds : List Drawn) → sum_by (λ d. d.columns) ds ≡ columns_of_glyphs (map glyph_of ds)
@@ -100,7 +98,7 @@ sum-kept (d ∷ ds) =
     sum_by-cons (λ x. x.columns) d ds ∙ ap (λ n. d.columns + n) (sum-kept ds) ∙ sym (sum_by-cons (λ g. g.columns) (glyph_of d) (map glyph_of ds))
 
 pub one_if_drawn : (class : ℕ → Class) (mirror : ℕ → Option ℕ) (w : ℕ) (body : List ℕ) (paragraph : ℕ) (us : List Unit) (levels : List ℕ) (ds : List Drawn)
-    → map glyph_of ds ≡ draw class mirror w body paragraph us levels → All (HasFace class w body) us → All (λ d. is_one_glyph (cow_str_bytes d.text) ≡ true) ds
+    → map glyph_of ds ≡ draw class mirror w body paragraph us levels → All (HasFace class w body) us → All (λ d. IsOneGlyph (glyph_of d)) ds
 one_if_drawn class mirror w body paragraph us levels ds e a =
     one-kept ds (draw class mirror w body paragraph us levels) e (draw-one class mirror w body paragraph us levels a)
 

@@ -1,7 +1,7 @@
 //! What a row shows.
 ghost use Rattle.std.specs.Prelude.{◌≡◌, ◌≤◌, ◌<◌, ◌+◌, ◌++◌, [], All, IfOk, OnOk, length, map, flat_map, slice_index_or, sum_by, true};
 ghost use Rattle.std.specs.Cow.{cow_str_bytes};
-ghost use Rattle.bx_terms.specs.Glyphs.{is_one_glyph};
+ghost use Rattle.bx_terms.specs.Glyphs.{is_one_glyph, run_width};
 ghost use Rattle.bx_cells.specs.Units.{HasFace, StandsIn};
 ghost use Rattle.bx_rows.specs.RowPicture.{draw, unit_columns, unit_glyphs, columns_used};
 ghost use Rattle.bx_rows.specs.Shown.{IsRowOf, glyph_of};
@@ -142,6 +142,7 @@ pub fn draw<'a, D: BidiData>(
     ensures picture { IfOk result (λ p. map glyph_of p.glyphs.items
         ≡ draw (D.class_of source.now) (D.mirror_of source.now) w body.entry.now paragraph (row_units units.now row) levels.now) }
     ensures glyphs { IfOk result (λ p. All (λ g. is_one_glyph (cow_str_bytes g.text) ≡ true) p.glyphs.items) }
+    ensures widths { IfOk result (λ p. All (λ g. run_width (cow_str_bytes g.text) ≡ g.columns) p.glyphs.items) }
     ensures columns { IfOk result (λ p. sum_by (λ g. g.columns) p.glyphs.items ≡ w) }
 {
     let units = &units[row.start..row.stop];
