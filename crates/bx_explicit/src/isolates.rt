@@ -70,7 +70,8 @@ fn has_fsi(classes: &[Class]) -> bool
 /// For each FSI the paragraph level of its isolate.
 pub fn isolate_levels(alloc: Global, classes: &[Class]) -> Result<Vec<u8>, AllocError>
     ensures as_long { IfOk result (λ v. length v.items ≡ length classes.now) }
-    ensures levels { IfOk result (λ v. (i : ℕ) → i < length classes.now → is_fsi (slice_index_or classes.now i L) ≡ true → slice_index_or v.items i 0 ≡ isolate_level (drop (i + 1) classes.now)) }
+    ensures levels { IfOk result (λ v. (i : ℕ) → i < length classes.now → is_fsi (slice_index_or classes.now i L) ≡ true
+        → slice_index_or v.items i 0 ≡ isolate_level (drop (i + 1) classes.now)) }
 {
     let mut levels = vec![in alloc; 0; classes.len()]?;
     if !has_fsi(classes) {

@@ -26,7 +26,8 @@ fn end_newest(
     ensures run { IsToCome explicit.now.kept.items run.new }
     ensures same { left_of explicit.now chains.new.chains run.new ≡ left_of explicit.now chains.old.chains run.old }
     ensures some { IfOk result (λ b. b ≡ true → 0 < length chains.new.chains) }
-    ensures first { IfOk result (λ b. b ≡ true → left_of explicit.now chains.new.chains run.new ≡ newest_sequence chains.new ∷ left_of explicit.now (others chains.new.chains) run.new) }
+    ensures first { IfOk result (λ b. b ≡ true → left_of explicit.now chains.new.chains run.new
+        ≡ newest_sequence chains.new ∷ left_of explicit.now (others chains.new.chains) run.new) }
     ensures none { IfOk result (λ b. b ≡ false → left_of explicit.now chains.new.chains run.new ≡ []) }
 {
     while let Some(next) = *run {

@@ -52,8 +52,8 @@ fn meet_run<D: BidiData>(
     requires as_long { length body.now ≡ length kept.now }
     requires next { search.old.next ≤ met }
     requires count { search.old.count ≡ length types.now }
-    ensures met { IfOk result (λ m. MeetsRun (D.bracket_of source.now) body.now types.now (level_indexes level first (drop first kept.now)) search.old.progress met
-        search.new.progress m) }
+    ensures met { IfOk result (λ m. MeetsRun (D.bracket_of source.now) body.now types.now (level_indexes level first (drop first kept.now))
+        search.old.progress met search.new.progress m) }
     ensures next { IfOk result (λ m. search.new.next ≤ m) }
     ensures count { search.new.count ≡ search.old.count }
 {

@@ -118,7 +118,8 @@ fn each_level<D: BidiData>(
     explicit: &Explicit,
 ) -> Result<Vec<Option<u8>>, ResolveError>
     requires { length chars.now ≡ length explicit.now.classes.items }
-    ensures { IfOk result (λ v. v.items ≡ with_sequences (D.bracket_of source.now) chars.now explicit.now.kept.items (sequences explicit.now.level explicit.now.classes.items explicit.now.kept.items) (replicate (length chars.now) None)) }
+    ensures { IfOk result (λ v. v.items ≡ with_sequences (D.bracket_of source.now) chars.now explicit.now.kept.items
+        (sequences explicit.now.level explicit.now.classes.items explicit.now.kept.items) (replicate (length chars.now) None)) }
 {
     let found = sequences(alloc, explicit)?;
     let mut each = vec![in alloc; None; chars.len()]?;
