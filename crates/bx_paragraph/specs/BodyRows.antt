@@ -68,10 +68,11 @@ falls_in beginnings offset = count_by (λ b. nat_le b offset) beginnings - 1
 abbrev pub row_of : List BodyRow → ℕ → ℕ
 row_of rows offset = falls_in (map first_of rows) offset
 
--- a row by its number
+-- a row of nothing, where a number is that of no row
 abbrev pub no_row : BodyRow
 no_row = record { body = []; paragraph = 0; units = []; levels = []; is_last = true }
 
+-- a row by its number
 abbrev pub row_at : List BodyRow → ℕ → BodyRow
 row_at rows k = slice_index_or rows k no_row
 

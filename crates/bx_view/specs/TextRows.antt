@@ -36,10 +36,11 @@ first r = r.start + first_of r.row
 abbrev pub row_of : List TextRow → ℕ → ℕ
 row_of rows offset = falls_in (map first rows) offset
 
--- a row by its number
+-- a row of nothing, where a number is that of no row
 abbrev pub no_text_row : TextRow
 no_text_row = text_row 0 no_row
 
+-- a row by its number
 abbrev pub row_at : List TextRow → ℕ → TextRow
 row_at rows k = slice_index_or rows k no_text_row
 
