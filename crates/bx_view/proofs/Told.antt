@@ -15,9 +15,9 @@ use Rattle.bx_view.specs.declared.cursor.RowAt.{RowAt}
 use Rattle.bx_view.specs.Cursor.{StandsOn}
 use Rattle.bx_view.specs.Holding.{HoldsBody, IsHeld, IsOfText, IsViewBy, Keeps, ViewState}
 use Rattle.bx_view.specs.Moves.{row_end, row_home}
-use Rattle.bx_view.specs.Standing.{body_at, rows_in, start_at}
+use Rattle.bx_view.specs.Standing.{IsRow, body_at, count, rows_in, start_at}
 use Rattle.bx_view.specs.TextRows.{TextRow, cell_of, first, row_at, row_of, text_row, text_rows}
-use Rattle.bx_view.proofs.Walking.{first-short, row-is, row-under}
+use Rattle.bx_view.proofs.Walking.{first-short, next-in, next-none, next-over, row-is, row-under}
 
 pub side-some : (w : ℕ) → is_side w ≡ true → 1 ≤ w
 side-some w e = leb-true 1 w (and_parts (nat_le 1 w) (nat_le w 500) e).0
@@ -93,3 +93,38 @@ module _ (class : ℕ → Class) (bracket : ℕ → Option (Side × ℕ)) where
     end-told o e =
         ap (λ k. at.start + k) e ∙ sym (ap (λ (r : TextRow). r.start + last_of r.row) here)
         ∙ ap₂ (λ b w. row_end (text_rows class bracket b w text) place) keeps.base keeps.w
+
+  -- ---- the next row
+
+  -- of another state under the same base direction and in the same columns
+  kept-row : (old v : ViewState) (text : List ℕ) (number k n : ℕ) → Keeps class bracket old v → IsRow class bracket old.base old.w text number k n
+      → IsRow class bracket v.base v.w text number k n
+  kept-row old v text number k n keeps is =
+      subst (λ b. IsRow class bracket b v.w text number k n) (sym keeps.base) (subst (λ w. IsRow class bracket old.base w text number k n) (sym keeps.w) is)
+
+  module _ (v : ViewState) (text : List ℕ) (at : RowAt) (n : ℕ) (l : LayoutState) (utf8 : IsUtf8 text) (on : StandsOn class bracket v text at n)
+      (is : IsOfText class bracket v text at.paragraph l) where
+    pub next-here : at.row + 1 < length l.starts → StandsOn class bracket v text (record at { row = at.row + 1 }) (n + 1)
+    next-here more = record {
+      start_is = on.start_is;
+      is = next-in class bracket v.base v.w (side-some v.w is.side) text utf8 at.paragraph at.row n on.is (omega (arith, more, is.count_is));
+      held_is = on.held_is;
+    }
+
+    last-here : length l.starts ≤ at.row + 1 → at.row + 1 ≡ length (rows_in class bracket v.base v.w text at.paragraph)
+    last-here last = let within = on.is.row in omega (arith, last, within, is.count_is)
+
+    pub next-there : (new : ViewState) (start held : ℕ) → Keeps class bracket v new → length l.starts ≤ at.row + 1 → at.paragraph + 1 < count class text
+        → start ≡ start_at class text (at.paragraph + 1) → HoldsBody (body_at class text (at.paragraph + 1)) new.held held
+        → StandsOn class bracket new text (record { paragraph = at.paragraph + 1; start = start; row = 0; held = held }) (n + 1)
+    next-there new start held keeps last more e h = record {
+      start_is = e;
+      is = kept-row v new text (at.paragraph + 1) 0 (n + 1) keeps
+          (next-over class bracket v.base v.w (side-some v.w is.side) text utf8 at.paragraph at.row n on.is (last-here last) more);
+      held_is = h;
+    }
+
+    pub next-nowhere : length l.starts ≤ at.row + 1 → count class text ≤ at.paragraph + 1 → n + 1 ≡ length (of v text)
+    next-nowhere last none =
+        let within = on.is.paragraph in
+        next-none class bracket v.base v.w (side-some v.w is.side) text utf8 at.paragraph at.row n on.is (last-here last) (omega (arith, none, within))
