@@ -1,5 +1,5 @@
 -- The rows of a text around one paragraph: those before it, its own, and those behind it.
-use Rattle.std.proofs.Common.{◌≡◌, ℕ, zero, suc, ◌+◌, ◌-◌, ◌<◌, ◌≤◌, nat_le, Bool, true, false, List, [], ◌∷◌, ◌++◌, map, length, get_or, Option, IsUtf8, refl}
+use Rattle.std.proofs.Common.{◌≡◌, ℕ, ◌+◌, ◌-◌, ◌<◌, ◌≤◌, nat_le, List, [], ◌∷◌, ◌++◌, map, length, Option, IsUtf8, refl}
 use Rattle.std.proofs.Common.{cond, sym, ap, subst, ◌∙◌, arith, append_assoc, length-append}
 use Rattle.std.proofs.lemmas.Bool.Decides.{nat_tests}
 use Rattle.std.proofs.lemmas.List.{map-append, length-map, get_or-map, get_or_append_left, get_or-append-add}
@@ -7,14 +7,13 @@ use Rattle.std.proofs.lemmas.List.Sums.{sum_by-cons}
 use Rattle.bx_ucd.specs.declared.class.Class.{Class}
 use Rattle.bx_ucd.specs.declared.data.Side.{Side}
 use Rattle.bx_explicit.specs.declared.base.Base.{Base}
-use Rattle.bx_paras.specs.Paragraphs.{Paragraph, bare, lengths, lengths_of, paragraphs}
+use Rattle.bx_paras.specs.Paragraphs.{Paragraph, lengths_of, paragraphs}
 use Rattle.bx_paras.specs.Positions.{bytes_of, total}
 use Rattle.bx_paragraph.specs.BodyRows.{BodyRow, body_rows, first_of, no_row}
 use Rattle.bx_paragraph.specs.BodyRows.{row_at as row_at_body, row_of as row_of_body}
 use Rattle.bx_view.specs.TextRows.{TextRow, first, no_text_row, row_at, row_of, rows_from, text_row, text_rows}
-use Rattle.bx_view.specs.Standing.{count, paragraph_at, rows_ahead, rows_in, start_at}
 use Rattle.bx_view.proofs.Parts.{AreEnded, AreUtf8}
-use Rattle.bx_view.proofs.Rising.{Rises, all-begun, begun, begun-append, begun-few, begun-first, none-begun, rises-append, rises-further, rises-moved, rises-sooner}
+use Rattle.bx_view.proofs.Rising.{Rises, all-begun, begun, begun-append, begun-few, begun-first, none-begun, rises-append, rises-further, rises-moved}
 
 -- the rows of a body begin at its begin, and then further on in it
 pub record BodyFirsts (body : List ℕ) (rows : List BodyRow) : Type 0 where

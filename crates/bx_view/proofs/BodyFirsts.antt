@@ -1,9 +1,9 @@
 -- The rows of a body begin at its begin, and then at units further on in it.
-use Rattle.std.proofs.Common.{◌≡◌, ℕ, zero, suc, ◌+◌, ◌-◌, ◌<◌, ◌≤◌, Bool, true, List, [], ◌∷◌, ◌++◌, map, length, drop, Option, IsUtf8, encode_utf8_all, refl}
+use Rattle.std.proofs.Common.{◌≡◌, ℕ, zero, suc, ◌+◌, ◌-◌, ◌<◌, ◌≤◌, Bool, true, List, [], ◌∷◌, map, length, drop, Option, IsUtf8, refl}
 use Rattle.std.proofs.Common.{sym, ap, subst, ◌∙◌, arith, length-append, drop-drop}
 use Rattle.std.specs.List.{concat}
 use Rattle.unicode_segmentation.specs.Grapheme.{graphemes, is_grapheme_break}
-use Rattle.unicode_segmentation.specs.Segments.{segments, with_offsets}
+use Rattle.unicode_segmentation.specs.Segments.{with_offsets}
 use Rattle.unicode_segmentation.proofs.SegmentsLemmas.{AllPieces, concat-segments, segments_nonempty}
 use Rattle.bx_ucd.specs.declared.class.Class.{Class}
 use Rattle.bx_ucd.specs.declared.data.Side.{Side}
@@ -11,10 +11,9 @@ use Rattle.bx_explicit.specs.declared.base.Base.{Base}
 use Rattle.bx_cells.specs.declared.unit.Unit.{Unit}
 use Rattle.bx_cells.specs.Units.{unit_at, units}
 use Rattle.bx_rows.specs.declared.row.Row.{Row}
-use Rattle.bx_rows.specs.declared.start_search.RowStart.{RowStart}
-use Rattle.bx_rows.specs.RowStarts.{first_offset, row_starts, start_of}
+use Rattle.bx_rows.specs.RowStarts.{first_offset, start_of}
 use Rattle.bx_rows.specs.Wrapping.{is_break, row_len, rows_from, rows_of}
-use Rattle.bx_paragraph.specs.BodyRows.{body_rows, first_of}
+use Rattle.bx_paragraph.specs.BodyRows.{body_rows}
 use Rattle.bx_paragraph.proofs.Starts.{firsts}
 use Rattle.bx_view.proofs.Around.{BodyFirsts}
 use Rattle.bx_view.proofs.Rising.{Rises, rises-sooner}

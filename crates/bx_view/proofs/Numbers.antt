@@ -1,6 +1,6 @@
 -- What the index tells of a paragraph by its number: where it begins, its body, and which offsets fall in it.
-use Rattle.std.proofs.Common.{◌≡◌, ℕ, zero, suc, ◌+◌, ◌-◌, ◌<◌, ◌≤◌, nat_le, cond, Bool, true, false, List, [], ◌∷◌, ◌++◌, map, length, take, drop, get_or}
-use Rattle.std.proofs.Common.{slice_get, slice_range, count_by, Option, Some, IsUtf8, IsCharBoundary, encode_utf8_all, refl, sym, ap, subst, ◌∙◌, arith, ⊎_elim}
+use Rattle.std.proofs.Common.{◌≡◌, ℕ, zero, suc, ◌+◌, ◌-◌, ◌<◌, ◌≤◌, nat_le, cond, true, false, List, [], ◌∷◌, ◌++◌, map, length, take, drop, get_or}
+use Rattle.std.proofs.Common.{slice_get, slice_range, count_by, Option, Some, IsUtf8, IsCharBoundary, refl, sym, ap, subst, ◌∙◌, arith, ⊎_elim}
 use Rattle.std.proofs.Common.{append_assoc, length-append, length-drop}
 use Rattle.std.proofs.lemmas.Bool.{cases_lt}
 use Rattle.std.proofs.lemmas.Bool.Decides.{nat_tests}
@@ -15,7 +15,7 @@ use Rattle.bx_paras.specs.Positions.{bytes_of, paragraph_of, spans, spans_from, 
 use Rattle.bx_paras.proofs.Asked.{span_at}
 use Rattle.bx_paras.proofs.Totals.{total_more}
 use Rattle.bx_view.specs.Standing.{body_at, count, paragraph_at, start_at}
-use Rattle.bx_view.proofs.Around.{EndsBefore, IsAmong, behind-utf8, ahead-utf8}
+use Rattle.bx_view.proofs.Around.{EndsBefore, IsAmong, behind-utf8}
 use Rattle.bx_view.proofs.Parts.{AreUtf8, bytes, text-bytes, text-parts}
 
 -- ---- the bytes of paragraphs

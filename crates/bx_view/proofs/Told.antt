@@ -1,23 +1,23 @@
 -- What the rows of a paragraph that is held tell of the rows of the text.
-use Rattle.std.proofs.Common.{◌≡◌, ℕ, ◌+◌, ◌-◌, ◌<◌, ◌≤◌, true, List, length, get_or, nat_le, Option, IsUtf8, sym, ap, ap₂, subst, ◌∙◌, arith, leb-true}
+use Rattle.std.proofs.Common.{◌≡◌, ℕ, ◌+◌, ◌-◌, ◌<◌, ◌≤◌, true, List, length, get_or, nat_le, Option, IsUtf8, refl, sym, ap, ap₂, subst, ◌∙◌, arith, leb-true}
 use Rattle.std.proofs.lemmas.Bool.{and_parts}
 use Rattle.bx_terms.specs.Sizes.{is_side}
 use Rattle.bx_ucd.specs.declared.class.Class.{Class}
 use Rattle.bx_ucd.specs.declared.data.Side.{Side}
 use Rattle.bx_paras.specs.Paragraphs.{lengths}
 use Rattle.bx_paras.specs.Positions.{paragraph_of}
-use Rattle.bx_paragraph.specs.BodyRows.{BodyRow, body_rows, first_of, last_of}
+use Rattle.bx_paragraph.specs.BodyRows.{body_rows, first_of, last_of}
 use Rattle.bx_paragraph.specs.BodyRows.{row_at as row_at_body, row_of as row_of_body}
-use Rattle.bx_paragraph.specs.Layout.{IsLayoutBy, LayoutState, row_by, rows_by}
+use Rattle.bx_paragraph.specs.Layout.{LayoutState, row_by, rows_by}
 use Rattle.bx_paragraph.specs.Slots.{column_of}
 use Rattle.bx_paragraph.proofs.Starts.{row_count}
 use Rattle.bx_view.specs.declared.cursor.RowAt.{RowAt}
 use Rattle.bx_view.specs.Cursor.{StandsOn}
 use Rattle.bx_view.specs.Holding.{HoldsBody, IsHeld, IsOfText, IsViewBy, Keeps, ViewState}
 use Rattle.bx_view.specs.Moves.{row_end, row_home}
-use Rattle.bx_view.specs.Standing.{IsRow, body_at, count, rows_in, start_at}
+use Rattle.bx_view.specs.Standing.{IsRow, body_at, count, rows_ahead, rows_in, start_at}
 use Rattle.bx_view.specs.TextRows.{TextRow, cell_of, first, row_at, row_of, text_row, text_rows}
-use Rattle.bx_view.proofs.Walking.{first-short, next-in, next-none, next-over, row-is, row-under}
+use Rattle.bx_view.proofs.Walking.{before-over, before-some, first-short, next-in, next-none, next-over, row-is, row-under}
 
 pub side-some : (w : ℕ) → is_side w ≡ true → 1 ≤ w
 side-some w e = leb-true 1 w (and_parts (nat_le 1 w) (nat_le w 500) e).0
@@ -128,3 +128,43 @@ module _ (class : ℕ → Class) (bracket : ℕ → Option (Side × ℕ)) where
     next-nowhere last none =
         let within = on.is.paragraph in
         next-none class bracket v.base v.w (side-some v.w is.side) text utf8 at.paragraph at.row n on.is (last-here last) (omega (arith, none, within))
+
+  -- ---- the row before
+
+  pub before-here : (v : ViewState) (text : List ℕ) (at : RowAt) (n : ℕ) → StandsOn class bracket v text at n → 0 < at.row
+      → (0 < n) × StandsOn class bracket v text (record at { row = at.row - 1 }) (n - 1)
+  before-here v text at n on some =
+      let is = on.is in
+      let within = is.row in
+      let number = is.is in (
+        omega (arith, number, some),
+        record {
+          start_is = on.start_is;
+          is = record { paragraph = is.paragraph; row = omega (arith, within, some); is = omega (arith, number, some) };
+          held_is = on.held_is;
+        },
+      )
+
+  pub before-nowhere : (v : ViewState) (text : List ℕ) (at : RowAt) (n : ℕ) → StandsOn class bracket v text at n → at.row ≡ 0 → at.paragraph ≡ 0 → n ≡ 0
+  before-nowhere v text at n on none first =
+      let none-ahead : rows_ahead class bracket v.base v.w text at.paragraph ≡ rows_ahead class bracket v.base v.w text 0 =
+      ap (rows_ahead class bracket v.base v.w text) first in
+      let zero-ahead : rows_ahead class bracket v.base v.w text 0 ≡ 0 = refl in
+      let number = on.is.is in
+      omega (arith, number, none-ahead, zero-ahead, none)
+
+  pub before-there : (old v : ViewState) (text : List ℕ) (at : RowAt) (n number start held rows : ℕ) (l : LayoutState) → IsUtf8 text
+      → StandsOn class bracket old text at n → Keeps class bracket old v → at.row ≡ 0 → at.paragraph ≡ number + 1 → IsOfText class bracket v text number l
+      → rows ≡ length l.starts → 0 < rows → start ≡ start_at class text number → HoldsBody (body_at class text number) v.held held
+      → (0 < n) × StandsOn class bracket v text (record { paragraph = number; start = start; row = rows - 1; held = held }) (n - 1)
+  before-there old v text at n number start held rows l utf8 on keeps none next is counted some e h =
+      let there : IsRow class bracket v.base v.w text (number + 1) 0 n =
+      subst (λ k. IsRow class bracket v.base v.w text (number + 1) k n) none (subst (λ p. IsRow class bracket v.base v.w text p at.row n) next
+      (kept-row old v text at.paragraph at.row n keeps on.is)) in (
+        before-some class bracket v.base v.w (side-some v.w is.side) text utf8 (number + 1) 0 n there (omega arith),
+        record {
+          start_is = e;
+          is = before-over class bracket v.base v.w (side-some v.w is.side) text utf8 number (rows - 1) n there (omega (arith, counted, some, is.count_is));
+          held_is = h;
+        },
+      )

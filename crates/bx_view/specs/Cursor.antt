@@ -1,5 +1,5 @@
 -- A row of a text, found by a layout.
-use Rattle.std.specs.Prelude.{◌≡◌, ℕ, ◌+◌, List, length, Option, MatchOption}
+use Rattle.std.specs.Prelude.{◌≡◌, ℕ, ◌+◌, ◌-◌, ◌<◌, List, length, Option, MatchOption}
 use Rattle.bx_ucd.specs.declared.class.Class.{Class}
 use Rattle.bx_ucd.specs.declared.data.Side.{Side}
 use Rattle.bx_view.specs.declared.cursor.RowAt.{RowAt}
@@ -17,3 +17,7 @@ pub record StandsOn (class : ℕ → Class) (bracket : ℕ → Option (Side × �
 abbrev pub IsNext : (ℕ → Class) → (ℕ → Option (Side × ℕ)) → ViewState → List ℕ → ℕ → Option RowAt → Type 0
 IsNext class bracket v text n next =
     MatchOption next (n + 1 ≡ length (text_rows class bracket v.base v.w text)) (λ b. StandsOn class bracket v text b (n + 1))
+
+-- the row before row `n` of the text, and none before the first
+abbrev pub IsBefore : (ℕ → Class) → (ℕ → Option (Side × ℕ)) → ViewState → List ℕ → ℕ → Option RowAt → Type 0
+IsBefore class bracket v text n before = MatchOption before (n ≡ 0) (λ b. (0 < n) × StandsOn class bracket v text b (n - 1))

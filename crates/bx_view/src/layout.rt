@@ -3,7 +3,7 @@ ghost use Rattle.std.specs.Prelude.{◌≡◌, ℕ, ◌<◌, ◌≤◌, [], true
 ghost use Rattle.bx_terms.specs.Sizes.{is_side};
 ghost use Rattle.bx_text.specs.Edits.{largest_text};
 ghost use Rattle.bx_paras.specs.Paragraphs.{lengths};
-ghost use Rattle.bx_view.specs.Cursor.{IsNext, StandsOn};
+ghost use Rattle.bx_view.specs.Cursor.{IsBefore, IsNext, StandsOn};
 ghost use Rattle.bx_view.specs.Holding.{HoldsBody, IsOfText, IsViewBy, Keeps};
 ghost use Rattle.bx_view.specs.Moves.{row_end, row_home};
 ghost use Rattle.bx_view.specs.Standing.{body_at, count};
@@ -177,6 +177,47 @@ impl Layout {
             paragraph: number,
             start,
             row: 0,
+            held,
+        }))
+    }
+
+    /// The row before one of the text, if there is one.
+    ///
+    /// Errors: `OutOfMemory`.
+    fn row_before<D: BidiData>(
+        &mut self,
+        text: &Text,
+        index: &Index,
+        source: &D,
+        at: RowAt,
+    ) -> Result<Option<RowAt>, ViewError>
+        requires data { IsViewBy (D.class_of source.now) (D.bracket_of source.now) self.old }
+        requires index { index.now.paragraphs ≡ lengths (D.class_of source.now) text.now.edited.text }
+        requires row { (n : ℕ) × StandsOn (D.class_of source.now) (D.bracket_of source.now) self.old text.now.edited.text at n }
+        ensures keeps { Keeps (D.class_of source.now) (D.bracket_of source.now) self.old self.new }
+        ensures before { (n : ℕ) → StandsOn (D.class_of source.now) (D.bracket_of source.now) self.old text.now.edited.text at n
+            → IfOk result (IsBefore (D.class_of source.now) (D.bracket_of source.now) self.new text.now.edited.text n) }
+    {
+        let _utf8 = text.len();
+        if at.row > 0 {
+            return Ok(Some(RowAt {
+                paragraph: at.paragraph,
+                start: at.start,
+                row: at.row - 1,
+                held: at.held,
+            }));
+        }
+        if at.paragraph == 0 {
+            return Ok(None);
+        }
+        let number = at.paragraph - 1;
+        let (start, _) = body_span(text, index, source, number);
+        let held = self.find(text, index, source, number)?;
+        let rows = self.paragraph(text, source, number, held).row_count();
+        Ok(Some(RowAt {
+            paragraph: number,
+            start,
+            row: rows - 1,
             held,
         }))
     }

@@ -1,4 +1,4 @@
-use Rattle.std.proofs.Common.{◌≡◌, ◌<◌, ◌≤◌, ◌+◌, ◌∙◌, ap, length, arith, rules, ltb-false, leb-true}
+use Rattle.std.proofs.Common.{◌≡◌, ◌<◌, ◌≤◌, ◌+◌, ◌∙◌, ap, length, arith, rules}
 use Rattle.bx_view.specs.Standing.{count}
 use Rattle.bx_view.proofs.Numbers.{lengths-count}
 use Rattle.bx_view.proofs.Told.{next-nowhere, next-there}
