@@ -97,7 +97,8 @@ module _ (class : ℕ → Class) (bracket : ℕ → Option (Side × ℕ)) (base 
         let low : start + 0 ≡ start = omega arith in
         subst (λ os. Rises start os (start + length p.body + 1)) (sym (firsts-moved start (own p)))
         (subst (λ s. Rises s (map (λ o. start + o) (map first_of (own p))) (start + length p.body + 1)) low
-        (subst (λ h. Rises (start + 0) (map (λ o. start + o) (map first_of (own p))) h) same (rises-moved start 0 (map first_of (own p)) (length p.body + 1) all)))
+        (subst (λ h. Rises (start + 0) (map (λ o. start + o) (map first_of (own p))) h) same
+        (rises-moved start 0 (map first_of (own p)) (length p.body + 1) all)))
 
     firsts-from : (start : ℕ) (p : Paragraph) (ps : List Paragraph)
         → map first (from start (p ∷ ps)) ≡ map first (map (text_row start) (own p)) ++ map first (from (start + bytes_of (lengths_of p)) ps)
@@ -115,7 +116,8 @@ module _ (class : ℕ → Class) (bracket : ℕ → Option (Side × ℕ)) (base 
         (subst (λ h. Rises next (map first (from next ps)) h) same (ended-rise next ps u.1 e.1)))
 
     -- of paragraphs of which the last need not
-    pub all-rise : (start : ℕ) (ps : List Paragraph) → AreUtf8 ps → AreEnded ps → Rises start (map first (from start ps)) (start + total (map lengths_of ps) + 1)
+    pub all-rise : (start : ℕ) (ps : List Paragraph) → AreUtf8 ps → AreEnded ps
+        → Rises start (map first (from start ps)) (start + total (map lengths_of ps) + 1)
     all-rise start [] u e = omega arith
     all-rise start (p ∷ []) u e =
         subst (λ os. Rises start os (start + total (map lengths_of (p ∷ [])) + 1)) (sym (firsts-from start p []))
@@ -173,7 +175,8 @@ module _ (class : ℕ → Class) (bracket : ℕ → Option (Side × ℕ)) (base 
           ap (begun offset) (firsts-moved start (own p)) ∙ begun-moved offset start (map first_of (own p)) low in
           let last-part : begun offset (map first others) ≡ 0 = none-behind offset stop behind u'.1 e' high in
           let split : map first (text_rows class bracket base w text) ≡ map first (from 0 ahead) ++ (map first mine ++ map first others) =
-          ap (map first) rows-around ∙ map-append first (from 0 ahead) (mine ++ others) ∙ ap (λ os. map first (from 0 ahead) ++ os) (map-append first mine others) in
+          ap (map first) rows-around ∙ map-append first (from 0 ahead) (mine ++ others)
+          ∙ ap (λ os. map first (from 0 ahead) ++ os) (map-append first mine others) in
           ap (begun offset) split ∙ begun-append offset (map first (from 0 ahead)) (map first mine ++ map first others)
           ∙ omega (
             arith,

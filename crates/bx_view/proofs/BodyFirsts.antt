@@ -78,6 +78,7 @@ body-firsts class bracket base w side body utf8 =
     let us = units class w body in
     let gs = graphemes true body in
     let size : 0 + length (concat gs) + 1 ≡ length body + 1 = omega (arith, ap length (concat-segments (is_grapheme_break true) body utf8)) in
-    let rise : Rises 0 (starts_of us) (length body + 1) = subst (Rises 0 (starts_of us)) size (units-rise class w 0 gs (segments_nonempty (is_grapheme_break true) body)) in
+    let rise : Rises 0 (starts_of us) (length body + 1) =
+    subst (Rises 0 (starts_of us)) size (units-rise class w 0 gs (segments_nonempty (is_grapheme_break true) body)) in
     let (os, e, r) = rows-of-rise (is_break class body) w (length body + 1) body us (omega arith) rise (first-unit class w gs) in
     record { others = os; firsts = firsts class bracket base w body side ∙ e; rise = r }

@@ -128,7 +128,8 @@ module _ (class : ℕ → Class) (text : List ℕ) where
     span-is a b e =
         let start = start_at class text n in
         let told : slice_get (spans (lengths class text)) n ≡ Some (start, start + (get_or (lengths class text) n (lengths_of (bare []))).body) =
-        span_at 0 n (lengths class text) (lengths_of (bare [])) (omega (arith, within, lengths-count)) ∙ ap (λ s. Some (s, s + (get_or (lengths class text) n (lengths_of (bare []))).body)) (omega arith) in
+        span_at 0 n (lengths class text) (lengths_of (bare [])) (omega (arith, within, lengths-count))
+        ∙ ap (λ s. Some (s, s + (get_or (lengths class text) n (lengths_of (bare []))).body)) (omega arith) in
         pair-of a b start (start + length here.body) (sym e ∙ told ∙ ap (λ (l : Lengths). Some (start, start + l.body)) here-length)
 
     -- ---- its bytes
@@ -174,7 +175,8 @@ module _ (class : ℕ → Class) (text : List ℕ) where
           record {
             start_bounds = subst (IsCharBoundary text) front (IsCharBoundary-at_seam text (bytes ahead) (here.body ++ (here.separator ++ bytes behind)) whole
                 (IsUtf8-append here.body (here.separator ++ bytes behind) body-utf8 behind-text));
-            stop_bounds = subst (IsCharBoundary text) size (IsCharBoundary-at_seam text (bytes ahead ++ here.body) (here.separator ++ bytes behind) upto behind-text);
+            stop_bounds = subst (IsCharBoundary text) size
+                (IsCharBoundary-at_seam text (bytes ahead ++ here.body) (here.separator ++ bytes behind) upto behind-text);
             in_order = omega arith;
           }
 

@@ -72,7 +72,8 @@ cr-ended : (separator : List ℕ) (ps : List Paragraph) → AreEnded (bare separ
 cr-ended separator [] h = tt
 cr-ended separator (p ∷ ps) h = (omega (arith, width_is_some 13, length-append (encode_utf8 13) separator), h.1)
 
-after-pair : (separator cs : List ℕ) (ps : List Paragraph) → IsUtf8 (encode_utf8 13) → AreParts cs (bare separator ∷ ps) → AreParts (13 ∷ cs) (after_cr (bare separator ∷ ps))
+after-pair : (separator cs : List ℕ) (ps : List Paragraph) → IsUtf8 (encode_utf8 13) → AreParts cs (bare separator ∷ ps)
+    → AreParts (13 ∷ cs) (after_cr (bare separator ∷ ps))
 after-pair separator cs ps u h = record {
   bytes = append_assoc (encode_utf8 13) separator (bytes ps) ∙ ap (λ b. encode_utf8 13 ++ b) h.bytes;
   utf8 = (record { body = IsUtf8-nil; separator = IsUtf8-append (encode_utf8 13) separator u h.utf8.0.separator }, h.utf8.1);

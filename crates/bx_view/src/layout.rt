@@ -5,7 +5,7 @@ ghost use Rattle.bx_text.specs.Edits.{largest_text};
 ghost use Rattle.bx_paras.specs.Paragraphs.{lengths};
 ghost use Rattle.bx_view.specs.Cursor.{IsBefore, IsNext, StandsOn};
 ghost use Rattle.bx_view.specs.Holding.{HoldsBody, IsOfText, IsViewBy, Keeps};
-ghost use Rattle.bx_view.specs.Moves.{row_end, row_home};
+ghost use Rattle.bx_view.specs.Moves.{row_home};
 ghost use Rattle.bx_view.specs.Standing.{body_at, count};
 ghost use Rattle.bx_view.specs.TextRows.{cell_of, row_of, text_rows};
 
