@@ -1,5 +1,5 @@
 -- The rows of a text around one paragraph: those before it, its own, and those behind it.
-use Rattle.std.proofs.Common.{◌≡◌, ℕ, zero, suc, ◌+◌, ◌-◌, ◌<◌, ◌≤◌, nat_le, Bool, true, false, List, [], ◌∷◌, ◌++◌, map, length, get_or, Option, IsUtf8, refl}
+use Rattle.std.proofs.Common.{◌≡◌, ℕ, ◌+◌, ◌-◌, ◌<◌, ◌≤◌, nat_le, List, [], ◌∷◌, ◌++◌, map, length, Option, IsUtf8, refl}
 use Rattle.std.proofs.Common.{cond, sym, ap, subst, ◌∙◌, arith, append_assoc, length-append}
 use Rattle.std.proofs.lemmas.Bool.Decides.{nat_tests}
 use Rattle.std.proofs.lemmas.List.{map-append, length-map, get_or-map, get_or_append_left, get_or-append-add}
@@ -7,14 +7,13 @@ use Rattle.std.proofs.lemmas.List.Sums.{sum_by-cons}
 use Rattle.bx_ucd.specs.declared.class.Class.{Class}
 use Rattle.bx_ucd.specs.declared.data.Side.{Side}
 use Rattle.bx_explicit.specs.declared.base.Base.{Base}
-use Rattle.bx_paras.specs.Paragraphs.{Paragraph, bare, lengths, lengths_of, paragraphs}
+use Rattle.bx_paras.specs.Paragraphs.{Paragraph, lengths_of, paragraphs}
 use Rattle.bx_paras.specs.Positions.{bytes_of, total}
 use Rattle.bx_paragraph.specs.BodyRows.{BodyRow, body_rows, first_of, no_row}
 use Rattle.bx_paragraph.specs.BodyRows.{row_at as row_at_body, row_of as row_of_body}
 use Rattle.bx_view.specs.TextRows.{TextRow, first, no_text_row, row_at, row_of, rows_from, text_row, text_rows}
-use Rattle.bx_view.specs.Standing.{count, paragraph_at, rows_ahead, rows_in, start_at}
 use Rattle.bx_view.proofs.Parts.{AreEnded, AreUtf8}
-use Rattle.bx_view.proofs.Rising.{Rises, all-begun, begun, begun-append, begun-few, begun-first, none-begun, rises-append, rises-further, rises-moved, rises-sooner}
+use Rattle.bx_view.proofs.Rising.{Rises, all-begun, begun, begun-append, begun-few, begun-first, none-begun, rises-append, rises-further, rises-moved}
 
 -- the rows of a body begin at its begin, and then further on in it
 pub record BodyFirsts (body : List ℕ) (rows : List BodyRow) : Type 0 where
@@ -98,7 +97,8 @@ module _ (class : ℕ → Class) (bracket : ℕ → Option (Side × ℕ)) (base 
         let low : start + 0 ≡ start = omega arith in
         subst (λ os. Rises start os (start + length p.body + 1)) (sym (firsts-moved start (own p)))
         (subst (λ s. Rises s (map (λ o. start + o) (map first_of (own p))) (start + length p.body + 1)) low
-        (subst (λ h. Rises (start + 0) (map (λ o. start + o) (map first_of (own p))) h) same (rises-moved start 0 (map first_of (own p)) (length p.body + 1) all)))
+        (subst (λ h. Rises (start + 0) (map (λ o. start + o) (map first_of (own p))) h) same
+        (rises-moved start 0 (map first_of (own p)) (length p.body + 1) all)))
 
     firsts-from : (start : ℕ) (p : Paragraph) (ps : List Paragraph)
         → map first (from start (p ∷ ps)) ≡ map first (map (text_row start) (own p)) ++ map first (from (start + bytes_of (lengths_of p)) ps)
@@ -116,7 +116,8 @@ module _ (class : ℕ → Class) (bracket : ℕ → Option (Side × ℕ)) (base 
         (subst (λ h. Rises next (map first (from next ps)) h) same (ended-rise next ps u.1 e.1)))
 
     -- of paragraphs of which the last need not
-    pub all-rise : (start : ℕ) (ps : List Paragraph) → AreUtf8 ps → AreEnded ps → Rises start (map first (from start ps)) (start + total (map lengths_of ps) + 1)
+    pub all-rise : (start : ℕ) (ps : List Paragraph) → AreUtf8 ps → AreEnded ps
+        → Rises start (map first (from start ps)) (start + total (map lengths_of ps) + 1)
     all-rise start [] u e = omega arith
     all-rise start (p ∷ []) u e =
         subst (λ os. Rises start os (start + total (map lengths_of (p ∷ [])) + 1)) (sym (firsts-from start p []))
@@ -174,7 +175,8 @@ module _ (class : ℕ → Class) (bracket : ℕ → Option (Side × ℕ)) (base 
           ap (begun offset) (firsts-moved start (own p)) ∙ begun-moved offset start (map first_of (own p)) low in
           let last-part : begun offset (map first others) ≡ 0 = none-behind offset stop behind u'.1 e' high in
           let split : map first (text_rows class bracket base w text) ≡ map first (from 0 ahead) ++ (map first mine ++ map first others) =
-          ap (map first) rows-around ∙ map-append first (from 0 ahead) (mine ++ others) ∙ ap (λ os. map first (from 0 ahead) ++ os) (map-append first mine others) in
+          ap (map first) rows-around ∙ map-append first (from 0 ahead) (mine ++ others)
+          ∙ ap (λ os. map first (from 0 ahead) ++ os) (map-append first mine others) in
           ap (begun offset) split ∙ begun-append offset (map first (from 0 ahead)) (map first mine ++ map first others)
           ∙ omega (
             arith,

@@ -1,9 +1,9 @@
 -- The rows of a body begin at its begin, and then at units further on in it.
-use Rattle.std.proofs.Common.{◌≡◌, ℕ, zero, suc, ◌+◌, ◌-◌, ◌<◌, ◌≤◌, Bool, true, List, [], ◌∷◌, ◌++◌, map, length, drop, Option, IsUtf8, encode_utf8_all, refl}
+use Rattle.std.proofs.Common.{◌≡◌, ℕ, zero, suc, ◌+◌, ◌-◌, ◌<◌, ◌≤◌, Bool, true, List, [], ◌∷◌, map, length, drop, Option, IsUtf8, refl}
 use Rattle.std.proofs.Common.{sym, ap, subst, ◌∙◌, arith, length-append, drop-drop}
 use Rattle.std.specs.List.{concat}
 use Rattle.unicode_segmentation.specs.Grapheme.{graphemes, is_grapheme_break}
-use Rattle.unicode_segmentation.specs.Segments.{segments, with_offsets}
+use Rattle.unicode_segmentation.specs.Segments.{with_offsets}
 use Rattle.unicode_segmentation.proofs.SegmentsLemmas.{AllPieces, concat-segments, segments_nonempty}
 use Rattle.bx_ucd.specs.declared.class.Class.{Class}
 use Rattle.bx_ucd.specs.declared.data.Side.{Side}
@@ -11,10 +11,9 @@ use Rattle.bx_explicit.specs.declared.base.Base.{Base}
 use Rattle.bx_cells.specs.declared.unit.Unit.{Unit}
 use Rattle.bx_cells.specs.Units.{unit_at, units}
 use Rattle.bx_rows.specs.declared.row.Row.{Row}
-use Rattle.bx_rows.specs.declared.start_search.RowStart.{RowStart}
-use Rattle.bx_rows.specs.RowStarts.{first_offset, row_starts, start_of}
+use Rattle.bx_rows.specs.RowStarts.{first_offset, start_of}
 use Rattle.bx_rows.specs.Wrapping.{is_break, row_len, rows_from, rows_of}
-use Rattle.bx_paragraph.specs.BodyRows.{body_rows, first_of}
+use Rattle.bx_paragraph.specs.BodyRows.{body_rows}
 use Rattle.bx_paragraph.proofs.Starts.{firsts}
 use Rattle.bx_view.proofs.Around.{BodyFirsts}
 use Rattle.bx_view.proofs.Rising.{Rises, rises-sooner}
@@ -79,6 +78,7 @@ body-firsts class bracket base w side body utf8 =
     let us = units class w body in
     let gs = graphemes true body in
     let size : 0 + length (concat gs) + 1 ≡ length body + 1 = omega (arith, ap length (concat-segments (is_grapheme_break true) body utf8)) in
-    let rise : Rises 0 (starts_of us) (length body + 1) = subst (Rises 0 (starts_of us)) size (units-rise class w 0 gs (segments_nonempty (is_grapheme_break true) body)) in
+    let rise : Rises 0 (starts_of us) (length body + 1) =
+    subst (Rises 0 (starts_of us)) size (units-rise class w 0 gs (segments_nonempty (is_grapheme_break true) body)) in
     let (os, e, r) = rows-of-rise (is_break class body) w (length body + 1) body us (omega arith) rise (first-unit class w gs) in
     record { others = os; firsts = firsts class bracket base w body side ∙ e; rise = r }

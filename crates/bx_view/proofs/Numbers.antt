@@ -1,6 +1,6 @@
 -- What the index tells of a paragraph by its number: where it begins, its body, and which offsets fall in it.
-use Rattle.std.proofs.Common.{◌≡◌, ℕ, zero, suc, ◌+◌, ◌-◌, ◌<◌, ◌≤◌, nat_le, cond, Bool, true, false, List, [], ◌∷◌, ◌++◌, map, length, take, drop, get_or}
-use Rattle.std.proofs.Common.{slice_get, slice_range, count_by, Option, Some, IsUtf8, IsCharBoundary, encode_utf8_all, refl, sym, ap, subst, ◌∙◌, arith, ⊎_elim}
+use Rattle.std.proofs.Common.{◌≡◌, ℕ, zero, suc, ◌+◌, ◌-◌, ◌<◌, ◌≤◌, nat_le, cond, true, false, List, [], ◌∷◌, ◌++◌, map, length, take, drop, get_or}
+use Rattle.std.proofs.Common.{slice_get, slice_range, count_by, Option, Some, IsUtf8, IsCharBoundary, refl, sym, ap, subst, ◌∙◌, arith, ⊎_elim}
 use Rattle.std.proofs.Common.{append_assoc, length-append, length-drop}
 use Rattle.std.proofs.lemmas.Bool.{cases_lt}
 use Rattle.std.proofs.lemmas.Bool.Decides.{nat_tests}
@@ -15,7 +15,7 @@ use Rattle.bx_paras.specs.Positions.{bytes_of, paragraph_of, spans, spans_from, 
 use Rattle.bx_paras.proofs.Asked.{span_at}
 use Rattle.bx_paras.proofs.Totals.{total_more}
 use Rattle.bx_view.specs.Standing.{body_at, count, paragraph_at, start_at}
-use Rattle.bx_view.proofs.Around.{EndsBefore, IsAmong, behind-utf8, ahead-utf8}
+use Rattle.bx_view.proofs.Around.{EndsBefore, IsAmong, behind-utf8}
 use Rattle.bx_view.proofs.Parts.{AreUtf8, bytes, text-bytes, text-parts}
 
 -- ---- the bytes of paragraphs
@@ -128,7 +128,8 @@ module _ (class : ℕ → Class) (text : List ℕ) where
     span-is a b e =
         let start = start_at class text n in
         let told : slice_get (spans (lengths class text)) n ≡ Some (start, start + (get_or (lengths class text) n (lengths_of (bare []))).body) =
-        span_at 0 n (lengths class text) (lengths_of (bare [])) (omega (arith, within, lengths-count)) ∙ ap (λ s. Some (s, s + (get_or (lengths class text) n (lengths_of (bare []))).body)) (omega arith) in
+        span_at 0 n (lengths class text) (lengths_of (bare [])) (omega (arith, within, lengths-count))
+        ∙ ap (λ s. Some (s, s + (get_or (lengths class text) n (lengths_of (bare []))).body)) (omega arith) in
         pair-of a b start (start + length here.body) (sym e ∙ told ∙ ap (λ (l : Lengths). Some (start, start + l.body)) here-length)
 
     -- ---- its bytes
@@ -174,7 +175,8 @@ module _ (class : ℕ → Class) (text : List ℕ) where
           record {
             start_bounds = subst (IsCharBoundary text) front (IsCharBoundary-at_seam text (bytes ahead) (here.body ++ (here.separator ++ bytes behind)) whole
                 (IsUtf8-append here.body (here.separator ++ bytes behind) body-utf8 behind-text));
-            stop_bounds = subst (IsCharBoundary text) size (IsCharBoundary-at_seam text (bytes ahead ++ here.body) (here.separator ++ bytes behind) upto behind-text);
+            stop_bounds = subst (IsCharBoundary text) size
+                (IsCharBoundary-at_seam text (bytes ahead ++ here.body) (here.separator ++ bytes behind) upto behind-text);
             in_order = omega arith;
           }
 

@@ -1,8 +1,8 @@
 -- The paragraphs of a text: together they are the text, each is UTF-8, and all but the last end with a separator.
-use Rattle.std.proofs.Common.{◌≡◌, ℕ, ◌+◌, ◌<◌, ◌==◌, ◌&&◌, Bool, true, false, List, [], ◌∷◌, ◌++◌, length, chars, encode_utf8, encode_utf8_all, IsUtf8, refl}
+use Rattle.std.proofs.Common.{◌≡◌, ℕ, ◌<◌, ◌==◌, ◌&&◌, Bool, true, false, List, [], ◌∷◌, ◌++◌, length, chars, encode_utf8, encode_utf8_all, IsUtf8, refl}
 use Rattle.std.proofs.Common.{sym, ap, subst, ◌∙◌, arith, rules, append_assoc, length-append}
 use Rattle.std.proofs.lemmas.Bool.Decides.{nat_tests}
-use Rattle.std.proofs.lemmas.Str.{encodes-chars, scalars-chars, IsUtf8-append, IsUtf8-encode, IsUtf8-nil, length-encode}
+use Rattle.std.proofs.lemmas.Str.{encodes-chars, scalars-chars, IsUtf8-append, IsUtf8-encode, IsUtf8-nil}
 use lib.Utf8.{scalars}
 use Rattle.bx_ucd.specs.declared.class.Class.{Class}
 use Rattle.bx_paras.specs.Paragraphs.{Paragraph, after_character, after_cr, bare, begins_with_lf, cut, is_separator, paragraphs}
@@ -72,7 +72,8 @@ cr-ended : (separator : List ℕ) (ps : List Paragraph) → AreEnded (bare separ
 cr-ended separator [] h = tt
 cr-ended separator (p ∷ ps) h = (omega (arith, width_is_some 13, length-append (encode_utf8 13) separator), h.1)
 
-after-pair : (separator cs : List ℕ) (ps : List Paragraph) → IsUtf8 (encode_utf8 13) → AreParts cs (bare separator ∷ ps) → AreParts (13 ∷ cs) (after_cr (bare separator ∷ ps))
+after-pair : (separator cs : List ℕ) (ps : List Paragraph) → IsUtf8 (encode_utf8 13) → AreParts cs (bare separator ∷ ps)
+    → AreParts (13 ∷ cs) (after_cr (bare separator ∷ ps))
 after-pair separator cs ps u h = record {
   bytes = append_assoc (encode_utf8 13) separator (bytes ps) ∙ ap (λ b. encode_utf8 13 ++ b) h.bytes;
   utf8 = (record { body = IsUtf8-nil; separator = IsUtf8-append (encode_utf8 13) separator u h.utf8.0.separator }, h.utf8.1);

@@ -1,23 +1,23 @@
 -- What the rows of a paragraph that is held tell of the rows of the text.
-use Rattle.std.proofs.Common.{◌≡◌, ℕ, ◌+◌, ◌-◌, ◌<◌, ◌≤◌, true, List, length, get_or, nat_le, Option, IsUtf8, sym, ap, ap₂, subst, ◌∙◌, arith, leb-true}
+use Rattle.std.proofs.Common.{◌≡◌, ℕ, ◌+◌, ◌-◌, ◌<◌, ◌≤◌, true, List, length, get_or, nat_le, Option, IsUtf8, refl, sym, ap, ap₂, subst, ◌∙◌, arith, leb-true}
 use Rattle.std.proofs.lemmas.Bool.{and_parts}
 use Rattle.bx_terms.specs.Sizes.{is_side}
 use Rattle.bx_ucd.specs.declared.class.Class.{Class}
 use Rattle.bx_ucd.specs.declared.data.Side.{Side}
 use Rattle.bx_paras.specs.Paragraphs.{lengths}
 use Rattle.bx_paras.specs.Positions.{paragraph_of}
-use Rattle.bx_paragraph.specs.BodyRows.{BodyRow, body_rows, first_of, last_of}
+use Rattle.bx_paragraph.specs.BodyRows.{body_rows, first_of, last_of}
 use Rattle.bx_paragraph.specs.BodyRows.{row_at as row_at_body, row_of as row_of_body}
-use Rattle.bx_paragraph.specs.Layout.{IsLayoutBy, LayoutState, row_by, rows_by}
+use Rattle.bx_paragraph.specs.Layout.{LayoutState, row_by, rows_by}
 use Rattle.bx_paragraph.specs.Slots.{column_of}
 use Rattle.bx_paragraph.proofs.Starts.{row_count}
 use Rattle.bx_view.specs.declared.cursor.RowAt.{RowAt}
 use Rattle.bx_view.specs.Cursor.{StandsOn}
 use Rattle.bx_view.specs.Holding.{HoldsBody, IsHeld, IsOfText, IsViewBy, Keeps, ViewState}
 use Rattle.bx_view.specs.Moves.{row_end, row_home}
-use Rattle.bx_view.specs.Standing.{body_at, rows_in, start_at}
+use Rattle.bx_view.specs.Standing.{IsRow, body_at, count, rows_ahead, rows_in, start_at}
 use Rattle.bx_view.specs.TextRows.{TextRow, cell_of, first, row_at, row_of, text_row, text_rows}
-use Rattle.bx_view.proofs.Walking.{first-short, row-is, row-under}
+use Rattle.bx_view.proofs.Walking.{before-over, before-some, first-short, next-in, next-none, next-over, row-is, row-under}
 
 pub side-some : (w : ℕ) → is_side w ≡ true → 1 ≤ w
 side-some w e = leb-true 1 w (and_parts (nat_le 1 w) (nat_le w 500) e).0
@@ -93,3 +93,78 @@ module _ (class : ℕ → Class) (bracket : ℕ → Option (Side × ℕ)) where
     end-told o e =
         ap (λ k. at.start + k) e ∙ sym (ap (λ (r : TextRow). r.start + last_of r.row) here)
         ∙ ap₂ (λ b w. row_end (text_rows class bracket b w text) place) keeps.base keeps.w
+
+  -- ---- the next row
+
+  -- of another state under the same base direction and in the same columns
+  kept-row : (old v : ViewState) (text : List ℕ) (number k n : ℕ) → Keeps class bracket old v → IsRow class bracket old.base old.w text number k n
+      → IsRow class bracket v.base v.w text number k n
+  kept-row old v text number k n keeps is =
+      subst (λ b. IsRow class bracket b v.w text number k n) (sym keeps.base) (subst (λ w. IsRow class bracket old.base w text number k n) (sym keeps.w) is)
+
+  module _ (v : ViewState) (text : List ℕ) (at : RowAt) (n : ℕ) (l : LayoutState) (utf8 : IsUtf8 text) (on : StandsOn class bracket v text at n)
+      (is : IsOfText class bracket v text at.paragraph l) where
+    pub next-here : at.row + 1 < length l.starts → StandsOn class bracket v text (record at { row = at.row + 1 }) (n + 1)
+    next-here more = record {
+      start_is = on.start_is;
+      is = next-in class bracket v.base v.w (side-some v.w is.side) text utf8 at.paragraph at.row n on.is (omega (arith, more, is.count_is));
+      held_is = on.held_is;
+    }
+
+    last-here : length l.starts ≤ at.row + 1 → at.row + 1 ≡ length (rows_in class bracket v.base v.w text at.paragraph)
+    last-here last = let within = on.is.row in omega (arith, last, within, is.count_is)
+
+    pub next-there : (new : ViewState) (start held : ℕ) → Keeps class bracket v new → length l.starts ≤ at.row + 1 → at.paragraph + 1 < count class text
+        → start ≡ start_at class text (at.paragraph + 1) → HoldsBody (body_at class text (at.paragraph + 1)) new.held held
+        → StandsOn class bracket new text (record { paragraph = at.paragraph + 1; start = start; row = 0; held = held }) (n + 1)
+    next-there new start held keeps last more e h = record {
+      start_is = e;
+      is = kept-row v new text (at.paragraph + 1) 0 (n + 1) keeps
+          (next-over class bracket v.base v.w (side-some v.w is.side) text utf8 at.paragraph at.row n on.is (last-here last) more);
+      held_is = h;
+    }
+
+    pub next-nowhere : length l.starts ≤ at.row + 1 → count class text ≤ at.paragraph + 1 → n + 1 ≡ length (of v text)
+    next-nowhere last none =
+        let within = on.is.paragraph in
+        next-none class bracket v.base v.w (side-some v.w is.side) text utf8 at.paragraph at.row n on.is (last-here last) (omega (arith, none, within))
+
+  -- ---- the row before
+
+  pub before-here : (v : ViewState) (text : List ℕ) (at : RowAt) (n : ℕ) → StandsOn class bracket v text at n → 0 < at.row
+      → (0 < n) × StandsOn class bracket v text (record at { row = at.row - 1 }) (n - 1)
+  before-here v text at n on some =
+      let is = on.is in
+      let within = is.row in
+      let number = is.is in (
+        omega (arith, number, some),
+        record {
+          start_is = on.start_is;
+          is = record { paragraph = is.paragraph; row = omega (arith, within, some); is = omega (arith, number, some) };
+          held_is = on.held_is;
+        },
+      )
+
+  pub before-nowhere : (v : ViewState) (text : List ℕ) (at : RowAt) (n : ℕ) → StandsOn class bracket v text at n → at.row ≡ 0 → at.paragraph ≡ 0 → n ≡ 0
+  before-nowhere v text at n on none first =
+      let none-ahead : rows_ahead class bracket v.base v.w text at.paragraph ≡ rows_ahead class bracket v.base v.w text 0 =
+      ap (rows_ahead class bracket v.base v.w text) first in
+      let zero-ahead : rows_ahead class bracket v.base v.w text 0 ≡ 0 = refl in
+      let number = on.is.is in
+      omega (arith, number, none-ahead, zero-ahead, none)
+
+  pub before-there : (old v : ViewState) (text : List ℕ) (at : RowAt) (n number start held rows : ℕ) (l : LayoutState) → IsUtf8 text
+      → StandsOn class bracket old text at n → Keeps class bracket old v → at.row ≡ 0 → at.paragraph ≡ number + 1 → IsOfText class bracket v text number l
+      → rows ≡ length l.starts → 0 < rows → start ≡ start_at class text number → HoldsBody (body_at class text number) v.held held
+      → (0 < n) × StandsOn class bracket v text (record { paragraph = number; start = start; row = rows - 1; held = held }) (n - 1)
+  before-there old v text at n number start held rows l utf8 on keeps none next is counted some e h =
+      let there : IsRow class bracket v.base v.w text (number + 1) 0 n =
+      subst (λ k. IsRow class bracket v.base v.w text (number + 1) k n) none (subst (λ p. IsRow class bracket v.base v.w text p at.row n) next
+      (kept-row old v text at.paragraph at.row n keeps on.is)) in (
+        before-some class bracket v.base v.w (side-some v.w is.side) text utf8 (number + 1) 0 n there (omega arith),
+        record {
+          start_is = e;
+          is = before-over class bracket v.base v.w (side-some v.w is.side) text utf8 number (rows - 1) n there (omega (arith, counted, some, is.count_is));
+          held_is = h;
+        },
+      )

@@ -1,6 +1,6 @@
 -- Rows of the text by the number of their paragraph and their number in it, and from row to row.
-use Rattle.std.proofs.Common.{◌≡◌, ℕ, zero, suc, ◌+◌, ◌-◌, ◌<◌, ◌≤◌, true, List, [], ◌∷◌, ◌++◌, map, length, take, drop, get_or, slice_get, Option, Some, None}
-use Rattle.std.proofs.Common.{IsUtf8, IsCharBoundary, refl, sym, ap, subst, ◌∙◌, arith, length-append, length-drop}
+use Rattle.std.proofs.Common.{◌≡◌, ℕ, zero, suc, ◌+◌, ◌-◌, ◌<◌, ◌≤◌, List, [], ◌∷◌, ◌++◌, map, length, take, drop, get_or, slice_get, Option, Some, None}
+use Rattle.std.proofs.Common.{IsUtf8, IsCharBoundary, refl, sym, ap, subst, ◌∙◌, arith, length-append}
 use Rattle.std.proofs.lemmas.List.{get_or-map, length-map, take_more, take_all}
 use Rattle.bx_ucd.specs.declared.class.Class.{Class}
 use Rattle.bx_ucd.specs.declared.data.Side.{Side}
@@ -52,10 +52,12 @@ module _ (class : ℕ → Class) (bracket : ℕ → Option (Side × ℕ)) (base 
   bodies : (body : List ℕ) → IsUtf8 body → BodyFirsts body (body_rows class bracket base w body)
   bodies = body-firsts class bracket base w some
 
-  around-utf8 : (number : ℕ) (within : number < count class text) → AreUtf8 (ahead class text number within ++ here class text number within ∷ behind class text number within)
+  around-utf8 : (number : ℕ) (within : number < count class text)
+      → AreUtf8 (ahead class text number within ++ here class text number within ∷ behind class text number within)
   around-utf8 number within = subst AreUtf8 (parts-at class text number within) (text-parts class text utf8).utf8
 
-  around-ended : (number : ℕ) (within : number < count class text) → AreEnded (ahead class text number within ++ here class text number within ∷ behind class text number within)
+  around-ended : (number : ℕ) (within : number < count class text)
+      → AreEnded (ahead class text number within ++ here class text number within ∷ behind class text number within)
   around-ended number within = subst AreEnded (parts-at class text number within) (text-parts class text utf8).ended
 
   -- ---- a row by the number of its paragraph
@@ -72,7 +74,8 @@ module _ (class : ℕ → Class) (bracket : ℕ → Option (Side × ℕ)) (base 
       (among class text number is.paragraph) k is.row
 
   count-is : (number : ℕ) → number < count class text
-      → length rows ≡ before number + length (mine number) + length (from class bracket base w (begins number + bytes_of (lengths_of (paragraph_at class text number))) (drop (number + 1) all))
+      → length rows ≡ before number + length (mine number)
+      + length (from class bracket base w (begins number + bytes_of (lengths_of (paragraph_at class text number))) (drop (number + 1) all))
   count-is number within =
       count-around class bracket base w bodies text number (begins number) (paragraph_at class text number) (take number all) (drop (number + 1) all)
       (among class text number within)
@@ -86,7 +89,8 @@ module _ (class : ℕ → Class) (bracket : ℕ → Option (Side × ℕ)) (base 
   first-within number k within h =
       let body = body_at class text number in
       let f = bodies body (body-utf8 class text number within utf8) in
-      let rise : Rises 0 (map first_of_body (mine number)) (length body + 1) = subst (λ os. Rises 0 os (length body + 1)) (sym f.firsts) (omega arith, f.rise) in
+      let rise : Rises 0 (map first_of_body (mine number)) (length body + 1) =
+      subst (λ os. Rises 0 os (length body + 1)) (sym f.firsts) (omega arith, f.rise) in
       let below = rises-below 0 (map first_of_body (mine number)) (length body + 1) k 0 rise (omega (arith, h, length-map (mine number) first_of_body)) in
       omega (arith, below, get_or-map first_of_body (mine number) k no_row 0 h)
 

@@ -1,13 +1,23 @@
 -- A row of a text, found by a layout.
-use Rattle.std.specs.Prelude.{◌≡◌, ℕ, List, Option}
+use Rattle.std.specs.Prelude.{◌≡◌, ℕ, ◌+◌, ◌-◌, ◌<◌, List, length, Option, MatchOption}
 use Rattle.bx_ucd.specs.declared.class.Class.{Class}
 use Rattle.bx_ucd.specs.declared.data.Side.{Side}
 use Rattle.bx_view.specs.declared.cursor.RowAt.{RowAt}
 use Rattle.bx_view.specs.Holding.{HoldsBody, ViewState}
 use Rattle.bx_view.specs.Standing.{IsRow, body_at, start_at}
+use Rattle.bx_view.specs.TextRows.{text_rows}
 
 -- it is row `n` of the text, and its paragraph is held
 pub record StandsOn (class : ℕ → Class) (bracket : ℕ → Option (Side × ℕ)) (v : ViewState) (text : List ℕ) (at : RowAt) (n : ℕ) : Type 0 where
   pub start_is : at.start ≡ start_at class text at.paragraph
   pub is : IsRow class bracket v.base v.w text at.paragraph at.row n
   pub held_is : HoldsBody (body_at class text at.paragraph) v.held at.held
+
+-- the row behind row `n` of the text, and none where that is the last
+abbrev pub IsNext : (ℕ → Class) → (ℕ → Option (Side × ℕ)) → ViewState → List ℕ → ℕ → Option RowAt → Type 0
+IsNext class bracket v text n next =
+    MatchOption next (n + 1 ≡ length (text_rows class bracket v.base v.w text)) (λ b. StandsOn class bracket v text b (n + 1))
+
+-- the row before row `n` of the text, and none before the first
+abbrev pub IsBefore : (ℕ → Class) → (ℕ → Option (Side × ℕ)) → ViewState → List ℕ → ℕ → Option RowAt → Type 0
+IsBefore class bracket v text n before = MatchOption before (n ≡ 0) (λ b. (0 < n) × StandsOn class bracket v text b (n - 1))

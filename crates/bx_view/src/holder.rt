@@ -1,9 +1,6 @@
 //! The paragraphs that a layout holds.
-ghost use Rattle.std.specs.Prelude.{◌≡◌, ◌+◌, ◌-◌, ◌<◌, ◌≤◌, ◌++◌, ◌∷◌, [], true, All, HoldsAt, IfOk, IfSome, IsTrue, length, slice_range};
-ghost use Rattle.bx_terms.specs.Sizes.{is_side};
-ghost use Rattle.bx_paragraph.specs.Layout.{IsLayoutBy};
-ghost use Rattle.bx_view.specs.Holding.{HoldsBody, IsHeld, IsViewBy, Keeps};
-ghost use Rattle.bx_view.specs.Standing.{body_at, count};
+ghost use Rattle.std.specs.Prelude.{◌≤◌, All, IfOk, IfSome, IsTrue, length, slice_range};
+ghost use Rattle.bx_view.specs.Holding.{HoldsBody, IsHeld};
 
 use crate::error::ViewError;
 use crate::in_text::stands_at;

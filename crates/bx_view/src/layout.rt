@@ -1,11 +1,11 @@
 //! The layout of a text.
-ghost use Rattle.std.specs.Prelude.{◌≡◌, ◌<◌, ◌≤◌, [], true, length, IfOk, IsUtf8};
+ghost use Rattle.std.specs.Prelude.{◌≡◌, ℕ, ◌<◌, ◌≤◌, [], true, length, IfOk, IsUtf8};
 ghost use Rattle.bx_terms.specs.Sizes.{is_side};
 ghost use Rattle.bx_text.specs.Edits.{largest_text};
 ghost use Rattle.bx_paras.specs.Paragraphs.{lengths};
-ghost use Rattle.bx_view.specs.Cursor.{StandsOn};
+ghost use Rattle.bx_view.specs.Cursor.{IsBefore, IsNext, StandsOn};
 ghost use Rattle.bx_view.specs.Holding.{HoldsBody, IsOfText, IsViewBy, Keeps};
-ghost use Rattle.bx_view.specs.Moves.{row_end, row_home};
+ghost use Rattle.bx_view.specs.Moves.{row_home};
 ghost use Rattle.bx_view.specs.Standing.{body_at, count};
 ghost use Rattle.bx_view.specs.TextRows.{cell_of, row_of, text_rows};
 
@@ -135,6 +135,91 @@ impl Layout {
             row,
             held,
         })
+    }
+
+    /// The row behind one of the text, if there is one.
+    ///
+    /// Errors: `OutOfMemory`.
+    fn next_row<D: BidiData>(
+        &mut self,
+        text: &Text,
+        index: &Index,
+        source: &D,
+        at: RowAt,
+    ) -> Result<Option<RowAt>, ViewError>
+        requires data { IsViewBy (D.class_of source.now) (D.bracket_of source.now) self.old }
+        requires index { index.now.paragraphs ≡ lengths (D.class_of source.now) text.now.edited.text }
+        requires row { (n : ℕ) × StandsOn (D.class_of source.now) (D.bracket_of source.now) self.old text.now.edited.text at n }
+        ensures keeps { Keeps (D.class_of source.now) (D.bracket_of source.now) self.old self.new }
+        ensures next { (n : ℕ) → StandsOn (D.class_of source.now) (D.bracket_of source.now) self.old text.now.edited.text at n
+            → IfOk result (IsNext (D.class_of source.now) (D.bracket_of source.now) self.new text.now.edited.text n) }
+    {
+        let _utf8 = text.len();
+        let count = index.count();
+        let rows = self
+            .paragraph(text, source, at.paragraph, at.held)
+            .row_count();
+        if at.row + 1 < rows {
+            return Ok(Some(RowAt {
+                paragraph: at.paragraph,
+                start: at.start,
+                row: at.row + 1,
+                held: at.held,
+            }));
+        }
+        let number = at.paragraph + 1;
+        if number >= count {
+            return Ok(None);
+        }
+        let (start, _) = body_span(text, index, source, number);
+        let held = self.find(text, index, source, number)?;
+        Ok(Some(RowAt {
+            paragraph: number,
+            start,
+            row: 0,
+            held,
+        }))
+    }
+
+    /// The row before one of the text, if there is one.
+    ///
+    /// Errors: `OutOfMemory`.
+    fn row_before<D: BidiData>(
+        &mut self,
+        text: &Text,
+        index: &Index,
+        source: &D,
+        at: RowAt,
+    ) -> Result<Option<RowAt>, ViewError>
+        requires data { IsViewBy (D.class_of source.now) (D.bracket_of source.now) self.old }
+        requires index { index.now.paragraphs ≡ lengths (D.class_of source.now) text.now.edited.text }
+        requires row { (n : ℕ) × StandsOn (D.class_of source.now) (D.bracket_of source.now) self.old text.now.edited.text at n }
+        ensures keeps { Keeps (D.class_of source.now) (D.bracket_of source.now) self.old self.new }
+        ensures before { (n : ℕ) → StandsOn (D.class_of source.now) (D.bracket_of source.now) self.old text.now.edited.text at n
+            → IfOk result (IsBefore (D.class_of source.now) (D.bracket_of source.now) self.new text.now.edited.text n) }
+    {
+        let _utf8 = text.len();
+        if at.row > 0 {
+            return Ok(Some(RowAt {
+                paragraph: at.paragraph,
+                start: at.start,
+                row: at.row - 1,
+                held: at.held,
+            }));
+        }
+        if at.paragraph == 0 {
+            return Ok(None);
+        }
+        let number = at.paragraph - 1;
+        let (start, _) = body_span(text, index, source, number);
+        let held = self.find(text, index, source, number)?;
+        let rows = self.paragraph(text, source, number, held).row_count();
+        Ok(Some(RowAt {
+            paragraph: number,
+            start,
+            row: rows - 1,
+            held,
+        }))
     }
 
     /// The column, from 1, of the cell of a place.

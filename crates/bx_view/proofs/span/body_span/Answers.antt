@@ -1,4 +1,4 @@
-use Rattle.bx_view.proofs.Numbers.{IsSpan, span-told}
+use Rattle.bx_view.proofs.Numbers.{span-told}
 use Rattle.bx_view.proofs.span.body_span.Goals as goal
 
 pub returns-clause-start : goal.returns-clause-start

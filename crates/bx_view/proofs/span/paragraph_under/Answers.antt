@@ -1,6 +1,6 @@
 use Rattle.std.proofs.Common.{◌∙◌, ap, arith}
 use Rattle.bx_paras.specs.Positions.{paragraph_of}
-use Rattle.bx_view.proofs.Numbers.{Falls, falls-at}
+use Rattle.bx_view.proofs.Numbers.{falls-at}
 use Rattle.bx_view.proofs.span.paragraph_under.Goals as goal
 
 pub body_span-start-requires-clause-number : goal.body_span-start-requires-clause-number

@@ -1,4 +1,3 @@
-use Rattle.std.proofs.Common.{refl}
 use Rattle.bx_view.proofs.Told.{stands}
 use Rattle.bx_view.proofs.layout.Layout.row_at.Goals as goal
 
