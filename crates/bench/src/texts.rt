@@ -156,6 +156,19 @@ pub fn text(alloc: Global, pattern: &str, count: usize) -> Result<String, AllocE
     if pattern == "two_letters_pairs" {
         return pairs_behind(alloc, "a\u{5d0}", count);
     }
+    if pattern == "opener_isolates" {
+        let mut body = String::from_str(alloc, "(")?;
+        for k in 1..count {
+            body.push(if k % 3 == 0 {
+                '\u{2067}'
+            } else if k % 3 == 1 {
+                'a'
+            } else {
+                '\u{2069}'
+            })?;
+        }
+        return Ok(body);
+    }
     if pattern == "one_number" {
         return before_a_number(alloc, count);
     }
