@@ -2,7 +2,7 @@
 use Rattle.std.specs.Prelude.{ℕ, ◌+◌, ◌-◌, Bool, true, false, not, ◌||◌, nat_le, ◌==◌, List, [], ◌∷◌, length, Option, Some, None, if◌then◌else◌}
 use Rattle.bx_explicit.specs.declared.base.Base.{Base}
 use Rattle.bx_explicit.specs.declared.base.Base.TheVariants.{Auto, Ltr, Rtl}
-use Rattle.bx_text.specs.Edits.{Edited, Edit, opened, inserted, removed, spliced, fits, undone, redone}
+use Rattle.bx_text.specs.Edits.{Edited, Edit, opened, inserted, removed, splice, fits, undone, redone}
 use Rattle.bx_view.specs.TextRows.{TextRow, text_rows}
 use Rattle.bx_view.specs.Moves.{place_from}
 use Rattle.bx_editor.specs.declared.message.Message.{Message}
@@ -60,7 +60,7 @@ place_after d e text offset = place_from (rows_of d e text) offset
 abbrev pub after_insertion : Data → Editor → List ℕ → Editor
 after_insertion d e new =
     if fits e.content.text e.place e.place new
-    then (let after = place_after d e (spliced e.content.text e.place e.place new) (e.place + length new) in
+    then (let after = place_after d e (splice e.content.text e.place e.place new) (e.place + length new) in
     record e { content = inserted e.content e.place new e.place after; place = after; changed = true })
     else record e { message = Some messages.TextFull }
 
@@ -70,7 +70,7 @@ after_removal d e start stop =
     if start == stop
     then e
     else
-    let after = place_after d e (spliced e.content.text start stop []) start in
+    let after = place_after d e (splice e.content.text start stop []) start in
     record e { content = removed e.content start stop e.place after; place = after; changed = true }
 
 -- the latest edit is taken back, with its place

@@ -9,10 +9,10 @@ use Rattle.bx_bytes.specs.declared.fate.Fate.{Fate}
 use Rattle.bx_bytes.specs.declared.fate.Fate.TheVariants.{Waits, Ends, Breaks}
 use Rattle.bx_bytes.proofs.Patterns.{begins_any_front, none_begins_longer}
 use Rattle.bx_keys.specs.Items.{items, is_item, begins_item}
-use Rattle.bx_keys.specs.Keys.{Decoded, key_of, with_key, beginning_up_to, beginning, decoded_within, decoded, first_key, key_fed, rest_fed}
+use Rattle.bx_keys.specs.Keys.{Decoding, key_of, with_key, beginning_up_to, beginning, decoding_within, decoding, first_key, key_after, rest_after}
 use Rattle.bx_keys.specs.Waiting.{fate}
 use Rattle.bx_keys.specs.declared.key.Key.{Key}
-use Rattle.bx_keys.proofs.Feeding.{nothing_left, take_whole, waits_decoded, item_decoded, broken_decoded, alone_dropped, ends_by, first_of_option}
+use Rattle.bx_keys.proofs.Feeding.{nothing_left, take_whole, waits_decoding, item_decoding, broken_decoding, alone_dropped, ends_by, first_of_option}
 
 items_are_grammar : is_grammar items ≡ true
 items_are_grammar = refl
@@ -103,24 +103,24 @@ drop_shorter : (k n : ℕ) (bs : List ℕ) → 1 ≤ k → length bs ≤ suc n �
 drop_shorter k n bs l h = omega (arith, length-drop k bs)
 
 same_cuts : (n m b : ℕ) (bs : List ℕ) → length bs ≤ n → length bs ≤ m
-    → ((cs : List ℕ) → length cs ≤ length bs → decoded_within n cs ≡ decoded_within m cs)
-    → decoded_within (suc n) (b ∷ bs) ≡ decoded_within (suc m) (b ∷ bs)
+    → ((cs : List ℕ) → length cs ≤ length bs → decoding_within n cs ≡ decoding_within m cs)
+    → decoding_within (suc n) (b ∷ bs) ≡ decoding_within (suc m) (b ∷ bs)
 same_cuts n m b bs hn hm rest =
     let all : List ℕ = b ∷ bs in
     let long : ℕ = beginning all in
     elim (cases_Bool (is_item (take long all))) [
-      | inl item ↦ cond-true (is_item (take long all)) (with_key (key_of (take long all)) (decoded_within n (drop long all))) _ item
+      | inl item ↦ cond-true (is_item (take long all)) (with_key (key_of (take long all)) (decoding_within n (drop long all))) _ item
           ∙ ap (with_key (key_of (take long all))) (rest (drop long all) (drop_shorter long (length bs) all (item_not_empty long all item) (omega arith)))
-          ∙ sym (cond-true (is_item (take long all)) (with_key (key_of (take long all)) (decoded_within m (drop long all))) _ item)
+          ∙ sym (cond-true (is_item (take long all)) (with_key (key_of (take long all)) (decoding_within m (drop long all))) _ item)
       | inr other ↦ cond-false (is_item (take long all)) _
-          (cond (nat_eq long (length all)) (record { keys = []; rest = all }) (decoded_within n (drop (max 1 long) all))) other
+          (cond (nat_eq long (length all)) (record { keys = []; rest = all }) (decoding_within n (drop (max 1 long) all))) other
           ∙ ap (λ d. cond (nat_eq long (length all)) (record { keys = []; rest = all }) d)
           (rest (drop (max 1 long) all) (drop_shorter (max 1 long) (length bs) all (omega arith) (omega arith)))
           ∙ sym (cond-false (is_item (take long all)) _
-          (cond (nat_eq long (length all)) (record { keys = []; rest = all }) (decoded_within m (drop (max 1 long) all))) other)
+          (cond (nat_eq long (length all)) (record { keys = []; rest = all }) (decoding_within m (drop (max 1 long) all))) other)
     ]
 
-enough : (n m : ℕ) (bs : List ℕ) → length bs ≤ n → length bs ≤ m → decoded_within n bs ≡ decoded_within m bs
+enough : (n m : ℕ) (bs : List ℕ) → length bs ≤ n → length bs ≤ m → decoding_within n bs ≡ decoding_within m bs
 enough n m [] hn hm = nothing_left n ∙ sym (nothing_left m)
 enough zero m (b ∷ bs) hn hm = absurd (omega arith)
 enough (suc n) zero (b ∷ bs) hn hm = absurd (omega arith)
@@ -129,22 +129,22 @@ enough (suc n) (suc m) (b ∷ bs) hn hm = same_cuts n m b bs (omega arith) (omeg
 -- ---- the three ways, on all of the input
 
 item_first : (bs : List ℕ) → is_item (take (beginning bs) bs) ≡ true
-    → decoded bs ≡ with_key (key_of (take (beginning bs) bs)) (decoded (drop (beginning bs) bs))
+    → decoding bs ≡ with_key (key_of (take (beginning bs) bs)) (decoding (drop (beginning bs) bs))
 item_first [] h = absurd (cc h)
 item_first (b ∷ bs) h =
     let all : List ℕ = b ∷ bs in
     let long : ℕ = beginning all in
     let shorter : length (drop long all) ≤ length bs = drop_shorter long (length bs) all (item_not_empty long all h) (omega arith) in
-    cond-true (is_item (take long all)) (with_key (key_of (take long all)) (decoded_within (length bs) (drop long all))) _ h
+    cond-true (is_item (take long all)) (with_key (key_of (take long all)) (decoding_within (length bs) (drop long all))) _ h
     ∙ ap (with_key (key_of (take long all))) (enough (length bs) (length (drop long all)) (drop long all) shorter (omega arith))
 
-waits_first : (bs : List ℕ) → is_item (take (beginning bs) bs) ≡ false → beginning bs ≡ length bs → decoded bs ≡ record { keys = []; rest = bs }
+waits_first : (bs : List ℕ) → is_item (take (beginning bs) bs) ≡ false → beginning bs ≡ length bs → decoding bs ≡ record { keys = []; rest = bs }
 waits_first [] h e = refl
 waits_first (b ∷ bs) h e =
     let all : List ℕ = b ∷ bs in
     cond-false (is_item (take (beginning all) all)) _ _ h ∙ cond-true (nat_eq (beginning all) (length all)) _ _ (eq-eqb (beginning all) (length all) e)
 
-dropped_first : (bs : List ℕ) → is_item (take (beginning bs) bs) ≡ false → beginning bs < length bs → decoded bs ≡ decoded (drop (max 1 (beginning bs)) bs)
+dropped_first : (bs : List ℕ) → is_item (take (beginning bs) bs) ≡ false → beginning bs < length bs → decoding bs ≡ decoding (drop (max 1 (beginning bs)) bs)
 dropped_first [] h l = absurd (omega arith)
 dropped_first (b ∷ bs) h l =
     let all : List ℕ = b ∷ bs in
@@ -156,33 +156,33 @@ dropped_first (b ∷ bs) h l =
 
 -- ---- input in pieces
 
-abbrev after_keys : List Key → Decoded → Decoded
+abbrev after_keys : List Key → Decoding → Decoding
 after_keys keys d = record { keys = keys ++ d.keys; rest = d.rest }
 
-abbrev continued : Decoded → List ℕ → Decoded
-continued d ys = after_keys d.keys (decoded (d.rest ++ ys))
+abbrev continued : Decoding → List ℕ → Decoding
+continued d ys = after_keys d.keys (decoding (d.rest ++ ys))
 
-after_with_key : (key : Option Key) (d : Decoded) (ys : List ℕ) → with_key key (continued d ys) ≡ continued (with_key key d) ys
-after_with_key key d ys = ap (λ keys. record { keys = keys; rest = (decoded (d.rest ++ ys)).rest })
-    (sym (append_assoc (option_to_list key) d.keys (decoded (d.rest ++ ys)).keys))
+after_with_key : (key : Option Key) (d : Decoding) (ys : List ℕ) → with_key key (continued d ys) ≡ continued (with_key key d) ys
+after_with_key key d ys = ap (λ keys. record { keys = keys; rest = (decoding (d.rest ++ ys)).rest })
+    (sym (append_assoc (option_to_list key) d.keys (decoding (d.rest ++ ys)).keys))
 
 item_more : (bs ys : List ℕ) → is_item (take (beginning bs) bs) ≡ true
-    → decoded (drop (beginning bs) bs ++ ys) ≡ continued (decoded (drop (beginning bs) bs)) ys
-    → decoded (bs ++ ys) ≡ continued (decoded bs) ys
+    → decoding (drop (beginning bs) bs ++ ys) ≡ continued (decoding (drop (beginning bs) bs)) ys
+    → decoding (bs ++ ys) ≡ continued (decoding bs) ys
 item_more bs ys h more =
     let long : ℕ = beginning bs in
     let same : beginning (bs ++ ys) ≡ long = same_beginning bs ys (inl h) in
     let front : take (beginning (bs ++ ys)) (bs ++ ys) ≡ take long bs = ap (λ k. take k (bs ++ ys)) same ∙ take-append-le long bs ys (long_le bs) in
     let back : drop (beginning (bs ++ ys)) (bs ++ ys) ≡ drop long bs ++ ys = ap (λ k. drop k (bs ++ ys)) same ∙ drop-append-le long bs ys (long_le bs) in
     item_first (bs ++ ys) (ap is_item front ∙ h)
-    ∙ ap (λ xs. with_key (key_of xs) (decoded (drop (beginning (bs ++ ys)) (bs ++ ys)))) front
-    ∙ ap (λ xs. with_key (key_of (take long bs)) (decoded xs)) back
+    ∙ ap (λ xs. with_key (key_of xs) (decoding (drop (beginning (bs ++ ys)) (bs ++ ys)))) front
+    ∙ ap (λ xs. with_key (key_of (take long bs)) (decoding xs)) back
     ∙ ap (with_key (key_of (take long bs))) more
-    ∙ after_with_key (key_of (take long bs)) (decoded (drop long bs)) ys
+    ∙ after_with_key (key_of (take long bs)) (decoding (drop long bs)) ys
     ∙ ap (λ d. continued d ys) (sym (item_first bs h))
 
 dropped_more : (bs ys : List ℕ) → is_item (take (beginning bs) bs) ≡ false → beginning bs < length bs
-    → decoded (drop (max 1 (beginning bs)) bs ++ ys) ≡ continued (decoded (drop (max 1 (beginning bs)) bs)) ys → decoded (bs ++ ys) ≡ continued (decoded bs) ys
+    → decoding (drop (max 1 (beginning bs)) bs ++ ys) ≡ continued (decoding (drop (max 1 (beginning bs)) bs)) ys → decoding (bs ++ ys) ≡ continued (decoding bs) ys
 dropped_more bs ys h l more =
     let long : ℕ = beginning bs in
     let same : beginning (bs ++ ys) ≡ long = same_beginning bs ys (inr l) in
@@ -190,11 +190,11 @@ dropped_more bs ys h l more =
     let back : drop (max 1 (beginning (bs ++ ys))) (bs ++ ys) ≡ drop (max 1 long) bs ++ ys =
     ap (λ k. drop (max 1 k) (bs ++ ys)) same ∙ drop-append-le (max 1 long) bs ys (omega arith) in
     dropped_first (bs ++ ys) (ap is_item front ∙ h) (omega (arith, same, length-append bs ys))
-    ∙ ap decoded back
+    ∙ ap decoding back
     ∙ more
     ∙ ap (λ d. continued d ys) (sym (dropped_first bs h l))
 
-pieces_within : (n : ℕ) (bs ys : List ℕ) → length bs ≤ n → decoded (bs ++ ys) ≡ continued (decoded bs) ys
+pieces_within : (n : ℕ) (bs ys : List ℕ) → length bs ≤ n → decoding (bs ++ ys) ≡ continued (decoding bs) ys
 pieces_within n [] ys l = refl
 pieces_within zero (b ∷ bs) ys l = absurd (omega arith)
 pieces_within (suc n) (b ∷ bs) ys l =
@@ -211,8 +211,8 @@ pieces_within (suc n) (b ∷ bs) ys l =
     ]
 
 -- however input is cut in two, its keys are the keys of the first part and then those of what waited and the second
-pub in_pieces : (bs ys : List ℕ) → decoded (bs ++ ys)
-    ≡ record { keys = (decoded bs).keys ++ (decoded ((decoded bs).rest ++ ys)).keys; rest = (decoded ((decoded bs).rest ++ ys)).rest }
+pub in_pieces : (bs ys : List ℕ) → decoding (bs ++ ys)
+    ≡ record { keys = (decoding bs).keys ++ (decoding ((decoding bs).rest ++ ys)).keys; rest = (decoding ((decoding bs).rest ++ ys)).rest }
 in_pieces bs ys = pieces_within (length bs) bs ys (omega arith)
 
 -- ---- the bytes that are left wait
@@ -220,61 +220,61 @@ in_pieces bs ys = pieces_within (length bs) bs ys (omega arith)
 fate_waits : (bs : List ℕ) → is_item bs ≡ false → begins_item bs ≡ true → fate bs ≡ Waits
 fate_waits bs h g = cond-false (is_item bs) _ _ h ∙ cond-true (begins_item bs) _ _ g
 
-left_waits : (n : ℕ) (bs : List ℕ) → length bs ≤ n → fate (decoded bs).rest ≡ Waits
+left_waits : (n : ℕ) (bs : List ℕ) → length bs ≤ n → fate (decoding bs).rest ≡ Waits
 left_waits n [] l = refl
 left_waits zero (b ∷ bs) l = absurd (omega arith)
 left_waits (suc n) (b ∷ bs) l =
     let all : List ℕ = b ∷ bs in
     let long : ℕ = beginning all in
     elim (cases_Bool (is_item (take long all))) [
-      | inl item ↦ ap (λ (d : Decoded). fate d.rest) (item_first all item)
+      | inl item ↦ ap (λ (d : Decoding). fate d.rest) (item_first all item)
           ∙ left_waits n (drop long all) (drop_shorter long n all (item_not_empty long all item) l)
       | inr other ↦ elim (cases_eq long (length all)) [
         | inl whole ↦ (
             let front : take long all ≡ all = ap (λ k. take k all) whole ∙ take_whole all in
-            ap (λ (d : Decoded). fate d.rest) (waits_first all other whole)
+            ap (λ (d : Decoding). fate d.rest) (waits_first all other whole)
             ∙ fate_waits all (ap is_item (sym front) ∙ other) (ap begins_item (sym front) ∙ up_to_begins (length all) all))
         | inr less ↦ (
             let short : long < length all = omega (arith, long_le all) in
-            ap (λ (d : Decoded). fate d.rest) (dropped_first all other short)
+            ap (λ (d : Decoding). fate d.rest) (dropped_first all other short)
             ∙ left_waits n (drop (max 1 long) all) (drop_shorter (max 1 long) n all (omega arith) l))
       ]
     ]
 
-pub rest_waits : (bs : List ℕ) → fate (decoded bs).rest ≡ Waits
+pub rest_waits : (bs : List ℕ) → fate (decoding bs).rest ≡ Waits
 rest_waits bs = left_waits (length bs) bs (omega arith)
 
 -- ---- byte by byte
 
-alone_by : (f : Fate) (b : ℕ) → fate (b ∷ []) ≡ f → (decoded (b ∷ [])).keys ≡ option_to_list (first_key (decoded (b ∷ [])).keys)
+alone_by : (f : Fate) (b : ℕ) → fate (b ∷ []) ≡ f → (decoding (b ∷ [])).keys ≡ option_to_list (first_key (decoding (b ∷ [])).keys)
 alone_by Waits b e =
-    let is = waits_decoded (b ∷ []) e in ap (λ (d : Decoded). d.keys) is ∙ sym (ap (λ (d : Decoded). option_to_list (first_key d.keys)) is)
+    let is = waits_decoding (b ∷ []) e in ap (λ (d : Decoding). d.keys) is ∙ sym (ap (λ (d : Decoding). option_to_list (first_key d.keys)) is)
 alone_by Ends b e =
-    let is = item_decoded (b ∷ []) (ends_by (is_item (b ∷ [])) (begins_item (b ∷ [])) e) in
-    ap (λ (d : Decoded). d.keys) is
+    let is = item_decoding (b ∷ []) (ends_by (is_item (b ∷ [])) (begins_item (b ∷ [])) e) in
+    ap (λ (d : Decoding). d.keys) is
     ∙ ap option_to_list (sym (first_of_option (key_of (b ∷ []))))
-    ∙ sym (ap (λ (d : Decoded). option_to_list (first_key d.keys)) is)
+    ∙ sym (ap (λ (d : Decoding). option_to_list (first_key d.keys)) is)
 alone_by Breaks b e =
-    let is = alone_dropped 0 b e in ap (λ (d : Decoded). d.keys) is ∙ sym (ap (λ (d : Decoded). option_to_list (first_key d.keys)) is)
+    let is = alone_dropped 0 b e in ap (λ (d : Decoding). d.keys) is ∙ sym (ap (λ (d : Decoding). option_to_list (first_key d.keys)) is)
 
-one_by : (f : Fate) (rest : List ℕ) (b : ℕ) → fate rest ≡ Waits → fate (rest ++ b ∷ []) ≡ f → (decoded (rest ++ b ∷ [])).keys ≡ option_to_list (key_fed rest b)
+one_by : (f : Fate) (rest : List ℕ) (b : ℕ) → fate rest ≡ Waits → fate (rest ++ b ∷ []) ≡ f → (decoding (rest ++ b ∷ [])).keys ≡ option_to_list (key_after rest b)
 one_by Waits rest b h e =
-    let is = waits_decoded (rest ++ b ∷ []) e in ap (λ (d : Decoded). d.keys) is ∙ sym (ap (λ (d : Decoded). option_to_list (first_key d.keys)) is)
+    let is = waits_decoding (rest ++ b ∷ []) e in ap (λ (d : Decoding). d.keys) is ∙ sym (ap (λ (d : Decoding). option_to_list (first_key d.keys)) is)
 one_by Ends rest b h e =
-    let is = item_decoded (rest ++ b ∷ []) (ends_by (is_item (rest ++ b ∷ [])) (begins_item (rest ++ b ∷ [])) e) in
-    ap (λ (d : Decoded). d.keys) is
+    let is = item_decoding (rest ++ b ∷ []) (ends_by (is_item (rest ++ b ∷ [])) (begins_item (rest ++ b ∷ [])) e) in
+    ap (λ (d : Decoding). d.keys) is
     ∙ ap option_to_list (sym (first_of_option (key_of (rest ++ b ∷ []))))
-    ∙ sym (ap (λ (d : Decoded). option_to_list (first_key d.keys)) is)
+    ∙ sym (ap (λ (d : Decoding). option_to_list (first_key d.keys)) is)
 one_by Breaks rest b h e =
-    let is = broken_decoded rest b h e in
-    ap (λ (d : Decoded). d.keys) is ∙ alone_by (fate (b ∷ [])) b refl ∙ sym (ap (λ (d : Decoded). option_to_list (first_key d.keys)) is)
+    let is = broken_decoding rest b h e in
+    ap (λ (d : Decoding). d.keys) is ∙ alone_by (fate (b ∷ [])) b refl ∙ sym (ap (λ (d : Decoding). option_to_list (first_key d.keys)) is)
 
 -- no byte ends two keys
-pub one_key : (rest : List ℕ) (b : ℕ) → fate rest ≡ Waits → (decoded (rest ++ b ∷ [])).keys ≡ option_to_list (key_fed rest b)
+pub one_key : (rest : List ℕ) (b : ℕ) → fate rest ≡ Waits → (decoding (rest ++ b ∷ [])).keys ≡ option_to_list (key_after rest b)
 one_key rest b h = one_by (fate (rest ++ b ∷ [])) rest b h refl
 
 pub byte_by_byte : (bs : List ℕ) (b : ℕ)
-    → decoded (bs ++ b ∷ []) ≡ record { keys = (decoded bs).keys ++ option_to_list (key_fed (decoded bs).rest b); rest = rest_fed (decoded bs).rest b }
+    → decoding (bs ++ b ∷ []) ≡ record { keys = (decoding bs).keys ++ option_to_list (key_after (decoding bs).rest b); rest = rest_after (decoding bs).rest b }
 byte_by_byte bs b =
     in_pieces bs (b ∷ [])
-    ∙ ap (λ keys. record { keys = (decoded bs).keys ++ keys; rest = rest_fed (decoded bs).rest b }) (one_key (decoded bs).rest b (rest_waits bs))
+    ∙ ap (λ keys. record { keys = (decoding bs).keys ++ keys; rest = rest_after (decoding bs).rest b }) (one_key (decoding bs).rest b (rest_waits bs))

@@ -8,7 +8,7 @@ use Rattle.bx_bytes.proofs.Patterns.{matches_any_begins}
 use Rattle.bx_bytes.specs.declared.fate.Fate.{Fate}
 use Rattle.bx_bytes.specs.declared.fate.Fate.TheVariants.{Waits, Ends, Breaks}
 use Rattle.bx_keys.specs.Items.{items, is_item, begins_item}
-use Rattle.bx_keys.specs.Keys.{Decoded, key_of, with_key, beginning_up_to, beginning, decoded_within, decoded, first_key, key_fed, rest_fed}
+use Rattle.bx_keys.specs.Keys.{Decoding, key_of, with_key, beginning_up_to, beginning, decoding_within, decoding, first_key, key_after, rest_after}
 use Rattle.bx_keys.specs.Waiting.{fate}
 use Rattle.bx_keys.specs.declared.key.Key.{Key}
 
@@ -39,12 +39,12 @@ breaks_by false false h = (refl, refl)
 
 -- ---- the first cut
 
-abbrev pub cut : ℕ → List ℕ → ℕ → Decoded
+abbrev pub cut : ℕ → List ℕ → ℕ → Decoding
 cut n bs long =
-    cond (is_item (take long bs)) (with_key (key_of (take long bs)) (decoded_within n (drop long bs)))
-    (cond (nat_eq long (length bs)) (record { keys = []; rest = bs }) (decoded_within n (drop (max 1 long) bs)))
+    cond (is_item (take long bs)) (with_key (key_of (take long bs)) (decoding_within n (drop long bs)))
+    (cond (nat_eq long (length bs)) (record { keys = []; rest = bs }) (decoding_within n (drop (max 1 long) bs)))
 
-first_cut : (n b : ℕ) (bs : List ℕ) → decoded_within (suc n) (b ∷ bs) ≡ cut n (b ∷ bs) (beginning (b ∷ bs))
+first_cut : (n b : ℕ) (bs : List ℕ) → decoding_within (suc n) (b ∷ bs) ≡ cut n (b ∷ bs) (beginning (b ∷ bs))
 first_cut n b bs = refl
 
 pub take_whole : (bs : List ℕ) → take (length bs) bs ≡ bs
@@ -55,7 +55,7 @@ beginning_whole b bs h =
     cond-true (begins_item (take (length (b ∷ bs)) (b ∷ bs))) (length (b ∷ bs)) (beginning_up_to (length bs) (b ∷ bs))
     (ap begins_item (take_whole (b ∷ bs)) ∙ h)
 
-pub nothing_left : (n : ℕ) → decoded_within n [] ≡ record { keys = []; rest = [] }
+pub nothing_left : (n : ℕ) → decoding_within n [] ≡ record { keys = []; rest = [] }
 nothing_left zero = refl
 nothing_left (suc n) = refl
 
@@ -64,40 +64,40 @@ with_key_alone key = ap (λ keys. record { keys = keys; rest = [] }) (append-nil
 
 -- a whole item is cut off whole
 item_cut : (n b : ℕ) (bs : List ℕ) → is_item (b ∷ bs) ≡ true → begins_item (b ∷ bs) ≡ true
-    → decoded_within (suc n) (b ∷ bs) ≡ record { keys = option_to_list (key_of (b ∷ bs)); rest = [] }
+    → decoding_within (suc n) (b ∷ bs) ≡ record { keys = option_to_list (key_of (b ∷ bs)); rest = [] }
 item_cut n b bs h g =
     let all : List ℕ = b ∷ bs in
     let front : take (length all) all ≡ all = take_whole all in
     let none : drop (length all) all ≡ [] = drop_all (length all) all (omega arith) in
     ap (cut n all) (beginning_whole b bs g)
     ∙ cond-true (is_item (take (length all) all)) _ _ (ap is_item front ∙ h)
-    ∙ ap (λ xs. with_key (key_of xs) (decoded_within n (drop (length all) all))) front
-    ∙ ap (λ xs. with_key (key_of all) (decoded_within n xs)) none
+    ∙ ap (λ xs. with_key (key_of xs) (decoding_within n (drop (length all) all))) front
+    ∙ ap (λ xs. with_key (key_of all) (decoding_within n xs)) none
     ∙ ap (with_key (key_of all)) (nothing_left n)
     ∙ with_key_alone (key_of all)
 
 -- ---- one byte more
 
 pub record Feeds (rest : List ℕ) (b : ℕ) (key : Option Key) (left : List ℕ) : Type 0 where
-  pub is_key : key_fed rest b ≡ key
-  pub is_rest : rest_fed rest b ≡ left
+  pub is_key : key_after rest b ≡ key
+  pub is_rest : rest_after rest b ≡ left
 
 pub first_of_option : (key : Option Key) → first_key (option_to_list key) ≡ key
 first_of_option None = refl
 first_of_option (Some key) = refl
 
-pub item_decoded : (bs : List ℕ) → is_item bs ≡ true → decoded bs ≡ record { keys = option_to_list (key_of bs); rest = [] }
-item_decoded [] h = absurd (cc h)
-item_decoded (b ∷ bs) h = item_cut (length bs) b bs h (matches_any_begins items (b ∷ bs) h)
+pub item_decoding : (bs : List ℕ) → is_item bs ≡ true → decoding bs ≡ record { keys = option_to_list (key_of bs); rest = [] }
+item_decoding [] h = absurd (cc h)
+item_decoding (b ∷ bs) h = item_cut (length bs) b bs h (matches_any_begins items (b ∷ bs) h)
 
-pub ends_fed : (rest : List ℕ) (b : ℕ) → fate (rest ++ b ∷ []) ≡ Ends → Feeds rest b (key_of (rest ++ b ∷ [])) []
-ends_fed rest b h =
+pub feeds_end : (rest : List ℕ) (b : ℕ) → fate (rest ++ b ∷ []) ≡ Ends → Feeds rest b (key_of (rest ++ b ∷ [])) []
+feeds_end rest b h =
     let bs : List ℕ = rest ++ b ∷ [] in
-    let is = item_decoded bs (ends_by (is_item bs) (begins_item bs) h) in
-    record { is_key = ap (λ (d : Decoded). first_key d.keys) is ∙ first_of_option (key_of bs); is_rest = ap (λ (d : Decoded). d.rest) is }
+    let is = item_decoding bs (ends_by (is_item bs) (begins_item bs) h) in
+    record { is_key = ap (λ (d : Decoding). first_key d.keys) is ∙ first_of_option (key_of bs); is_rest = ap (λ (d : Decoding). d.rest) is }
 
 -- a proper beginning waits
-waits_cut : (n b : ℕ) (bs : List ℕ) → fate (b ∷ bs) ≡ Waits → decoded_within (suc n) (b ∷ bs) ≡ record { keys = []; rest = b ∷ bs }
+waits_cut : (n b : ℕ) (bs : List ℕ) → fate (b ∷ bs) ≡ Waits → decoding_within (suc n) (b ∷ bs) ≡ record { keys = []; rest = b ∷ bs }
 waits_cut n b bs h =
     let all : List ℕ = b ∷ bs in
     let says = waits_says all h in
@@ -105,23 +105,23 @@ waits_cut n b bs h =
     ∙ cond-false (is_item (take (length all) all)) _ _ (ap is_item (take_whole all) ∙ says.not_item)
     ∙ cond-true (nat_eq (length all) (length all)) _ _ (eq-eqb (length all) (length all) refl)
 
-pub waits_decoded : (bs : List ℕ) → fate bs ≡ Waits → decoded bs ≡ record { keys = []; rest = bs }
-waits_decoded [] h = refl
-waits_decoded (b ∷ bs) h = waits_cut (length bs) b bs h
+pub waits_decoding : (bs : List ℕ) → fate bs ≡ Waits → decoding bs ≡ record { keys = []; rest = bs }
+waits_decoding [] h = refl
+waits_decoding (b ∷ bs) h = waits_cut (length bs) b bs h
 
-pub waits_fed : (rest : List ℕ) (b : ℕ) → fate (rest ++ b ∷ []) ≡ Waits → Feeds rest b None (rest ++ b ∷ [])
-waits_fed rest b h =
-    let is = waits_decoded (rest ++ b ∷ []) h in
-    record { is_key = ap (λ (d : Decoded). first_key d.keys) is; is_rest = ap (λ (d : Decoded). d.rest) is }
+pub feeds_waiting : (rest : List ℕ) (b : ℕ) → fate (rest ++ b ∷ []) ≡ Waits → Feeds rest b None (rest ++ b ∷ [])
+feeds_waiting rest b h =
+    let is = waits_decoding (rest ++ b ∷ []) h in
+    record { is_key = ap (λ (d : Decoding). first_key d.keys) is; is_rest = ap (λ (d : Decoding). d.rest) is }
 
 -- what nothing begins with is dropped
-pub alone_dropped : (n b : ℕ) → fate (b ∷ []) ≡ Breaks → decoded_within (suc n) (b ∷ []) ≡ record { keys = []; rest = [] }
+pub alone_dropped : (n b : ℕ) → fate (b ∷ []) ≡ Breaks → decoding_within (suc n) (b ∷ []) ≡ record { keys = []; rest = [] }
 alone_dropped n b h =
     let none : begins_item (b ∷ []) ≡ false = (breaks_by (is_item (b ∷ [])) (begins_item (b ∷ [])) h).1 in
     let long : beginning (b ∷ []) ≡ 0 = cond-false (begins_item (b ∷ [])) 1 0 none in
     ap (cut n (b ∷ [])) long ∙ nothing_left n
 
-alone_by : (f : Fate) (n b : ℕ) → fate (b ∷ []) ≡ f → decoded_within (suc n) (b ∷ []) ≡ decoded (b ∷ [])
+alone_by : (f : Fate) (n b : ℕ) → fate (b ∷ []) ≡ f → decoding_within (suc n) (b ∷ []) ≡ decoding (b ∷ [])
 alone_by Ends n b h =
     let is = ends_by (is_item (b ∷ [])) (begins_item (b ∷ [])) h in
     let begins = matches_any_begins items (b ∷ []) is in
@@ -141,7 +141,7 @@ beginning_broken x xs b h g =
     ∙ cond-true (begins_item (take (length (x ∷ xs)) all)) _ _ (ap begins_item front ∙ h)
 
 broken_cut : (n x : ℕ) (xs : List ℕ) (b : ℕ) → fate (x ∷ xs) ≡ Waits → fate (x ∷ (xs ++ b ∷ [])) ≡ Breaks
-    → decoded_within (suc (suc n)) (x ∷ (xs ++ b ∷ [])) ≡ decoded (b ∷ [])
+    → decoding_within (suc (suc n)) (x ∷ (xs ++ b ∷ [])) ≡ decoding (b ∷ [])
 broken_cut n x xs b h g =
     let all : List ℕ = x ∷ (xs ++ b ∷ []) in
     let says = waits_says (x ∷ xs) h in
@@ -154,24 +154,24 @@ broken_cut n x xs b h g =
     ap (cut (suc n) all) (beginning_broken x xs b says.begins (breaks_by (is_item all) (begins_item all) g).1)
     ∙ cond-false (is_item (take long all)) _ _ (ap is_item front ∙ says.not_item)
     ∙ cond-false (nat_eq long (length all)) _ _ (ne_eqb long (length all) not_all)
-    ∙ ap (λ k. decoded_within (suc n) (drop k all)) most
-    ∙ ap (decoded_within (suc n)) back
+    ∙ ap (λ k. decoding_within (suc n) (drop k all)) most
+    ∙ ap (decoding_within (suc n)) back
     ∙ alone_by (fate (b ∷ [])) n b refl
 
-pub broken_decoded : (rest : List ℕ) (b : ℕ) → fate rest ≡ Waits → fate (rest ++ b ∷ []) ≡ Breaks → decoded (rest ++ b ∷ []) ≡ decoded (b ∷ [])
-broken_decoded [] b h g = refl
-broken_decoded (x ∷ xs) b h g =
+pub broken_decoding : (rest : List ℕ) (b : ℕ) → fate rest ≡ Waits → fate (rest ++ b ∷ []) ≡ Breaks → decoding (rest ++ b ∷ []) ≡ decoding (b ∷ [])
+broken_decoding [] b h g = refl
+broken_decoding (x ∷ xs) b h g =
     let longer : length (xs ++ b ∷ []) ≡ suc (length xs) = omega (arith, length-append xs (b ∷ [])) in
-    ap (λ n. decoded_within (suc n) (x ∷ (xs ++ b ∷ []))) longer ∙ broken_cut (length xs) x xs b h g
+    ap (λ n. decoding_within (suc n) (x ∷ (xs ++ b ∷ []))) longer ∙ broken_cut (length xs) x xs b h g
 
 -- the byte that breaks what waits is read afresh
-pub breaks_fed : (rest : List ℕ) (b : ℕ) → fate rest ≡ Waits → fate (rest ++ b ∷ []) ≡ Breaks → Feeds rest b (key_fed [] b) (rest_fed [] b)
-breaks_fed rest b h g =
-    let is = broken_decoded rest b h g in
-    record { is_key = ap (λ (d : Decoded). first_key d.keys) is; is_rest = ap (λ (d : Decoded). d.rest) is }
+pub feeds_break : (rest : List ℕ) (b : ℕ) → fate rest ≡ Waits → fate (rest ++ b ∷ []) ≡ Breaks → Feeds rest b (key_after [] b) (rest_after [] b)
+feeds_break rest b h g =
+    let is = broken_decoding rest b h g in
+    record { is_key = ap (λ (d : Decoding). first_key d.keys) is; is_rest = ap (λ (d : Decoding). d.rest) is }
 
 -- a byte that begins nothing is dropped
-pub alone_fed : (b : ℕ) → fate (b ∷ []) ≡ Breaks → Feeds [] b None []
-alone_fed b h =
+pub feeds_alone : (b : ℕ) → fate (b ∷ []) ≡ Breaks → Feeds [] b None []
+feeds_alone b h =
     let is = alone_dropped 0 b h in
-    record { is_key = ap (λ (d : Decoded). first_key d.keys) is; is_rest = ap (λ (d : Decoded). d.rest) is }
+    record { is_key = ap (λ (d : Decoding). first_key d.keys) is; is_rest = ap (λ (d : Decoding). d.rest) is }

@@ -3,18 +3,18 @@ use Rattle.std.proofs.Common.{◌≡◌, ℕ, ◌+◌, ◌-◌, ◌<◌, ◌≤�
 use Rattle.std.proofs.lemmas.List.{take_all, take_at, drop-set-lt, drop-drop, drop-replicate, length-take-le}
 use Rattle.std.proofs.lemmas.Grind.{take-set_at}
 use Rattle.bx_bytes.specs.declared.fate.Fate.TheVariants.{Waits}
-use Rattle.bx_keys.specs.Decoder.{bytes_kept, IsDecoder}
-use Rattle.bx_keys.specs.Waiting.{fate, kept}
+use Rattle.bx_keys.specs.Decoder.{head_bytes, IsDecoder}
+use Rattle.bx_keys.specs.Waiting.{fate, head_of}
 use Rattle.bx_keys.specs.declared.decoder.Decoder.TheInside.{Inside}
 
-pub added : (d : Inside) (b : ℕ) → IsDecoder d → d.len < 12 → take (d.len + 1) (set d.bytes d.len b) ≡ bytes_kept d ++ b ∷ []
+pub added : (d : Inside) (b : ℕ) → IsDecoder d → d.len < 12 → take (d.len + 1) (set d.bytes d.len b) ≡ head_bytes d ++ b ∷ []
 added d b h room = take-set_at d.bytes d.len (d.len + 1) b refl (omega (arith, h.len_bytes))
 
-pub added_kept : (d : Inside) (b : ℕ) → IsDecoder d → d.len < 12 → take (d.len + 1) (set d.bytes d.len b) ≡ kept (bytes_kept d ++ b ∷ [])
-added_kept d b h room =
+pub added_head : (d : Inside) (b : ℕ) → IsDecoder d → d.len < 12 → take (d.len + 1) (set d.bytes d.len b) ≡ head_of (head_bytes d ++ b ∷ [])
+added_head d b h room =
     added d b h room
-    ∙ sym (take_all 12 (bytes_kept d ++ b ∷ [])
-    (omega (arith, length-append (bytes_kept d) (b ∷ []), length-take-le d.len d.bytes (omega (arith, h.len_bytes)))))
+    ∙ sym (take_all 12 (head_bytes d ++ b ∷ [])
+    (omega (arith, length-append (head_bytes d) (b ∷ []), length-take-le d.len d.bytes (omega (arith, h.len_bytes)))))
 
 zeros_after : (d : Inside) (b : ℕ) → IsDecoder d → d.len < 12 → drop (d.len + 1) (set d.bytes d.len b) ≡ replicate (12 - (d.len + 1)) 0
 zeros_after d b h room =
@@ -24,7 +24,7 @@ zeros_after d b h room =
     ∙ drop-replicate 1 (12 - d.len) 0
     ∙ ap (λ n. replicate n 0) (omega arith)
 
-pub still_decoder : (d : Inside) (b : ℕ) → IsDecoder d → d.len < 12 → fate (bytes_kept d ++ b ∷ []) ≡ Waits
+pub still_decoder : (d : Inside) (b : ℕ) → IsDecoder d → d.len < 12 → fate (head_bytes d ++ b ∷ []) ≡ Waits
     → IsDecoder (record { bytes = set d.bytes d.len b; len = d.len + 1 })
 still_decoder d b h room waits = record {
   len_fits = omega arith;
@@ -33,6 +33,6 @@ still_decoder d b h room waits = record {
   waits = ap fate (added d b h room) ∙ waits;
 }
 
-pub full : (d : Inside) (b : ℕ) → IsDecoder d → 12 ≤ d.len → bytes_kept d ≡ kept (bytes_kept d ++ b ∷ [])
+pub full : (d : Inside) (b : ℕ) → IsDecoder d → 12 ≤ d.len → head_bytes d ≡ head_of (head_bytes d ++ b ∷ [])
 full d b h none =
-    sym (take_at (bytes_kept d) (b ∷ []) 12 (length-take-le d.len d.bytes (omega (arith, h.len_fits, h.len_bytes)) ∙ omega (arith, h.len_fits)))
+    sym (take_at (head_bytes d) (b ∷ []) 12 (length-take-le d.len d.bytes (omega (arith, h.len_fits, h.len_bytes)) ∙ omega (arith, h.len_fits)))

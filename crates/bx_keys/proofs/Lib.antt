@@ -1,8 +1,8 @@
-pub mod Fed
+pub mod Taking
 pub mod Cuts
 pub mod Keeping
 pub mod Standing
-pub mod Kept
+pub mod Heads
 pub mod Feeding
 pub mod Characters
 pub mod Sequences

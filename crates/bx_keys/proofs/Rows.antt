@@ -2,34 +2,34 @@
 use Rattle.std.proofs.Common.{◌≡◌, ℕ, List, [], ◌∷◌, ◌++◌, Some, None, refl}
 use Rattle.std.specs.Prelude.{codes, Option}
 use Rattle.std.specs.Str.{chars}
-use Rattle.bx_keys.specs.Keys.{decoded, key_fed, rest_fed}
+use Rattle.bx_keys.specs.Keys.{decoding, key_after, rest_after}
 use Rattle.bx_keys.specs.declared.key.Key.{Key}
 use Rattle.bx_keys.specs.declared.key.Key.TheVariants.{Insert, Erase, Delete, Up, Down, Right, Left, RowHome, RowEnd, PageUp, PageDown, Quit, Undo, Redo}
 use Rattle.bx_keys.specs.declared.key.Key.TheVariants.{Direction, Size}
 
 abbrev keys : List ℕ → List Key
-keys bs = (decoded bs).keys
+keys bs = (decoding bs).keys
 
 -- byte by byte
-abbrev fed_all : List ℕ → List ℕ → List (Option Key)
-fed_all rest [] = []
-fed_all rest (b ∷ bs) = key_fed rest b ∷ fed_all (rest_fed rest b) bs
+abbrev keys_of_each : List ℕ → List ℕ → List (Option Key)
+keys_of_each rest [] = []
+keys_of_each rest (b ∷ bs) = key_after rest b ∷ keys_of_each (rest_after rest b) bs
 
 pub arrows_and_ends : keys (codes "\u{1b}[A\u{1b}[B\u{1b}[C\u{1b}[D\u{1b}[H\u{1b}[F\u{1b}[1~\u{1b}[4~\u{1b}[3~\u{1b}[5~\u{1b}[6~\u{1b}[9~")
     ≡ Up ∷ Down ∷ Right ∷ Left ∷ RowHome ∷ RowEnd ∷ RowHome ∷ RowEnd ∷ Delete ∷ PageUp ∷ PageDown ∷ Direction ∷ []
 arrows_and_ends = refl
 
-pub byte_by_byte : fed_all [] (codes "\u{1b}[D") ≡ None ∷ None ∷ Some Left ∷ []
+pub byte_by_byte : keys_of_each [] (codes "\u{1b}[D") ≡ None ∷ None ∷ Some Left ∷ []
 byte_by_byte = refl
 
-pub unknown_sequence : decoded (codes "\u{1b}[99zx") ≡ record { keys = Insert 0x78 ∷ []; rest = [] }
+pub unknown_sequence : decoding (codes "\u{1b}[99zx") ≡ record { keys = Insert 0x78 ∷ []; rest = [] }
 unknown_sequence = refl
 
 -- the byte that breaks a character off is read afresh
-pub broken_character : decoded (0xD7 ∷ 0x78 ∷ 0xE0 ∷ 0x41 ∷ []) ≡ record { keys = Insert 0x78 ∷ Insert 0x41 ∷ []; rest = [] }
+pub broken_character : decoding (0xD7 ∷ 0x78 ∷ 0xE0 ∷ 0x41 ∷ []) ≡ record { keys = Insert 0x78 ∷ Insert 0x41 ∷ []; rest = [] }
 broken_character = refl
 
-pub combining : decoded (0xCC ∷ 0x81 ∷ 0x7F ∷ 0x1A ∷ 0x19 ∷ []) ≡ record { keys = Insert 0x301 ∷ Erase ∷ Undo ∷ Redo ∷ []; rest = [] }
+pub combining : decoding (0xCC ∷ 0x81 ∷ 0x7F ∷ 0x1A ∷ 0x19 ∷ []) ≡ record { keys = Insert 0x301 ∷ Erase ∷ Undo ∷ Redo ∷ []; rest = [] }
 unfolding chars
 combining = refl
 
@@ -53,7 +53,7 @@ pub quits : keys (0x78 ∷ 0x11 ∷ codes "\u{1b}[8;2;30t" ++ 0x11 ∷ []) ≡ I
 quits = refl
 
 -- a control character within a sequence drops it and is read afresh; so does a byte that begins a character
-pub dropped : decoded (0x1B ∷ 0x5B ∷ 0x33 ∷ 0x0A ∷ 0x1B ∷ 0x4F ∷ 0xD7 ∷ 0x90 ∷ 0xFF ∷ 0x1B ∷ [])
+pub dropped : decoding (0x1B ∷ 0x5B ∷ 0x33 ∷ 0x0A ∷ 0x1B ∷ 0x4F ∷ 0xD7 ∷ 0x90 ∷ 0xFF ∷ 0x1B ∷ [])
     ≡ record { keys = Insert 0x0A ∷ Insert 0x5D0 ∷ []; rest = 0x1B ∷ [] }
 unfolding chars
 dropped = refl

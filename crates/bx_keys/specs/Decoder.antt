@@ -5,8 +5,8 @@ use Rattle.std.proofs.lemmas.List.{length-take-le, take-append-drop}
 use Rattle.bx_keys.specs.Waiting.{IsWaiting}
 use Rattle.bx_keys.specs.declared.decoder.Decoder.TheInside.{Inside}
 
-abbrev pub bytes_kept : Inside → List ℕ
-bytes_kept d = take d.len d.bytes
+abbrev pub head_bytes : Inside → List ℕ
+head_bytes d = take d.len d.bytes
 
 -- bytes that wait, and zeros
 pub record IsDecoder (d : Inside) : Type 0 where
@@ -21,8 +21,8 @@ made bytes len = record { bytes = bytes; len = len }
 abbrev pub decoder_of : List ℕ → Inside
 decoder_of bs = record { bytes = bs ++ replicate (12 - length bs) 0; len = length bs }
 
-pub decoder_of-bytes_kept : (d : Inside) → IsDecoder d → decoder_of (bytes_kept d) ≡ d
-decoder_of-bytes_kept d h =
+pub decoder_of-head_bytes : (d : Inside) → IsDecoder d → decoder_of (head_bytes d) ≡ d
+decoder_of-head_bytes d h =
     let front : List ℕ = take d.len d.bytes in
     let count : length front ≡ d.len = length-take-le d.len d.bytes (omega (arith, h.len_fits, h.len_bytes)) in
     let whole : front ++ replicate (12 - d.len) 0 ≡ d.bytes = rw (← h.zeros) (take-append-drop d.len d.bytes) in

@@ -79,27 +79,27 @@ abbrev pub beginning : List ℕ → ℕ
 beginning bs = beginning_up_to (length bs) bs
 
 -- keys, and the bytes that wait for more
-pub record Decoded : Type 0 where
+pub record Decoding : Type 0 where
   pub keys : List Key
   pub rest : List ℕ
 
-abbrev pub with_key : Option Key → Decoded → Decoded
+abbrev pub with_key : Option Key → Decoding → Decoding
 with_key key d = record { keys = option_to_list key ++ d.keys; rest = d.rest }
 
 -- the keys of bytes, in at most n cuts
-abbrev pub decoded_within : ℕ → List ℕ → Decoded
-decoded_within zero bs = record { keys = []; rest = bs }
-decoded_within (suc n) [] = record { keys = []; rest = [] }
-decoded_within (suc n) (b ∷ bs) =
+abbrev pub decoding_within : ℕ → List ℕ → Decoding
+decoding_within zero bs = record { keys = []; rest = bs }
+decoding_within (suc n) [] = record { keys = []; rest = [] }
+decoding_within (suc n) (b ∷ bs) =
     let long = beginning (b ∷ bs) in
-    if is_item (take long (b ∷ bs)) then with_key (key_of (take long (b ∷ bs))) (decoded_within n (drop long (b ∷ bs)))
+    if is_item (take long (b ∷ bs)) then with_key (key_of (take long (b ∷ bs))) (decoding_within n (drop long (b ∷ bs)))
     else if long == length (b ∷ bs) then record { keys = []; rest = b ∷ bs }
-    else decoded_within n (drop (max 1 long) (b ∷ bs))
+    else decoding_within n (drop (max 1 long) (b ∷ bs))
 
 -- The longest front that begins an item gives its key if it is an item, waits if no byte follows it, and is
 -- else dropped, at least one byte. Each cut takes a byte or more.
-abbrev pub decoded : List ℕ → Decoded
-decoded bs = decoded_within (length bs) bs
+abbrev pub decoding : List ℕ → Decoding
+decoding bs = decoding_within (length bs) bs
 
 -- ---- one byte more
 
@@ -108,9 +108,9 @@ first_key [] = None
 first_key (key ∷ keys) = Some key
 
 -- the key that a byte ends after bytes that wait; no byte ends two
-abbrev pub key_fed : List ℕ → ℕ → Option Key
-key_fed rest b = first_key (decoded (rest ++ b ∷ [])).keys
+abbrev pub key_after : List ℕ → ℕ → Option Key
+key_after rest b = first_key (decoding (rest ++ b ∷ [])).keys
 
 -- the bytes that wait then
-abbrev pub rest_fed : List ℕ → ℕ → List ℕ
-rest_fed rest b = (decoded (rest ++ b ∷ [])).rest
+abbrev pub rest_after : List ℕ → ℕ → List ℕ
+rest_after rest b = (decoding (rest ++ b ∷ [])).rest

@@ -13,10 +13,10 @@ abbrev pub IsWaiting : List ℕ → Type 0
 IsWaiting rest = fate rest ≡ Waits
 
 -- The first twelve bytes: a sequence of which more wait gives no key, however it goes on.
-abbrev pub kept : List ℕ → List ℕ
-kept rest = take 12 rest
+abbrev pub head_of : List ℕ → List ℕ
+head_of rest = take 12 rest
 
 -- bytes that wait, of which the decoder keeps what it is seen as
 pub record StandsFor (decoder rest : List ℕ) : Type 0 where
   pub waits : IsWaiting rest
-  pub is_kept : decoder ≡ kept rest
+  pub is_head : decoder ≡ head_of rest

@@ -2,8 +2,8 @@
 
 ghost use Rattle.std.specs.Prelude.{◌≡◌, ◌≤◌, ℕ, List, [], ◌∷◌, ◌++◌, length, option_to_list, IfOk, IfSome, OnOk, OnErr};
 ghost use Rattle.bx_keys.specs.Keys as spec;
-ghost use Rattle.bx_keys.specs.Keys.{HasSides, decoded, key_fed, rest_fed};
-ghost use Rattle.bx_keys.specs.Waiting.{fate, kept, StandsFor};
+ghost use Rattle.bx_keys.specs.Keys.{HasSides, decoding, key_after, rest_after};
+ghost use Rattle.bx_keys.specs.Waiting.{fate, head_of, StandsFor};
 
 use crate::key::Key;
 use crate::meaning::key_of;
@@ -13,12 +13,12 @@ use std::alloc::{AllocError, Global};
 use std::marker::Model;
 
 /// How many bytes that wait are kept: one more than wait before the last byte of the longest sequence with a key.
-const KEPT: usize = 12;
+const HEAD_LEN: usize = 12;
 
 /// The bytes that wait for more, as far as a key can still come of them.
 #[derive(Clone, Copy, PartialEq, Eq, Debug)]
 pub struct Decoder {
-    bytes: [u8; KEPT],
+    bytes: [u8; HEAD_LEN],
     len: usize,
 }
 
@@ -27,15 +27,15 @@ impl Model for Decoder {
 
     ghost Value = { List ℕ };
 
-    ghost use Rattle.bx_keys.specs.Decoder.{bytes_kept, IsDecoder, decoder_of, decoder_of-bytes_kept};
+    ghost use Rattle.bx_keys.specs.Decoder.{head_bytes, IsDecoder, decoder_of, decoder_of-head_bytes};
 
-    ghost view = { bytes_kept };
+    ghost view = { head_bytes };
 
     ghost invariant = { IsDecoder };
 
     ghost inverse = { decoder_of };
 
-    ghost inverse_ok = { decoder_of-bytes_kept };
+    ghost inverse_ok = { decoder_of-head_bytes };
 }
 
 impl Default for Decoder {
@@ -52,7 +52,7 @@ impl Decoder {
         ensures { StandsFor result [] }
     {
         Decoder {
-            bytes: [0; KEPT],
+            bytes: [0; HEAD_LEN],
             len: 0,
         }
     }
@@ -60,8 +60,8 @@ impl Decoder {
     /// Takes the next byte, and gives the key that it ends.
     pub fn feed(&mut self, byte: u8) -> Option<Key>
         ensures own { StandsFor self.old self.old }
-        ensures key { (rest : List ℕ) → StandsFor self.old rest → result ≡ key_fed rest byte }
-        ensures rest { (rest : List ℕ) → StandsFor self.old rest → StandsFor self.new (rest_fed rest byte) }
+        ensures key { (rest : List ℕ) → StandsFor self.old rest → result ≡ key_after rest byte }
+        ensures rest { (rest : List ℕ) → StandsFor self.old rest → StandsFor self.new (rest_after rest byte) }
         ensures sides { IfSome result HasSides }
     {
         match fate_after(self.waiting(), byte) {
@@ -84,8 +84,8 @@ impl Decoder {
     /// Takes all these bytes, and gives the keys that they end, in order. An error is want of memory, and leaves the
     /// decoder as it was.
     pub fn feed_all(&mut self, alloc: Global, bytes: &[u8]) -> Result<Vec<Key>, AllocError>
-        ensures keys { IfOk result (λ keys. (rest : List ℕ) → StandsFor self.old rest → keys.items ≡ (decoded (rest ++ bytes.now)).keys) }
-        ensures rest { OnOk result ((rest : List ℕ) → StandsFor self.old rest → StandsFor self.new (decoded (rest ++ bytes.now)).rest) }
+        ensures keys { IfOk result (λ keys. (rest : List ℕ) → StandsFor self.old rest → keys.items ≡ (decoding (rest ++ bytes.now)).keys) }
+        ensures rest { OnOk result ((rest : List ℕ) → StandsFor self.old rest → StandsFor self.new (decoding (rest ++ bytes.now)).rest) }
         ensures err { OnErr result (self.new ≡ self.old) }
     {
         let mut decoder = *self;
@@ -100,8 +100,8 @@ impl Decoder {
     /// A byte where none waits.
     fn begin(&mut self, byte: u8) -> Option<Key>
         requires { self.old ≡ [] }
-        ensures key { result ≡ key_fed [] byte }
-        ensures rest { self.new ≡ rest_fed [] byte }
+        ensures key { result ≡ key_after [] byte }
+        ensures rest { self.new ≡ rest_after [] byte }
         ensures sides { IfSome result HasSides }
     {
         match fate_after(&[], byte) {
@@ -124,9 +124,9 @@ impl Decoder {
 
     fn keep(&mut self, byte: u8)
         requires { fate (self.old ++ byte ∷ []) ≡ Fate.Waits }
-        ensures { self.new ≡ kept (self.old ++ byte ∷ []) }
+        ensures { self.new ≡ head_of (self.old ++ byte ∷ []) }
     {
-        if self.len < KEPT {
+        if self.len < HEAD_LEN {
             self.bytes[self.len] = byte;
             self.len += 1;
         }

@@ -14,7 +14,7 @@ use Rattle.bx_rows.specs.declared.row_scan.Extent.{Extent}
 use Rattle.bx_rows.specs.declared.row_scan.Scan.{Scan}
 use Rattle.bx_rows.specs.RowStarts.{first_offset, start_of}
 use Rattle.bx_rows.specs.Wrapping.{columns_at, fit_count_from, is_break, rows_from}
-use Rattle.bx_rows.specs.RowScan.{Fits, HasExtent, IsPlaced, IsRead, IsScan, Takes, new_scan}
+use Rattle.bx_rows.specs.RowScan.{Fits, HasExtent, IsInOrder, IsRead, IsScan, Takes, new_scan}
 use Rattle.bx_rows.proofs.Scans.{none_fits, scan-new, scan-more, scan-break, drop-break, drop-read, scan-length, row-at-break, scan-at-break, row-full}
 use Rattle.bx_rows.proofs.Scans.{row-none, row-last, row-empty}
 
@@ -33,8 +33,8 @@ read-new class w body = record {
   done = refl;
 }
 
-pub placed-new : (w : ℕ) (body : List ℕ) → IsUtf8 body → IsPlaced w body (new_scan (record { offset = 0; units = 0; chars = 0 })) 0
-placed-new w body u = record {
+pub in_turn-new : (w : ℕ) (body : List ℕ) → IsUtf8 body → IsInOrder w body (new_scan (record { offset = 0; units = 0; chars = 0 })) 0
+in_turn-new w body u = record {
   start = IsCharBoundary-start body u;
   next = IsCharBoundary-start body u;
   order = omega arith;

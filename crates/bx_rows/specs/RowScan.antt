@@ -32,7 +32,7 @@ pub record IsScan (p : Unit → Bool) (w : ℕ) (here behind rest : List Unit) (
   pub less : since ≤ columns
 
 -- the numbers of the row that is being read are in order, and its characters are counted
-pub record IsPlaced (w : ℕ) (body : List ℕ) (s : Scan) (at : ℕ) : Type 0 where
+pub record IsInOrder (w : ℕ) (body : List ℕ) (s : Scan) (at : ℕ) : Type 0 where
   pub start : IsCharBoundary body s.start.offset
   pub next : IsCharBoundary body s.next
   pub order : s.start.offset ≤ s.next

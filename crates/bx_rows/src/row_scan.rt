@@ -2,7 +2,7 @@
 ghost use Rattle.std.specs.Prelude.{◌≡◌, ◌≤◌, ◌<◌, ◌&&◌, ◌+◌, IfOk, List, chars, length, nat_le, nat_lt, false, take, true};
 ghost use Rattle.std.specs.Str.{IsCharBoundary};
 ghost use Rattle.bx_rows.specs.declared.start_search.RowStart.{RowStart};
-ghost use Rattle.bx_rows.specs.RowScan.{IsPlaced, Takes, new_scan, with_run};
+ghost use Rattle.bx_rows.specs.RowScan.{IsInOrder, Takes, new_scan, with_run};
 ghost use Rattle.bx_rows.specs.NarrowRuns.{IsRunIn};
 ghost use Rattle.bx_rows.specs.Wrapping.{columns_at};
 
@@ -75,11 +75,11 @@ fn start_behind(body: &str, before: RowStart, offset: usize, units: usize) -> Ro
 /// The row with one more unit, which fits.
 #[inline(always)]
 fn advance(scan: Scan, unit: Extent, body: &str, w: u16) -> Scan
-    requires placed { IsPlaced w body.now scan unit.start }
+    requires in_turn { IsInOrder w body.now scan unit.start }
     requires grows { unit.start < unit.stop }
     requires stop { IsCharBoundary body.now unit.stop }
     requires fits { (nat_lt scan.columns w && nat_le (scan.columns + columns_at w scan.columns unit.face) w) ≡ true }
-    ensures placed { IsPlaced w body.now result unit.stop }
+    ensures in_turn { IsInOrder w body.now result unit.stop }
     ensures takes { (starts : List RowStart) → Takes w body.now unit starts scan starts result }
 {
     let columns = scan.columns + columns_at(w, scan.columns, unit.face);
@@ -106,10 +106,10 @@ fn advance(scan: Scan, unit: Extent, body: &str, w: u16) -> Scan
 /// The row with a run of units, which fit.
 #[inline(always)]
 pub(crate) fn take_run(scan: Scan, run: NarrowRun, body: &str, at: usize, w: u16) -> Scan
-    requires placed { IsPlaced w body.now scan at }
+    requires in_turn { IsInOrder w body.now scan at }
     requires run { IsRunIn body.now at run }
     requires fits { scan.columns + run.count ≤ w }
-    ensures placed { IsPlaced w body.now result run.stop }
+    ensures in_turn { IsInOrder w body.now result run.stop }
     ensures run { result ≡ with_run scan run.count run.last run.next }
 {
     let columns = scan.columns + run.count;
@@ -142,13 +142,13 @@ fn pass(
     body: &str,
     w: u16,
 ) -> Result<Scan, AllocError>
-    requires placed { IsPlaced w body.now scan unit.start }
+    requires in_turn { IsInOrder w body.now scan unit.start }
     requires grows { unit.start < unit.stop }
     requires stop { IsCharBoundary body.now unit.stop }
     requires full { (nat_lt scan.columns w && nat_le (scan.columns + columns_at w scan.columns unit.face) w) ≡ false }
     requires unbroken { scan.last ≡ 0 }
     requires empty { scan.count ≡ 0 }
-    ensures placed { IfOk result (λ t. IsPlaced w body.now t unit.stop) }
+    ensures in_turn { IfOk result (λ t. IsInOrder w body.now t unit.stop) }
     ensures takes { IfOk result (λ t. Takes w body.now unit starts.old.items scan starts.new.items t) }
 {
     starts.push(scan.start)?;
@@ -164,12 +164,12 @@ fn take_unbroken(
     body: &str,
     w: u16,
 ) -> Result<Scan, AllocError>
-    requires placed { IsPlaced w body.now scan unit.start }
+    requires in_turn { IsInOrder w body.now scan unit.start }
     requires grows { unit.start < unit.stop }
     requires start { IsCharBoundary body.now unit.start }
     requires stop { IsCharBoundary body.now unit.stop }
     requires unbroken { scan.last ≡ 0 }
-    ensures placed { IfOk result (λ t. IsPlaced w body.now t unit.stop) }
+    ensures in_turn { IfOk result (λ t. IsInOrder w body.now t unit.stop) }
     ensures takes { IfOk result (λ t. Takes w body.now unit starts.old.items scan starts.new.items t) }
 {
     if fits(scan.columns, unit.face, w) {
@@ -221,12 +221,12 @@ fn turn(
     body: &str,
     w: u16,
 ) -> Result<Scan, AllocError>
-    requires placed { IsPlaced w body.now scan unit.start }
+    requires in_turn { IsInOrder w body.now scan unit.start }
     requires grows { unit.start < unit.stop }
     requires start { IsCharBoundary body.now unit.start }
     requires stop { IsCharBoundary body.now unit.stop }
     requires full { (nat_lt scan.columns w && nat_le (scan.columns + columns_at w scan.columns unit.face) w) ≡ false }
-    ensures placed { IfOk result (λ t. IsPlaced w body.now t unit.stop) }
+    ensures in_turn { IfOk result (λ t. IsInOrder w body.now t unit.stop) }
     ensures takes { IfOk result (λ t. Takes w body.now unit starts.old.items scan starts.new.items t) }
 {
     if scan.last == 0 {
@@ -245,11 +245,11 @@ pub(crate) fn take_unit(
     body: &str,
     w: u16,
 ) -> Result<Scan, AllocError>
-    requires placed { IsPlaced w body.now scan unit.start }
+    requires in_turn { IsInOrder w body.now scan unit.start }
     requires grows { unit.start < unit.stop }
     requires start { IsCharBoundary body.now unit.start }
     requires stop { IsCharBoundary body.now unit.stop }
-    ensures placed { IfOk result (λ t. IsPlaced w body.now t unit.stop) }
+    ensures in_turn { IfOk result (λ t. IsInOrder w body.now t unit.stop) }
     ensures takes { IfOk result (λ t. Takes w body.now unit starts.old.items scan starts.new.items t) }
 {
     if fits(scan.columns, unit.face, w) {

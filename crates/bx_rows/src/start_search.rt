@@ -5,7 +5,7 @@ ghost use Rattle.bx_cells.specs.Simple.{own_columns};
 ghost use Rattle.bx_cells.specs.SimpleFace.{simple_face};
 ghost use Rattle.bx_cells.specs.Units.{units_from};
 ghost use Rattle.bx_rows.specs.declared.start_search.RowStart.{RowStart};
-ghost use Rattle.bx_rows.specs.RowScan.{HasUnit, IsPlaced, IsRead};
+ghost use Rattle.bx_rows.specs.RowScan.{HasUnit, IsInOrder, IsRead};
 ghost use Rattle.bx_rows.specs.RowStarts.{row_starts};
 ghost use Rattle.bx_rows.specs.Wrapping.{columns_at};
 
@@ -81,9 +81,9 @@ fn may_begin_run(body: &str, at: usize) -> bool
 /// Reads the units of one column that begin at an offset, as many as fit; gives the offset behind them.
 #[inline(always)]
 fn read_run<D: BidiData>(scan: Scan, body: &str, at: usize, source: &D, w: u16) -> (Scan, usize)
-    requires placed { IsPlaced w body.now scan at }
+    requires in_turn { IsInOrder w body.now scan at }
     requires at { IsCharBoundary body.now at }
-    ensures placed { IsPlaced w body.now result.0 result.1 }
+    ensures in_turn { IsInOrder w body.now result.0 result.1 }
     ensures stop { (at ≤ result.1) × IsCharBoundary body.now result.1 }
     ensures read { (starts : List RowStart) → IsRead (D.class_of source.now) w body.now starts scan (units_from (D.class_of source.now) w body.now at)
         → IsRead (D.class_of source.now) w body.now starts result.0 (units_from (D.class_of source.now) w body.now result.1) }
@@ -105,9 +105,9 @@ fn read_unit<D: BidiData>(
     source: &D,
     w: u16,
 ) -> Result<(Scan, usize), AllocError>
-    requires placed { IsPlaced w body.now scan at }
+    requires in_turn { IsInOrder w body.now scan at }
     requires at { IsCharBoundary body.now at }
-    ensures placed { IfOk result (λ r. IsPlaced w body.now r.0 r.1) }
+    ensures in_turn { IfOk result (λ r. IsInOrder w body.now r.0 r.1) }
     ensures stop { IfOk result (λ r. (at ≤ r.1) × IsCharBoundary body.now r.1) }
     ensures further { at < length body.now → IfOk result (λ r. at < r.1) }
     ensures read { IsRead (D.class_of source.now) w body.now starts.old.items scan (units_from (D.class_of source.now) w body.now at)

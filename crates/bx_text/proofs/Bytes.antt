@@ -10,12 +10,12 @@ use Rattle.bx_pieces.specs.declared.piece.Piece.{Piece}
 use Rattle.bx_pieces.specs.Pieces.{total, front, back, first_of, rest_of, IsAddressable}
 use Rattle.std.proofs.lemmas.Str.{IsUtf8-nil, IsUtf8-append, IsUtf8-take, IsUtf8-drop}
 use Rattle.std.specs.Str.{IsUtf8, IsCharBoundary}
-use Rattle.bx_text.specs.Buffers.{Buffers, buffer_bytes, piece_bytes, bytes_of, IsPlaced, ArePlaced}
+use Rattle.bx_text.specs.Buffers.{Buffers, buffer_bytes, piece_bytes, bytes_of, IsInBuffer, AreInBuffers}
 use Rattle.bx_text.proofs.Characters.{IsCharBoundary-left, IsCharBoundary-right}
 
 -- ---- one piece
 
-pub length-piece_bytes : (b : Buffers) (p : Piece) → IsPlaced b p → length (piece_bytes b p) ≡ p.len
+pub length-piece_bytes : (b : Buffers) (p : Piece) → IsInBuffer b p → length (piece_bytes b p) ≡ p.len
 length-piece_bytes b p h =
     length-take-le p.len (drop p.start (buffer_bytes b p.buffer)) (omega (arith, length-drop p.start (buffer_bytes b p.buffer), h.inside))
 
@@ -60,13 +60,13 @@ in_memory : (b : Buffers) (p : Piece) → length b.opened < 2 ^ 64 → length b.
     → p.start + p.len < 2 ^ 64
 in_memory b p o a h = omega (arith, short_buffer b p.buffer o a)
 
-pub IsAddressable-placed : (b : Buffers) (ps : List Piece) → length b.opened < 2 ^ 64 → length b.added < 2 ^ 64 → ArePlaced b ps → IsAddressable ps
-IsAddressable-placed b [] o a h = h
-IsAddressable-placed b (p ∷ ps) o a h = (in_memory b p o a h.0.inside, IsAddressable-placed b ps o a h.1)
+pub IsAddressable-in_buffers : (b : Buffers) (ps : List Piece) → length b.opened < 2 ^ 64 → length b.added < 2 ^ 64 → AreInBuffers b ps → IsAddressable ps
+IsAddressable-in_buffers b [] o a h = h
+IsAddressable-in_buffers b (p ∷ ps) o a h = (in_memory b p o a h.0.inside, IsAddressable-in_buffers b ps o a h.1)
 
 -- ---- bytes
 
-pub length-bytes_of : (b : Buffers) (ps : List Piece) → ArePlaced b ps → length (bytes_of b ps) ≡ total ps
+pub length-bytes_of : (b : Buffers) (ps : List Piece) → AreInBuffers b ps → length (bytes_of b ps) ≡ total ps
 length-bytes_of b [] h = refl
 length-bytes_of b (p ∷ ps) h = omega (arith, length-append (piece_bytes b p) (bytes_of b ps), length-piece_bytes b p h.0, length-bytes_of b ps h.1)
 
@@ -75,9 +75,9 @@ bytes_of-append b [] qs = refl
 bytes_of-append b (p ∷ ps) qs = ap (λ xs. piece_bytes b p ++ xs) (bytes_of-append b ps qs)
     ∙ sym (append_assoc (piece_bytes b p) (bytes_of b ps) (bytes_of b qs))
 
-pub ArePlaced-append : (b : Buffers) (ps qs : List Piece) → ArePlaced b ps → ArePlaced b qs → ArePlaced b (ps ++ qs)
-ArePlaced-append b [] qs h k = k
-ArePlaced-append b (p ∷ ps) qs h k = (h.0, ArePlaced-append b ps qs h.1 k)
+pub AreInBuffers-append : (b : Buffers) (ps qs : List Piece) → AreInBuffers b ps → AreInBuffers b qs → AreInBuffers b (ps ++ qs)
+AreInBuffers-append b [] qs h k = k
+AreInBuffers-append b (p ∷ ps) qs h k = (h.0, AreInBuffers-append b ps qs h.1 k)
 
 -- the front and the back of a list of n and more
 take_past : (xs ys : List ℕ) (n k : ℕ) → length xs ≡ n → n ≤ k → take k (xs ++ ys) ≡ xs ++ take (k - n) ys
@@ -91,79 +91,79 @@ drop_past xs ys n k e h =
     ap (λ m. drop m (xs ++ ys)) f ∙ drop-append-add xs ys (k - n)
 
 front_bytes_at : (b : Buffers) (fits none : Bool) (x : Piece) (xs : List Piece) (k : ℕ) → nat_le x.len k ≡ fits → (k == 0) ≡ none
-    → IsPlaced b x → bytes_of b (front xs (k - x.len)) ≡ take (k - x.len) (bytes_of b xs)
+    → IsInBuffer b x → bytes_of b (front xs (k - x.len)) ≡ take (k - x.len) (bytes_of b xs)
     → bytes_of b (front (x ∷ xs) k) ≡ take k (bytes_of b (x ∷ xs))
-front_bytes_at b true none x xs k e f placed more =
+front_bytes_at b true none x xs k e f in_buffers more =
     rw e (ap (λ ys. piece_bytes b x ++ ys) more
-    ∙ sym (take_past (piece_bytes b x) (bytes_of b xs) x.len k (length-piece_bytes b x placed) (grind (arith, nat_tests))))
-front_bytes_at b false true x xs k e f placed more = let z : k ≡ 0 = grind (arith, nat_tests) in rw (e, f) (rw z refl)
-front_bytes_at b false false x xs k e f placed more =
+    ∙ sym (take_past (piece_bytes b x) (bytes_of b xs) x.len k (length-piece_bytes b x in_buffers) (grind (arith, nat_tests))))
+front_bytes_at b false true x xs k e f in_buffers more = let z : k ≡ 0 = grind (arith, nat_tests) in rw (e, f) (rw z refl)
+front_bytes_at b false false x xs k e f in_buffers more =
     let short : k ≤ x.len = grind (arith, nat_tests) in
     rw (e, f)
     (append-nil (piece_bytes b (first_of x k)) ∙ first_bytes b x k short
-    ∙ sym (take-append-le k (piece_bytes b x) (bytes_of b xs) (omega (arith, length-piece_bytes b x placed))))
+    ∙ sym (take-append-le k (piece_bytes b x) (bytes_of b xs) (omega (arith, length-piece_bytes b x in_buffers))))
 
-pub bytes_of-front : (b : Buffers) (ps : List Piece) (k : ℕ) → ArePlaced b ps → bytes_of b (front ps k) ≡ take k (bytes_of b ps)
+pub bytes_of-front : (b : Buffers) (ps : List Piece) (k : ℕ) → AreInBuffers b ps → bytes_of b (front ps k) ≡ take k (bytes_of b ps)
 bytes_of-front b [] zero h = refl
 bytes_of-front b [] (suc k) h = refl
 bytes_of-front b (x ∷ xs) k h = front_bytes_at b (nat_le x.len k) (k == 0) x xs k refl refl h.0 (bytes_of-front b xs (k - x.len) h.1)
 
 back_bytes_at : (b : Buffers) (fits none : Bool) (x : Piece) (xs : List Piece) (k : ℕ) → nat_le x.len k ≡ fits → (k == 0) ≡ none
-    → IsPlaced b x → bytes_of b (back xs (k - x.len)) ≡ drop (k - x.len) (bytes_of b xs)
+    → IsInBuffer b x → bytes_of b (back xs (k - x.len)) ≡ drop (k - x.len) (bytes_of b xs)
     → bytes_of b (back (x ∷ xs) k) ≡ drop k (bytes_of b (x ∷ xs))
-back_bytes_at b true none x xs k e f placed more =
-    rw e (more ∙ sym (drop_past (piece_bytes b x) (bytes_of b xs) x.len k (length-piece_bytes b x placed) (grind (arith, nat_tests))))
-back_bytes_at b false true x xs k e f placed more = let z : k ≡ 0 = grind (arith, nat_tests) in rw (e, f) (rw z refl)
-back_bytes_at b false false x xs k e f placed more =
+back_bytes_at b true none x xs k e f in_buffers more =
+    rw e (more ∙ sym (drop_past (piece_bytes b x) (bytes_of b xs) x.len k (length-piece_bytes b x in_buffers) (grind (arith, nat_tests))))
+back_bytes_at b false true x xs k e f in_buffers more = let z : k ≡ 0 = grind (arith, nat_tests) in rw (e, f) (rw z refl)
+back_bytes_at b false false x xs k e f in_buffers more =
     let short : k ≤ x.len = grind (arith, nat_tests) in
     rw (e, f)
     (ap (λ ys. ys ++ bytes_of b xs) (rest_bytes b x k short)
-    ∙ sym (drop-append-le k (piece_bytes b x) (bytes_of b xs) (omega (arith, length-piece_bytes b x placed))))
+    ∙ sym (drop-append-le k (piece_bytes b x) (bytes_of b xs) (omega (arith, length-piece_bytes b x in_buffers))))
 
-pub bytes_of-back : (b : Buffers) (ps : List Piece) (k : ℕ) → ArePlaced b ps → bytes_of b (back ps k) ≡ drop k (bytes_of b ps)
+pub bytes_of-back : (b : Buffers) (ps : List Piece) (k : ℕ) → AreInBuffers b ps → bytes_of b (back ps k) ≡ drop k (bytes_of b ps)
 bytes_of-back b [] zero h = refl
 bytes_of-back b [] (suc k) h = refl
 bytes_of-back b (x ∷ xs) k h = back_bytes_at b (nat_le x.len k) (k == 0) x xs k refl refl h.0 (bytes_of-back b xs (k - x.len) h.1)
 
-pub IsUtf8-bytes_of : (b : Buffers) (ps : List Piece) → ArePlaced b ps → IsUtf8 (bytes_of b ps)
+pub IsUtf8-bytes_of : (b : Buffers) (ps : List Piece) → AreInBuffers b ps → IsUtf8 (bytes_of b ps)
 IsUtf8-bytes_of b [] h = IsUtf8-nil
 IsUtf8-bytes_of b (p ∷ ps) h = IsUtf8-append (piece_bytes b p) (bytes_of b ps) h.0.utf8 (IsUtf8-bytes_of b ps h.1)
 
 -- a piece cut between two characters
-first_placed : (b : Buffers) (x : Piece) (xs : List Piece) (k : ℕ) → IsPlaced b x → k ≤ x.len → IsCharBoundary (bytes_of b (x ∷ xs)) k
-    → IsPlaced b (first_of x k)
-first_placed b x xs k h short c =
+first_in_buffers : (b : Buffers) (x : Piece) (xs : List Piece) (k : ℕ) → IsInBuffer b x → k ≤ x.len → IsCharBoundary (bytes_of b (x ∷ xs)) k
+    → IsInBuffer b (first_of x k)
+first_in_buffers b x xs k h short c =
     let at : IsCharBoundary (piece_bytes b x) k = IsCharBoundary-left (piece_bytes b x) (bytes_of b xs) k (omega (arith, length-piece_bytes b x h)) c in
     record { inside = omega (arith, h.inside); utf8 = subst IsUtf8 (sym (first_bytes b x k short)) (IsUtf8-take (piece_bytes b x) k h.utf8 at) }
 
-rest_placed : (b : Buffers) (x : Piece) (xs : List Piece) (k : ℕ) → IsPlaced b x → k ≤ x.len → IsCharBoundary (bytes_of b (x ∷ xs)) k → IsPlaced b (rest_of x k)
-rest_placed b x xs k h short c =
+rest_in_buffers : (b : Buffers) (x : Piece) (xs : List Piece) (k : ℕ) → IsInBuffer b x → k ≤ x.len → IsCharBoundary (bytes_of b (x ∷ xs)) k → IsInBuffer b (rest_of x k)
+rest_in_buffers b x xs k h short c =
     let at : IsCharBoundary (piece_bytes b x) k = IsCharBoundary-left (piece_bytes b x) (bytes_of b xs) k (omega (arith, length-piece_bytes b x h)) c in
     record { inside = omega (arith, h.inside); utf8 = subst IsUtf8 (sym (rest_bytes b x k short)) (IsUtf8-drop (piece_bytes b x) k h.utf8 at) }
 
 -- a place past the first piece
-further_bounds : (b : Buffers) (x : Piece) (xs : List Piece) (k : ℕ) → IsPlaced b x → x.len ≤ k → IsCharBoundary (bytes_of b (x ∷ xs)) k
+further_bounds : (b : Buffers) (x : Piece) (xs : List Piece) (k : ℕ) → IsInBuffer b x → x.len ≤ k → IsCharBoundary (bytes_of b (x ∷ xs)) k
     → IsCharBoundary (bytes_of b xs) (k - x.len)
 further_bounds b x xs k h past c = IsCharBoundary-right (piece_bytes b x) (bytes_of b xs) x.len k (length-piece_bytes b x h) past c
 
-front_placed_at : (b : Buffers) (fits none : Bool) (x : Piece) (xs : List Piece) (k : ℕ) → nat_le x.len k ≡ fits → (k == 0) ≡ none
-    → ArePlaced b (x ∷ xs) → IsCharBoundary (bytes_of b (x ∷ xs)) k → (IsCharBoundary (bytes_of b xs) (k - x.len) → ArePlaced b (front xs (k - x.len)))
-    → ArePlaced b (front (x ∷ xs) k)
-front_placed_at b true none x xs k e f h c more = rw e (h.0, more (further_bounds b x xs k h.0 (grind (arith, nat_tests)) c))
-front_placed_at b false true x xs k e f h c more = rw (e, f) tt
-front_placed_at b false false x xs k e f h c more = rw (e, f) (first_placed b x xs k h.0 (grind (arith, nat_tests)) c, tt)
+front_in_buffers_at : (b : Buffers) (fits none : Bool) (x : Piece) (xs : List Piece) (k : ℕ) → nat_le x.len k ≡ fits → (k == 0) ≡ none
+    → AreInBuffers b (x ∷ xs) → IsCharBoundary (bytes_of b (x ∷ xs)) k → (IsCharBoundary (bytes_of b xs) (k - x.len) → AreInBuffers b (front xs (k - x.len)))
+    → AreInBuffers b (front (x ∷ xs) k)
+front_in_buffers_at b true none x xs k e f h c more = rw e (h.0, more (further_bounds b x xs k h.0 (grind (arith, nat_tests)) c))
+front_in_buffers_at b false true x xs k e f h c more = rw (e, f) tt
+front_in_buffers_at b false false x xs k e f h c more = rw (e, f) (first_in_buffers b x xs k h.0 (grind (arith, nat_tests)) c, tt)
 
-pub ArePlaced-front : (b : Buffers) (ps : List Piece) (k : ℕ) → ArePlaced b ps → IsCharBoundary (bytes_of b ps) k → ArePlaced b (front ps k)
-ArePlaced-front b [] k h c = h
-ArePlaced-front b (x ∷ xs) k h c = front_placed_at b (nat_le x.len k) (k == 0) x xs k refl refl h c (ArePlaced-front b xs (k - x.len) h.1)
+pub AreInBuffers-front : (b : Buffers) (ps : List Piece) (k : ℕ) → AreInBuffers b ps → IsCharBoundary (bytes_of b ps) k → AreInBuffers b (front ps k)
+AreInBuffers-front b [] k h c = h
+AreInBuffers-front b (x ∷ xs) k h c = front_in_buffers_at b (nat_le x.len k) (k == 0) x xs k refl refl h c (AreInBuffers-front b xs (k - x.len) h.1)
 
-back_placed_at : (b : Buffers) (fits none : Bool) (x : Piece) (xs : List Piece) (k : ℕ) → nat_le x.len k ≡ fits → (k == 0) ≡ none
-    → ArePlaced b (x ∷ xs) → IsCharBoundary (bytes_of b (x ∷ xs)) k → (IsCharBoundary (bytes_of b xs) (k - x.len) → ArePlaced b (back xs (k - x.len)))
-    → ArePlaced b (back (x ∷ xs) k)
-back_placed_at b true none x xs k e f h c more = rw e (more (further_bounds b x xs k h.0 (grind (arith, nat_tests)) c))
-back_placed_at b false true x xs k e f h c more = rw (e, f) h
-back_placed_at b false false x xs k e f h c more = rw (e, f) (rest_placed b x xs k h.0 (grind (arith, nat_tests)) c, h.1)
+back_in_buffers_at : (b : Buffers) (fits none : Bool) (x : Piece) (xs : List Piece) (k : ℕ) → nat_le x.len k ≡ fits → (k == 0) ≡ none
+    → AreInBuffers b (x ∷ xs) → IsCharBoundary (bytes_of b (x ∷ xs)) k → (IsCharBoundary (bytes_of b xs) (k - x.len) → AreInBuffers b (back xs (k - x.len)))
+    → AreInBuffers b (back (x ∷ xs) k)
+back_in_buffers_at b true none x xs k e f h c more = rw e (more (further_bounds b x xs k h.0 (grind (arith, nat_tests)) c))
+back_in_buffers_at b false true x xs k e f h c more = rw (e, f) h
+back_in_buffers_at b false false x xs k e f h c more = rw (e, f) (rest_in_buffers b x xs k h.0 (grind (arith, nat_tests)) c, h.1)
 
-pub ArePlaced-back : (b : Buffers) (ps : List Piece) (k : ℕ) → ArePlaced b ps → IsCharBoundary (bytes_of b ps) k → ArePlaced b (back ps k)
-ArePlaced-back b [] k h c = h
-ArePlaced-back b (x ∷ xs) k h c = back_placed_at b (nat_le x.len k) (k == 0) x xs k refl refl h c (ArePlaced-back b xs (k - x.len) h.1)
+pub AreInBuffers-back : (b : Buffers) (ps : List Piece) (k : ℕ) → AreInBuffers b ps → IsCharBoundary (bytes_of b ps) k → AreInBuffers b (back ps k)
+AreInBuffers-back b [] k h c = h
+AreInBuffers-back b (x ∷ xs) k h c = back_in_buffers_at b (nat_le x.len k) (k == 0) x xs k refl refl h c (AreInBuffers-back b xs (k - x.len) h.1)

@@ -3,7 +3,7 @@ use Rattle.std.proofs.Common.{◌≡◌, ℕ, ◌+◌, ◌-◌, ◌≤◌, List,
 use Rattle.std.proofs.lemmas.List.{length-take-le, length-drop, get_or_append_left, get_or-append_right, get_or-drop}
 use Rattle.std.proofs.lemmas.Str.{IsUtf8-append, IsUtf8-take, IsUtf8-drop, IsCharBoundary-at_seam}
 use Rattle.std.specs.Str.{IsUtf8, IsCharBoundary}
-use Rattle.bx_text.specs.Edits.{IsRange, spliced}
+use Rattle.bx_text.specs.Edits.{IsRange, splice}
 
 -- a place in one of two texts that are joined
 pub IsCharBoundary-left : (xs ys : List ℕ) (k : ℕ) → k ≤ length xs → IsCharBoundary (xs ++ ys) k → IsCharBoundary xs k
@@ -23,19 +23,19 @@ pub IsUtf8-inside : (text : List ℕ) (start len : ℕ) → IsUtf8 text → IsRa
 IsUtf8-inside text start len utf8 r =
     IsUtf8-take (drop start text) len (IsUtf8-drop text start utf8 r.start_bounds) (IsCharBoundary-drop text start len r.stop_bounds)
 
-pub IsUtf8-spliced : (text new : List ℕ) (start len : ℕ) → IsUtf8 text → IsUtf8 new → IsRange text start (start + len)
-    → IsUtf8 (spliced text start (start + len) new)
-IsUtf8-spliced text new start len utf8 more r =
+pub IsUtf8-splice : (text new : List ℕ) (start len : ℕ) → IsUtf8 text → IsUtf8 new → IsRange text start (start + len)
+    → IsUtf8 (splice text start (start + len) new)
+IsUtf8-splice text new start len utf8 more r =
     IsUtf8-append (take start text ++ new) (drop (start + len) text) (IsUtf8-append (take start text) new (IsUtf8-take text start utf8 r.start_bounds) more)
     (IsUtf8-drop text (start + len) utf8 r.stop_bounds)
 
 -- what was put in stands between two places
-pub IsRange-spliced : (text new : List ℕ) (start len : ℕ) → IsUtf8 text → IsUtf8 new → IsRange text start (start + len)
-    → IsRange (spliced text start (start + len) new) start (start + length new)
-IsRange-spliced text new start len utf8 more r =
+pub IsRange-splice : (text new : List ℕ) (start len : ℕ) → IsUtf8 text → IsUtf8 new → IsRange text start (start + len)
+    → IsRange (splice text start (start + len) new) start (start + length new)
+IsRange-splice text new start len utf8 more r =
     let rest : IsUtf8 (drop (start + len) text) = IsUtf8-drop text (start + len) utf8 r.stop_bounds in
     let before : length (take start text) ≡ start = length-take-le start text (omega (arith, r.start_bounds.0)) in
-    let t : List ℕ = spliced text start (start + len) new in
+    let t : List ℕ = splice text start (start + len) new in
     record {
       start_bounds = subst (IsCharBoundary t) before
           (IsCharBoundary-at_seam t (take start text) (new ++ drop (start + len) text) (append_assoc (take start text) new (drop (start + len) text))

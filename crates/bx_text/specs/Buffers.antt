@@ -22,13 +22,13 @@ bytes_of b [] = []
 bytes_of b (p ∷ ps) = piece_bytes b p ++ bytes_of b ps
 
 -- the piece stands in its buffer, and is made of whole characters
-pub record IsPlaced (b : Buffers) (p : Piece) : Type 0 where
+pub record IsInBuffer (b : Buffers) (p : Piece) : Type 0 where
   pub inside : p.start + p.len ≤ length (buffer_bytes b p.buffer)
   pub utf8 : IsUtf8 (piece_bytes b p)
 
-abbrev pub ArePlaced : Buffers → List Piece → Type 0
-ArePlaced b [] = Unit {0}
-ArePlaced b (p ∷ ps) = IsPlaced b p × ArePlaced b ps
+abbrev pub AreInBuffers : Buffers → List Piece → Type 0
+AreInBuffers b [] = Unit {0}
+AreInBuffers b (p ∷ ps) = IsInBuffer b p × AreInBuffers b ps
 
 -- the pieces with so many added bytes behind them, which stand in their buffer from an offset on
 abbrev pub with_added : List Piece → ℕ → ℕ → List Piece

@@ -4,24 +4,24 @@ use Rattle.std.specs.Prelude.{◌^◌, ◌<◌, ◌++◌, ◌≡◌, ℕ, ◌+�
 use Rattle.bx_pieces.specs.declared.piece.Piece.{Piece}
 use Rattle.bx_pieces.specs.Pieces.{total, front, back}
 use Rattle.bx_text.specs.declared.step.Step.{Step}
-use Rattle.bx_text.specs.Buffers.{Buffers, bytes_of, ArePlaced}
-use Rattle.bx_text.specs.Edits.{Edit, IsRange, spliced, largest_text}
+use Rattle.bx_text.specs.Buffers.{Buffers, bytes_of, AreInBuffers}
+use Rattle.bx_text.specs.Edits.{Edit, IsRange, splice, largest_text}
 
 -- the text with the step's pieces in the place of what stands there
-abbrev pub swapped : Buffers → List ℕ → Step → List ℕ
-swapped b text s = spliced text s.start (s.start + s.len) (bytes_of b s.span)
+abbrev pub after_swap : Buffers → List ℕ → Step → List ℕ
+after_swap b text s = splice text s.start (s.start + s.len) (bytes_of b s.span)
 
 -- the edits that led to a text, the latest first
 abbrev pub past_of : Buffers → List ℕ → List Step → List Edit
 past_of b text [] = []
 past_of b text (s ∷ ss) =
     record {
-      before = record { text = swapped b text s; place = s.before };
+      before = record { text = after_swap b text s; place = s.before };
       after = record { text = text; place = s.after };
       start = s.start;
       removed = total s.span;
       added = s.len;
-    } ∷ past_of b (swapped b text s) ss
+    } ∷ past_of b (after_swap b text s) ss
 
 -- the edits that lead on from a text, the next first
 abbrev pub future_of : Buffers → List ℕ → List Step → List Edit
@@ -29,17 +29,17 @@ future_of b text [] = []
 future_of b text (s ∷ ss) =
     record {
       before = record { text = text; place = s.before };
-      after = record { text = swapped b text s; place = s.after };
+      after = record { text = after_swap b text s; place = s.after };
       start = s.start;
       removed = s.len;
       added = total s.span;
-    } ∷ future_of b (swapped b text s) ss
+    } ∷ future_of b (after_swap b text s) ss
 
 -- each step can be made where its turn comes
 abbrev pub AreSteps : Buffers → List ℕ → List Step → Type 0
 AreSteps b text [] = Unit {0}
 AreSteps b text (s ∷ ss) =
-    IsRange text s.start (s.start + s.len) × ArePlaced b s.span × (length (swapped b text s) ≤ largest_text) × AreSteps b (swapped b text s) ss
+    IsRange text s.start (s.start + s.len) × AreInBuffers b s.span × (length (after_swap b text s) ≤ largest_text) × AreSteps b (after_swap b text s) ss
 
 -- the last of some steps puts in no more than a machine can count beside the pieces
 abbrev pub IsShort : List Piece → List Step → Type 0

@@ -1,7 +1,7 @@
 -- What a text is seen as: its bytes with past and future, and the room that was made for the next edit.
 use Rattle.std.specs.Prelude.{ℕ, ◌+◌, ◌≤◌, List, length, reverse, Option, None, Some, IfSome, string_bytes, string_len, string_capacity, vec_len, vec_capacity}
 use Rattle.bx_text.specs.declared.text.Text.TheInside.{Inside}
-use Rattle.bx_text.specs.Buffers.{Buffers, bytes_of, ArePlaced}
+use Rattle.bx_text.specs.Buffers.{Buffers, bytes_of, AreInBuffers}
 use Rattle.bx_text.specs.Edits.{Edited, largest_text}
 use Rattle.bx_text.specs.Steps.{past_of, future_of, AreSteps}
 
@@ -33,7 +33,7 @@ pub record HasRoom (t : Inside) (bytes : ℕ) : Type 0 where
   pub trees : 3 ≤ t.spares
 
 pub record IsText (t : Inside) : Type 0 where
-  pub placed : ArePlaced (buffers_of t) t.pieces
+  pub in_buffers : AreInBuffers (buffers_of t) t.pieces
   pub short : length (bytes_in t) ≤ largest_text
   pub past_steps : AreSteps (buffers_of t) (bytes_in t) (reverse t.past.items)
   pub future_steps : AreSteps (buffers_of t) (bytes_in t) (reverse t.future.items)

@@ -1,7 +1,7 @@
 //! The two buffers that pieces stand in, read.
 
 ghost use Rattle.std.specs.Prelude.{◌≡◌, ◌<◌, ◌↔◌, IsSome, IfSome, length, IsCharBoundary};
-ghost use Rattle.bx_text.specs.Buffers.{Buffers, buffer_bytes, bytes_of, ArePlaced, IsRest};
+ghost use Rattle.bx_text.specs.Buffers.{Buffers, buffer_bytes, bytes_of, AreInBuffers, IsRest};
 
 use bx_pieces::{Buffer, Pieces};
 
@@ -17,7 +17,7 @@ fn buffer_of<'a>(opened: &'a str, added: &'a str, buffer: Buffer) -> &'a str
 /// The rest, from an offset on, of the piece that holds it; none where the offset bounds no character, is
 /// the end of the pieces' text or is past it. No memory.
 pub fn rest_in<'a>(opened: &'a str, added: &'a str, pieces: &Pieces, at: usize) -> Option<&'a str>
-    requires { ArePlaced (record { opened = opened.now; added = added.now }) pieces.now }
+    requires { AreInBuffers (record { opened = opened.now; added = added.now }) pieces.now }
     ensures there { let text = bytes_of (record { opened = opened.now; added = added.now }) pieces.now in
         IsSome result ↔ (IsCharBoundary text at × (at < length text)) }
     ensures rest { let text = bytes_of (record { opened = opened.now; added = added.now }) pieces.now in

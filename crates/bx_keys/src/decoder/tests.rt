@@ -6,7 +6,7 @@ use std::process::Abort;
 use std::test::Fail;
 
 /// The keys of the input, in words, and the bytes that wait.
-fn decoded(alloc: Global, input: &[u8]) -> Result<(String, Vec<u8>), Fail> {
+fn decoding(alloc: Global, input: &[u8]) -> Result<(String, Vec<u8>), Fail> {
     let mut decoder = Decoder::new();
     let mut words = String::new(alloc);
     for key in decoder.feed_all(alloc, input)? {
@@ -73,7 +73,7 @@ fn random_inputs_have_the_model_s_keys(rt: HostRuntime) -> Result<(), Fail> {
         let input = from_hex(alloc, fields.next().ok_or("no input")?)?;
         let keys = fields.next().ok_or("no keys")?;
         let rest = from_hex(alloc, fields.next().ok_or("no rest")?)?;
-        let (words, waiting) = decoded(alloc, input.as_slice())?;
+        let (words, waiting) = decoding(alloc, input.as_slice())?;
         assert_eq!(rt; words.as_str(), keys, "at {vector}");
         assert_eq!(rt; waiting.as_slice(), rest.as_slice(), "at {vector}");
     }
@@ -276,7 +276,7 @@ fn every_byte_after_each_beginning(rt: HostRuntime) -> Result<(), Fail> {
 /// The keys of each input, in words.
 fn keys_are(rt: &impl Abort, alloc: Global, rows: &[(&[u8], &str)]) -> Result<(), Fail> {
     for (input, keys) in rows {
-        let (words, _) = decoded(alloc, input)?;
+        let (words, _) = decoding(alloc, input)?;
         assert_eq!(rt; words.as_str(), *keys, "at {input:?}");
     }
     Ok(())

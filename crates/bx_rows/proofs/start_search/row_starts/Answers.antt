@@ -3,8 +3,8 @@ use Rattle.std.proofs.lemmas.Bool.Decides.{nat_tests}
 use Rattle.std.proofs.lemmas.Str.{IsCharBoundary-start}
 use Rattle.bx_cells.specs.Units.{units_from}
 use Rattle.bx_cells.proofs.Rest.{none-behind}
-use Rattle.bx_rows.specs.RowScan.{IsPlaced, IsRead, new_scan}
-use Rattle.bx_rows.proofs.RowReads.{placed-new, read-new, read-last, read-empty}
+use Rattle.bx_rows.specs.RowScan.{IsInOrder, IsRead, new_scan}
+use Rattle.bx_rows.proofs.RowReads.{in_turn-new, read-new, read-last, read-empty}
 use Rattle.bx_rows.proofs.RowUnits.{starts-of-some, starts-of-none}
 use Rattle.bx_rows.proofs.start_search.row_starts.Goals as goal
 
@@ -30,7 +30,7 @@ loop-at-init g c =
     let body = c.args.body.now in
     let w = c.args.w in
     record {
-      placed = subst (λ s. IsPlaced w body s 0) (sym c.new_scan-scan.ensures) (placed-new w body c.utf8.body);
+      in_turn = subst (λ s. IsInOrder w body s 0) (sym c.new_scan-scan.ensures) (in_turn-new w body c.utf8.body);
       boundary = IsCharBoundary-start body c.utf8.body;
       read = subst (λ s. IsRead class w body c.new-starts.result.items s (units_from class w body 0)) (sym c.new_scan-scan.ensures)
           (subst (λ xs. IsRead class w body xs (new_scan (record { offset = 0; units = 0; chars = 0 })) (units_from class w body 0))
@@ -40,7 +40,7 @@ loop-at-init g c =
 
 pub loop-at-preserved : goal.loop-at-preserved
 loop-at-preserved g c = record {
-  placed = c.in_ok-next.ensures.placed;
+  in_turn = c.in_ok-next.ensures.in_turn;
   boundary = c.in_ok-next.ensures.stop.1;
   read = c.in_ok-next.ensures.read (c.read_run-behind.ensures.read c.loop-at.starts.items c.loop-at.invariant.read);
 }

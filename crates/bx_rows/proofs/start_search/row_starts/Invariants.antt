@@ -2,12 +2,12 @@
 use Rattle.std.proofs.Common.{◌-◌, length}
 use Rattle.std.specs.Str.{IsCharBoundary}
 use Rattle.bx_cells.specs.Units.{units_from}
-use Rattle.bx_rows.specs.RowScan.{IsPlaced, IsRead}
+use Rattle.bx_rows.specs.RowScan.{IsInOrder, IsRead}
 use Rattle.bx_rows.proofs.start_search.row_starts.Given as goal
 
 abbrev pub invariant-loop-at : goal.invariant-loop-at
 invariant-loop-at g l = record {
-  placed : IsPlaced l.w l.body l.scan l.at;
+  in_turn : IsInOrder l.w l.body l.scan l.at;
   boundary : IsCharBoundary l.body l.at;
   read : IsRead (g.D.BidiData.class_of l.source) l.w l.body l.starts.items l.scan (units_from (g.D.BidiData.class_of l.source) l.w l.body l.at);
 }

@@ -17,7 +17,7 @@ pub overflow_add-start : goal.overflow_add-start
 overflow_add-start c =
     let b : Buffers = record { opened = c.args.opened.now; added = c.args.added.now } in
     let h = holds b c.args.pieces.now c.args.at c.in_ok-piece.piece c.in_ok-piece.before c.requires (sym c.holding.ensures ∙ c.in_ok-piece.was) in
-    omega (arith, h.placed.inside, h.before_end, ap length c.buffer_of-text.ensures)
+    omega (arith, h.in_buffers.inside, h.before_end, ap length c.buffer_of-text.ensures)
 
 pub returns-then-not-is_char_boundary-clause-there : goal.returns-then-not-is_char_boundary-clause-there
 returns-then-not-is_char_boundary-clause-there c =
@@ -33,7 +33,7 @@ pub overflow_add-piece : goal.overflow_add-piece
 overflow_add-piece c =
     let b : Buffers = record { opened = c.args.opened.now; added = c.args.added.now } in
     let h = holds b c.args.pieces.now c.args.at c.in_ok-piece.piece c.in_ok-piece.before c.requires (sym c.holding.ensures ∙ c.in_ok-piece.was) in
-    omega (arith, h.placed.inside, ap length c.buffer_of-text.ensures)
+    omega (arith, h.in_buffers.inside, ap length c.buffer_of-text.ensures)
 
 pub range-requires-clause-start_le_end : goal.range-requires-clause-start_le_end
 range-requires-clause-start_le_end c =

@@ -6,9 +6,9 @@ use Rattle.bx_text.proofs.text.Text.len.Goals as goal
 
 pub returns-clause-len : goal.returns-clause-len
 returns-clause-len c =
-    c.len.ensures ∙ sym (length-bytes_of (buffers_of c.self.inside) c.self.inside.pieces c.self.invariant.placed)
+    c.len.ensures ∙ sym (length-bytes_of (buffers_of c.self.inside) c.self.inside.pieces c.self.invariant.in_buffers)
     ∙ ap (λ (t : TextState). length t.edited.text) c.self.view_is
 
 pub returns-clause-utf8 : goal.returns-clause-utf8
 returns-clause-utf8 c =
-    subst (λ (t : TextState). IsUtf8 t.edited.text) c.self.view_is (IsUtf8-bytes_of (buffers_of c.self.inside) c.self.inside.pieces c.self.invariant.placed)
+    subst (λ (t : TextState). IsUtf8 t.edited.text) c.self.view_is (IsUtf8-bytes_of (buffers_of c.self.inside) c.self.inside.pieces c.self.invariant.in_buffers)

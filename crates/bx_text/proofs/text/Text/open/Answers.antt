@@ -6,21 +6,21 @@ use Rattle.std.proofs.lemmas.Str.{IsUtf8-string_bytes}
 use Rattle.bx_pieces.specs.declared.piece.Piece.{Piece}
 use Rattle.bx_pieces.specs.declared.piece.Buffer.TheVariants.{Opened}
 use Rattle.bx_pieces.specs.Pieces.{total, pushed}
-use Rattle.bx_text.specs.Buffers.{Buffers, ArePlaced}
+use Rattle.bx_text.specs.Buffers.{Buffers, AreInBuffers}
 use Rattle.bx_text.proofs.Bytes.{length-bytes_of}
 use Rattle.bx_text.proofs.text.Text.open.Goals as goal
 
 -- the pieces of a text as it is opened
 record IsWhole (b : Buffers) (ps : List Piece) : Type 0 where
-  pub placed : ArePlaced b ps
+  pub in_buffers : AreInBuffers b ps
   pub count : total ps ≤ length b.opened
 
 whole_of : (b : Buffers) (n : ℕ) → n ≡ length b.opened → IsUtf8 b.opened
     → (none : Bool) → (n == 0) ≡ none → IsWhole b (pushed [] (record { buffer = Opened; start = 0; len = n }))
-whole_of b n f utf8 true e = rw e (record { placed = tt; count = omega arith })
+whole_of b n f utf8 true e = rw e (record { in_buffers = tt; count = omega arith })
 whole_of b n f utf8 false e =
     let same : take n b.opened ≡ b.opened = take_all n b.opened (omega (arith, f)) in
-    rw e (record { placed = (record { inside = omega (arith, f); utf8 = subst IsUtf8 (sym same) utf8 }, tt); count = omega (arith, f) })
+    rw e (record { in_buffers = (record { inside = omega (arith, f); utf8 = subst IsUtf8 (sym same) utf8 }, tt); count = omega (arith, f) })
 
 pub invariant_of-result : goal.invariant_of-result
 invariant_of-result c =
@@ -29,11 +29,11 @@ invariant_of-result c =
     rw c.of-pieces.ensures.pieces
     (whole_of b c.len-len.result (c.len-len.ensures ∙ c.args.text.bytes.ok.0) (IsUtf8-string_bytes c.args.text) (c.len-len.result == 0) refl) in
     record {
-      placed = whole.placed;
+      in_buffers = whole.in_buffers;
       short = omega (
         arith,
         whole.count,
-        length-bytes_of b c.of-pieces.result whole.placed,
+        length-bytes_of b c.of-pieces.result whole.in_buffers,
         c.if-len-gt-LARGEST_TEXT.false,
         c.len-len.ensures,
         c.args.text.bytes.ok.0,

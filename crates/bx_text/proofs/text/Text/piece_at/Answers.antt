@@ -6,4 +6,4 @@ use Rattle.bx_text.proofs.text.Text.piece_at.Goals as goal
 
 pub returns-clause-utf8 : goal.returns-clause-utf8
 returns-clause-utf8 c =
-    subst (λ (t : TextState). IsUtf8 t.edited.text) c.self.view_is (IsUtf8-bytes_of (buffers_of c.self.inside) c.self.inside.pieces c.self.invariant.placed)
+    subst (λ (t : TextState). IsUtf8 t.edited.text) c.self.view_is (IsUtf8-bytes_of (buffers_of c.self.inside) c.self.inside.pieces c.self.invariant.in_buffers)

@@ -8,9 +8,9 @@ use Rattle.bx_text.specs.Buffers.{Buffers, bytes_of, with_added}
 use Rattle.bx_text.specs.Edits.{Edited, IsRange, Leads, replaced}
 use Rattle.bx_text.specs.Steps.{future_of}
 use Rattle.std.specs.Str.{IsUtf8}
-use Rattle.bx_text.proofs.Versions.{grown, spliced_leads}
+use Rattle.bx_text.proofs.Versions.{grown, splice_leads}
 use Rattle.bx_text.specs.Text.{TextState, buffers_of}
-use Rattle.bx_text.proofs.Bytes.{IsAddressable-placed, length-bytes_of, IsUtf8-bytes_of}
+use Rattle.bx_text.proofs.Bytes.{IsAddressable-in_buffers, length-bytes_of, IsUtf8-bytes_of}
 use Rattle.bx_text.proofs.Replaced.{edited_after, sound_after, pieces_after, step_back}
 use Rattle.bx_text.proofs.text.Text.replace.Goals as goal
 
@@ -32,17 +32,17 @@ steps_are ps span more past items start len before after e f =
 
 pub put-old-requires-clause-fits : goal.put-old-requires-clause-fits
 put-old-requires-clause-fits c =
-    IsAddressable-placed (buffers_of c.self.inside) c.self.inside.pieces
+    IsAddressable-in_buffers (buffers_of c.self.inside) c.self.inside.pieces
     (omega (arith, c.self.inside.opened.bytes.small, c.self.inside.opened.bytes.ok))
     (omega (arith, c.self.inside.added.bytes.small, c.self.inside.added.bytes.ok))
-    c.self.invariant.placed
+    c.self.invariant.in_buffers
 
 pub put-old-requires-clause-small : goal.put-old-requires-clause-small
 put-old-requires-clause-small c =
     omega (
       arith,
       c.self.invariant.short,
-      length-bytes_of (buffers_of c.self.inside) c.self.inside.pieces c.self.invariant.placed,
+      length-bytes_of (buffers_of c.self.inside) c.self.inside.pieces c.self.invariant.in_buffers,
       c.requires.short,
       c.requires.range.stop_bounds.0,
       ap (λ (x : TextState). length x.edited.text) c.self.view_is,
@@ -53,7 +53,7 @@ invariant_of-self c =
     let t = c.self.inside in
     let more = c.args.text.now in
     let items = rw c.unwrap.ensures at c.push.ensures.items in
-    let sound = sound_after (buffers_of t) t.pieces more c.args.start c.args.len c.args.before c.args.after c.self.invariant.placed c.utf8.text
+    let sound = sound_after (buffers_of t) t.pieces more c.args.start c.args.len c.args.before c.args.after c.self.invariant.in_buffers c.utf8.text
     (subst (λ (x : TextState). IsRange x.edited.text c.args.start (c.args.start + c.args.len)) (sym c.self.view_is) c.requires.range)
     (reverse t.past.items) c.self.invariant.short
     (omega (arith, c.requires.short, ap (λ (x : TextState). length x.edited.text) c.self.view_is))
@@ -65,7 +65,7 @@ invariant_of-self c =
     (steps_are t.pieces c.put-old.result more t.past.items c.push.new.self.items c.args.start c.args.len c.args.before c.args.after items
     c.put-old.ensures.span) in
     record {
-      placed = sound.placed;
+      in_buffers = sound.in_buffers;
       short = sound.short;
       past_steps = sound.steps;
       future_steps = rw c.clear.ensures.items tt;
@@ -77,7 +77,7 @@ returns-clause-text c =
     let t = c.self.inside in
     let more = c.args.text.now in
     let items = rw c.unwrap.ensures at c.push.ensures.items in
-    let same = edited_after (buffers_of t) t.pieces more c.args.start c.args.len c.args.before c.args.after c.self.invariant.placed c.utf8.text
+    let same = edited_after (buffers_of t) t.pieces more c.args.start c.args.len c.args.before c.args.after c.self.invariant.in_buffers c.utf8.text
     (subst (λ (x : TextState). IsRange x.edited.text c.args.start (c.args.start + c.args.len)) (sym c.self.view_is) c.requires.range)
     (reverse t.past.items) (future_of (buffers_of t) (bytes_of (buffers_of t) t.pieces) (reverse t.future.items))
     c.self.invariant.past_steps
@@ -95,8 +95,8 @@ pub returns-clause-leads : goal.returns-clause-leads
 returns-clause-leads c =
     let t = c.self.inside in
     let utf8 : IsUtf8 c.args.self.now.edited.text =
-    subst (λ (x : TextState). IsUtf8 x.edited.text) c.self.view_is (IsUtf8-bytes_of (buffers_of t) t.pieces c.self.invariant.placed) in
+    subst (λ (x : TextState). IsUtf8 x.edited.text) c.self.view_is (IsUtf8-bytes_of (buffers_of t) t.pieces c.self.invariant.in_buffers) in
     subst (λ (x : List ℕ). Leads c.args.self.now.edited.text
     (record { start = c.args.start; removed = c.args.len; added = length c.args.text.now; place = c.args.after }) x)
     (sym (ap (λ (x : TextState). x.edited.text) (returns-clause-text c)))
-    (spliced_leads c.args.self.now.edited.text c.args.text.now c.args.start c.args.len c.args.after utf8 c.utf8.text c.requires.range)
+    (splice_leads c.args.self.now.edited.text c.args.text.now c.args.start c.args.len c.args.after utf8 c.utf8.text c.requires.range)

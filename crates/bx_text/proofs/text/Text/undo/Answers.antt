@@ -4,29 +4,29 @@ use Rattle.bx_text.specs.declared.change.Change.{Change}
 use Rattle.bx_text.specs.Buffers.{bytes_of}
 use Rattle.bx_text.specs.Edits.{Leads, undone, next_undo}
 use Rattle.bx_text.specs.Steps.{future_of}
-use Rattle.bx_text.proofs.Bytes.{IsAddressable-placed}
+use Rattle.bx_text.proofs.Bytes.{IsAddressable-in_buffers}
 use Rattle.bx_text.proofs.Turned.{span_short, turned_sound, undone_view, undone_leads}
 use Rattle.bx_text.proofs.text.Text.undo.Goals as goal
 
 pub turn-requires-clause-fits : goal.turn-requires-clause-fits
 turn-requires-clause-fits c =
-    IsAddressable-placed (buffers_of c.self.inside) c.self.inside.pieces
+    IsAddressable-in_buffers (buffers_of c.self.inside) c.self.inside.pieces
     (omega (arith, c.self.inside.opened.bytes.small, c.self.inside.opened.bytes.ok))
     (omega (arith, c.self.inside.added.bytes.small, c.self.inside.added.bytes.ok))
-    c.self.invariant.placed
+    c.self.invariant.in_buffers
 
 pub turn-requires-clause-small : goal.turn-requires-clause-small
 turn-requires-clause-small c s rest e =
-    span_short (buffers_of c.self.inside) c.self.inside.pieces c.self.inside.past.items rest s c.self.invariant.placed c.self.invariant.short
+    span_short (buffers_of c.self.inside) c.self.inside.pieces c.self.inside.past.items rest s c.self.invariant.in_buffers c.self.invariant.short
     c.self.invariant.past_steps e
 
 pub invariant_of-self-2 : goal.invariant_of-self-2
 invariant_of-self-2 c =
     let t = c.self.inside in
     let sound = turned_sound (buffers_of t) t.pieces t.past.items t.future.items c.turn.new.pieces c.turn.new.from.items c.turn.new.to.items
-    c.self.invariant.placed c.self.invariant.short c.self.invariant.past_steps c.self.invariant.future_steps c.in_ok-turn.ensures.ok in
+    c.self.invariant.in_buffers c.self.invariant.short c.self.invariant.past_steps c.self.invariant.future_steps c.in_ok-turn.ensures.ok in
     record {
-      placed = sound.placed;
+      in_buffers = sound.in_buffers;
       short = sound.short;
       past_steps = sound.from_steps;
       future_steps = sound.to_steps;
@@ -37,7 +37,7 @@ pub returns-clause-ok : goal.returns-clause-ok
 returns-clause-ok c =
     let t = c.self.inside in
     undone_view (buffers_of t) t.pieces t.past.items t.future.items c.turn.new.pieces c.turn.new.from.items c.turn.new.to.items
-    c.self.invariant.placed c.self.invariant.past_steps c.in_ok-turn.ensures.ok
+    c.self.invariant.in_buffers c.self.invariant.past_steps c.in_ok-turn.ensures.ok
     ∙ ap (λ (x : TextState). undone x.edited) c.self.view_is
 
 pub returns-clause-leads : goal.returns-clause-leads
@@ -47,4 +47,4 @@ returns-clause-leads c =
     subst (λ (o : Option Change). IfSome o (λ d. Leads c.args.self.now.edited.text d after)) (sym c.next_undo-change.ensures)
     (subst (λ (x : TextState). IfSome (next_undo x.edited) (λ d. Leads x.edited.text d after)) c.self.view_is
     (undone_leads (buffers_of t) t.pieces t.past.items t.future.items (future_of (buffers_of t) (bytes_of (buffers_of t) t.pieces) (reverse t.future.items))
-    c.turn.new.pieces c.turn.new.from.items c.turn.new.to.items c.self.invariant.placed c.self.invariant.past_steps c.in_ok-turn.ensures.ok))
+    c.turn.new.pieces c.turn.new.from.items c.turn.new.to.items c.self.invariant.in_buffers c.self.invariant.past_steps c.in_ok-turn.ensures.ok))

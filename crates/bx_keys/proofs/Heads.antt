@@ -14,7 +14,7 @@ use Rattle.bx_bytes.specs.Fate.{fate_in}
 use Rattle.bx_bytes.specs.declared.fate.Fate.TheVariants.{Waits, Breaks}
 use Rattle.bx_bytes.proofs.Codes.{too_long}
 use Rattle.bx_keys.specs.Keys.{is_side_in_digits, size_key, final_byte, before_final, sequence_keys, sequence_key, key_of}
-use Rattle.bx_keys.specs.Waiting.{fate, kept}
+use Rattle.bx_keys.specs.Waiting.{fate, head_of}
 use Rattle.bx_keys.proofs.Characters.{no_escape}
 use Rattle.bx_keys.proofs.Sequences.{past_by, only_waits, after_escape, after_intermediate, control_more, shift_more, long_more}
 
@@ -72,20 +72,20 @@ cut_at a (b ∷ c ∷ d ∷ e ∷ bs) l h = elim (cases_eq a 0x1B) [
   | inr other ↦ absurd (let no : Breaks ≡ Waits = sym (too_long a b c d e bs) ∙ (sym (no_escape a (b ∷ c ∷ d ∷ e ∷ bs) other) ∙ h) in cc no)
 ]
 
-whole_or_cut : (rest : List ℕ) → fate rest ≡ Waits → (kept rest ≡ rest) ⊎ IsCut rest
+whole_or_cut : (rest : List ℕ) → fate rest ≡ Waits → (head_of rest ≡ rest) ⊎ IsCut rest
 whole_or_cut [] h = inl refl
 whole_or_cut (a ∷ bs) h = elim (cases_lt (length bs) 12) [
   | inl few ↦ inl (take_all 12 (a ∷ bs) (omega arith))
   | inr many ↦ inr (cut_at a bs many h)
 ]
 
-kept_of_cut : (rest : List ℕ) (cut : IsCut rest) → kept rest ≡ 0x1B ∷ cut.second ∷ take 10 cut.others
-kept_of_cut rest cut = ap kept cut.bytes
+head_of_cut : (rest : List ℕ) (cut : IsCut rest) → head_of rest ≡ 0x1B ∷ cut.second ∷ take 10 cut.others
+head_of_cut rest cut = ap head_of cut.bytes
 
-pub kept_waits : (rest : List ℕ) → fate rest ≡ Waits → fate (kept rest) ≡ Waits
-kept_waits rest h = elim (whole_or_cut rest h) [
+pub head_waits : (rest : List ℕ) → fate rest ≡ Waits → fate (head_of rest) ≡ Waits
+head_waits rest h = elim (whole_or_cut rest h) [
   | inl whole ↦ ap fate whole ∙ h
-  | inr cut ↦ ap fate (kept_of_cut rest cut) ∙ cut.waits
+  | inr cut ↦ ap fate (head_of_cut rest cut) ∙ cut.waits
 ]
 
 -- ---- a byte does the same
@@ -100,12 +100,12 @@ cut_fate x bs cs b h g = elim (cases_eq x 0x5B) [
   ]
 ]
 
-pub kept_fate : (rest : List ℕ) (b : ℕ) → fate rest ≡ Waits → fate (kept rest ++ b ∷ []) ≡ fate (rest ++ b ∷ [])
-kept_fate rest b h = elim (whole_or_cut rest h) [
+pub head_fate : (rest : List ℕ) (b : ℕ) → fate rest ≡ Waits → fate (head_of rest ++ b ∷ []) ≡ fate (rest ++ b ∷ [])
+head_fate rest b h = elim (whole_or_cut rest h) [
   | inl whole ↦ ap (λ bs. fate (bs ++ b ∷ [])) whole
   | inr cut ↦ (
       let waits : fate (0x1B ∷ cut.second ∷ cut.others) ≡ Waits = ap fate (sym cut.bytes) ∙ h in
-      ap (λ bs. fate (bs ++ b ∷ [])) (kept_of_cut rest cut)
+      ap (λ bs. fate (bs ++ b ∷ [])) (head_of_cut rest cut)
       ∙ cut_fate cut.second (take 10 cut.others) cut.others b cut.waits waits
       ∙ ap (λ bs. fate (bs ++ b ∷ [])) (sym cut.bytes))
 ]
@@ -168,15 +168,15 @@ long_escape_key x bs l = elim (cases_Bool (nat_eq x 0x5B)) [
 ]
 
 -- what is kept gives the key that all of it gives
-pub kept_key : (rest : List ℕ) (b : ℕ) → fate rest ≡ Waits → key_of (kept rest ++ b ∷ []) ≡ key_of (rest ++ b ∷ [])
-kept_key rest b h = elim (whole_or_cut rest h) [
+pub head_key : (rest : List ℕ) (b : ℕ) → fate rest ≡ Waits → key_of (head_of rest ++ b ∷ []) ≡ key_of (rest ++ b ∷ [])
+head_key rest b h = elim (whole_or_cut rest h) [
   | inl whole ↦ ap (λ bs. key_of (bs ++ b ∷ [])) whole
   | inr cut ↦ (
-      let kept_len : length (take 10 cut.others) ≡ 10 = length-take-le 10 cut.others (omega (arith, cut.many)) in
-      let kept_many : 11 ≤ length (take 10 cut.others ++ b ∷ []) = omega (arith, length-append (take 10 cut.others) (b ∷ []), kept_len) in
+      let head_len : length (take 10 cut.others) ≡ 10 = length-take-le 10 cut.others (omega (arith, cut.many)) in
+      let head_many : 11 ≤ length (take 10 cut.others ++ b ∷ []) = omega (arith, length-append (take 10 cut.others) (b ∷ []), head_len) in
       let many : 11 ≤ length (cut.others ++ b ∷ []) = omega (arith, length-append cut.others (b ∷ []), cut.many) in
-      ap (λ bs. key_of (bs ++ b ∷ [])) (kept_of_cut rest cut)
-      ∙ long_escape_key cut.second (take 10 cut.others ++ b ∷ []) kept_many
+      ap (λ bs. key_of (bs ++ b ∷ [])) (head_of_cut rest cut)
+      ∙ long_escape_key cut.second (take 10 cut.others ++ b ∷ []) head_many
       ∙ sym (long_escape_key cut.second (cut.others ++ b ∷ []) many)
       ∙ ap (λ bs. key_of (bs ++ b ∷ [])) (sym cut.bytes))
 ]
@@ -186,5 +186,5 @@ take_more_after zero bs cs = refl
 take_more_after (suc n) [] cs = refl
 take_more_after (suc n) (b ∷ bs) cs = ap (λ xs. b ∷ xs) (take_more_after n bs cs)
 
-pub kept_more : (rest : List ℕ) (b : ℕ) → kept (kept rest ++ b ∷ []) ≡ kept (rest ++ b ∷ [])
-kept_more rest b = take_more_after 12 rest (b ∷ [])
+pub head_more : (rest : List ℕ) (b : ℕ) → head_of (head_of rest ++ b ∷ []) ≡ head_of (rest ++ b ∷ [])
+head_more rest b = take_more_after 12 rest (b ∷ [])
