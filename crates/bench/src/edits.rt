@@ -59,7 +59,7 @@ fn ranks(alloc: Global, turns: usize) -> Result<Vec<usize>> {
     Ok(ranks)
 }
 
-/// The edit of a turn at a scattered place: each third one takes a byte out.
+/// The edit of a turn at a scattered offset: each third one takes a byte out.
 fn scatter(text: &mut Text, turn: usize) -> Result<()> {
     let at = scattered(turn, text.len());
     if turn % 3 == 2 && at < text.len() {

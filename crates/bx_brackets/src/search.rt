@@ -16,7 +16,7 @@ use bx_ucd::{BidiData, Class, Side};
 use std::alloc::{AllocError, Global};
 use std::marker::Model;
 
-/// Makes a place for the closer of each character, with none in it. The room grows to what is needed, and by a quarter at
+/// Makes an entry for the closer of each character, with none in it. The room grows to what is needed, and by a quarter at
 /// least.
 #[inline(never)]
 fn make_places(closers: &mut Vec<u32>, count: usize) -> Result<(), AllocError>
@@ -31,7 +31,7 @@ fn make_places(closers: &mut Vec<u32>, count: usize) -> Result<(), AllocError>
     closers.resize(count, 0)
 }
 
-/// Makes the places for closers, unless they are made.
+/// Makes the entries for closers, unless they are made.
 fn need_places(closers: &mut Vec<u32>, count: usize) -> Result<(), AllocError>
     requires long { (length closers.old.items ≡ 0) ⊎ (length closers.old.items ≡ count) }
     ensures long { OnOk result (length closers.new.items ≡ count) }

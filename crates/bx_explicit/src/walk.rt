@@ -56,7 +56,12 @@ pub struct SequenceWalk<'e> {
 impl<'e> Model for SequenceWalk<'e> {
     ghost Value = { SequencesLeft };
 
-    ghost view = { λ w. record { explicit = w.explicit.now; has_current = w.lent; current = newest_sequence w.chains; left = left_of w.explicit.now (unlent w.lent w.chains.chains) w.run } };
+    ghost view = { λ w. record {
+      explicit = w.explicit.now;
+      has_current = w.lent;
+      current = newest_sequence w.chains;
+      left = left_of w.explicit.now (unlent w.lent w.chains.chains) w.run;
+    } };
 
     ghost invariant = { λ w. IsWalk w.explicit.now w.chains w.run w.lent };
 }

@@ -1,6 +1,7 @@
 //! Lists of columns: filling, putting, and forgetting what is left of a glyph.
 
-ghost use Rattle.std.specs.Prelude.{◌≡◌, ℕ, ◌+◌, ◌≤◌, [], ◌∷◌, length, take, drop, replicate, ◌-◌, ◌*◌, ◌<◌, true, nat_le, ◌&&◌, false, IfOk, IsOk, OnOk, OnErr, IsTrue};
+ghost use Rattle.std.specs.Prelude.{◌≡◌, ℕ, ◌+◌, ◌≤◌, [], ◌∷◌, length, take, drop, replicate, ◌-◌, ◌*◌, ◌<◌};
+ghost use Rattle.std.specs.Prelude.{true, nat_le, ◌&&◌, false, IfOk, IsOk, OnOk, OnErr, IsTrue};
 ghost use Rattle.std.specs.Prelude.{◌↔◌};
 ghost use Rattle.std.specs.List.{list_all};
 ghost use Rattle.bx_grid.specs.Columns.{are_ascii_printable, run_width, blank, is_blank, put, paste, AreBlank, AreSameAround, put_in_row, cut_before};

@@ -70,7 +70,9 @@ impl Grid {
         requires inside { IsWithin self.old.height self.old.width cell.line cell.column }
         requires glyph { is_one_glyph text.now ≡ true }
         requires room { HasRoom self.old cell.line cell.column (run_width text.now) }
-        ensures ok { OnOk result (self.new ≡ record self.old { columns = paste self.old.columns ((cell.line - 1) * self.old.width + (cell.column - 1)) (run_columns negative text.now) }) }
+        ensures ok { OnOk result (self.new ≡ record self.old {
+          columns = paste self.old.columns ((cell.line - 1) * self.old.width + (cell.column - 1)) (run_columns negative text.now);
+        }) }
         ensures err { OnErr result (self.new ≡ self.old) }
         ensures memory { OnErr result (result ≡ Err GridError.OutOfMemory) }
         ensures short { length text.now ≤ 7 → IsOk result }

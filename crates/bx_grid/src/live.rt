@@ -46,7 +46,15 @@ impl Live {
     pub fn new(alloc: Global, height: u16, width: u16) -> Result<Live, AllocError>
         requires tall { (1 ≤ height) × (height ≤ 500) }
         requires wide { (1 ≤ width) × (width ≤ 500) }
-        ensures { IfOk result (λ t. t ≡ record { height = height; width = width; columns = replicate (height * width) spec.Unknown; position = None; negative = None; run = []; half_read = [] }) }
+        ensures { IfOk result (λ t. t ≡ record {
+          height = height;
+          width = width;
+          columns = replicate (height * width) spec.Unknown;
+          position = None;
+          negative = None;
+          run = [];
+          half_read = [];
+        }) }
     {
         let columns = unknown_columns(alloc, height as usize * width as usize)?;
         Ok(Live {

@@ -20,7 +20,13 @@ impl Model for Picture {
 
     ghost Value = { PictureState };
 
-    ghost view = { λ p. record { height = p.grid.height; width = p.grid.width; columns = p.grid.columns; row = p.cursor.line - 1; column = p.cursor.column - 1 } };
+    ghost view = { λ p. record {
+      height = p.grid.height;
+      width = p.grid.width;
+      columns = p.grid.columns;
+      row = p.cursor.line - 1;
+      column = p.cursor.column - 1;
+    } };
 
     ghost invariant = { λ p. IsWithin p.grid.height p.grid.width p.cursor.line p.cursor.column };
 }

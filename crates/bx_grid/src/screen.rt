@@ -35,7 +35,15 @@ impl Model for Screen {
 impl Screen {
     /// A terminal of this size, of which nothing is known.
     pub fn new(alloc: Global, height: u16, width: u16) -> Result<Screen, GridError>
-        ensures ok { IfOk result (λ s. s ≡ Some (record { height = height; width = width; columns = replicate (height * width) spec.Unknown; position = None; negative = None; run = []; half_read = [] })) }
+        ensures ok { IfOk result (λ s. s ≡ Some (record {
+          height = height;
+          width = width;
+          columns = replicate (height * width) spec.Unknown;
+          position = None;
+          negative = None;
+          run = [];
+          half_read = [];
+        })) }
         ensures sized { OnOk result (is_size height width ≡ true) }
         ensures refused { IsErrOf result GridError.SizeOutOfRange ↔ (is_size height width ≡ false) }
     {

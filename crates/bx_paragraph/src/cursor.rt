@@ -2,7 +2,8 @@
 ghost use Rattle.std.specs.Prelude.{◌≡◌, ◌<◌, ◌++◌, ◌∷◌, [], true, false, IfOk, length, map};
 ghost use Rattle.bx_paragraph.specs.BodyRows.{last_of, offsets_of};
 ghost use Rattle.bx_paragraph.specs.Layout.{IsLayoutBy, row_by};
-ghost use Rattle.bx_paragraph.specs.Slots.{beside, column_of, covering, entry, opposite, or_else, reading_end, reading_side, reading_start, slot_offsets, toward};
+ghost use Rattle.bx_paragraph.specs.Slots.{beside, column_of, covering, entry, opposite, or_else};
+ghost use Rattle.bx_paragraph.specs.Slots.{reading_end, reading_side, reading_start, slot_offsets, toward};
 
 use crate::error::ParagraphError;
 use crate::layout::ParagraphLayout;

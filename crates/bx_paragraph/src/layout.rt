@@ -40,7 +40,14 @@ impl Model for ParagraphLayout {
 
     ghost Value = { LayoutState };
 
-    ghost view = { λ l. record { body = string_bytes l.body; base = l.base; w = l.w; paragraph = l.levels.paragraph; each = l.levels.each.items; starts = l.starts.items } };
+    ghost view = { λ l. record {
+      body = string_bytes l.body;
+      base = l.base;
+      w = l.w;
+      paragraph = l.levels.paragraph;
+      each = l.levels.each.items;
+      starts = l.starts.items;
+    } };
 
     ghost invariant = { λ l. (is_side l.w ≡ true) × (0 < length l.starts.items) };
 }

@@ -1,6 +1,7 @@
 //! The index.
 
-ghost use Rattle.std.specs.Prelude.{◌≡◌, ℕ, ◌+◌, ◌-◌, ◌<◌, ◌≤◌, ◌++◌, ◌∷◌, List, [], None, Some, length, take, drop, slice_get, min, IsUtf8, IfOk, OnOk, OnErr, MatchOption};
+ghost use Rattle.std.specs.Prelude.{◌≡◌, ℕ, ◌+◌, ◌-◌, ◌<◌, ◌≤◌, ◌++◌, ◌∷◌, List, [], None, Some, length};
+ghost use Rattle.std.specs.Prelude.{take, drop, slice_get, min, IsUtf8, IfOk, OnOk, OnErr, MatchOption};
 ghost use Rattle.bx_text.specs.Edits.{Leads, largest_text};
 ghost use Rattle.bx_text.specs.Text.{HasRoomFor};
 ghost use Rattle.bx_paras.specs.Paragraphs.{lengths, separator_count};

@@ -1,6 +1,7 @@
 //! The paragraph that begins at an offset of a text.
 
-ghost use Rattle.std.specs.Prelude.{◌≡◌, ℕ, ◌<◌, ◌≤◌, ◌+◌, ◌==◌, ◌&&◌, chars, take, drop, false, get_or, length, slice_get, encode_utf8, if◌then◌else◌, IsCharBoundary, IsUtf8, MatchOption};
+ghost use Rattle.std.specs.Prelude.{◌≡◌, ℕ, ◌<◌, ◌≤◌, ◌+◌, ◌==◌, ◌&&◌, chars, take, drop, false};
+ghost use Rattle.std.specs.Prelude.{get_or, length, slice_get, encode_utf8, if◌then◌else◌, IsCharBoundary, IsUtf8, MatchOption};
 ghost use Rattle.bx_paras.specs.Paragraphs.{is_separator, begins_with_lf, lengths};
 ghost use Rattle.bx_paras.specs.Ended.{first};
 ghost use Rattle.bx_paras.specs.Scan.{HasNone, NoneAt, BeginsAt, IsAt};

@@ -47,7 +47,7 @@ impl Block {
         }
     }
 
-    /// Gives the class to the places from `low` to before `end`.
+    /// Gives the class to the block's codes from `low` to before `end`, counted in the block.
     fn paint(&mut self, low: usize, end: usize, class: Class)
         requires { end ≤ 256 }
         ensures painted { (i : ℕ) → low ≤ i → i < end → class_in self.new i ≡ class }
@@ -69,7 +69,8 @@ impl Block {
 /// Gives the range's class to its codes. A whole block is painted in one step.
 pub fn paint(blocks: &mut [Block], painted: ClassRange)
     ensures len { length blocks.new ≡ length blocks.old }
-    ensures painted { (code : ℕ) → code < 256 * length blocks.old → class_at blocks.new code ≡ (if covers painted.range code then painted.class else class_at blocks.old code) }
+    ensures painted { (code : ℕ) → code < 256 * length blocks.old
+        → class_at blocks.new code ≡ (if covers painted.range code then painted.class else class_at blocks.old code) }
 {
     let low = painted.range.low as usize;
     let high = painted.range.high as usize;
@@ -89,7 +90,8 @@ pub fn paint(blocks: &mut [Block], painted: ClassRange)
 /// Paints the defaults over the blocks, in order.
 fn paint_defaults(blocks: &mut [Block], entries: &[ClassEntry])
     ensures len { length blocks.new ≡ length blocks.old }
-    ensures painted { (code : ℕ) → code < 256 * length blocks.old → class_at blocks.new code ≡ unwrap_or (class_by_ranges (filter_map default entries.now) code) (class_at blocks.old code) }
+    ensures painted { (code : ℕ) → code < 256 * length blocks.old
+        → class_at blocks.new code ≡ unwrap_or (class_by_ranges (filter_map default entries.now) code) (class_at blocks.old code) }
 {
     for entry in entries {
         if let ClassEntry::Default(range) = entry {
@@ -101,7 +103,8 @@ fn paint_defaults(blocks: &mut [Block], entries: &[ClassEntry])
 /// Paints the data lines over the blocks, in order.
 fn paint_given(blocks: &mut [Block], entries: &[ClassEntry])
     ensures len { length blocks.new ≡ length blocks.old }
-    ensures painted { (code : ℕ) → code < 256 * length blocks.old → class_at blocks.new code ≡ unwrap_or (class_by_ranges (filter_map given entries.now) code) (class_at blocks.old code) }
+    ensures painted { (code : ℕ) → code < 256 * length blocks.old
+        → class_at blocks.new code ≡ unwrap_or (class_by_ranges (filter_map given entries.now) code) (class_at blocks.old code) }
 {
     for entry in entries {
         if let ClassEntry::Given(range) = entry {

@@ -17,7 +17,8 @@ pub enum Parts<'a> {
 
 /// What stands before the first separator and after it, if there is one.
 fn split_once(text: &[u8], separator: u8) -> Option<(&[u8], &[u8])>
-    ensures { MatchOption result (slice_split (λ b. b == separator) text.now ≡ text.now ∷ []) (λ p. slice_split (λ b. b == separator) text.now ≡ p.0.now ∷ slice_split (λ b. b == separator) p.1.now) }
+    ensures { MatchOption result (slice_split (λ b. b == separator) text.now ≡ text.now ∷ [])
+        (λ p. slice_split (λ b. b == separator) text.now ≡ p.0.now ∷ slice_split (λ b. b == separator) p.1.now) }
 {
     let end = position_or_len(text, separator);
     if end == text.len() {
