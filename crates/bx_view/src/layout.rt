@@ -89,7 +89,7 @@ impl Layout {
     }
 
     /// A paragraph of the text that is held.
-    fn paragraph<D: BidiData>(
+    pub(crate) fn paragraph<D: BidiData>(
         &self,
         text: &Text,
         source: &D,
@@ -109,7 +109,7 @@ impl Layout {
     /// The row that an offset of the text falls in.
     ///
     /// Errors: `OutOfMemory`.
-    fn row_at<D: BidiData>(
+    pub(crate) fn row_at<D: BidiData>(
         &mut self,
         text: &Text,
         index: &Index,
@@ -140,7 +140,7 @@ impl Layout {
     /// The row behind one of the text, if there is one.
     ///
     /// Errors: `OutOfMemory`.
-    fn next_row<D: BidiData>(
+    pub(crate) fn next_row<D: BidiData>(
         &mut self,
         text: &Text,
         index: &Index,
@@ -184,7 +184,7 @@ impl Layout {
     /// The row before one of the text, if there is one.
     ///
     /// Errors: `OutOfMemory`.
-    fn row_before<D: BidiData>(
+    pub(crate) fn row_before<D: BidiData>(
         &mut self,
         text: &Text,
         index: &Index,

@@ -4,10 +4,12 @@
 mod cursor;
 mod error;
 mod holder;
+mod in_row;
 mod in_text;
 mod layout;
 mod moves;
 mod span;
+mod visual;
 
 pub use bx_paragraph::Visual;
 pub use error::ViewError;

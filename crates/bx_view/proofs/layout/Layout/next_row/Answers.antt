@@ -8,7 +8,7 @@ pub overflow_add-number : goal.overflow_add-number
 overflow_add-number g c =
     let class = g.D.BidiData.class_of c.args.source.now in
     let text = c.args.text.now.edited.text in
-    let all : c.count-count.result ≡ count class text = c.count-count.ensures ∙ ap length c.requires.index ∙ lengths-count class text in
+    let all : c.count-count.result ≡ count class text = c.count-count.ensures.count ∙ ap length c.requires.index ∙ lengths-count class text in
     let row = c.requires.row in
     let within : c.args.at.paragraph < count class text = row.1.is.paragraph in
     let fits : c.args.at.paragraph + 1 ≤ c.count-count.result = omega (arith, all, within) in
@@ -18,7 +18,7 @@ pub returns-then-number-count-clause-next : goal.returns-then-number-count-claus
 returns-then-number-count-clause-next g c = λ n on.
     let class = g.D.BidiData.class_of c.args.source.now in
     let text = c.args.text.now.edited.text in
-    let all : c.count-count.result ≡ count class text = c.count-count.ensures ∙ ap length c.requires.index ∙ lengths-count class text in
+    let all : c.count-count.result ≡ count class text = c.count-count.ensures.count ∙ ap length c.requires.index ∙ lengths-count class text in
     let starts : c.row_count-rows.result ≡ length c.paragraph.result.now.starts = c.row_count-rows.ensures.starts in
     let last : c.row_count-rows.result ≤ c.args.at.row + 1 = search rules in
     let none : c.count-count.result ≤ c.args.at.paragraph + 1 = search rules in
@@ -29,7 +29,7 @@ pub returns-clause-next : goal.returns-clause-next
 returns-clause-next g c = λ n on.
     let class = g.D.BidiData.class_of c.args.source.now in
     let text = c.args.text.now.edited.text in
-    let all : c.count-count.result ≡ count class text = c.count-count.ensures ∙ ap length c.requires.index ∙ lengths-count class text in
+    let all : c.count-count.result ≡ count class text = c.count-count.ensures.count ∙ ap length c.requires.index ∙ lengths-count class text in
     let starts : c.row_count-rows.result ≡ length c.paragraph.result.now.starts = c.row_count-rows.ensures.starts in
     let last : c.row_count-rows.result ≤ c.args.at.row + 1 = search rules in
     let more : c.args.at.paragraph + 1 < c.count-count.result = search rules in
