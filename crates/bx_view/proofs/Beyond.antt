@@ -22,6 +22,11 @@ reads-same Left r s e = ap (λ p. reads_on Left (record r { paragraph = p })) e
 before-at : (rows : List TextRow) (n m : ℕ) → n ≡ suc m → m < length rows → row_before rows n ≡ Some (row_at rows m)
 before-at rows n m e h = ap (row_before rows) e ∙ slice-at rows m no_text_row h
 
+-- one change after another
+pub keeps-then : (class : ℕ → Class) (bracket : ℕ → Option (Side × ℕ)) (old mid v : ViewState) → Keeps class bracket old mid → Keeps class bracket mid v
+    → Keeps class bracket old v
+keeps-then class bracket old mid v a b = record { base = b.base ∙ a.base; w = b.w ∙ a.w; held = b.held }
+
 module _ (class : ℕ → Class) (bracket : ℕ → Option (Side × ℕ)) (old v : ViewState) (text : List ℕ) (keeps : Keeps class bracket old v) where
   abbrev of : ViewState → List TextRow
   of u = rows_by class bracket u text

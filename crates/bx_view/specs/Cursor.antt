@@ -24,6 +24,10 @@ IsNext class bracket v text n next =
 abbrev pub IsBefore : (ℕ → Class) → (ℕ → Option (Side × ℕ)) → ViewState → List ℕ → ℕ → Option RowAt → Type 0
 IsBefore class bracket v text n before = MatchOption before (n ≡ 0) (λ b. (0 < n) × StandsOn class bracket v text b (n - 1))
 
+-- where no row is found, what is held stays
+abbrev pub IsSameAtEnd : ViewState → ViewState → Option RowAt → Type 0
+IsSameAtEnd old new found = MatchOption found (new ≡ old) (λ _. Unit {0})
+
 -- the rows of a text under a view's base direction and in its columns
 abbrev pub rows_by : (ℕ → Class) → (ℕ → Option (Side × ℕ)) → ViewState → List ℕ → List TextRow
 rows_by class bracket v text = text_rows class bracket v.base v.w text

@@ -3,7 +3,7 @@ ghost use Rattle.std.specs.Prelude.{◌≡◌, ℕ, ◌<◌, ◌≤◌, [], true
 ghost use Rattle.bx_terms.specs.Sizes.{is_side};
 ghost use Rattle.bx_text.specs.Edits.{largest_text};
 ghost use Rattle.bx_paras.specs.Paragraphs.{lengths};
-ghost use Rattle.bx_view.specs.Cursor.{IsBefore, IsNext, StandsOn};
+ghost use Rattle.bx_view.specs.Cursor.{IsBefore, IsNext, IsSameAtEnd, StandsOn};
 ghost use Rattle.bx_view.specs.Holding.{HoldsBody, IsOfText, IsViewBy, Keeps};
 ghost use Rattle.bx_view.specs.Moves.{row_home};
 ghost use Rattle.bx_view.specs.Standing.{body_at, count};
@@ -153,6 +153,7 @@ impl Layout {
         ensures keeps { Keeps (D.class_of source.now) (D.bracket_of source.now) self.old self.new }
         ensures next { (n : ℕ) → StandsOn (D.class_of source.now) (D.bracket_of source.now) self.old text.now.edited.text at n
             → IfOk result (IsNext (D.class_of source.now) (D.bracket_of source.now) self.new text.now.edited.text n) }
+        ensures same { IfOk result (IsSameAtEnd self.old self.new) }
     {
         let _utf8 = text.len();
         let count = index.count();
@@ -197,6 +198,7 @@ impl Layout {
         ensures keeps { Keeps (D.class_of source.now) (D.bracket_of source.now) self.old self.new }
         ensures before { (n : ℕ) → StandsOn (D.class_of source.now) (D.bracket_of source.now) self.old text.now.edited.text at n
             → IfOk result (IsBefore (D.class_of source.now) (D.bracket_of source.now) self.new text.now.edited.text n) }
+        ensures same { IfOk result (IsSameAtEnd self.old self.new) }
     {
         let _utf8 = text.len();
         if at.row > 0 {

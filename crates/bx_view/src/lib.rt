@@ -9,6 +9,8 @@ mod in_text;
 mod layout;
 mod moves;
 mod span;
+mod top;
+mod vertical;
 mod visual;
 
 pub use bx_paragraph::Visual;
