@@ -1,6 +1,6 @@
 -- What the rows of a paragraph that is held tell of the rows of the text.
 use Rattle.std.proofs.Common.{◌≡◌, ℕ, ◌+◌, ◌-◌, ◌<◌, ◌≤◌, true, List, length, get_or, nat_le, Option, Some, None, option_map, IsUtf8, IsCharBoundary, refl, sym, ap, ap₂, subst, ◌∙◌, arith, leb-true}
-use Rattle.std.specs.Prelude.{IfSome}
+use Rattle.std.specs.Prelude.{All, IfSome, map}
 use Rattle.std.proofs.lemmas.Bool.{and_parts}
 use Rattle.bx_terms.specs.Sizes.{is_side}
 use Rattle.bx_ucd.specs.declared.class.Class.{Class}
@@ -12,7 +12,8 @@ use Rattle.bx_paragraph.specs.BodyRows.{body_rows, first_of, last_of}
 use Rattle.bx_paragraph.specs.BodyRows.{row_at as row_at_body, row_of as row_of_body}
 use Rattle.bx_paragraph.specs.Layout.{LayoutState, row_by, rows_by}
 use Rattle.bx_paragraph.specs.declared.moves.Visual.{Visual}
-use Rattle.bx_paragraph.specs.Slots.{beside, column_of, entry, reading_end, reading_start}
+use Rattle.bx_paragraph.specs.Slots.{beside, column_of, entry, reading_end, reading_start, row_slots}
+use Rattle.bx_paragraph.specs.declared.slot.Slot.{Slot}
 use Rattle.bx_paragraph.proofs.Starts.{row_count}
 use Rattle.bx_view.specs.declared.cursor.RowAt.{RowAt}
 use Rattle.bx_view.specs.Cursor.{StandsOn}
@@ -21,7 +22,7 @@ use Rattle.bx_view.specs.Moves.{row_end, row_home}
 use Rattle.bx_view.specs.Standing.{IsRow, body_at, count, rows_ahead, rows_in, start_at}
 use Rattle.bx_view.specs.TextRows.{TextRow, cell_of, first, row_at, row_of, text_row, text_rows}
 use Rattle.bx_view.proofs.Numbers.{body-range, body-utf8}
-use Rattle.bx_view.proofs.Within.{Lies, LiesIn, beside-fits, body-row-lies, end-fits, entry-fits, last-fits, start-fits}
+use Rattle.bx_view.proofs.Within.{Lies, LiesIn, Within, slots-fit, beside-fits, body-row-lies, end-fits, entry-fits, last-fits, start-fits}
 use Rattle.bx_view.proofs.Walking.{before-over, before-some, first-short, next-in, next-none, next-over, row-is, row-under}
 
 pub side-some : (w : ℕ) → is_side w ≡ true → 1 ≤ w
@@ -106,6 +107,10 @@ module _ (class : ℕ → Class) (bracket : ℕ → Option (Side × ℕ)) where
     module _ (most : ℕ) (short : length text ≤ most) where
       pub last-short : (o : ℕ) → o ≡ last_of (row_by class bracket l at.row) → at.start + o ≤ most
       last-short o e = omega (arith, e, last-fits high l.w (row_by class bracket l at.row) lies-in, high-fits, short)
+
+      pub slots-short : (ss : List Slot) → ss ≡ row_slots l.w (row_by class bracket l at.row) → All (λ s. at.start + s.offset ≤ most) ss
+      slots-short ss e =
+          slots-fit at.start high most ss (omega (arith, short, high-fits)) (subst (λ xs. Within high (map (λ (s : Slot). s.offset) xs)) (sym e) lies-in.slots)
 
       pub beside-short : (side : Visual) (offset : ℕ) (o : Option ℕ) → o ≡ beside l.w (row_by class bracket l at.row) side offset
           → IfSome o (λ p. at.start + p ≤ most)

@@ -4,7 +4,7 @@ use Rattle.std.proofs.Common.{Option, Some, None, option_map, chars, IsUtf8, ref
 use Rattle.std.specs.Prelude.{All}
 use Rattle.std.specs.List.{zip}
 use Rattle.std.proofs.lemmas.List.{get_or-map, length-map, map-append, reverse-append}
-use Rattle.std.proofs.lemmas.List.Elements.{All-head, All-tail, All-get_or}
+use Rattle.std.proofs.lemmas.List.Elements.{All-cons, All-head, All-nil, All-tail, All-get_or}
 use Rattle.bx_ucd.specs.declared.class.Class.{Class}
 use Rattle.bx_ucd.specs.declared.data.Side.{Side}
 use Rattle.bx_explicit.specs.declared.base.Base.{Base}
@@ -163,6 +163,11 @@ body-row-lies class bracket base w body k utf8 h =
     (row-lies (length body) w (make (k + 1 == length xs) (get_or xs k [])) (omega arith) all)
 
 -- ---- what is told of a row
+
+pub slots-fit : (start high most : ℕ) (ss : List Slot) → start + high ≤ most → Within high (map (λ s. s.offset) ss) → All (λ s. start + s.offset ≤ most) ss
+slots-fit start high most [] h a = All-nil (λ (s : Slot). start + s.offset ≤ most)
+slots-fit start high most (s ∷ ss) h a =
+    All-cons (λ (t : Slot). start + t.offset ≤ most) s ss (omega (arith, h, a.0)) (slots-fit start high most ss h a.1)
 
 module _ (high w : ℕ) (r : BodyRow) (lies : LiesIn high w r) where
   pub last-fits : last_of r ≤ high

@@ -109,7 +109,7 @@ impl Layout {
     /// The row that an offset of the text falls in.
     ///
     /// Errors: `OutOfMemory`.
-    pub(crate) fn row_at<D: BidiData>(
+    pub fn row_at<D: BidiData>(
         &mut self,
         text: &Text,
         index: &Index,
@@ -140,7 +140,7 @@ impl Layout {
     /// The row behind one of the text, if there is one.
     ///
     /// Errors: `OutOfMemory`.
-    pub(crate) fn next_row<D: BidiData>(
+    pub fn next_row<D: BidiData>(
         &mut self,
         text: &Text,
         index: &Index,
@@ -185,7 +185,7 @@ impl Layout {
     /// The row before one of the text, if there is one.
     ///
     /// Errors: `OutOfMemory`.
-    pub(crate) fn row_before<D: BidiData>(
+    pub fn row_before<D: BidiData>(
         &mut self,
         text: &Text,
         index: &Index,
