@@ -1,5 +1,5 @@
 -- Where rows begin, told by later states of a layout.
-use Rattle.std.proofs.Common.{◌≡◌, ℕ, ◌+◌, ◌-◌, ◌<◌, List, length, min, Option, IsUtf8, sym, ap, ap₂, ◌∙◌, arith}
+use Rattle.std.proofs.Common.{◌≡◌, ℕ, ◌<◌, List, length, Option, IsUtf8, sym, ap, ap₂, ◌∙◌, arith}
 use Rattle.bx_terms.specs.Sizes.{is_side}
 use Rattle.bx_ucd.specs.declared.class.Class.{Class}
 use Rattle.bx_ucd.specs.declared.data.Side.{Side}

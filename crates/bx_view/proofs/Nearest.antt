@@ -1,5 +1,5 @@
 -- Rows by the offsets at which they begin: which is before which, and which is which.
-use Rattle.std.proofs.Common.{◌≡◌, ◌≢◌, ℕ, ◌+◌, ◌-◌, ◌<◌, ◌≤◌, ◌==◌, true, false, List, length, map, min, max, Option, unwrap_or, refl, sym, ap, ap₂, ◌∙◌}
+use Rattle.std.proofs.Common.{◌≡◌, ◌≢◌, ℕ, ◌-◌, ◌<◌, ◌≤◌, true, false, List, length, map, min, max, Option, unwrap_or, sym, ap, ◌∙◌}
 use Rattle.std.proofs.Common.{arith, ⊎_elim, eq-eqb, ne_eqb}
 use Rattle.std.proofs.lemmas.Bool.{cases_lt}
 use Rattle.std.proofs.lemmas.List.{length-map}

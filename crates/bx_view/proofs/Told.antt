@@ -1,5 +1,6 @@
 -- What the rows of a paragraph that is held tell of the rows of the text.
-use Rattle.std.proofs.Common.{◌≡◌, ℕ, ◌+◌, ◌-◌, ◌<◌, ◌≤◌, true, List, length, get_or, nat_le, Option, Some, None, option_map, IsUtf8, IsCharBoundary, refl, sym, ap, ap₂, subst, ◌∙◌, arith, leb-true}
+use Rattle.std.proofs.Common.{◌≡◌, ℕ, ◌+◌, ◌-◌, ◌<◌, ◌≤◌, true, List, length, get_or, nat_le, Option, Some, None, option_map, IsUtf8, IsCharBoundary}
+use Rattle.std.proofs.Common.{refl, sym, ap, ap₂, subst, ◌∙◌, arith, leb-true}
 use Rattle.std.specs.Prelude.{All, IfSome, map}
 use Rattle.std.proofs.lemmas.Bool.{and_parts}
 use Rattle.bx_terms.specs.Sizes.{is_side}
@@ -110,7 +111,8 @@ module _ (class : ℕ → Class) (bracket : ℕ → Option (Side × ℕ)) where
 
       pub slots-short : (ss : List Slot) → ss ≡ row_slots l.w (row_by class bracket l at.row) → All (λ s. at.start + s.offset ≤ most) ss
       slots-short ss e =
-          slots-fit at.start high most ss (omega (arith, short, high-fits)) (subst (λ xs. Within high (map (λ (s : Slot). s.offset) xs)) (sym e) lies-in.slots)
+          slots-fit at.start high most ss (omega (arith, short, high-fits)) (subst (λ xs. Within high (map (λ (s : Slot). s.offset) xs)) (sym e)
+          lies-in.slots)
 
       pub beside-short : (side : Visual) (offset : ℕ) (o : Option ℕ) → o ≡ beside l.w (row_by class bracket l at.row) side offset
           → IfSome o (λ p. at.start + p ≤ most)

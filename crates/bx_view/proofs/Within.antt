@@ -1,10 +1,10 @@
 -- The offsets of a row's places lie in its body.
 use Rattle.std.proofs.Common.{◌≡◌, ℕ, zero, suc, ◌+◌, ◌≤◌, ◌<◌, ◌%◌, ◌==◌, cond, Bool, true, false, List, [], ◌∷◌, ◌++◌, map, length, reverse, get_or, find}
-use Rattle.std.proofs.Common.{Option, Some, None, option_map, chars, IsUtf8, refl, sym, ap, subst, ◌∙◌, arith}
+use Rattle.std.proofs.Common.{Option, Some, None, option_map, chars, IsUtf8, refl, sym, ap, subst, arith}
 use Rattle.std.specs.Prelude.{All}
 use Rattle.std.specs.List.{zip}
 use Rattle.std.proofs.lemmas.List.{get_or-map, length-map, map-append, reverse-append}
-use Rattle.std.proofs.lemmas.List.Elements.{All-cons, All-head, All-nil, All-tail, All-get_or}
+use Rattle.std.proofs.lemmas.List.Elements.{All-cons, All-head, All-nil, All-tail}
 use Rattle.bx_ucd.specs.declared.class.Class.{Class}
 use Rattle.bx_ucd.specs.declared.data.Side.{Side}
 use Rattle.bx_explicit.specs.declared.base.Base.{Base}
@@ -19,10 +19,10 @@ use Rattle.bx_rows.proofs.PictureLaws.{faces-row}
 use Rattle.bx_paragraph.specs.declared.moves.Visual.{Visual}
 use Rattle.bx_paragraph.specs.declared.moves.Visual.TheVariants.{Left, Right}
 use Rattle.bx_paragraph.specs.declared.slot.Slot.{Slot}
-use Rattle.bx_paragraph.specs.BodyRows.{BodyRow, body_rows, last_of, last_offset, no_row, offsets_of, row_with, rows_units, with_last}
+use Rattle.bx_paragraph.specs.BodyRows.{BodyRow, body_rows, last_of, last_offset, offsets_of, row_with, rows_units, with_last}
 use Rattle.bx_paragraph.specs.BodyRows.{row_at as row_at_body}
-use Rattle.bx_paragraph.specs.Slots.{beside, column_of, covering_in, covers, end_slot, entry, extent_of, first_in, left_column, next_in, or_else}
-use Rattle.bx_paragraph.specs.Slots.{opposite, reading_end, reading_side, reading_start, row_slots, side_by_side, slot_offsets, toward, unit_slots, with_end}
+use Rattle.bx_paragraph.specs.Slots.{beside, covering_in, covers, end_slot, entry, extent_of, first_in, left_column, next_in, or_else}
+use Rattle.bx_paragraph.specs.Slots.{opposite, reading_end, reading_side, reading_start, row_slots, side_by_side, slot_offsets, toward, unit_slots}
 use Rattle.bx_paragraph.proofs.LayoutRows.{last-at}
 use Rattle.bx_view.proofs.BodyFirsts.{units-in}
 use Rattle.bx_view.proofs.Rising.{Rises, rises-below}
@@ -98,7 +98,8 @@ last-within : (high n : ℕ) (b : Bool) (end : Slot) (ss : List Slot) → end.of
 last-within high n true end ss e a = end-within high n end ss e a
 last-within high n false end ss e a = a
 
-found-lies : (high column : ℕ) (s : Slot) (ss : List Slot) (b : Bool) → s.offset ≤ high → Lies high (option_map (λ (t : Slot). t.offset) (find (covers column) ss))
+found-lies : (high column : ℕ) (s : Slot) (ss : List Slot) (b : Bool) → s.offset ≤ high
+    → Lies high (option_map (λ (t : Slot). t.offset) (find (covers column) ss))
     → Lies high (option_map (λ (t : Slot). t.offset) (cond b (Some s) (find (covers column) ss)))
 found-lies high column s ss true e a = e
 found-lies high column s ss false e a = a
@@ -141,7 +142,8 @@ units-all high us rise = λ i d h.
     let below = rises-below 0 (map (λ u. u.start) us) (high + 1) i 0 rise (omega (arith, h, length-map us (λ u. u.start))) in
     omega (arith, below, get_or-map (λ u. u.start) us i d 0 h)
 
-rows-all : (high : ℕ) (us : List Unit) (rs : List Row) (k : ℕ) → All (λ u. u.start ≤ high) us → All (λ u. u.start ≤ high) (get_or (map (row_units us) rs) k [])
+rows-all : (high : ℕ) (us : List Unit) (rs : List Row) (k : ℕ) → All (λ u. u.start ≤ high) us
+    → All (λ u. u.start ≤ high) (get_or (map (row_units us) rs) k [])
 rows-all high us [] k a = λ i d h. absurd (omega (arith, h))
 rows-all high us (r ∷ rs) zero a = faces-row (λ u. u.start ≤ high) us r a
 rows-all high us (r ∷ rs) (suc k) a = rows-all high us rs k a

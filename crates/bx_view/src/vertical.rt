@@ -116,7 +116,8 @@ impl Layout {
         requires data { IsViewBy (D.class_of source.now) (D.bracket_of source.now) self.old }
         requires index { index.now.paragraphs ≡ lengths (D.class_of source.now) text.now.edited.text }
         ensures keeps { Keeps (D.class_of source.now) (D.bracket_of source.now) self.old self.new }
-        ensures place { IfOk result (λ o. o ≡ rows_away self.old.w (rows_by (D.class_of source.now) (D.bracket_of source.now) self.old text.now.edited.text) way count place) }
+        ensures place { IfOk result (λ o. o ≡ rows_away self.old.w
+            (rows_by (D.class_of source.now) (D.bracket_of source.now) self.old text.now.edited.text) way count place) }
     {
         let column = self.cell_of(text, index, source, place)?;
         let at = self.row_at(text, index, source, place)?;
@@ -145,7 +146,8 @@ impl Layout {
         requires data { IsViewBy (D.class_of source.now) (D.bracket_of source.now) self.old }
         requires index { index.now.paragraphs ≡ lengths (D.class_of source.now) text.now.edited.text }
         ensures keeps { Keeps (D.class_of source.now) (D.bracket_of source.now) self.old self.new }
-        ensures place { IfOk result (λ o. o ≡ vertical self.old.w (rows_by (D.class_of source.now) (D.bracket_of source.now) self.old text.now.edited.text) way place) }
+        ensures place { IfOk result (λ o. o ≡ vertical self.old.w
+            (rows_by (D.class_of source.now) (D.bracket_of source.now) self.old text.now.edited.text) way place) }
     {
         let place = self.rows_away(text, index, source, way, 1, place)?;
         Ok(place)
@@ -167,7 +169,8 @@ impl Layout {
         requires data { IsViewBy (D.class_of source.now) (D.bracket_of source.now) self.old }
         requires index { index.now.paragraphs ≡ lengths (D.class_of source.now) text.now.edited.text }
         ensures keeps { Keeps (D.class_of source.now) (D.bracket_of source.now) self.old self.new }
-        ensures place { IfOk result (λ o. o ≡ page self.old.w (rows_by (D.class_of source.now) (D.bracket_of source.now) self.old text.now.edited.text) way t place) }
+        ensures place { IfOk result (λ o. o ≡ page self.old.w
+            (rows_by (D.class_of source.now) (D.bracket_of source.now) self.old text.now.edited.text) way t place) }
     {
         let place = self.rows_away(text, index, source, way, t, place)?;
         Ok(place)

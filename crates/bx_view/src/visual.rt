@@ -49,7 +49,8 @@ impl Layout {
         requires row { (n : ℕ) × StandsOn (D.class_of source.now) (D.bracket_of source.now) self.old text.now.edited.text at n }
         ensures keeps { Keeps (D.class_of source.now) (D.bracket_of source.now) self.old self.new }
         ensures place { (n : ℕ) → StandsOn (D.class_of source.now) (D.bracket_of source.now) self.old text.now.edited.text at n
-            → IfOk result (λ o. o ≡ start_of self.old.w (row_after (rows_by (D.class_of source.now) (D.bracket_of source.now) self.old text.now.edited.text) n)) }
+            → IfOk result (λ o. o ≡ start_of self.old.w (row_after
+            (rows_by (D.class_of source.now) (D.bracket_of source.now) self.old text.now.edited.text) n)) }
     {
         let _utf8 = text.len();
         let Some(there) = self.next_row(text, index, source, at)? else {
@@ -72,7 +73,8 @@ impl Layout {
         requires row { (n : ℕ) × StandsOn (D.class_of source.now) (D.bracket_of source.now) self.old text.now.edited.text at n }
         ensures keeps { Keeps (D.class_of source.now) (D.bracket_of source.now) self.old self.new }
         ensures place { (n : ℕ) → StandsOn (D.class_of source.now) (D.bracket_of source.now) self.old text.now.edited.text at n
-            → IfOk result (λ o. o ≡ end_of self.old.w (row_before (rows_by (D.class_of source.now) (D.bracket_of source.now) self.old text.now.edited.text) n)) }
+            → IfOk result (λ o. o ≡ end_of self.old.w (row_before
+            (rows_by (D.class_of source.now) (D.bracket_of source.now) self.old text.now.edited.text) n)) }
     {
         let _utf8 = text.len();
         let Some(there) = self.row_before(text, index, source, at)? else {
@@ -121,7 +123,8 @@ impl Layout {
         requires data { IsViewBy (D.class_of source.now) (D.bracket_of source.now) self.old }
         requires index { index.now.paragraphs ≡ lengths (D.class_of source.now) text.now.edited.text }
         ensures keeps { Keeps (D.class_of source.now) (D.bracket_of source.now) self.old self.new }
-        ensures step { IfOk result (λ o. o ≡ step_visual self.old.w (rows_by (D.class_of source.now) (D.bracket_of source.now) self.old text.now.edited.text) side place) }
+        ensures step { IfOk result (λ o. o ≡ step_visual self.old.w
+            (rows_by (D.class_of source.now) (D.bracket_of source.now) self.old text.now.edited.text) side place) }
     {
         let at = self.row_at(text, index, source, place)?;
         if let Some(next) = self.beside(text, source, at, side, place)? {

@@ -1,4 +1,4 @@
-use Rattle.std.proofs.Common.{◌+◌, ◌-◌, ◌<◌, subst}
+use Rattle.std.proofs.Common.{◌-◌, ◌<◌, subst}
 use Rattle.bx_view.specs.Cursor.{IsBefore, StandsOn}
 use Rattle.bx_view.proofs.Beyond.{no-end, some-end}
 use Rattle.bx_view.proofs.layout.Layout.end_before.Goals as goal
@@ -28,5 +28,6 @@ returns-clause-place g c = λ n on.
     let text = c.args.text.now.edited.text in
     let there : (0 < n) × StandsOn class bracket c.row_before.new.self text c.in-Some.there (n - 1) =
     subst (IsBefore class bracket c.row_before.new.self text n) c.in-Some.is (c.in_ok-there.ensures.before n on) in
-    some-end class bracket c.args.self.now c.row_before.new.self text c.row_before.ensures.keeps n c.in-Some.there c.in_ok-place.place c.len-utf8.ensures.utf8 there
+    some-end class bracket c.args.self.now c.row_before.new.self text c.row_before.ensures.keeps n c.in-Some.there c.in_ok-place.place
+    c.len-utf8.ensures.utf8 there
     (c.in_ok-place.ensures (n - 1) there.1)

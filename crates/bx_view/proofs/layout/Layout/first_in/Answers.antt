@@ -13,7 +13,8 @@ overflow_add-result g c =
     let first-is : c.first.result ≡ first_of (row_by class bracket c.paragraph-paragraph.result.now c.args.at.row) =
     c.first.ensures class bracket c.paragraph-paragraph.ensures.by in
     let fits : c.args.at.start + first_of (row_by class bracket c.paragraph-paragraph.result.now c.args.at.row) ≤ length c.args.text.now.edited.text =
-    first-fits class bracket c.args.self.now c.args.text.now.edited.text c.args.at row.0 c.paragraph-paragraph.result.now c.len-short.ensures.utf8 row.1 c.paragraph-paragraph.ensures in
+    first-fits class bracket c.args.self.now c.args.text.now.edited.text c.args.at row.0 c.paragraph-paragraph.result.now c.len-short.ensures.utf8 row.1
+    c.paragraph-paragraph.ensures in
     omega (arith, first-is, fits, c.len-short.ensures.short)
 
 pub returns : goal.returns
@@ -21,4 +22,5 @@ returns g c = λ n on.
     let class = g.D.BidiData.class_of c.args.source.now in
     let bracket = g.D.BidiData.bracket_of c.args.source.now in
     ap (λ k. c.args.at.start + k) (c.first.ensures class bracket c.paragraph-paragraph.ensures.by)
-    ∙ told class bracket c.args.self.now c.args.text.now.edited.text c.args.at n c.paragraph-paragraph.result.now c.len-short.ensures.utf8 on c.paragraph-paragraph.ensures first
+    ∙ told class bracket c.args.self.now c.args.text.now.edited.text c.args.at n c.paragraph-paragraph.result.now c.len-short.ensures.utf8 on
+    c.paragraph-paragraph.ensures first

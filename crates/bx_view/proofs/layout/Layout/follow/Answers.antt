@@ -16,8 +16,10 @@ returns-then-own-old-clause-top g c =
     let keeps = keeps-then class bracket old c.row_home.new.self v c.row_home.ensures.keeps c.row_at.ensures.keeps in
     let on = c.in_ok-at.ensures.row in
     let rows = rows_by class bracket old text in
-    follow-stays rows (rise-kept class bracket old v text c.args.place c.in_ok-at.at c.row_at.ensures.utf8 keeps on) c.args.top c.args.place c.args.t c.in_ok-old.old c.first_in-own.result c.requires.some (own-within class bracket old v text c.args.place c.in_ok-at.at c.row_at.ensures.utf8 keeps on)
-    (own-told class bracket old v text c.args.place c.in_ok-at.at c.row_at.ensures.utf8 keeps on c.first_in-own.result (c.first_in-own.ensures _ on)) c.in_ok-old.ensures.home c.if-own-old.true
+    follow-stays rows (rise-kept class bracket old v text c.args.place c.in_ok-at.at c.row_at.ensures.utf8 keeps on) c.args.top c.args.place c.args.t
+    c.in_ok-old.old c.first_in-own.result c.requires.some (own-within class bracket old v text c.args.place c.in_ok-at.at c.row_at.ensures.utf8 keeps on)
+    (own-told class bracket old v text c.args.place c.in_ok-at.at c.row_at.ensures.utf8 keeps on c.first_in-own.result (c.first_in-own.ensures _ on))
+    c.in_ok-old.ensures.home c.if-own-old.true
 
 pub first_in-furthest-requires-clause-row : goal.first_in-furthest-requires-clause-row
 first_in-furthest-requires-clause-row g c = (_, c.in_ok-back.ensures.row _ c.in_ok-at.ensures.row)
@@ -35,7 +37,10 @@ returns-clause-top g c =
     let further = keeps-then class bracket old v c.rows_up.new.self keeps c.rows_up.ensures.keeps in
     let less : c.in_ok-old.old < c.first_in-own.result = omega (arith, c.if-own-old.false) in
     c.max.ensures
-    ∙ follow-moves rows (rise-kept class bracket old v text c.args.place c.in_ok-at.at c.row_at.ensures.utf8 keeps on) c.args.top c.args.place c.args.t c.in_ok-old.old c.first_in-own.result c.requires.some (own-within class bracket old v text c.args.place c.in_ok-at.at c.row_at.ensures.utf8 keeps on)
-    (own-told class bracket old v text c.args.place c.in_ok-at.at c.row_at.ensures.utf8 keeps on c.first_in-own.result (c.first_in-own.ensures _ on)) c.in_ok-old.ensures.home c.first_in-furthest.result less
+    ∙ follow-moves rows (rise-kept class bracket old v text c.args.place c.in_ok-at.at c.row_at.ensures.utf8 keeps on) c.args.top c.args.place c.args.t
+    c.in_ok-old.old c.first_in-own.result c.requires.some (own-within class bracket old v text c.args.place c.in_ok-at.at c.row_at.ensures.utf8 keeps on)
+    (own-told class bracket old v text c.args.place c.in_ok-at.at c.row_at.ensures.utf8 keeps on c.first_in-own.result (c.first_in-own.ensures _ on))
+    c.in_ok-old.ensures.home c.first_in-furthest.result less
     (c.first_in-furthest.ensures _ (c.in_ok-back.ensures.row _ on)
-    ∙ far-told class bracket old v text c.args.place c.in_ok-at.at c.row_at.ensures.utf8 keeps on c.rows_up.new.self further first (λ rs. row_of rs c.args.place - (c.args.t - 1)))
+    ∙ far-told class bracket old v text c.args.place c.in_ok-at.at c.row_at.ensures.utf8 keeps on c.rows_up.new.self further first (λ rs. row_of rs
+    c.args.place - (c.args.t - 1)))

@@ -1,4 +1,4 @@
-use Rattle.std.proofs.Common.{◌∙◌, ap}
+use Rattle.std.proofs.Common.{◌∙◌}
 use Rattle.bx_paragraph.specs.Layout.{row_by}
 use Rattle.bx_paragraph.specs.Slots.{reads_on}
 use Rattle.bx_paragraph.proofs.LayoutRows.{row_level}

@@ -1,6 +1,5 @@
 use Rattle.std.proofs.Common.{◌≡◌, ◌+◌, ◌-◌, ◌<◌, length, min, refl, subst, sym, ap, arith}
 use Rattle.bx_view.specs.Cursor.{IsNext, IsSameAtEnd, StandsOn, rows_by}
-use Rattle.bx_view.specs.Holding.{Keeps}
 use Rattle.bx_view.proofs.Beyond.{keeps-then}
 use Rattle.bx_view.proofs.Told.{rows-kept, side-some}
 use Rattle.bx_view.proofs.Walking.{row-within}

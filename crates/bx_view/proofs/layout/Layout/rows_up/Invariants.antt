@@ -1,5 +1,5 @@
 -- The row is as many rows away as turns were made.
-use Rattle.std.proofs.Common.{◌≡◌, ℕ, ◌+◌, ◌-◌, ◌≤◌}
+use Rattle.std.proofs.Common.{ℕ, ◌-◌, ◌≤◌}
 use Rattle.bx_view.specs.Cursor.{StandsOn}
 use Rattle.bx_view.specs.Holding.{Keeps}
 use Rattle.bx_view.proofs.layout.Layout.rows_up.Given as goal

@@ -25,5 +25,6 @@ returns-clause-slots g c =
     let v = c.row_at.new.self in
     c.in_ok-offsets.ensures ∙ ap (λ ss. map (λ o. start + o) (map (λ s. s.offset) ss)) (c.deref.ensures.value ∙ c.in_ok-slots.ensures.slots)
     ∙ ap (λ w. map (λ o. start + o) (map (λ s. s.offset) (row_slots w (row_by class bracket l c.in_ok-at.at.row)))) c.paragraph-paragraph.ensures.w_is
-    ∙ told class bracket v c.args.text.now.edited.text c.in_ok-at.at _ l c.row_at.ensures.utf8 c.in_ok-at.ensures.row c.paragraph-paragraph.ensures (slots v.w)
+    ∙ told class bracket v c.args.text.now.edited.text c.in_ok-at.at _ l c.row_at.ensures.utf8 c.in_ok-at.ensures.row c.paragraph-paragraph.ensures (slots
+    v.w)
     ∙ kept class bracket c.args.self.now v c.args.text.now.edited.text c.row_at.ensures.keeps (λ w rs. slots w (row_at rs (row_of rs c.args.place)))

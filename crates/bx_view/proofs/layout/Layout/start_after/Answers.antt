@@ -1,4 +1,4 @@
-use Rattle.std.proofs.Common.{◌+◌, ◌-◌, ◌<◌, subst}
+use Rattle.std.proofs.Common.{◌+◌, subst}
 use Rattle.bx_view.specs.Cursor.{IsNext, StandsOn}
 use Rattle.bx_view.proofs.Beyond.{no-start, some-start}
 use Rattle.bx_view.proofs.layout.Layout.start_after.Goals as goal
@@ -28,5 +28,6 @@ returns-clause-place g c = λ n on.
     let text = c.args.text.now.edited.text in
     let there : StandsOn class bracket c.next_row.new.self text c.in-Some.there (n + 1) =
     subst (IsNext class bracket c.next_row.new.self text n) c.in-Some.is (c.in_ok-there.ensures.next n on) in
-    some-start class bracket c.args.self.now c.next_row.new.self text c.next_row.ensures.keeps n c.in-Some.there c.in_ok-place.place c.len-utf8.ensures.utf8 there
+    some-start class bracket c.args.self.now c.next_row.new.self text c.next_row.ensures.keeps n c.in-Some.there c.in_ok-place.place
+    c.len-utf8.ensures.utf8 there
     (c.in_ok-place.ensures (n + 1) there)
