@@ -1,7 +1,7 @@
 //! The layout of one paragraph.
 ghost use Rattle.std.specs.Prelude.{◌≡◌, ◌≤◌, ◌<◌, true, All, IfOk, count_by, length, nat_le, map, string_bytes, sum_by};
 ghost use Rattle.std.specs.Cow.{cow_str_bytes};
-ghost use Rattle.bx_terms.specs.Glyphs.{is_one_glyph};
+ghost use Rattle.bx_terms.specs.Glyphs.{is_one_glyph, run_width};
 ghost use Rattle.bx_terms.specs.Sizes.{is_side};
 ghost use Rattle.bx_cells.specs.Units.{HasFace, StandsIn};
 ghost use Rattle.bx_rows.specs.RowPicture.{columns_used};
@@ -200,6 +200,7 @@ impl ParagraphLayout {
         ensures picture { IfOk result (λ p. map glyph_of p.glyphs.items ≡ row_glyphs (D.class_of source.now) (D.mirror_of source.now) self.now.w
             (row_by (D.class_of source.now) (D.bracket_of source.now) self.now row)) }
         ensures glyphs { IfOk result (λ p. All (λ g. is_one_glyph (cow_str_bytes g.text) ≡ true) p.glyphs.items) }
+        ensures widths { IfOk result (λ p. All (λ g. run_width (cow_str_bytes g.text) ≡ g.columns) p.glyphs.items) }
         ensures columns { IfOk result (λ p. sum_by (λ g. g.columns) p.glyphs.items ≡ self.now.w) }
     {
         let parts = self.row(row, source)?;

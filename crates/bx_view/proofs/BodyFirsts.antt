@@ -72,13 +72,18 @@ unfolding with_offsets
 first-unit class w [] = refl
 first-unit class w (g ∷ gs) = refl
 
+-- a body's units begin in it
+pub units-in : (class : ℕ → Class) (w : ℕ) (body : List ℕ) → IsUtf8 body → Rises 0 (starts_of (units class w body)) (length body + 1)
+units-in class w body utf8 =
+    let gs = graphemes true body in
+    let size : 0 + length (concat gs) + 1 ≡ length body + 1 = omega (arith, ap length (concat-segments (is_grapheme_break true) body utf8)) in
+    subst (Rises 0 (starts_of (units class w body))) size (units-rise class w 0 gs (segments_nonempty (is_grapheme_break true) body))
+
 pub body-firsts : (class : ℕ → Class) (bracket : ℕ → Option (Side × ℕ)) (base : Base) (w : ℕ) → 1 ≤ w → (body : List ℕ) → IsUtf8 body
     → BodyFirsts body (body_rows class bracket base w body)
 body-firsts class bracket base w side body utf8 =
     let us = units class w body in
     let gs = graphemes true body in
-    let size : 0 + length (concat gs) + 1 ≡ length body + 1 = omega (arith, ap length (concat-segments (is_grapheme_break true) body utf8)) in
-    let rise : Rises 0 (starts_of us) (length body + 1) =
-    subst (Rises 0 (starts_of us)) size (units-rise class w 0 gs (segments_nonempty (is_grapheme_break true) body)) in
+    let rise : Rises 0 (starts_of us) (length body + 1) = units-in class w body utf8 in
     let (os, e, r) = rows-of-rise (is_break class body) w (length body + 1) body us (omega arith) rise (first-unit class w gs) in
     record { others = os; firsts = firsts class bracket base w body side ∙ e; rise = r }

@@ -1,15 +1,20 @@
 -- What the rows of a paragraph that is held tell of the rows of the text.
-use Rattle.std.proofs.Common.{◌≡◌, ℕ, ◌+◌, ◌-◌, ◌<◌, ◌≤◌, true, List, length, get_or, nat_le, Option, IsUtf8, refl, sym, ap, ap₂, subst, ◌∙◌, arith, leb-true}
+use Rattle.std.proofs.Common.{◌≡◌, ℕ, ◌+◌, ◌-◌, ◌<◌, ◌≤◌, true, List, length, get_or, nat_le, Option, Some, None, option_map, IsUtf8, IsCharBoundary}
+use Rattle.std.proofs.Common.{refl, sym, ap, ap₂, subst, ◌∙◌, arith, leb-true}
+use Rattle.std.specs.Prelude.{All, IfSome, map}
 use Rattle.std.proofs.lemmas.Bool.{and_parts}
 use Rattle.bx_terms.specs.Sizes.{is_side}
 use Rattle.bx_ucd.specs.declared.class.Class.{Class}
 use Rattle.bx_ucd.specs.declared.data.Side.{Side}
+use Rattle.bx_text.specs.Edits.{IsRange}
 use Rattle.bx_paras.specs.Paragraphs.{lengths}
 use Rattle.bx_paras.specs.Positions.{paragraph_of}
 use Rattle.bx_paragraph.specs.BodyRows.{body_rows, first_of, last_of}
 use Rattle.bx_paragraph.specs.BodyRows.{row_at as row_at_body, row_of as row_of_body}
 use Rattle.bx_paragraph.specs.Layout.{LayoutState, row_by, rows_by}
-use Rattle.bx_paragraph.specs.Slots.{column_of}
+use Rattle.bx_paragraph.specs.declared.moves.Visual.{Visual}
+use Rattle.bx_paragraph.specs.Slots.{beside, column_of, entry, reading_end, reading_start, row_slots}
+use Rattle.bx_paragraph.specs.declared.slot.Slot.{Slot}
 use Rattle.bx_paragraph.proofs.Starts.{row_count}
 use Rattle.bx_view.specs.declared.cursor.RowAt.{RowAt}
 use Rattle.bx_view.specs.Cursor.{StandsOn}
@@ -17,6 +22,8 @@ use Rattle.bx_view.specs.Holding.{HoldsBody, IsHeld, IsOfText, IsViewBy, Keeps, 
 use Rattle.bx_view.specs.Moves.{row_end, row_home}
 use Rattle.bx_view.specs.Standing.{IsRow, body_at, count, rows_ahead, rows_in, start_at}
 use Rattle.bx_view.specs.TextRows.{TextRow, cell_of, first, row_at, row_of, text_row, text_rows}
+use Rattle.bx_view.proofs.Numbers.{body-range, body-utf8}
+use Rattle.bx_view.proofs.Within.{Lies, LiesIn, Within, slots-fit, beside-fits, body-row-lies, end-fits, entry-fits, last-fits, start-fits}
 use Rattle.bx_view.proofs.Walking.{before-over, before-some, first-short, next-in, next-none, next-over, row-is, row-under}
 
 pub side-some : (w : ℕ) → is_side w ≡ true → 1 ≤ w
@@ -49,6 +56,7 @@ module _ (class : ℕ → Class) (bracket : ℕ → Option (Side × ℕ)) where
       → HoldsBody (body_at class text at.paragraph) v.held at.held → IsOfText class bracket v text at.paragraph l
       → at.row ≡ row_of_body (rows_by class bracket l) (offset - at.start) → StandsOn class bracket v text at (row_of (of v text) offset)
   stands v text offset at l utf8 number start held is row = record {
+    side = is.side;
     start_is = start;
     is = row-under class bracket v.base v.w (side-some v.w is.side) text utf8 offset at.paragraph at.row number
         (row ∙ ap (λ rs. row_of_body rs (offset - at.start)) is.rows_are
@@ -71,6 +79,63 @@ module _ (class : ℕ → Class) (bracket : ℕ → Option (Side × ℕ)) where
     row-told = row-is class bracket v.base v.w (side-some v.w is.side) text utf8 at.paragraph at.row n on.is
         ∙ ap (λ rs. text_row (start_at class text at.paragraph) (row_at_body rs at.row)) (sym is.rows_are)
         ∙ ap (λ s. text_row s (row_by class bracket l at.row)) (sym on.start_is)
+
+    -- what is said of it is said of row `n`
+    pub told : {A : Type 0} (F : TextRow → A) → F (text_row at.start (row_by class bracket l at.row)) ≡ F (row_at (of v text) n)
+    told F = sym (ap F row-told)
+
+    abbrev high : ℕ
+    high = length (body_at class text at.paragraph)
+
+    high-fits : at.start + high ≤ length text
+    high-fits =
+        let range : IsRange text (start_at class text at.paragraph) (start_at class text at.paragraph + high) =
+        body-range class text at.paragraph on.is.paragraph utf8 in
+        let bounds : IsCharBoundary text (start_at class text at.paragraph + high) = range.stop_bounds in
+        let inside : start_at class text at.paragraph + high ≤ length text = bounds.0 in
+        omega (arith, inside, on.start_is)
+
+    -- the offsets of its places lie in its body
+    lies-in : LiesIn high l.w (row_by class bracket l at.row)
+    lies-in =
+        subst (λ w. LiesIn high w (row_by class bracket l at.row)) (sym is.w_is) (subst (λ rs. LiesIn high v.w (row_at_body rs at.row)) (sym is.rows_are)
+        (body-row-lies class bracket v.base v.w (body_at class text at.paragraph) at.row (body-utf8 class text at.paragraph on.is.paragraph utf8) on.is.row))
+
+    fits-in : (most : ℕ) (o : Option ℕ) → length text ≤ most → Lies high o → IfSome o (λ p. at.start + p ≤ most)
+    fits-in most None short h = tt
+    fits-in most (Some p) short h = omega (arith, short, h, high-fits)
+
+    module _ (most : ℕ) (short : length text ≤ most) where
+      pub last-short : (o : ℕ) → o ≡ last_of (row_by class bracket l at.row) → at.start + o ≤ most
+      last-short o e = omega (arith, e, last-fits high l.w (row_by class bracket l at.row) lies-in, high-fits, short)
+
+      pub slots-short : (ss : List Slot) → ss ≡ row_slots l.w (row_by class bracket l at.row) → All (λ s. at.start + s.offset ≤ most) ss
+      slots-short ss e =
+          slots-fit at.start high most ss (omega (arith, short, high-fits)) (subst (λ xs. Within high (map (λ (s : Slot). s.offset) xs)) (sym e)
+          lies-in.slots)
+
+      pub beside-short : (side : Visual) (offset : ℕ) (o : Option ℕ) → o ≡ beside l.w (row_by class bracket l at.row) side offset
+          → IfSome o (λ p. at.start + p ≤ most)
+      beside-short side offset o e =
+          fits-in most o short (subst (Lies high) (sym e) (beside-fits high l.w (row_by class bracket l at.row) lies-in side offset))
+
+      pub start-short : (o : Option ℕ) → o ≡ reading_start l.w (row_by class bracket l at.row) → IfSome o (λ p. at.start + p ≤ most)
+      start-short o e = fits-in most o short (subst (Lies high) (sym e) (start-fits high l.w (row_by class bracket l at.row) lies-in))
+
+      pub end-short : (o : Option ℕ) → o ≡ reading_end l.w (row_by class bracket l at.row) → IfSome o (λ p. at.start + p ≤ most)
+      end-short o e = fits-in most o short (subst (Lies high) (sym e) (end-fits high l.w (row_by class bracket l at.row) lies-in))
+
+      pub entry-short : (column : ℕ) (o : Option ℕ) → o ≡ entry l.w (row_by class bracket l at.row) column → IfSome o (λ p. at.start + p ≤ most)
+      entry-short column o e = fits-in most o short (subst (Lies high) (sym e) (entry-fits high l.w (row_by class bracket l at.row) lies-in column))
+
+    -- a place of it, if there is one, by the columns of the view
+    pub place-told : (F : ℕ → TextRow → Option ℕ) (o p : Option ℕ) → p ≡ option_map (λ k. at.start + k) o
+        → option_map (λ k. at.start + k) o ≡ F l.w (text_row at.start (row_by class bracket l at.row)) → p ≡ F v.w (row_at (of v text) n)
+    place-told F o p e f = e ∙ f ∙ ap (λ w. F w (text_row at.start (row_by class bracket l at.row))) is.w_is ∙ told (F v.w)
+
+  -- rows stay the same where the base direction and the columns do
+  pub rows-kept : (old v : ViewState) (text : List ℕ) → Keeps class bracket old v → of v text ≡ of old text
+  rows-kept old v text keeps = ap₂ (λ b w. text_rows class bracket b w text) keeps.base keeps.w
 
   -- ---- as the calls promise it, by the base direction and the columns that the layout had before
 
@@ -106,6 +171,7 @@ module _ (class : ℕ → Class) (bracket : ℕ → Option (Side × ℕ)) where
       (is : IsOfText class bracket v text at.paragraph l) where
     pub next-here : at.row + 1 < length l.starts → StandsOn class bracket v text (record at { row = at.row + 1 }) (n + 1)
     next-here more = record {
+      side = is.side;
       start_is = on.start_is;
       is = next-in class bracket v.base v.w (side-some v.w is.side) text utf8 at.paragraph at.row n on.is (omega (arith, more, is.count_is));
       held_is = on.held_is;
@@ -118,6 +184,7 @@ module _ (class : ℕ → Class) (bracket : ℕ → Option (Side × ℕ)) where
         → start ≡ start_at class text (at.paragraph + 1) → HoldsBody (body_at class text (at.paragraph + 1)) new.held held
         → StandsOn class bracket new text (record { paragraph = at.paragraph + 1; start = start; row = 0; held = held }) (n + 1)
     next-there new start held keeps last more e h = record {
+      side = ap is_side keeps.w ∙ is.side;
       start_is = e;
       is = kept-row v new text (at.paragraph + 1) 0 (n + 1) keeps
           (next-over class bracket v.base v.w (side-some v.w is.side) text utf8 at.paragraph at.row n on.is (last-here last) more);
@@ -139,6 +206,7 @@ module _ (class : ℕ → Class) (bracket : ℕ → Option (Side × ℕ)) where
       let number = is.is in (
         omega (arith, number, some),
         record {
+          side = on.side;
           start_is = on.start_is;
           is = record { paragraph = is.paragraph; row = omega (arith, within, some); is = omega (arith, number, some) };
           held_is = on.held_is;
@@ -163,6 +231,7 @@ module _ (class : ℕ → Class) (bracket : ℕ → Option (Side × ℕ)) where
       (kept-row old v text at.paragraph at.row n keeps on.is)) in (
         before-some class bracket v.base v.w (side-some v.w is.side) text utf8 (number + 1) 0 n there (omega arith),
         record {
+          side = is.side;
           start_is = e;
           is = before-over class bracket v.base v.w (side-some v.w is.side) text utf8 number (rows - 1) n there (omega (arith, counted, some, is.count_is));
           held_is = h;

@@ -20,12 +20,12 @@ use Rattle.bx_view.proofs.Numbers.{ahead, among, behind, body-range, body-utf8, 
 use Rattle.bx_view.proofs.Parts.{AreEnded, AreUtf8, text-parts}
 use Rattle.bx_view.proofs.Rising.{Rises, rises-apart, rises-below}
 
-slice-at : {X : Type 0} (xs : List X) (n : ℕ) (d : X) → n < length xs → slice_get xs n ≡ Some (get_or xs n d)
+pub slice-at : {X : Type 0} (xs : List X) (n : ℕ) (d : X) → n < length xs → slice_get xs n ≡ Some (get_or xs n d)
 slice-at [] n d h = absurd (omega (arith, h))
 slice-at (x ∷ xs) zero d h = refl
 slice-at (x ∷ xs) (suc n) d h = slice-at xs n d (omega (arith, h))
 
-slice-past : {X : Type 0} (xs : List X) (n : ℕ) → length xs ≤ n → slice_get xs n ≡ None
+pub slice-past : {X : Type 0} (xs : List X) (n : ℕ) → length xs ≤ n → slice_get xs n ≡ None
 slice-past [] n h = refl
 slice-past (x ∷ xs) zero h = absurd (omega (arith, h))
 slice-past (x ∷ xs) (suc n) h = slice-past xs n (omega (arith, h))

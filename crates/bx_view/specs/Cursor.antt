@@ -1,14 +1,16 @@
 -- A row of a text, found by a layout.
-use Rattle.std.specs.Prelude.{◌≡◌, ℕ, ◌+◌, ◌-◌, ◌<◌, List, length, Option, MatchOption}
+use Rattle.std.specs.Prelude.{◌≡◌, ℕ, ◌+◌, ◌-◌, ◌<◌, true, List, length, Option, MatchOption}
+use Rattle.bx_terms.specs.Sizes.{is_side}
 use Rattle.bx_ucd.specs.declared.class.Class.{Class}
 use Rattle.bx_ucd.specs.declared.data.Side.{Side}
 use Rattle.bx_view.specs.declared.cursor.RowAt.{RowAt}
 use Rattle.bx_view.specs.Holding.{HoldsBody, ViewState}
 use Rattle.bx_view.specs.Standing.{IsRow, body_at, start_at}
-use Rattle.bx_view.specs.TextRows.{text_rows}
+use Rattle.bx_view.specs.TextRows.{TextRow, row_at, text_rows}
 
--- it is row `n` of the text, and its paragraph is held
+-- it is row `n` of the text, in a window that there may be, and its paragraph is held
 pub record StandsOn (class : ℕ → Class) (bracket : ℕ → Option (Side × ℕ)) (v : ViewState) (text : List ℕ) (at : RowAt) (n : ℕ) : Type 0 where
+  pub side : is_side v.w ≡ true
   pub start_is : at.start ≡ start_at class text at.paragraph
   pub is : IsRow class bracket v.base v.w text at.paragraph at.row n
   pub held_is : HoldsBody (body_at class text at.paragraph) v.held at.held
@@ -21,3 +23,15 @@ IsNext class bracket v text n next =
 -- the row before row `n` of the text, and none before the first
 abbrev pub IsBefore : (ℕ → Class) → (ℕ → Option (Side × ℕ)) → ViewState → List ℕ → ℕ → Option RowAt → Type 0
 IsBefore class bracket v text n before = MatchOption before (n ≡ 0) (λ b. (0 < n) × StandsOn class bracket v text b (n - 1))
+
+-- where no row is found, what is held stays
+abbrev pub IsSameAtEnd : ViewState → ViewState → Option RowAt → Type 0
+IsSameAtEnd old new found = MatchOption found (new ≡ old) (λ _. Unit {0})
+
+-- the rows of a text under a view's base direction and in its columns
+abbrev pub rows_by : (ℕ → Class) → (ℕ → Option (Side × ℕ)) → ViewState → List ℕ → List TextRow
+rows_by class bracket v text = text_rows class bracket v.base v.w text
+
+-- what is true of the row that is found, whatever its number
+abbrev pub OfRow : (ℕ → Class) → (ℕ → Option (Side × ℕ)) → ViewState → List ℕ → RowAt → (TextRow → Type 0) → Type 0
+OfRow class bracket v text at P = (n : ℕ) → StandsOn class bracket v text at n → P (row_at (rows_by class bracket v text) n)

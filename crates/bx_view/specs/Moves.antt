@@ -63,10 +63,14 @@ to_row w rows place k = elim (k == row_of rows place) [
   | false ↦ unwrap_or (entry_in w (row_at rows k) (cell_of w rows place)) place
 ]
 
--- `n` rows up or down, at most to the first or the last row
+-- the number of the row that is `n` rows above or below row `k` of `count` rows, at most the first or the last
+abbrev pub row_away : ℕ → Vertical → ℕ → ℕ → ℕ
+row_away count Up n k = k - n
+row_away count Down n k = min (k + n) (count - 1)
+
+-- `n` rows up or down
 abbrev pub rows_away : ℕ → List TextRow → Vertical → ℕ → ℕ → ℕ
-rows_away w rows Up n place = to_row w rows place (row_of rows place - n)
-rows_away w rows Down n place = to_row w rows place (min (row_of rows place + n) (length rows - 1))
+rows_away w rows way n place = to_row w rows place (row_away (length rows) way n (row_of rows place))
 
 -- Up and Down: the row before or after
 abbrev pub vertical : ℕ → List TextRow → Vertical → ℕ → ℕ

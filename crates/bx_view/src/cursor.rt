@@ -1,8 +1,8 @@
 //! A row of a text by its paragraph.
 
-/// A row of a text.
+/// A row of a text, found by a layout: one to ask for until that layout looks for another row.
 #[derive(Clone, Copy)]
-pub(crate) struct RowAt {
+pub struct RowAt {
     /// The number of its paragraph, from 0.
     pub(crate) paragraph: usize,
     /// Where that paragraph's body begins in the text, in bytes.

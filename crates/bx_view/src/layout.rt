@@ -3,7 +3,7 @@ ghost use Rattle.std.specs.Prelude.{◌≡◌, ℕ, ◌<◌, ◌≤◌, [], true
 ghost use Rattle.bx_terms.specs.Sizes.{is_side};
 ghost use Rattle.bx_text.specs.Edits.{largest_text};
 ghost use Rattle.bx_paras.specs.Paragraphs.{lengths};
-ghost use Rattle.bx_view.specs.Cursor.{IsBefore, IsNext, StandsOn};
+ghost use Rattle.bx_view.specs.Cursor.{IsBefore, IsNext, IsSameAtEnd, StandsOn};
 ghost use Rattle.bx_view.specs.Holding.{HoldsBody, IsOfText, IsViewBy, Keeps};
 ghost use Rattle.bx_view.specs.Moves.{row_home};
 ghost use Rattle.bx_view.specs.Standing.{body_at, count};
@@ -89,7 +89,7 @@ impl Layout {
     }
 
     /// A paragraph of the text that is held.
-    fn paragraph<D: BidiData>(
+    pub(crate) fn paragraph<D: BidiData>(
         &self,
         text: &Text,
         source: &D,
@@ -109,7 +109,7 @@ impl Layout {
     /// The row that an offset of the text falls in.
     ///
     /// Errors: `OutOfMemory`.
-    fn row_at<D: BidiData>(
+    pub fn row_at<D: BidiData>(
         &mut self,
         text: &Text,
         index: &Index,
@@ -140,7 +140,7 @@ impl Layout {
     /// The row behind one of the text, if there is one.
     ///
     /// Errors: `OutOfMemory`.
-    fn next_row<D: BidiData>(
+    pub fn next_row<D: BidiData>(
         &mut self,
         text: &Text,
         index: &Index,
@@ -153,6 +153,7 @@ impl Layout {
         ensures keeps { Keeps (D.class_of source.now) (D.bracket_of source.now) self.old self.new }
         ensures next { (n : ℕ) → StandsOn (D.class_of source.now) (D.bracket_of source.now) self.old text.now.edited.text at n
             → IfOk result (IsNext (D.class_of source.now) (D.bracket_of source.now) self.new text.now.edited.text n) }
+        ensures same { IfOk result (IsSameAtEnd self.old self.new) }
     {
         let _utf8 = text.len();
         let count = index.count();
@@ -184,7 +185,7 @@ impl Layout {
     /// The row before one of the text, if there is one.
     ///
     /// Errors: `OutOfMemory`.
-    fn row_before<D: BidiData>(
+    pub fn row_before<D: BidiData>(
         &mut self,
         text: &Text,
         index: &Index,
@@ -197,6 +198,7 @@ impl Layout {
         ensures keeps { Keeps (D.class_of source.now) (D.bracket_of source.now) self.old self.new }
         ensures before { (n : ℕ) → StandsOn (D.class_of source.now) (D.bracket_of source.now) self.old text.now.edited.text at n
             → IfOk result (IsBefore (D.class_of source.now) (D.bracket_of source.now) self.new text.now.edited.text n) }
+        ensures same { IfOk result (IsSameAtEnd self.old self.new) }
     {
         let _utf8 = text.len();
         if at.row > 0 {

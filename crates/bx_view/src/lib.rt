@@ -4,12 +4,18 @@
 mod cursor;
 mod error;
 mod holder;
+mod in_row;
 mod in_text;
 mod layout;
 mod moves;
+mod shown;
 mod span;
+mod top;
+mod vertical;
+mod visual;
 
 pub use bx_paragraph::Visual;
+pub use cursor::RowAt;
 pub use error::ViewError;
 pub use layout::Layout;
 pub use moves::{Logical, Vertical};

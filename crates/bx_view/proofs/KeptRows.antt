@@ -1,0 +1,43 @@
+-- Where rows begin, told by later states of a layout.
+use Rattle.std.proofs.Common.{◌≡◌, ℕ, ◌<◌, List, length, Option, IsUtf8, sym, ap, ap₂, ◌∙◌, arith}
+use Rattle.bx_terms.specs.Sizes.{is_side}
+use Rattle.bx_ucd.specs.declared.class.Class.{Class}
+use Rattle.bx_ucd.specs.declared.data.Side.{Side}
+use Rattle.bx_view.specs.declared.cursor.RowAt.{RowAt}
+use Rattle.bx_view.specs.declared.moves.Vertical.{Vertical}
+use Rattle.bx_view.specs.declared.moves.Vertical.TheVariants.{Up, Down}
+use Rattle.bx_view.specs.Cursor.{StandsOn, rows_by}
+use Rattle.bx_view.specs.Holding.{Keeps, ViewState}
+use Rattle.bx_view.specs.Moves.{row_away}
+use Rattle.bx_view.specs.TextRows.{TextRow, first, row_at, row_of}
+use Rattle.bx_view.proofs.Nearest.{falls-within}
+use Rattle.bx_view.proofs.Told.{rows-kept, side-some}
+use Rattle.bx_view.proofs.Walking.{firsts-rise, row-within}
+
+pub away-within : (count : ℕ) (way : Vertical) (n k : ℕ) → k < count → row_away count way n k < count
+away-within count Up n k h = omega (arith, h)
+away-within count Down n k h = omega (arith, h)
+
+module _ (class : ℕ → Class) (bracket : ℕ → Option (Side × ℕ)) (old v : ViewState) (text : List ℕ) (place : ℕ) (at : RowAt) (utf8 : IsUtf8 text)
+    (keeps : Keeps class bracket old v) (on : StandsOn class bracket v text at (row_of (rows_by class bracket v text) place)) where
+  abbrev rows : List TextRow
+  rows = rows_by class bracket old text
+
+  pub rise-kept : (n m : ℕ) → n < m → m < length rows → first (row_at rows n) < first (row_at rows m)
+  rise-kept = firsts-rise class bracket old.base old.w (side-some old.w (sym (ap is_side keeps.w) ∙ on.side)) text utf8
+
+  pub own-within : row_of rows place < length rows
+  own-within =
+      let own = row_of (rows_by class bracket v text) place in
+      let within = row-within class bracket v.base v.w (side-some v.w on.side) text utf8 at.paragraph at.row own on.is in
+      falls-within rows place (omega (arith, within, ap length (rows-kept class bracket old v text keeps)))
+
+  pub own-told : (o : ℕ) → o ≡ first (row_at (rows_by class bracket v text) (row_of (rows_by class bracket v text) place))
+      → o ≡ first (row_at rows (row_of rows place))
+  own-told o e = e ∙ ap (λ rs. first (row_at rs (row_of rs place))) (rows-kept class bracket old v text keeps)
+
+  -- of a row that is found later
+  pub far-told : {A : Type 0} (later : ViewState) → Keeps class bracket old later → (F : TextRow → A) (number : List TextRow → ℕ)
+      → F (row_at (rows_by class bracket later text) (number (rows_by class bracket v text))) ≡ F (row_at rows (number rows))
+  far-told later further F number =
+      ap₂ (λ a b. F (row_at a (number b))) (rows-kept class bracket old later text further) (rows-kept class bracket old v text keeps)

@@ -1,0 +1,82 @@
+//! What a row of the text shows, and its slots.
+ghost use Rattle.std.specs.Prelude.{◌≡◌, ℕ, ◌+◌, ◌≤◌, true, All, IfOk, map, sum_by};
+ghost use Rattle.std.specs.Cow.{cow_str_bytes};
+ghost use Rattle.bx_terms.specs.Glyphs.{is_one_glyph, run_width};
+ghost use Rattle.bx_text.specs.Edits.{largest_text};
+ghost use Rattle.bx_paras.specs.Paragraphs.{lengths};
+ghost use Rattle.bx_rows.specs.Shown.{glyph_of};
+ghost use Rattle.bx_view.specs.Cursor.{OfRow, StandsOn, rows_by};
+ghost use Rattle.bx_view.specs.Holding.{IsViewBy, Keeps};
+ghost use Rattle.bx_view.specs.TextRows.{row_at, row_of, slots, text_row_glyphs};
+
+use crate::cursor::RowAt;
+use crate::error::ViewError;
+use crate::layout::Layout;
+use bx_paragraph::Slot;
+use bx_paras::Index;
+use bx_rows::RowPicture;
+use bx_text::Text;
+use bx_ucd::BidiData;
+use std::alloc::{AllocError, Global};
+
+/// The offsets of slots in the text, in which their body begins at the offset `start`.
+fn in_text(alloc: Global, start: usize, slots: &[Slot]) -> Result<Vec<usize>, AllocError>
+    requires { All (λ s. start + s.offset ≤ largest_text) slots.now }
+    ensures { IfOk result (λ v. v.items ≡ map (λ o. start + o) (map (λ s. s.offset) slots.now)) }
+{
+    let mut offsets = Vec::with_capacity(alloc, slots.len())?;
+    for slot in slots {
+        offsets.push(start + slot.offset)?;
+    }
+    Ok(offsets)
+}
+
+impl Layout {
+    /// What a row shows, from left to right with its blanks.
+    ///
+    /// Errors: `OutOfMemory`.
+    pub fn picture<D: BidiData>(
+        &self,
+        text: &Text,
+        source: &D,
+        at: RowAt,
+    ) -> Result<RowPicture<'_>, ViewError>
+        requires data { IsViewBy (D.class_of source.now) (D.bracket_of source.now) self.now }
+        requires row { (n : ℕ) × StandsOn (D.class_of source.now) (D.bracket_of source.now) self.now text.now.edited.text at n }
+        ensures picture { OfRow (D.class_of source.now) (D.bracket_of source.now) self.now text.now.edited.text at (λ r. IfOk result
+            (λ p. map glyph_of p.glyphs.items ≡ text_row_glyphs (D.class_of source.now) (D.mirror_of source.now) self.now.w r)) }
+        ensures glyphs { IfOk result (λ p. All (λ g. is_one_glyph (cow_str_bytes g.text) ≡ true) p.glyphs.items) }
+        ensures widths { IfOk result (λ p. All (λ g. run_width (cow_str_bytes g.text) ≡ g.columns) p.glyphs.items) }
+        ensures columns { IfOk result (λ p. sum_by (λ g. g.columns) p.glyphs.items ≡ self.now.w) }
+    {
+        let _utf8 = text.len();
+        let paragraph = self.paragraph(text, source, at.paragraph, at.held);
+        let picture = paragraph.picture(at.row, source)?;
+        Ok(picture)
+    }
+
+    /// The places of the row that a place falls in, from left to right as they are shown.
+    ///
+    /// Errors: `OutOfMemory`.
+    pub fn slots<D: BidiData>(
+        &mut self,
+        text: &Text,
+        index: &Index,
+        source: &D,
+        place: usize,
+    ) -> Result<Vec<usize>, ViewError>
+        requires data { IsViewBy (D.class_of source.now) (D.bracket_of source.now) self.old }
+        requires index { index.now.paragraphs ≡ lengths (D.class_of source.now) text.now.edited.text }
+        ensures keeps { Keeps (D.class_of source.now) (D.bracket_of source.now) self.old self.new }
+        ensures slots { IfOk result (λ v. v.items ≡ slots self.old.w
+            (row_at (rows_by (D.class_of source.now) (D.bracket_of source.now) self.old text.now.edited.text)
+            (row_of (rows_by (D.class_of source.now) (D.bracket_of source.now) self.old text.now.edited.text) place))) }
+    {
+        let at = self.row_at(text, index, source, place)?;
+        let _short = text.len();
+        let paragraph = self.paragraph(text, source, at.paragraph, at.held);
+        let slots = paragraph.slots(at.row, source)?;
+        let offsets = in_text(*slots.allocator(), at.start, &slots)?;
+        Ok(offsets)
+    }
+}
