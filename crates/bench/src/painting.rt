@@ -67,29 +67,95 @@ fn changes_len(alloc: Global, old: &Picture, new: &Picture) -> Result<usize> {
     Ok(changes(alloc, old, new)?.len())
 }
 
+/// What is done some times.
+#[derive(Clone, Copy)]
+enum Task {
+    Changes,
+    Same,
+    Whole,
+    Read,
+    Picture,
+    Blank,
+}
+
+impl Task {
+    /// The task of a name.
+    fn named(name: &str) -> Option<Task> {
+        if name == "changes" {
+            Some(Task::Changes)
+        } else if name == "same" {
+            Some(Task::Same)
+        } else if name == "whole" {
+            Some(Task::Whole)
+        } else {
+            Task::of_grids(name)
+        }
+    }
+
+    /// The task of the name of one that paints nothing.
+    fn of_grids(name: &str) -> Option<Task> {
+        if name == "read" {
+            Some(Task::Read)
+        } else if name == "picture" {
+            Some(Task::Picture)
+        } else if name == "blank" {
+            Some(Task::Blank)
+        } else {
+            None
+        }
+    }
+}
+
+/// What the tasks work on.
+#[derive(Drop)]
+struct Work {
+    script: Script,
+    old: Picture,
+    new: Picture,
+    painting: Vec<u8>,
+    screen: Screen,
+}
+
+impl Work {
+    fn new(alloc: Global, script: Script) -> Result<Work> {
+        let old = full(alloc, script, false)?;
+        let new = full(alloc, script, true)?;
+        let painting = whole(alloc, &new)?;
+        let screen = Screen::new(alloc, 24, 80)?;
+        Ok(Work {
+            script,
+            old,
+            new,
+            painting,
+            screen,
+        })
+    }
+
+    /// How many bytes the screen reads.
+    fn read(&mut self) -> Result<usize> {
+        self.screen.read(self.painting.as_slice())?;
+        Ok(self.painting.len())
+    }
+
+    /// Does a task once: how many bytes or columns that makes or reads.
+    fn once(&mut self, alloc: Global, task: Task) -> Result<usize> {
+        match task {
+            Task::Changes => changes_len(alloc, &self.old, &self.new),
+            Task::Same => changes_len(alloc, &self.new, &self.new),
+            Task::Whole => Ok(whole(alloc, &self.new)?.len()),
+            Task::Read => self.read(),
+            Task::Picture => Ok(full(alloc, self.script, true)?.grid().columns().len()),
+            Task::Blank => Ok(Grid::blank(alloc, 24, 80)?.columns().len()),
+        }
+    }
+}
+
 /// How many bytes or columns a task that is done some times makes or reads.
-fn sum(alloc: Global, what: &str, script: Script, times: usize) -> Result<u64> {
-    let old = full(alloc, script, false)?;
-    let new = full(alloc, script, true)?;
-    let painting = whole(alloc, &new)?;
-    let mut screen = Screen::new(alloc, 24, 80)?;
+fn sum(alloc: Global, task: Task, script: Script, times: usize) -> Result<u64> {
+    let mut work = Work::new(alloc, script)?;
     let mut sum: u64 = 0;
     for _ in 0..times {
-        let count = if what == "changes" {
-            changes_len(alloc, &old, &new)?
-        } else if what == "same" {
-            changes_len(alloc, &new, &new)?
-        } else if what == "whole" {
-            whole(alloc, &new)?.len()
-        } else if what == "read" {
-            screen.read(painting.as_slice())?;
-            painting.len()
-        } else if what == "picture" {
-            full(alloc, script, true)?.grid().columns().len()
-        } else {
-            Grid::blank(alloc, 24, 80)?.columns().len()
-        };
-        sum = sum.wrapping_add(count as u64);
+        sum = sum.wrapping_add(work.once(alloc, task)? as u64);
     }
     Ok(sum)
 }
@@ -99,10 +165,11 @@ pub(crate) fn run<R: CpuClock + AllocGlobal>(rt: &R, words: &[String]) -> Result
     let [task, text, times] = words else {
         bail!("usage: bench painting TASK TEXT TIMES");
     };
+    let task = Task::named(task.as_str()).context("no such task")?;
     let script = Script::named(text.as_str()).context("no such text")?;
     let times = number(times)?;
     let start = rt.thread_cpu_time()?;
-    let sum = sum(rt.alloc(), task.as_str(), script, times)?;
+    let sum = sum(rt.alloc(), task, script, times)?;
     let end = rt.thread_cpu_time()?;
     let line = format!(in rt.alloc(); "{sum}")?;
     Ok(Outcome {

@@ -131,34 +131,40 @@ fn walked(index: &Index) -> usize {
     seen.saturating_sub(walk.number())
 }
 
-/// How many paragraphs there are in the end, and the time of the build or of the edits.
+/// Does what is measured after the index was built: how many paragraphs there are in the end, or were met.
+fn follow<D: BidiData>(text: &mut Text, index: &mut Index, source: &D, task: Task) -> Result<usize>
+    requires { index.old.paragraphs ≡ lengths (D.class_of source.now) text.old.edited.text }
+{
+    match task {
+        Task::Build => {}
+        Task::Edit(edits) => edit_often(text, index, source, edits)?,
+        Task::Restore(edits) => restore_often(text, index, source, edits)?,
+        Task::Walk => return Ok(walked(index)),
+    }
+    Ok(index.count())
+}
+
+/// How many paragraphs there are in the end, and the time of the build or of what follows it.
 fn measured<R: CpuClock + AllocGlobal>(
     rt: &R,
-    bytes: usize,
-    line: usize,
+    text: &mut Text,
     task: Task,
 ) -> Result<(usize, Duration)> {
     let tables = sample_tables(rt.alloc())?;
-    let mut text = Text::open(rt.alloc(), lines(rt.alloc(), bytes, line)?)?;
     let start = rt.thread_cpu_time()?;
-    let mut index = Index::build(rt.alloc(), &text, &tables)?;
+    let mut index = Index::build(rt.alloc(), text, &tables)?;
     let built = rt.thread_cpu_time()?;
-    match task {
-        Task::Build => return Ok((index.count(), built.saturating_sub(start))),
-        Task::Edit(edits) => edit_often(&mut text, &mut index, &tables, edits)?,
-        Task::Restore(edits) => restore_often(&mut text, &mut index, &tables, edits)?,
-        Task::Walk => {
-            let seen = walked(&index);
-            let end = rt.thread_cpu_time()?;
-            return Ok((seen, end.saturating_sub(built)));
-        }
-    }
+    let count = follow(text, &mut index, &tables, task)?;
     let end = rt.thread_cpu_time()?;
-    Ok((index.count(), end.saturating_sub(built)))
+    let time = match task {
+        Task::Build => built.saturating_sub(start),
+        _ => end.saturating_sub(built),
+    };
+    Ok((count, time))
 }
 
-/// What the words ask for: how many paragraphs there are in the end, and the time of the build or of the edits.
-pub(crate) fn run<R: CpuClock + AllocGlobal>(rt: &R, words: &[String]) -> Result<Outcome> {
+/// What is measured, and the numbers of a text, by the words.
+fn asked(words: &[String]) -> Result<(Task, usize, usize)> {
     let (task, bytes, line) = match words {
         [task, bytes, line] if task.as_str() == "build" => (Task::Build, bytes, line),
         [task, bytes, line] if task.as_str() == "walk" => (Task::Walk, bytes, line),
@@ -170,7 +176,14 @@ pub(crate) fn run<R: CpuClock + AllocGlobal>(rt: &R, words: &[String]) -> Result
         }
         _ => bail!("usage: bench paragraphs build|edit|restore|walk BYTES LINE [EDITS]"),
     };
-    let (count, time) = measured(rt, number(bytes)?, number(line)?, task)?;
+    Ok((task, number(bytes)?, number(line)?))
+}
+
+/// What the words ask for: how many paragraphs there are in the end, and the time of the build or of the edits.
+pub(crate) fn run<R: CpuClock + AllocGlobal>(rt: &R, words: &[String]) -> Result<Outcome> {
+    let (task, bytes, line) = asked(words)?;
+    let mut text = Text::open(rt.alloc(), lines(rt.alloc(), bytes, line)?)?;
+    let (count, time) = measured(rt, &mut text, task)?;
     let line = format!(in rt.alloc(); "{count} paragraphs")?;
     Ok(Outcome { line, time })
 }
