@@ -15,21 +15,21 @@ use Rattle.bx_paras.proofs.Followed.{has_end, no_end}
 
 module _ (offset : ℕ) where
   -- how many of some paragraphs begin at the offset or before it
-  abbrev begun : ℕ → List Lengths → ℕ
-  begun at ps = count_by (λ s. nat_le s.0 offset) (spans_from at ps)
+  abbrev start_before : ℕ → List Lengths → ℕ
+  start_before at ps = count_by (λ s. nat_le s.0 offset) (spans_from at ps)
 
-  begun_cons : (at : ℕ) (p : Lengths) (ps : List Lengths) → begun at (p ∷ ps) ≡ cond (nat_le at offset) 1 0 + begun (at + bytes_of p) ps
+  begun_cons : (at : ℕ) (p : Lengths) (ps : List Lengths) → start_before at (p ∷ ps) ≡ cond (nat_le at offset) 1 0 + start_before (at + bytes_of p) ps
   begun_cons at p ps = sum_by-cons (λ s. cond (nat_le s.0 offset) 1 0) (at, at + p.body) (spans_from (at + bytes_of p) ps)
 
-  begun_first : (at : ℕ) (p : Lengths) (ps : List Lengths) → at ≤ offset → begun at (p ∷ ps) ≡ 1 + begun (at + bytes_of p) ps
-  begun_first at p ps h = let e : nat_le at offset ≡ true = grind (arith, nat_tests) in begun_cons at p ps ∙ ap (λ b. cond b 1 0 + begun (at + bytes_of p) ps) e
+  begun_first : (at : ℕ) (p : Lengths) (ps : List Lengths) → at ≤ offset → start_before at (p ∷ ps) ≡ 1 + start_before (at + bytes_of p) ps
+  begun_first at p ps h = let e : nat_le at offset ≡ true = grind (arith, nat_tests) in begun_cons at p ps ∙ ap (λ b. cond b 1 0 + start_before (at + bytes_of p) ps) e
 
-  none_begun : (at : ℕ) (ps : List Lengths) → offset < at → begun at ps ≡ 0
+  none_begun : (at : ℕ) (ps : List Lengths) → offset < at → start_before at ps ≡ 0
   none_begun at [] h = refl
   none_begun at (p ∷ ps) h =
       let e : nat_le at offset ≡ false = grind (arith, nat_tests) in
-      let more : begun (at + bytes_of p) ps ≡ 0 = none_begun (at + bytes_of p) ps (omega arith) in
-      begun_cons at p ps ∙ ap (λ b. cond b 1 0 + begun (at + bytes_of p) ps) e ∙ omega (arith, more)
+      let more : start_before (at + bytes_of p) ps ≡ 0 = none_begun (at + bytes_of p) ps (omega arith) in
+      begun_cons at p ps ∙ ap (λ b. cond b 1 0 + start_before (at + bytes_of p) ps) e ∙ omega (arith, more)
 
   next_past : (at n : ℕ) (p : Lengths) (ps : List Lengths) → offset < at + total (take (suc n + 1) (p ∷ ps))
       → offset < at + bytes_of p + total (take (n + 1) ps)
@@ -40,15 +40,15 @@ module _ (offset : ℕ) where
 
   -- the paragraphs before number n end at the offset or before it, and where there is one of that number it ends past it
   begun_at : (at n : ℕ) (ps : List Lengths) (u : Lengths) → n ≤ length ps → at + total (take n ps) ≤ offset
-      → (n < length ps → offset < at + total (take (n + 1) ps)) → begun at (ps ++ u ∷ []) ≡ n + 1
+      → (n < length ps → offset < at + total (take (n + 1) ps)) → start_before at (ps ++ u ∷ []) ≡ n + 1
   begun_at at zero [] u h b e = begun_first at u [] (omega arith)
   begun_at at (suc n) [] u h b e = absurd (omega arith)
   begun_at at zero (p ∷ ps) u h b e =
       let past : offset < at + total (p ∷ []) = e (omega arith) in
-      let none : begun (at + bytes_of p) (ps ++ u ∷ []) ≡ 0 = none_begun (at + bytes_of p) (ps ++ u ∷ []) (omega (arith, past)) in
+      let none : start_before (at + bytes_of p) (ps ++ u ∷ []) ≡ 0 = none_begun (at + bytes_of p) (ps ++ u ∷ []) (omega (arith, past)) in
       begun_first at p (ps ++ u ∷ []) (omega arith) ∙ omega (arith, none)
   begun_at at (suc n) (p ∷ ps) u h b e =
-      let more : begun (at + bytes_of p) (ps ++ u ∷ []) ≡ n + 1 =
+      let more : start_before (at + bytes_of p) (ps ++ u ∷ []) ≡ n + 1 =
       begun_at (at + bytes_of p) n ps u (omega arith) (omega arith)
       (λ l. let past : offset < at + total (take (suc n + 1) (p ∷ ps)) = e (omega arith) in next_past at n p ps past) in
       begun_first at p (ps ++ u ∷ []) (omega arith) ∙ omega (arith, more)
@@ -60,8 +60,8 @@ past_of ps offset p None k h l = absurd (omega (arith, no_end ps offset p h k))
 
 pub position_is : (ps : List Lengths) (u : Lengths) (offset : ℕ) (p : Position) → IsPosition ps offset p → p.number ≡ paragraph_of (ps ++ u ∷ []) offset
 position_is ps u offset p h =
-    let n : begun offset 0 (ps ++ u ∷ []) ≡ p.number + 1 =
-    begun_at offset 0 p.number ps u h.number (omega (arith, h.start, h.begun)) (λ l. omega (arith, past_of ps offset p p.end refl h l)) in
+    let n : start_before offset 0 (ps ++ u ∷ []) ≡ p.number + 1 =
+    begun_at offset 0 p.number ps u h.number (omega (arith, h.start, h.start_before)) (λ l. omega (arith, past_of ps offset p p.end refl h l)) in
     omega (arith, n)
 
 -- ---- one paragraph

@@ -117,12 +117,12 @@ module _ (class : ℕ → Class) where
     -- the paragraph from an offset on goes on at another
     pub record GoesOn (at from : ℕ) : Type 0 where
       pub bounds : IsCharBoundary new from
-      pub begun : at ≤ from
+      pub start_before : at ≤ from
       pub goes_on : first (lengths class (drop at new)) ≡ further (from - at) (first (lengths class (drop from new)))
 
     pub goes_on_in_body : (front : List Lengths) (l : Lengths) (back : List Lengths) (from : ℕ) → lengths class old ≡ front ++ l ∷ back
         → total front ≤ c.start → from ≡ min c.start (total front + l.body) → GoesOn (total front) from
-    goes_on_in_body front l back from e begun w =
+    goes_on_in_body front l back from e start_before w =
         let (x, m, s) = seam class (a ++ (o ++ d)) front l back (ap (lens class) (sym k.old_chars) ∙ e) in
         let (h, f, g) = shorter x m a (o ++ d) (sym s.whole) (omega (arith, s.bytes, k.before)) in
         let q = quiet h (o ++ d) in
@@ -140,7 +140,7 @@ module _ (class : ℕ → Class) where
         let between : widths q.body ≡ from - total front = omega (arith, len) in
         record {
           bounds = there.bounds;
-          begun = omega (arith, len);
+          start_before = omega (arith, len);
           goes_on = ap (λ cs. first (lens class cs)) here.rest ∙ first_behind class q.body more q.none
               ∙ ap (λ i. further i (first (lens class more))) between
               ∙ ap (λ cs. further (from - total front) (first (lens class cs))) (sym there.rest);
@@ -149,7 +149,7 @@ module _ (class : ℕ → Class) where
     pub rest_behind : (front : List Lengths) (l : Lengths) (back : List Lengths) → lengths class old ≡ front ++ l ∷ back
         → total front ≤ c.start + c.removed → HoldsAll (c.start + c.removed - total front) l
         → first (lens class d) ≡ rest_of (c.start + c.removed - total front) l
-    rest_behind front l back e begun holds =
+    rest_behind front l back e start_before holds =
         let (x, m, s) = seam class ((a ++ o) ++ d) front l back (ap (lens class) (append_assoc a o d ∙ sym k.old_chars) ∙ e) in
         let gone : widths (a ++ o) ≡ c.start + c.removed = omega (arith, widths_append a o, k.before, k.gone) in
         let (h, f, g) = shorter x m (a ++ o) d (sym s.whole) (omega (arith, s.bytes, gone)) in

@@ -21,23 +21,23 @@ AreEnded (l ∷ ls) = (0 < l.separator) × AreEnded ls
 
 -- some paragraphs that end, and one that does not
 pub record IsCut (ls : List Lengths) : Type 0 where
-  pub ended : List Lengths
+  pub front : List Lengths
   pub last : ℕ
-  pub is : ls ≡ ended ++ unended last ∷ []
-  pub are_ended : AreEnded ended
+  pub is : ls ≡ front ++ unended last ∷ []
+  pub are_ended : AreEnded front
 
 abbrev first_separator : List Lengths → ℕ
 first_separator [] = 0
 first_separator (l ∷ ls) = l.separator
 
-cut_grown : (w : ℕ) (ls ended : List Lengths) (last : ℕ) → ls ≡ ended ++ unended last ∷ [] → AreEnded ended → IsCut (grown w ls)
-cut_grown w ls [] last e h = record { ended = []; last = w + last; is = ap (grown w) e; are_ended = tt }
-cut_grown w ls (l ∷ ended) last e h = record { ended = record l { body = w + l.body } ∷ ended; last = last; is = ap (grown w) e; are_ended = h }
+cut_grown : (w : ℕ) (ls front : List Lengths) (last : ℕ) → ls ≡ front ++ unended last ∷ [] → AreEnded front → IsCut (grown w ls)
+cut_grown w ls [] last e h = record { front = []; last = w + last; is = ap (grown w) e; are_ended = tt }
+cut_grown w ls (l ∷ front) last e h = record { front = record l { body = w + l.body } ∷ front; last = last; is = ap (grown w) e; are_ended = h }
 
-cut_joined : (w : ℕ) (ls ended : List Lengths) (l : Lengths) (last : ℕ) → ls ≡ l ∷ (ended ++ unended last ∷ []) → 0 < l.separator → AreEnded ended
+cut_joined : (w : ℕ) (ls front : List Lengths) (l : Lengths) (last : ℕ) → ls ≡ l ∷ (front ++ unended last ∷ []) → 0 < l.separator → AreEnded front
     → IsCut (joined w ls)
-cut_joined w ls ended l last e s h =
-    record { ended = record l { separator = w + l.separator } ∷ ended; last = last; is = ap (joined w) e; are_ended = (omega arith, h) }
+cut_joined w ls front l last e s h =
+    record { front = record l { separator = w + l.separator } ∷ front; last = last; is = ap (joined w) e; are_ended = (omega arith, h) }
 
 module _ (class : ℕ → Class) where
   -- how many paragraphs there are
@@ -57,8 +57,8 @@ module _ (class : ℕ → Class) where
 
   -- ---- where the paragraphs that end give way to the last
 
-  cut_pair : (c d : ℕ) (cs : List ℕ) (ended : List Lengths) (last : ℕ) → ends class c ≡ true → is_paired class c (d ∷ cs) ≡ true
-      → lens class (d ∷ cs) ≡ ended ++ unended last ∷ [] → AreEnded ended → IsCut (lens class (c ∷ d ∷ cs))
+  cut_pair : (c d : ℕ) (cs : List ℕ) (front : List Lengths) (last : ℕ) → ends class c ≡ true → is_paired class c (d ∷ cs) ≡ true
+      → lens class (d ∷ cs) ≡ front ++ unended last ∷ [] → AreEnded front → IsCut (lens class (c ∷ d ∷ cs))
   cut_pair c d cs [] r e p f a =
       let both : record { body = 0; separator = width d } ∷ lens class cs ≡ unended r ∷ [] = sym (paired_ends c d cs p) ∙ f in
       let none : width d ≡ 0 = ap first_separator both in
@@ -67,18 +67,18 @@ module _ (class : ℕ → Class) where
 
   cut_at : (c : ℕ) (cs : List ℕ) (ended paired : Bool) → ends class c ≡ ended → is_paired class c cs ≡ paired → IsCut (lens class cs)
       → IsCut (lens class (c ∷ cs))
-  cut_at c cs false paired e p h = subst IsCut (sym (lens_plain class c cs e)) (cut_grown (width c) (lens class cs) h.ended h.last h.is h.are_ended)
+  cut_at c cs false paired e p h = subst IsCut (sym (lens_plain class c cs e)) (cut_grown (width c) (lens class cs) h.front h.last h.is h.are_ended)
   cut_at c cs true false e p h = record {
-    ended = record { body = 0; separator = width c } ∷ h.ended;
+    front = record { body = 0; separator = width c } ∷ h.front;
     last = h.last;
     is = lens_ended class c cs e p ∙ ap (λ ls. record { body = 0; separator = width c } ∷ ls) h.is;
     are_ended = (width_is_some c, h.are_ended);
   }
   cut_at c [] true true e p h = absurd (grind (arith, nat_tests, not_paired_alone c))
-  cut_at c (d ∷ cs) true true e p h = cut_pair c d cs h.ended h.last e p h.is h.are_ended
+  cut_at c (d ∷ cs) true true e p h = cut_pair c d cs h.front h.last e p h.is h.are_ended
 
   pub cut_of : (cs : List ℕ) → IsCut (lens class cs)
-  cut_of [] = record { ended = []; last = 0; is = refl; are_ended = tt }
+  cut_of [] = record { front = []; last = 0; is = refl; are_ended = tt }
   cut_of (c ∷ cs) = cut_at c cs (ends class c) (is_paired class c cs) refl refl (cut_of cs)
 
   -- ---- bytes
@@ -92,7 +92,7 @@ module _ (class : ℕ → Class) where
   total_joined w (l ∷ ls) h = omega arith
 
   pub count_is_some : (cs : List ℕ) → 0 < count cs
-  count_is_some cs = let h = cut_of cs in omega (arith, ap length h.is, length-append h.ended (unended h.last ∷ []))
+  count_is_some cs = let h = cut_of cs in omega (arith, ap length h.is, length-append h.front (unended h.last ∷ []))
 
   total_at : (c : ℕ) (cs : List ℕ) (ended paired : Bool) → ends class c ≡ ended → is_paired class c cs ≡ paired → total (lens class cs) ≡ widths cs
       → total (lens class (c ∷ cs)) ≡ widths (c ∷ cs)

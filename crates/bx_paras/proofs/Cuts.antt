@@ -93,7 +93,7 @@ module _ (class : ℕ → Class) where
   pub record IsFirst (cs : List ℕ) (l : Lengths) (w z : List ℕ) : Type 0 where
     pub whole : cs ≡ w ++ z
     pub bytes : widths w ≡ bytes_of l
-    pub ended : 0 < l.separator
+    pub has_separator : 0 < l.separator
     pub first : lens cs ≡ l ∷ lens z
     pub parts : parts w z ≡ true
 
@@ -103,7 +103,7 @@ module _ (class : ℕ → Class) where
 
   after_plain : (c : ℕ) (cs : List ℕ) → ends c ≡ false → Beginning cs → Beginning (c ∷ cs)
   after_plain c cs e (inl one) = inl (lens_plain c cs e ∙ ap (grown (width c)) one ∙ ap (λ n. unended n ∷ []) (sym (widths_more c cs)))
-  after_plain c cs e (inr (l, [], z, h)) = absurd (omega (arith, h.bytes, h.ended))
+  after_plain c cs e (inr (l, [], z, h)) = absurd (omega (arith, h.bytes, h.has_separator))
   after_plain c cs e (inr (l, d ∷ w, z, h)) = inr (
     record l { body = width c + l.body },
     c ∷ d ∷ w,
@@ -111,7 +111,7 @@ module _ (class : ℕ → Class) where
     record {
       whole = ap (λ xs. c ∷ xs) h.whole;
       bytes = omega (arith, widths_more c (d ∷ w), h.bytes);
-      ended = h.ended;
+      has_separator = h.has_separator;
       first = lens_plain c cs e ∙ ap (grown (width c)) h.first;
       parts = h.parts;
     },
@@ -121,7 +121,7 @@ module _ (class : ℕ → Class) where
   at_end c cs e p = record {
     whole = refl;
     bytes = omega (arith, one_width c);
-    ended = width_is_some c;
+    has_separator = width_is_some c;
     first = lens_ended c cs e p;
     parts = rw (e, p) refl;
   }
@@ -136,7 +136,7 @@ module _ (class : ℕ → Class) where
       record {
         whole = refl;
         bytes = omega (arith, widths_more c (d ∷ []), one_width d, ap width cr);
-        ended = omega (arith, width_is_some d);
+        has_separator = omega (arith, width_is_some d);
         first = lens_paired c (d ∷ cs) e p ∙ ap (joined (width 13)) (lens_ended d cs f single);
         parts = rw (f, single) refl;
       }

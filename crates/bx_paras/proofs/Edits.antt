@@ -82,7 +82,7 @@ module _ (class : ℕ → Class) where
 
   pub front_of : (a rest : List ℕ) (front : List Lengths) (l : Lengths) (back : List Lengths) → lens class (a ++ rest) ≡ front ++ l ∷ back
       → total front ≤ widths a - 1 → widths a ≤ total front + bytes_of l → Front a front
-  front_of a rest front l back e begun fits =
+  front_of a rest front l back e start_before fits =
       let (x, m, s) = seam class (a ++ rest) front l back e in
       let (h, f, g) = shorter x m a rest (sym s.whole) (omega (arith, s.bytes)) in
       let sum : widths a ≡ widths x + widths h = ap widths f ∙ widths_append x h in
@@ -118,12 +118,12 @@ module _ (class : ℕ → Class) where
       → lens class k ≡ l ∷ m ∷ back
       → (lens class k ≡ unended (widths k) ∷ []) ⊎ ((f : Lengths) × (w : List ℕ) × (z : List ℕ) × IsFirst class k f w z)
       → Back d ((widths v + bytes_of l) - widths b) (m ∷ back)
-  back_in b d v k l m back e begun holds f (inl one) = absurd (omega (arith, ap length (sym f ∙ one)))
-  back_in b d v k l m back e begun holds f (inr (l', w, z, first)) =
+  back_in b d v k l m back e start_before holds f (inl one) = absurd (omega (arith, ap length (sym f ∙ one)))
+  back_in b d v k l m back e start_before holds f (inr (l', w, z, first)) =
       let both : l' ∷ lens class z ≡ l ∷ m ∷ back = sym first.first ∙ f in
       let same : l' ≡ l = cc in
       let rest : lens class z ≡ m ∷ back = cc in
-      let (s, g, j) = shorter v k b d (sym e) begun in
+      let (s, g, j) = shorter v k b d (sym e) start_before in
       let sum : widths b ≡ widths v + widths s = ap widths g ∙ widths_append v s in
       let (t, i, u) = shorter s d w z (sym j ∙ first.whole) (omega (arith, first.bytes, ap bytes_of same)) in
       let long : widths w ≡ widths s + widths t = ap widths i ∙ widths_append s t in
@@ -140,18 +140,18 @@ module _ (class : ℕ → Class) where
 
   pub back_of : (b d : List ℕ) (front : List Lengths) (l m : Lengths) (back : List Lengths) → lens class (b ++ d) ≡ front ++ l ∷ m ∷ back
       → total front ≤ widths b → widths b < total front + bytes_of l → Back d ((total front + bytes_of l) - widths b) (m ∷ back)
-  back_of b d front l m back e begun holds =
+  back_of b d front l m back e start_before holds =
       let (v, k, s) = seam class (b ++ d) front l (m ∷ back) e in
       subst (λ n. Back d ((n + bytes_of l) - widths b) (m ∷ back)) s.bytes
       (back_in b d v k l m back s.whole (omega (arith, s.bytes)) (omega (arith, s.bytes)) s.rest (beginning class k))
 
   -- characters behind an edit that the last paragraph holds
   last_few : (b d v k : List ℕ) (l : Lengths) → b ++ d ≡ v ++ k → widths v ≤ widths b → lens class k ≡ l ∷ [] → count class d ≤ 1
-  last_few b d v k l e begun f =
-      let (s, g, j) = shorter v k b d (sym e) begun in
+  last_few b d v k l e start_before f =
+      let (s, g, j) = shorter v k b d (sym e) start_before in
       omega (arith, count_back class s d, ap (count class) j, ap length f)
 
   pub last_of : (b d : List ℕ) (front : List Lengths) (l : Lengths) → lens class (b ++ d) ≡ front ++ l ∷ [] → total front ≤ widths b → count class d ≤ 1
-  last_of b d front l e begun =
+  last_of b d front l e start_before =
       let (v, k, s) = seam class (b ++ d) front l [] e in
       last_few b d v k l s.whole (omega (arith, s.bytes)) s.rest

@@ -68,9 +68,9 @@ module _ (class : ℕ → Class) where
 
     here : chars (drop at text) ≡ chars s ++ behind
     here =
-        let parted : drop at text ≡ s ++ drop (at + length s) text = sym (take-append-drop (length s) (drop at text))
+        let halves : drop at text ≡ s ++ drop (at + length s) text = sym (take-append-drop (length s) (drop at text))
         ∙ ap (λ f. f ++ drop (length s) (drop at text)) e ∙ ap (λ r. s ++ r) (drop-drop (length s) at text) in
-        ap chars parted ∙ chars-append s (drop (at + length s) text) piece_utf8
+        ap chars halves ∙ chars-append s (drop (at + length s) text) piece_utf8
 
     whole : chars text ≡ chars (take at text) ++ chars (drop at text)
     whole = ap chars (sym (take-append-drop at text)) ∙ chars-append (take at text) (drop at text) (IsUtf8-take text at utf8 bounds)

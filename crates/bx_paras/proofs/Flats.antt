@@ -106,19 +106,19 @@ module _ (bs : List (List Lengths)) (i : ℕ) (b : List Lengths) (h : i < length
       → within < length b → before ≡ total (take within b) → before ≤ offset - s → past ≡ total (take (within + 1) b) → offset - s < past
       → separator ≡ separator_of b within
       → IsPosition (flat bs) offset (record { number = n + within; start = s + before; end = Some (s + past); separator = separator })
-  position_at n s offset within before past separator en es begun inside eb lb ep lp sep =
+  position_at n s offset within before past separator en es start_before inside eb lb ep lp sep =
       let there : n + within ≡ length (flat (take i bs)) + within = omega (arith, en) in
       let next : n + within + 1 ≡ length (flat (take i bs)) + (within + 1) = omega (arith, en) in
       record {
         number = omega (arith, en, length_around);
         start = omega (arith, es, eb, total_in_block within (omega arith), ap (λ m. total (take m (flat bs))) there);
-        begun = omega (arith);
-        ended = (
+        start_before = omega (arith);
+        end_is = (
           omega (arith, en, length_around),
           omega (arith, es, ep, total_in_block (within + 1) (omega arith), ap (λ m. total (take m (flat bs))) next),
           omega arith,
         );
-        separated = sep ∙ ap (λ (l : Lengths). l.separator) (get_at (n + within) within none none there inside);
+        separator_is = sep ∙ ap (λ (l : Lengths). l.separator) (get_at (n + within) within none none there inside);
       }
 
   pub entry_at : (ds : List (List Lengths)) (ls : List Lengths) → bs ≡ ds → ls ≡ b → (n left start t : ℕ) (d : Lengths)

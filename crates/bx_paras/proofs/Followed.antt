@@ -33,14 +33,14 @@ pub has_end : (ps : List Lengths) (offset : ℕ) (p : Position) (e : ℕ) → Is
 has_end ps offset p e h k =
     let both : (p.number < length ps) × (e ≡ total (take (p.number + 1) ps))
     × (offset < e) = subst (λ o. MatchOption o (p.number ≡ length ps) (λ n. (p.number < length ps) × (n ≡ total (take (p.number + 1) ps)) × (offset < n))) k
-    h.ended in
+    h.end_is in
     record { inside = both.0; end = both.1; past = both.2 }
 
 pub no_end : (ps : List Lengths) (offset : ℕ) (p : Position) → IsPosition ps offset p → p.end ≡ None → p.number ≡ length ps
 no_end ps offset p h k = subst (λ o. MatchOption o (p.number ≡ length ps) (λ n. (p.number < length ps) × (n ≡ total (take (p.number + 1) ps)) × (offset < n))) k
-    h.ended
+    h.end_is
 
--- a list parted at one of its paragraphs
+-- a list cut at one of its paragraphs
 pub parted_at : (ps : List Lengths) (u d : Lengths) (n : ℕ) → n < length ps → ps ++ u ∷ [] ≡ take n ps ++ get_or ps n d ∷ (drop (n + 1) ps ++ u ∷ [])
 parted_at ps u d n h =
     ap (λ ls. ls ++ u ∷ []) (sym (take-append-drop n ps) ∙ ap (λ ls. take n ps ++ ls) (drop_more ps n d h))
@@ -89,7 +89,7 @@ module _ {class : ℕ → Class} {old : List ℕ} {c : Change} {new : List ℕ} 
   old_bytes = ap total touched.were ∙ total_lengths class old touched.old_utf8
 
   starts : total (take first.number ps) ≤ c.start - 1
-  starts = omega (arith, touched.first_is.start, touched.first_is.begun)
+  starts = omega (arith, touched.first_is.start, touched.first_is.start_before)
 
   holds : c.start ≤ total (take first.number ps) + bytes_of before.here
   holds = reached 0 c.start _ (total (ps ++ u ∷ [])) before.holds (omega (arith, start_inside, old_bytes))
@@ -130,7 +130,7 @@ module _ {class : ℕ → Class} {old : List ℕ} {c : Change} {new : List ℕ} 
       ≡ (end - c.removed) + c.added = omega (arith, sum, t.past) in
       subst (λ s. IsRewritten class new (take first.number ps) s added_separators (drop (last.number + 1) ps ++ u ∷ [])) stop
       (inside_of (get_or ps last.number u) last.number (drop (last.number + 1) ps) (sym touched.were ∙ parted_at ps u u last.number t.inside)
-      (omega (arith, h.start, h.begun)) (omega (arith, t.past, sum)))
+      (omega (arith, h.start, h.start_before)) (omega (arith, t.past, sum)))
 
   -- where the change reaches into the last paragraph
   pub follow_at_end : last.end ≡ None → (r : ℕ) × IsRewritten class new (take first.number ps) (length new) added_separators (unended r ∷ [])
@@ -139,7 +139,7 @@ module _ {class : ℕ → Class} {old : List ℕ} {c : Change} {new : List ℕ} 
       let n : last.number ≡ length ps = no_end ps (c.start + c.removed) last h k in
       let all : take last.number ps ≡ ps = take_all last.number ps (omega (arith, n)) in
       change_at_end class old c new touched.old_utf8 touched.new_utf8 touched.leads (take first.number ps) before.here before.behind
-      (sym touched.were ∙ before.whole) starts holds ps u (sym touched.were) (omega (arith, h.start, h.begun, ap total all))
+      (sym touched.were ∙ before.whole) starts holds ps u (sym touched.were) (omega (arith, h.start, h.start_before, ap total all))
 
   -- the first paragraph of the change is not behind its last
   pub in_order : (end : ℕ) → last.end ≡ Some end → first.number ≤ last.number + 1

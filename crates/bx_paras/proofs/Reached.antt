@@ -27,13 +27,13 @@ module _ {class : ℕ → Class} {old : List ℕ} {c : Change} {new : List ℕ} 
   abbrev pub behind_change : List ℕ
   behind_change = chars (drop (c.start + c.removed) old)
 
-  abbrev pub parted : AreAround old c new (chars (take c.start old)) (chars (take c.removed (drop c.start old))) (chars (take c.added (drop c.start new))) behind_change
-  parted = around old c new touched.old_utf8 touched.new_utf8 touched.leads
+  abbrev pub around_change : AreAround old c new (chars (take c.start old)) (chars (take c.removed (drop c.start old))) (chars (take c.added (drop c.start new))) behind_change
+  around_change = around old c new touched.old_utf8 touched.new_utf8 touched.leads
 
   -- the offset goes on from where the first paragraph begins
   abbrev pub From : ℕ → ℕ → Type 0
   From at from = GoesOn class old c new touched.new_utf8 (chars (take c.start old)) (chars (take c.removed (drop c.start old)))
-      (chars (take c.added (drop c.start new))) behind_change parted at from
+      (chars (take c.added (drop c.start new))) behind_change around_change at from
 
   last_whole : (n : ℕ) → n ≡ length ps → lengths class old ≡ take n ps ++ unended last ∷ []
   last_whole n e = sym touched.were ∙ ap (λ ls. ls ++ unended last ∷ []) (sym (take_all n ps (omega (arith, e))))
@@ -41,13 +41,13 @@ module _ {class : ℕ → Class} {old : List ℕ} {c : Change} {new : List ℕ} 
   all_bytes : length old ≡ total ps + last
   all_bytes = omega (arith, old_bytes touched, total_push ps (unended last))
 
-  begun : total (take p.number ps) ≤ c.start
-  begun = omega (arith, touched.first_is.start, touched.first_is.begun)
+  start_before : total (take p.number ps) ≤ c.start
+  start_before = omega (arith, touched.first_is.start, touched.first_is.start_before)
 
   from_at : (l : Lengths) (back : List Lengths) (from : ℕ) → lengths class old ≡ take p.number ps ++ l ∷ back
       → from ≡ min c.start (total (take p.number ps) + l.body) → From p.start from
   from_at l back from e w = subst (λ at. From at from) (sym touched.first_is.start)
-      (goes_on_in_body class old c new touched.new_utf8 _ _ _ _ parted (take p.number ps) l back from e begun w)
+      (goes_on_in_body class old c new touched.new_utf8 _ _ _ _ around_change (take p.number ps) l back from e start_before w)
 
   pub from_is : (end : Option ℕ) (from : ℕ) → p.end ≡ end → MatchOption end (from ≡ c.start) (λ e. from ≡ min c.start (e - p.separator)) → From p.start from
   from_is None from e w =
@@ -58,7 +58,7 @@ module _ {class : ℕ → Class} {old : List ℕ} {c : Change} {new : List ℕ} 
       let h = has_end ps (c.start - 1) p end touched.first_is e in
       let l : Lengths = get_or ps p.number nothing in
       let sum : end ≡ total (take p.number ps) + bytes_of l = h.end ∙ total_more ps p.number nothing h.inside in
-      from_at l _ from (sym touched.were ∙ parted_at ps (unended last) nothing p.number h.inside) (omega (arith, w, sum, touched.first_is.separated))
+      from_at l _ from (sym touched.were ∙ parted_at ps (unended last) nothing p.number h.inside) (omega (arith, w, sum, touched.first_is.separator_is))
 
   -- ---- what follows
 
@@ -68,7 +68,7 @@ module _ {class : ℕ → Class} {old : List ℕ} {c : Change} {new : List ℕ} 
       let at : q.start ≡ total (take q.number ps) = touched.last_is.start in
       ap (λ bs. first (lengths class bs)) touched.leads.same_after
       ∙ subst (λ s. first (lens class behind_change) ≡ rest_of (c.start + c.removed - s) l) (sym at)
-      (rest_behind class old c new touched.new_utf8 _ _ _ _ parted (take q.number ps) l back e (omega (arith, at, touched.last_is.begun))
+      (rest_behind class old c new touched.new_utf8 _ _ _ _ around_change (take q.number ps) l back e (omega (arith, at, touched.last_is.start_before))
       (subst (λ s. HoldsAll class (c.start + c.removed - s) l) at holds))
 
   pub rest_is : (end : Option ℕ) (left : ℕ) (r : ℕ × ℕ) → left ≡ length new - (c.start + c.added) → q.end ≡ end
@@ -80,16 +80,16 @@ module _ {class : ℕ → Class} {old : List ℕ} {c : Change} {new : List ℕ} 
       let inside : c.start + c.removed ≤ length old = touched.leads.gave_way.stop_bounds.0 in
       let grown : length new + c.removed ≡ length old + c.added = touched.leads.grown in
       rest_at (unended last) [] (last_whole q.number n) (inl (omega (arith, inside, all_bytes, touched.last_is.start, all)))
-      ∙ same_lengths _ r.0 _ r.1 (omega (arith, k, ap (λ (i : ℕ × ℕ). i.0) w, grown, all_bytes, touched.last_is.start, touched.last_is.begun, all, inside))
+      ∙ same_lengths _ r.0 _ r.1 (omega (arith, k, ap (λ (i : ℕ × ℕ). i.0) w, grown, all_bytes, touched.last_is.start, touched.last_is.start_before, all, inside))
       (omega (arith, ap (λ (i : ℕ × ℕ). i.1) w))
   rest_is (Some end) left r k e w =
       let h = has_end ps (c.start + c.removed) q end touched.last_is e in
       let l : Lengths = get_or ps q.number nothing in
       let sum : end ≡ q.start + bytes_of l = omega (arith, h.end, total_more ps q.number nothing h.inside, touched.last_is.start) in
       rest_at l _ (sym touched.were ∙ parted_at ps (unended last) nothing q.number h.inside)
-      (inr (omega (arith, sum, h.past, touched.last_is.begun)))
-      ∙ same_lengths _ r.0 _ r.1 (omega (arith, ap (λ (i : ℕ × ℕ). i.0) w, sum, touched.last_is.begun, touched.last_is.separated))
-      (omega (arith, ap (λ (i : ℕ × ℕ). i.1) w, sum, h.past, touched.last_is.begun, touched.last_is.separated))
+      (inr (omega (arith, sum, h.past, touched.last_is.start_before)))
+      ∙ same_lengths _ r.0 _ r.1 (omega (arith, ap (λ (i : ℕ × ℕ). i.0) w, sum, touched.last_is.start_before, touched.last_is.separator_is))
+      (omega (arith, ap (λ (i : ℕ × ℕ). i.1) w, sum, h.past, touched.last_is.start_before, touched.last_is.separator_is))
 
   pub window_is : (w : Window) (left : ℕ) (r : ℕ × ℕ) → MatchOption p.end (w.start ≡ c.start) (λ e. w.start ≡ min c.start (e - p.separator))
       → w.stop ≡ c.start + c.added → w.body ≡ r.0 → w.separator ≡ r.1 → left ≡ length new - (c.start + c.added)
@@ -100,7 +100,7 @@ module _ {class : ℕ → Class} {old : List ℕ} {c : Change} {new : List ℕ} 
       record {
         start_bounds = k.bounds;
         stop_bounds = subst (IsCharBoundary new) (sym b) touched.leads.came.stop_bounds;
-        begun = k.begun;
+        start_before = k.start_before;
         goes_on = k.goes_on;
         behind = ap (λ s. first (lengths class (drop s new))) b ∙ rest_is q.end left r f refl g ∙ same_lengths r.0 w.body r.1 w.separator (sym d) (sym e);
       }

@@ -33,7 +33,7 @@ module _ (class : ℕ → Class) where
   ended_before : (g : List ℕ) → AreEnded (before_last (lens class g))
   ended_before g =
       let c = cut_of class g in
-      subst AreEnded (sym (ap before_last c.is ∙ before_last_append c.ended (unended c.last))) c.are_ended
+      subst AreEnded (sym (ap before_last c.is ∙ before_last_append c.front (unended c.last))) c.are_ended
 
   -- what is found anew, where paragraphs stay behind it
   record IsFound (r : List ℕ) (k separators : ℕ) (back : List Lengths) : Type 0 where
@@ -67,15 +67,15 @@ module _ (class : ℕ → Class) where
   found_last h n d separators few counted one =
       let r : List ℕ = h ++ (n ++ d) in
       let c = cut_of class r in
-      let sum : total c.ended + total (unended c.last ∷ []) ≡ widths r = sym (total_append c.ended (unended c.last ∷ [])) ∙ ap total (sym c.is)
+      let sum : total c.front + total (unended c.last ∷ []) ≡ widths r = sym (total_append c.front (unended c.last ∷ [])) ∙ ap total (sym c.is)
       ∙ total_lens class r in
-      let len : total c.ended + c.last ≡ widths r = omega (arith, sum) in
-      let number : count class r ≡ length c.ended + 1 = ap length c.is ∙ length-append c.ended (unended c.last ∷ []) in
+      let len : total c.front + c.last ≡ widths r = omega (arith, sum) in
+      let number : count class r ≡ length c.front + 1 = ap length c.is ∙ length-append c.front (unended c.last ∷ []) in
       let whole : count class r ≡ count class ((h ++ n) ++ d) = ap (count class) (sym (append_assoc h n d)) in (
         c.last,
         record {
-          ends = c.ended;
-          are_found = ap (ended_within (widths r)) c.is ∙ ended_all c.ended (unended c.last ∷ []) (widths r) c.last c.are_ended len ∙ append-nil c.ended;
+          ends = c.front;
+          are_found = ap (ended_within (widths r)) c.is ∙ ended_all c.front (unended c.last ∷ []) (widths r) c.last c.are_ended len ∙ append-nil c.front;
           then_back = c.is;
           few = omega (arith, number, whole, count_together class (h ++ n) d, count_together class h n, counted);
         },
@@ -96,7 +96,7 @@ module _ (class : ℕ → Class) where
 
   module _ (old : List ℕ) (c : Change) (new : List ℕ) (utf8 : IsUtf8 old) (utf8' : IsUtf8 new) (h : Leads old c new)
       (front : List Lengths) (l : Lengths) (behind : List Lengths) (first : lengths class old ≡ front ++ l ∷ behind)
-      (begun : total front ≤ c.start - 1) (holds : c.start ≤ total front + bytes_of l) where
+      (start_before : total front ≤ c.start - 1) (holds : c.start ≤ total front + bytes_of l) where
     a : List ℕ
     a = chars (take c.start old)
 
@@ -116,32 +116,32 @@ module _ (class : ℕ → Class) where
     unfolding n
     counted = omega arith
 
-    parted : AreAround old c new a o n d
+    around_change : AreAround old c new a o n d
     unfolding a o n d
-    parted = around old c new utf8 utf8' h
+    around_change = around old c new utf8 utf8' h
 
     in_front : Front class a front
-    in_front = front_of class a (o ++ d) front l behind (ap (lens class) (sym parted.old_chars) ∙ first) (omega (arith, parted.before))
-        (omega (arith, parted.before))
+    in_front = front_of class a (o ++ d) front l behind (ap (lens class) (sym around_change.old_chars) ∙ first) (omega (arith, around_change.before))
+        (omega (arith, around_change.before))
 
     -- the new characters behind those of the front
     abbrev found : List ℕ
     found = in_front.h ++ (n ++ d)
 
     whole : chars new ≡ in_front.x ++ found
-    whole = parted.new_chars ∙ ap (λ v. v ++ (n ++ d)) in_front.whole ∙ append_assoc in_front.x in_front.h (n ++ d)
+    whole = around_change.new_chars ∙ ap (λ v. v ++ (n ++ d)) in_front.whole ∙ append_assoc in_front.x in_front.h (n ++ d)
 
     kept : lens class (in_front.x ++ found) ≡ front ++ lens class found
     kept = ap (lens class) (sym (append_assoc in_front.x in_front.h (n ++ d)) ∙ ap (λ v. v ++ (n ++ d)) (sym in_front.whole)) ∙ in_front.kept (n ++ d)
 
     to_change : c.start ≡ total front + widths in_front.h
-    to_change = omega (arith, parted.before, ap widths in_front.whole, widths_append in_front.x in_front.h, in_front.bytes)
+    to_change = omega (arith, around_change.before, ap widths in_front.whole, widths_append in_front.x in_front.h, in_front.bytes)
 
     replaced : lens class ((a ++ o) ++ d) ≡ lengths class old
-    replaced = ap (lens class) (append_assoc a o d ∙ sym parted.old_chars)
+    replaced = ap (lens class) (append_assoc a o d ∙ sym around_change.old_chars)
 
     to_rest : widths (a ++ o) ≡ c.start + c.removed
-    to_rest = omega (arith, widths_append a o, parted.before, parted.gone)
+    to_rest = omega (arith, widths_append a o, around_change.before, around_change.gone)
 
     -- a paragraph ends behind the change
     pub change_inside : (upto : List Lengths) (q m : Lengths) (back : List Lengths) → lengths class old ≡ upto ++ q ∷ m ∷ back
@@ -153,7 +153,7 @@ module _ (class : ℕ → Class) where
         let len : widths in_front.h + (c.added + past) ≡ (((total upto + bytes_of q) - (c.start + c.removed)) + (c.start + c.added)) - total front =
         omega (arith, to_rest, to_change) in
         rewritten new in_front.x found front _ separators (m ∷ back) utf8' whole in_front.bytes kept
-        (found_before in_front.h n d past _ c.added separators (m ∷ back) in_front.few counted parted.come len b)
+        (found_before in_front.h n d past _ c.added separators (m ∷ back) in_front.few counted around_change.come len b)
 
     -- the change reaches into the last paragraph
     pub change_at_end : (upto : List Lengths) (q : Lengths) → lengths class old ≡ upto ++ q ∷ [] → total upto ≤ c.start + c.removed

@@ -102,14 +102,14 @@ module _ (class : ℕ → Class) (text : List ℕ) (utf8 : IsUtf8 text) where
 
   pub found_there : (n c : ℕ) → BeginsAt class text n c → NoneBefore class text n → IsAt class (chars text) n c
   found_there n c b h =
-      let parted : chars text ≡ chars (take n text) ++ chars (drop n text) =
+      let halves : chars text ≡ chars (take n text) ++ chars (drop n text) =
       ap chars (sym (take-append-drop n text)) ∙ chars-append (take n text) (drop n text) (IsUtf8-take text n utf8 b.bounds) in
       let len : widths (chars (take n text)) ≡ n = front_len text n utf8 b.bounds in
       record {
         front = chars (take n text);
         rest = b.rest;
-        whole = parted ∙ ap (λ cs. chars (take n text) ++ cs) b.begins;
-        none = none_of [] (chars (take n text)) (chars (drop n text)) n parted (omega (arith, len)) h;
+        whole = halves ∙ ap (λ cs. chars (take n text) ++ cs) b.begins;
+        none = none_of [] (chars (take n text)) (chars (drop n text)) n halves (omega (arith, len)) h;
         bytes = len;
         separates = b.separates;
       }

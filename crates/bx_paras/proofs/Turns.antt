@@ -72,7 +72,7 @@ module _ (class : ℕ → Class) where
         → lengths class (drop at text) ≡ unended p.body ∷ []
     last_at p e none (inl one) = one ∙ ap (λ n. unended n ∷ []) (sym (ap (λ (l : Lengths). l.body) (e ∙ ap first one)))
     last_at p e none (inr (l, w, z, h)) = let some : p.separator ≡ l.separator =
-        ap (λ (k : Lengths). k.separator) (e ∙ ap first h.first) in absurd (omega (arith, h.ended))
+        ap (λ (k : Lengths). k.separator) (e ∙ ap first h.first) in absurd (omega (arith, h.has_separator))
 
     pub last : (p : Lengths) → p ≡ first (lengths class (drop at text)) → p.separator ≡ 0 → lengths class (drop at text) ≡ unended p.body ∷ []
     last p e none = last_at p e none (beginning class (chars (drop at text)))
@@ -151,7 +151,7 @@ module _ (class : ℕ → Class) (text : List ℕ) where
       record {
         start_bounds = b;
         stop_bounds = h.stop_bounds;
-        begun = omega arith;
+        start_before = omega arith;
         goes_on = further_none (first (lengths class (drop to text))) ∙ ap (λ n. further n (first (lengths class (drop to text)))) none;
         behind = h.behind;
       }
@@ -160,7 +160,7 @@ module _ (class : ℕ → Class) (text : List ℕ) where
   pub at_stop : (start at : ℕ) (w : Window) → IsWindow class text start w → start ≤ at → at ≡ w.stop
       → first (lengths class (drop start text)) ≡ further (at - start) (first (lengths class (drop at text)))
       → record { body = at - start + w.body; separator = w.separator } ≡ first (lengths class (drop start text))
-  at_stop start at w h begun e g =
+  at_stop start at w h start_before e g =
       sym (g ∙ ap (λ s. further (at - start) (first (lengths class (drop s text)))) e ∙ ap (further (at - start)) h.behind)
 
   pub stop_within : (start at : ℕ) (w : Window) → IsWindow class text start w → IsUtf8 text → IsCharBoundary text at → at ≡ w.stop

@@ -30,6 +30,6 @@ separator_of ps n = (get_or ps n (record { body = 0; separator = 0 })).separator
 pub record IsPosition (ps : List Lengths) (offset : ℕ) (p : Position) : Type 0 where
   pub number : p.number ≤ length ps
   pub start : p.start ≡ total (take p.number ps)
-  pub begun : p.start ≤ offset
-  pub ended : MatchOption p.end (p.number ≡ length ps) (λ e. (p.number < length ps) × (e ≡ total (take (p.number + 1) ps)) × (offset < e))
-  pub separated : p.separator ≡ separator_of ps p.number
+  pub start_before : p.start ≤ offset
+  pub end_is : MatchOption p.end (p.number ≡ length ps) (λ e. (p.number < length ps) × (e ≡ total (take (p.number + 1) ps)) × (offset < e))
+  pub separator_is : p.separator ≡ separator_of ps p.number

@@ -12,13 +12,13 @@ pub record IndexState : Type 0 where
   pub room : Option ℕ
 
 abbrev pub index_of : Inside → IndexState
-index_of i = record { paragraphs = flat i.ended.blocks ++ record { body = i.last; separator = 0 } ∷ []; room = i.room }
+index_of i = record { paragraphs = flat i.front.blocks ++ record { body = i.last; separator = 0 } ∷ []; room = i.room }
 
 -- the blocks that an edit cuts, and those that it fills: no text has more separators than bytes
 abbrev pub HasSpares : ℕ → ℕ → Type 0
 HasSpares spares separators = min separators largest_text + 258 ≤ 128 * spares
 
 pub record IsIndex (i : Inside) : Type 0 where
-  pub short : total (flat i.ended.blocks ++ record { body = i.last; separator = 0 } ∷ []) ≤ largest_text
-  pub few : length (flat i.ended.blocks) ≤ largest_text
-  pub has_room : IfSome i.room (HasSpares i.ended.spares)
+  pub short : total (flat i.front.blocks ++ record { body = i.last; separator = 0 } ∷ []) ≤ largest_text
+  pub few : length (flat i.front.blocks) ≤ largest_text
+  pub has_room : IfSome i.room (HasSpares i.front.spares)

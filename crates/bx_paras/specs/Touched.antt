@@ -10,11 +10,11 @@ use Rattle.bx_paras.specs.Flat.{IsPosition}
 
 -- the paragraphs that end, and the one behind them, are those of the old text: the byte before the change stands in the
 -- first of two of them, and what stands behind the change in the last
-pub record IsTouched (class : ℕ → Class) (old : List ℕ) (change : Change) (new : List ℕ) (ended : List Lengths) (behind : Lengths)
+pub record IsTouched (class : ℕ → Class) (old : List ℕ) (change : Change) (new : List ℕ) (front : List Lengths) (behind : Lengths)
     (first last : Position) : Type 0 where
   pub old_utf8 : IsUtf8 old
   pub new_utf8 : IsUtf8 new
   pub leads : Leads old change new
-  pub were : ended ++ behind ∷ [] ≡ lengths class old
-  pub first_is : IsPosition ended (change.start - 1) first
-  pub last_is : IsPosition ended (change.start + change.removed) last
+  pub were : front ++ behind ∷ [] ≡ lengths class old
+  pub first_is : IsPosition front (change.start - 1) first
+  pub last_is : IsPosition front (change.start + change.removed) last

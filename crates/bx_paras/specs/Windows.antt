@@ -15,6 +15,6 @@ rest_of n p = record { body = p.body - n; separator = min p.separator (bytes_of 
 pub record IsWindow (class : ℕ → Class) (text : List ℕ) (at : ℕ) (w : Window) : Type 0 where
   pub start_bounds : IsCharBoundary text w.start
   pub stop_bounds : IsCharBoundary text w.stop
-  pub begun : at ≤ w.start
+  pub start_before : at ≤ w.start
   pub goes_on : first (lengths class (drop at text)) ≡ further (w.start - at) (first (lengths class (drop w.start text)))
   pub behind : first (lengths class (drop w.stop text)) ≡ record { body = w.body; separator = w.separator }

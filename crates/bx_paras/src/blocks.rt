@@ -41,7 +41,7 @@ fn position_within(lengths: &[Lengths], offset: usize) -> (usize, usize, usize, 
     requires short { total lengths.now < 2 ^ 64 }
     ensures number { result.0 < length lengths.now }
     ensures start { result.1 ≡ total (take result.0 lengths.now) }
-    ensures begun { result.1 ≤ offset }
+    ensures start_before { result.1 ≤ offset }
     ensures end { result.2 ≡ total (take (result.0 + 1) lengths.now) }
     ensures past { offset < result.2 }
     ensures separator { result.3 ≡ separator_of lengths.now result.0 }

@@ -31,7 +31,8 @@ use std::marker::Model;
 /// no offsets, so an edit changes what it touches.
 #[derive(Drop)]
 pub struct Index {
-    ended: Blocks,
+    // the paragraphs that a separator ends
+    front: Blocks,
     // the bytes of the last paragraph, which no separator ends
     last: u32,
     room: Option<usize>,
@@ -49,7 +50,7 @@ impl Model for Index {
 
 /// The paragraphs that a change reached: the one that the byte before it stands in, and the one that goes on behind it.
 fn touched<D: BidiData>(
-    ended: &Blocks,
+    front: &Blocks,
     last: u32,
     text: &Text,
     source: &D,
@@ -57,17 +58,17 @@ fn touched<D: BidiData>(
 ) -> (Position, Position)
     requires was { (old : List ℕ)
         × IsUtf8 old
-        × (closed ended.now.blocks last ≡ lengths (D.class_of source.now) old)
+        × (closed front.now.blocks last ≡ lengths (D.class_of source.now) old)
         × Leads old change.now text.now.edited.text }
-    requires short { total (closed ended.now.blocks last) ≤ largest_text }
+    requires short { total (closed front.now.blocks last) ≤ largest_text }
     ensures { (old : List ℕ)
-        × IsTouched (D.class_of source.now) old change.now text.now.edited.text (flat ended.now.blocks)
+        × IsTouched (D.class_of source.now) old change.now text.now.edited.text (flat front.now.blocks)
         (record { body = last; separator = 0 }) result.0 result.1 }
 {
     let _utf8 = text.len();
     let _ = source;
-    let first = ended.find(change.start.saturating_sub(1));
-    let last = ended.find(change.start + change.removed);
+    let first = front.find(change.start.saturating_sub(1));
+    let last = front.find(change.start + change.removed);
     (first, last)
 }
 
@@ -98,7 +99,7 @@ fn rest_behind(last: Position, offset: usize, left: usize) -> (usize, usize)
 
 /// What has to be looked at where a change was made.
 fn window_of<D: BidiData>(
-    ended: &Blocks,
+    front: &Blocks,
     last: u32,
     text: &Text,
     source: &D,
@@ -106,12 +107,12 @@ fn window_of<D: BidiData>(
     reached: (Position, Position),
 ) -> Window
     requires touched { (old : List ℕ)
-        × IsTouched (D.class_of source.now) old change.now text.now.edited.text (flat ended.now.blocks)
+        × IsTouched (D.class_of source.now) old change.now text.now.edited.text (flat front.now.blocks)
         (record { body = last; separator = 0 }) reached.0 reached.1 }
-    requires short { total (closed ended.now.blocks last) ≤ largest_text }
+    requires short { total (closed front.now.blocks last) ≤ largest_text }
     ensures { IsWindow (D.class_of source.now) text.now.edited.text reached.0.start result }
 {
-    let _ = ended;
+    let _ = front;
     let _ = source;
     let _last = last;
     let len = text.len();
@@ -133,7 +134,7 @@ impl Index {
         ensures { IfOk result (λ i. i ≡ record { paragraphs = lengths (D.class_of source.now) text.now.edited.text; room = None }) }
     {
         let len = text.len();
-        let mut ended = Blocks::new(alloc);
+        let mut front = Blocks::new(alloc);
         let mut position = 0;
         let mut at = 0;
         let mut window = window_to_end(text, at);
@@ -142,18 +143,18 @@ impl Index {
             let paragraph = paragraph_from(text, source, &leads, at, window);
             if paragraph.separator == 0 {
                 return Ok(Index {
-                    ended,
+                    front,
                     last: paragraph.body,
                     room: None,
                 });
             }
-            ended.ready(1)?;
-            position = ended.push(position, paragraph);
+            front.ready(1)?;
+            position = front.push(position, paragraph);
             at += paragraph.bytes();
             window.start = at;
         }
         Ok(Index {
-            ended,
+            front,
             last: 0,
             room: None,
         })
@@ -169,7 +170,7 @@ impl Index {
         ensures err { OnErr result (self.new ≡ self.old) }
     {
         let blocks = separators.min(LARGEST_TEXT) / BLOCK_CAPACITY + 4;
-        self.ended.ready(blocks)?;
+        self.front.ready(blocks)?;
         self.room = Some(separators);
         Ok(())
     }
@@ -187,14 +188,14 @@ impl Index {
         ensures { self.new ≡ record { paragraphs = lengths (D.class_of source.now) text.now.edited.text; room = None } }
     {
         let len = text.len();
-        let reached = touched(&self.ended, self.last, text, source, change);
-        let window = window_of(&self.ended, self.last, text, source, change, reached);
+        let reached = touched(&self.front, self.last, text, source, change);
+        let window = window_of(&self.front, self.last, text, source, change, reached);
         let leads = leads_of(source, window.stop.saturating_sub(window.start));
         let (first, last) = reached;
         if let Some(end) = last.end {
             let behind = end - change.removed + change.added;
             replace(
-                &mut self.ended,
+                &mut self.front,
                 text,
                 source,
                 &leads,
@@ -207,7 +208,7 @@ impl Index {
             return;
         }
         let at = replace(
-            &mut self.ended,
+            &mut self.front,
             text,
             source,
             &leads,
@@ -225,7 +226,7 @@ impl Index {
         ensures count { result ≡ length self.now.paragraphs }
         ensures some { 0 < result }
     {
-        self.ended.size().0 + 1
+        self.front.size().0 + 1
     }
 
     /// The number of the paragraph, from 0, that an offset in bytes falls in: the last that begins at or before it.
@@ -233,7 +234,7 @@ impl Index {
     pub fn paragraph_of(&self, offset: usize) -> usize
         ensures { result ≡ paragraph_of self.now.paragraphs offset }
     {
-        self.ended.find(offset).number
+        self.front.find(offset).number
     }
 
     /// Where the body of a paragraph begins and ends, in bytes. No memory.
@@ -241,10 +242,10 @@ impl Index {
         requires { number < length self.now.paragraphs }
         ensures { slice_get (spans self.now.paragraphs) number ≡ Some result }
     {
-        match self.ended.get(number) {
+        match self.front.get(number) {
             Some((start, paragraph)) => (start, start + paragraph.body as usize),
             None => {
-                let start = self.ended.size().1;
+                let start = self.front.size().1;
                 (start, start + self.last as usize)
             }
         }
@@ -255,7 +256,7 @@ impl Index {
         requires { number < length self.now.paragraphs }
         ensures { slice_get (separators self.now.paragraphs) number ≡ Some result }
     {
-        match self.ended.get(number) {
+        match self.front.get(number) {
             Some((_, paragraph)) => paragraph.separator as usize,
             None => 0,
         }
@@ -266,13 +267,13 @@ impl Index {
         requires { number < length self.now.paragraphs }
         ensures { result ≡ record { paragraphs = self.now.paragraphs; number = number } }
     {
-        ParagraphWalk::new(&self.ended, self.last, number)
+        ParagraphWalk::new(&self.front, self.last, number)
     }
 
     /// A walk that stands at the paragraph that an offset in bytes falls in. No memory.
     pub fn walk_at_offset(&self, offset: usize) -> ParagraphWalk<'_>
         ensures { result ≡ record { paragraphs = self.now.paragraphs; number = paragraph_of self.now.paragraphs offset } }
     {
-        ParagraphWalk::new(&self.ended, self.last, self.ended.find(offset).number)
+        ParagraphWalk::new(&self.front, self.last, self.front.find(offset).number)
     }
 }

@@ -7,5 +7,5 @@ abbrev pub invariant-loop-paragraph : goal.invariant-loop-paragraph
 invariant-loop-paragraph l = record {
   number : l.number ≡ l.paragraph-index;
   start : l.start ≡ total (take l.paragraph-index l.lengths);
-  begun : l.start ≤ l.offset;
+  start_before : l.start ≤ l.offset;
 }

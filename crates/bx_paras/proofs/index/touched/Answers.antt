@@ -19,7 +19,7 @@ returns g c =
         new_utf8 = c.len-utf8.ensures.utf8;
         leads = was.3;
         were = was.2;
-        first_is = subst (λ n. IsPosition (flat c.args.ended.now.blocks) n c.find-first.result) c.saturating_sub.ensures c.find-first.ensures;
+        first_is = subst (λ n. IsPosition (flat c.args.front.now.blocks) n c.find-first.result) c.saturating_sub.ensures c.find-first.ensures;
         last_is = c.find-last.ensures;
       },
     )

@@ -61,7 +61,7 @@ returns-in-Some-clause-first g c =
     ∙ ap (λ w. if (c.in-Some.c == 13) && begins_with_lf (g.D.BidiData.class_of c.args.source.now)
     (chars (drop (c.loop-at.at + c.in-Some.before + w) c.args.text.now.edited.text)) then 2 else length
     (encode_utf8 c.in-Some.c)) c.len_utf8.ensures.len in
-    same_lengths _ _ _ _ (omega (arith, c.loop-at.invariant.begun)) bytes ∙ ap (further (c.loop-at.at - c.args.start)) (sym f.is)
+    same_lengths _ _ _ _ (omega (arith, c.loop-at.invariant.start_before)) bytes ∙ ap (further (c.loop-at.at - c.args.start)) (sym f.is)
     ∙ sym c.loop-at.invariant.goes_on
 
 pub loop-at-preserved : goal.loop-at-preserved
@@ -70,9 +70,9 @@ loop-at-preserved g c =
     c.loop-at.invariant.bounds c.part_before-piece.ensures.bytes c.part_before-piece.ensures.next c.in_default.ensures in
     record {
       bounds = c.part_before-piece.ensures.next;
-      begun = omega (arith, c.loop-at.invariant.begun);
+      start_before = omega (arith, c.loop-at.invariant.start_before);
       goes_on = c.loop-at.invariant.goes_on ∙ ap (further (c.loop-at.at - c.args.start)) past
-          ∙ further_more (c.loop-at.at - c.args.start) (length c.part_before-piece.result.now) _ _ (omega (arith, c.loop-at.invariant.begun));
+          ∙ further_more (c.loop-at.at - c.args.start) (length c.part_before-piece.result.now) _ _ (omega (arith, c.loop-at.invariant.start_before));
     }
 
 pub returns-clause-first : goal.returns-clause-first
@@ -80,5 +80,5 @@ returns-clause-first g c =
     let none = first_at_end (g.D.BidiData.class_of c.args.source.now) c.args.text.now.edited.text c.loop-at.at
     (omega (arith, c.loop-at-test.false, c.len-len.ensures.len)) in
     let inside : c.loop-at.at ≤ length c.args.text.now.edited.text = c.loop-at.invariant.bounds.0 in
-    same_lengths _ _ 0 0 (omega (arith, c.loop-at.invariant.begun, c.loop-at-test.false, inside, c.len-len.ensures.len)) refl
+    same_lengths _ _ 0 0 (omega (arith, c.loop-at.invariant.start_before, c.loop-at-test.false, inside, c.len-len.ensures.len)) refl
     ∙ ap (further (c.loop-at.at - c.args.start)) (sym none) ∙ sym c.loop-at.invariant.goes_on

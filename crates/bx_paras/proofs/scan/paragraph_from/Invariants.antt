@@ -7,7 +7,7 @@ use Rattle.bx_paras.proofs.scan.paragraph_from.Given as goal
 abbrev pub invariant-loop-at : goal.invariant-loop-at
 invariant-loop-at g l = record {
   bounds : IsCharBoundary l.text.edited.text l.at;
-  begun : l.start ≤ l.at;
+  start_before : l.start ≤ l.at;
   goes_on : first (lengths (g.D.BidiData.class_of l.source) (drop l.start l.text.edited.text))
       ≡ further (l.at - l.start) (first (lengths (g.D.BidiData.class_of l.source) (drop l.at l.text.edited.text)));
 }

@@ -12,7 +12,7 @@ returns c = λ class.
     record {
       start_bounds = c.requires;
       stop_bounds = subst (IsCharBoundary text) (sym c.len.ensures.len) (IsCharBoundary-end text);
-      begun = omega arith;
+      start_before = omega arith;
       goes_on = further_none (first (lengths class (drop c.args.at text))) ∙ ap (λ n. further n (first (lengths class (drop c.args.at text)))) none;
       behind = first_at_end class text c.len.result (omega (arith, c.len.ensures.len));
     }

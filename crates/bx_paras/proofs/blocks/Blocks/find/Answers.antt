@@ -29,10 +29,10 @@ returns-then-offset-end c =
     let p = position_at c.deref-block-items.result.now c.loop-block.block-index c.block-item.result c.loop-block-test.true c.block-item.is
     c.loop-block.number c.loop-block.start c.args.offset c.position_within-within.result.0 c.position_within-within.result.1 c.position_within-within.result.2
     c.position_within-within.result.3
-    c.loop-block.invariant.number c.loop-block.invariant.start c.loop-block.invariant.begun
+    c.loop-block.invariant.number c.loop-block.invariant.start c.loop-block.invariant.start_before
     (omega (arith, c.position_within-within.ensures.number, ap length e))
     (c.position_within-within.ensures.start ∙ ap (λ ls. total (take c.position_within-within.result.0 ls)) e)
-    c.position_within-within.ensures.begun
+    c.position_within-within.ensures.start_before
     (c.position_within-within.ensures.end ∙ ap (λ ls. total (take (c.position_within-within.result.0 + 1) ls)) e)
     c.position_within-within.ensures.past
     (c.position_within-within.ensures.separator ∙ ap (λ ls. separator_of ls c.position_within-within.result.0) e) in

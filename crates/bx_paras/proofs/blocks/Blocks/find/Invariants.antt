@@ -8,5 +8,5 @@ abbrev pub invariant-loop-block : goal.invariant-loop-block
 invariant-loop-block l = record {
   number : l.number ≡ length (flat (take l.block-index l.block-items));
   start : l.start ≡ total (flat (take l.block-index l.block-items));
-  begun : l.start ≤ l.offset;
+  start_before : l.start ≤ l.offset;
 }

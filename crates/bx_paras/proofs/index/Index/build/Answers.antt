@@ -18,16 +18,16 @@ loop-at-init g c = record {
   bounds = IsCharBoundary-start c.args.text.now.edited.text c.len-len.ensures.utf8;
   window = c.window_to_end-window.ensures (g.D.BidiData.class_of c.args.source.now);
   position = omega arith;
-  front = ap (λ (s : BlocksState). flat s.blocks ++ lengths (g.D.BidiData.class_of c.args.source.now) c.args.text.now.edited.text) c.new-ended.ensures;
-  behind = ap (λ (s : BlocksState). flat s.blocks) c.new-ended.ensures;
-  bytes = ap (λ (s : BlocksState). total (flat s.blocks)) c.new-ended.ensures;
+  front = ap (λ (s : BlocksState). flat s.blocks ++ lengths (g.D.BidiData.class_of c.args.source.now) c.args.text.now.edited.text) c.new-front.ensures;
+  behind = ap (λ (s : BlocksState). flat s.blocks) c.new-front.ensures;
+  bytes = ap (λ (s : BlocksState). total (flat s.blocks)) c.new-front.ensures;
 }
 
 pub invariant_of-result : goal.invariant_of-result
 invariant_of-result g c =
     let rest = last (g.D.BidiData.class_of c.args.source.now) c.args.text.now.edited.text c.loop-at.at c.len-len.ensures.utf8 c.loop-at.invariant.bounds
     c.paragraph_from-paragraph.result c.paragraph_from-paragraph.ensures.first (omega (arith, c.if-paragraph-eq0.true)) in
-    let same = ap (λ ls. flat c.loop-at.ended.blocks ++ ls) (sym rest) ∙ c.loop-at.invariant.front in
+    let same = ap (λ ls. flat c.loop-at.front.blocks ++ ls) (sym rest) ∙ c.loop-at.invariant.front in
     record {
       short = omega (
         arith,
@@ -38,7 +38,7 @@ invariant_of-result g c =
       few = omega (
         arith,
         ap length same,
-        length-append (flat c.loop-at.ended.blocks) (unended c.paragraph_from-paragraph.result.body ∷ []),
+        length-append (flat c.loop-at.front.blocks) (unended c.paragraph_from-paragraph.result.body ∷ []),
         few_lengths (g.D.BidiData.class_of c.args.source.now) c.args.text.now.edited.text c.len-len.ensures.utf8,
         c.len-len.ensures.short,
       );
@@ -49,14 +49,14 @@ pub returns-then-paragraph-eq0 : goal.returns-then-paragraph-eq0
 returns-then-paragraph-eq0 g c =
     let rest = last (g.D.BidiData.class_of c.args.source.now) c.args.text.now.edited.text c.loop-at.at c.len-len.ensures.utf8 c.loop-at.invariant.bounds
     c.paragraph_from-paragraph.result c.paragraph_from-paragraph.ensures.first (omega (arith, c.if-paragraph-eq0.true)) in
-    ap (λ ps. record { paragraphs = ps; room = None }) (ap (λ ls. flat c.loop-at.ended.blocks ++ ls) (sym rest) ∙ c.loop-at.invariant.front)
+    ap (λ ps. record { paragraphs = ps; room = None }) (ap (λ ls. flat c.loop-at.front.blocks ++ ls) (sym rest) ∙ c.loop-at.invariant.front)
 
 pub push-position-requires-clause-few : goal.push-position-requires-clause-few
 push-position-requires-clause-few g c =
     omega (
       arith,
       ap length c.loop-at.invariant.front,
-      length-append (flat c.loop-at.ended.blocks) (lengths (g.D.BidiData.class_of c.args.source.now) (drop c.loop-at.at c.args.text.now.edited.text)),
+      length-append (flat c.loop-at.front.blocks) (lengths (g.D.BidiData.class_of c.args.source.now) (drop c.loop-at.at c.args.text.now.edited.text)),
       few_lengths (g.D.BidiData.class_of c.args.source.now) c.args.text.now.edited.text c.len-len.ensures.utf8,
       c.len-len.ensures.short,
       ap (λ bs. length (flat bs)) c.in_ok-ready.ensures.blocks,
@@ -79,14 +79,14 @@ loop-at-preserved g c =
       position = c.push-position.ensures.position;
       front = still_all _ _ _ _ _ p more t.more c.loop-at.invariant.front;
       behind = c.push-position.ensures.back ∙ none;
-      bytes = omega (arith, ap total more, total_push (flat c.loop-at.ended.blocks) p, c.loop-at.invariant.bytes, c.bytes-at.ensures);
+      bytes = omega (arith, ap total more, total_push (flat c.loop-at.front.blocks) p, c.loop-at.invariant.bytes, c.bytes-at.ensures);
     }
 
 pub invariant_of-result-2 : goal.invariant_of-result-2
 invariant_of-result-2 g c =
     let rest = end_lengths (g.D.BidiData.class_of c.args.source.now) c.args.text.now.edited.text c.loop-at.at
     (omega (arith, c.loop-at-test.false, c.len-len.ensures.len)) in
-    let same = ap (λ ls. flat c.loop-at.ended.blocks ++ ls) (sym rest) ∙ c.loop-at.invariant.front in
+    let same = ap (λ ls. flat c.loop-at.front.blocks ++ ls) (sym rest) ∙ c.loop-at.invariant.front in
     record {
       short = omega (
         arith,
@@ -97,7 +97,7 @@ invariant_of-result-2 g c =
       few = omega (
         arith,
         ap length same,
-        length-append (flat c.loop-at.ended.blocks) (unended 0 ∷ []),
+        length-append (flat c.loop-at.front.blocks) (unended 0 ∷ []),
         few_lengths (g.D.BidiData.class_of c.args.source.now) c.args.text.now.edited.text c.len-len.ensures.utf8,
         c.len-len.ensures.short,
       );
@@ -108,4 +108,4 @@ pub returns : goal.returns
 returns g c =
     let rest = end_lengths (g.D.BidiData.class_of c.args.source.now) c.args.text.now.edited.text c.loop-at.at
     (omega (arith, c.loop-at-test.false, c.len-len.ensures.len)) in
-    ap (λ ps. record { paragraphs = ps; room = None }) (ap (λ ls. flat c.loop-at.ended.blocks ++ ls) (sym rest) ∙ c.loop-at.invariant.front)
+    ap (λ ps. record { paragraphs = ps; room = None }) (ap (λ ls. flat c.loop-at.front.blocks ++ ls) (sym rest) ∙ c.loop-at.invariant.front)

@@ -10,11 +10,11 @@ abbrev pub invariant-loop-at : goal.invariant-loop-at
 invariant-loop-at g l = record {
   bounds : IsCharBoundary l.text.edited.text l.at;
   window : IsWindow (g.D.BidiData.class_of l.source) l.text.edited.text l.at l.window;
-  position : l.position ≤ length l.ended.blocks;
-  front : flat l.ended.blocks ++ lengths (g.D.BidiData.class_of l.source) (drop l.at l.text.edited.text)
+  position : l.position ≤ length l.front.blocks;
+  front : flat l.front.blocks ++ lengths (g.D.BidiData.class_of l.source) (drop l.at l.text.edited.text)
       ≡ lengths (g.D.BidiData.class_of l.source) l.text.edited.text;
-  behind : flat (drop l.position l.ended.blocks) ≡ [];
-  bytes : total (flat l.ended.blocks) ≡ l.at;
+  behind : flat (drop l.position l.front.blocks) ≡ [];
+  bytes : total (flat l.front.blocks) ≡ l.at;
 }
 
 abbrev pub decreases-loop-at : goal.decreases-loop-at

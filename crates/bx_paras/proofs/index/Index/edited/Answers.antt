@@ -19,13 +19,13 @@ touched-reached-requires-clause-was g c =
 
 pub overflow_sub-behind : goal.overflow_sub-behind
 overflow_sub-behind g c =
-    let t = has_end (flat c.self.inside.ended.blocks) _ c.touched-reached.result.1 c.in-Some.end c.touched-reached.ensures.1.last_is c.in-Some.is in
+    let t = has_end (flat c.self.inside.front.blocks) _ c.touched-reached.result.1 c.in-Some.end c.touched-reached.ensures.1.last_is c.in-Some.is in
     omega (arith, t.past)
 
 pub overflow_add-behind : goal.overflow_add-behind
 overflow_add-behind g c =
     let touched = c.touched-reached.ensures.1 in
-    let blocks = flat c.self.inside.ended.blocks in
+    let blocks = flat c.self.inside.front.blocks in
     let t = has_end blocks _ c.touched-reached.result.1 c.in-Some.end touched.last_is c.in-Some.is in
     omega (
       arith,
@@ -49,12 +49,12 @@ replace-requires-clause-room g c =
     let f = inside touched c.in-Some.end c.in-Some.is in
     let room = subst (λ r. HasRoomFor r (added_separators touched)) (sym (ap (λ (s : IndexState). s.room) c.self.view_is)) c.requires.room in
     let few : added_separators touched ≤ largest_text = omega (arith, few_added touched, added_in touched, c.len-len.ensures.short) in
-    omega (arith, f.few, has_spares c.self.inside.room c.self.inside.ended.spares (added_separators touched) c.self.invariant.has_room room few)
+    omega (arith, f.few, has_spares c.self.inside.room c.self.inside.front.spares (added_separators touched) c.self.invariant.has_room room few)
 
 pub replace-requires-clause-short : goal.replace-requires-clause-short
 replace-requires-clause-short g c =
     let f = inside c.touched-reached.ensures.1 c.in-Some.end c.in-Some.is in
-    omega (arith, f.bytes, total_append (flat c.self.inside.ended.blocks) (unended c.self.inside.last ∷ []), c.self.invariant.short, c.len-len.ensures.short)
+    omega (arith, f.bytes, total_append (flat c.self.inside.front.blocks) (unended c.self.inside.last ∷ []), c.self.invariant.short, c.len-len.ensures.short)
 
 pub replace-requires-clause-few : goal.replace-requires-clause-few
 replace-requires-clause-few g c =
@@ -91,12 +91,12 @@ replace-at-requires-clause-room g c =
     let (r, f) = at_end touched c.len-len.result c.len-len.ensures.len c.in_default.is in
     let room = subst (λ r. HasRoomFor r (added_separators touched)) (sym (ap (λ (s : IndexState). s.room) c.self.view_is)) c.requires.room in
     let few : added_separators touched ≤ largest_text = omega (arith, few_added touched, added_in touched, c.len-len.ensures.short) in
-    omega (arith, f.few, has_spares c.self.inside.room c.self.inside.ended.spares (added_separators touched) c.self.invariant.has_room room few)
+    omega (arith, f.few, has_spares c.self.inside.room c.self.inside.front.spares (added_separators touched) c.self.invariant.has_room room few)
 
 pub replace-at-requires-clause-short : goal.replace-at-requires-clause-short
 replace-at-requires-clause-short g c =
     let (r, f) = at_end c.touched-reached.ensures.1 c.len-len.result c.len-len.ensures.len c.in_default.is in
-    omega (arith, f.bytes, total_append (flat c.self.inside.ended.blocks) (unended c.self.inside.last ∷ []), c.self.invariant.short, c.len-len.ensures.short)
+    omega (arith, f.bytes, total_append (flat c.self.inside.front.blocks) (unended c.self.inside.last ∷ []), c.self.invariant.short, c.len-len.ensures.short)
 
 pub replace-at-requires-clause-few : goal.replace-at-requires-clause-few
 replace-at-requires-clause-few g c =
@@ -113,7 +113,7 @@ pub invariant_of-self-2 : goal.invariant_of-self-2
 invariant_of-self-2 g c =
     let touched = c.touched-reached.ensures.1 in
     let (r, f) = at_end touched c.len-len.result c.len-len.ensures.len c.in_default.is in
-    let last = no_end (flat c.self.inside.ended.blocks) _ c.touched-reached.result.1 touched.last_is c.in_default.is in
+    let last = no_end (flat c.self.inside.front.blocks) _ c.touched-reached.result.1 touched.last_is c.in_default.is in
     let left : c.len-len.result - c.replace-at.result ≡ r = omega (arith, f.bytes, c.replace-at.ensures.stop, c.len-len.ensures.len) in
     let same = closed_at_end touched c.len-len.result c.touched-reached.result.1.number r (c.len-len.result - c.replace-at.result) _ last left f
     c.replace-at.ensures.paragraphs in
@@ -128,7 +128,7 @@ pub returns : goal.returns
 returns g c =
     let touched = c.touched-reached.ensures.1 in
     let (r, f) = at_end touched c.len-len.result c.len-len.ensures.len c.in_default.is in
-    let last = no_end (flat c.self.inside.ended.blocks) _ c.touched-reached.result.1 touched.last_is c.in_default.is in
+    let last = no_end (flat c.self.inside.front.blocks) _ c.touched-reached.result.1 touched.last_is c.in_default.is in
     let left : c.len-len.result - c.replace-at.result ≡ r = omega (arith, f.bytes, c.replace-at.ensures.stop, c.len-len.ensures.len) in
     ap (λ ps. record { paragraphs = ps; room = None })
     (closed_at_end touched c.len-len.result c.touched-reached.result.1.number r (c.len-len.result - c.replace-at.result) _ last left f c.replace-at.ensures.paragraphs)

@@ -8,5 +8,5 @@ use Rattle.bx_paras.proofs.index.Index.paragraph_of.Goals as goal
 
 pub returns : goal.returns
 returns c =
-    position_is (flat c.self.inside.ended.blocks) (unended c.self.inside.last) c.args.offset c.find.result c.find.ensures
+    position_is (flat c.self.inside.front.blocks) (unended c.self.inside.last) c.args.offset c.find.result c.find.ensures
     ∙ ap (λ (s : IndexState). paragraph_of s.paragraphs c.args.offset) c.self.view_is

@@ -8,13 +8,13 @@ use Rattle.bx_paras.proofs.index.Index.separator.Goals as goal
 
 pub returns-in-None : goal.returns-in-None
 returns-in-None c =
-    let last : c.args.number ≡ length (flat c.self.inside.ended.blocks) =
+    let last : c.args.number ≡ length (flat c.self.inside.front.blocks) =
     omega (
       arith,
       c.in-None.ensures,
       c.requires,
       ap (λ (s : IndexState). length s.paragraphs) c.self.view_is,
-      length-append (flat c.self.inside.ended.blocks) (unended c.self.inside.last ∷ []),
+      length-append (flat c.self.inside.front.blocks) (unended c.self.inside.last ∷ []),
     ) in
     sym (ap (λ (s : IndexState). slice_get (separators s.paragraphs) c.args.number) c.self.view_is)
-    ∙ separator_of_last (flat c.self.inside.ended.blocks) (unended c.self.inside.last) c.args.number last
+    ∙ separator_of_last (flat c.self.inside.front.blocks) (unended c.self.inside.last) c.args.number last

@@ -9,12 +9,12 @@ use Rattle.bx_paras.proofs.index.Index.span.Goals as goal
 
 pub overflow_add-result : goal.overflow_add-result
 overflow_add-result c =
-    let more = total_more (flat c.self.inside.ended.blocks) c.args.number c.in-Some.paragraph c.in-Some.ensures.0 in
+    let more = total_more (flat c.self.inside.front.blocks) c.args.number c.in-Some.paragraph c.in-Some.ensures.0 in
     omega (
       arith,
       more,
-      total_front (c.args.number + 1) (flat c.self.inside.ended.blocks),
-      total_push (flat c.self.inside.ended.blocks) (unended c.self.inside.last),
+      total_front (c.args.number + 1) (flat c.self.inside.front.blocks),
+      total_push (flat c.self.inside.front.blocks) (unended c.self.inside.last),
       c.self.invariant.short,
       c.in-Some.ensures.1,
       ap bytes_of c.in-Some.ensures.2,
@@ -22,23 +22,23 @@ overflow_add-result c =
 
 pub overflow_add-result-in-None : goal.overflow_add-result-in-None
 overflow_add-result-in-None c =
-    omega (arith, c.size-start.ensures.bytes, total_push (flat c.self.inside.ended.blocks) (unended c.self.inside.last), c.self.invariant.short)
+    omega (arith, c.size-start.ensures.bytes, total_push (flat c.self.inside.front.blocks) (unended c.self.inside.last), c.self.invariant.short)
 
 pub returns-in-Some : goal.returns-in-Some
 returns-in-Some c =
     sym (ap (λ (s : IndexState). slice_get (spans s.paragraphs) c.args.number) c.self.view_is)
-    ∙ span_of (flat c.self.inside.ended.blocks) (unended c.self.inside.last) c.in-Some.paragraph c.args.number c.in-Some.start c.in-Some.ensures.0
+    ∙ span_of (flat c.self.inside.front.blocks) (unended c.self.inside.last) c.in-Some.paragraph c.args.number c.in-Some.start c.in-Some.ensures.0
     c.in-Some.ensures.1 c.in-Some.ensures.2
 
 pub returns-in-None : goal.returns-in-None
 returns-in-None c =
-    let last : c.args.number ≡ length (flat c.self.inside.ended.blocks) =
+    let last : c.args.number ≡ length (flat c.self.inside.front.blocks) =
     omega (
       arith,
       c.in-None.ensures,
       c.requires,
       ap (λ (s : IndexState). length s.paragraphs) c.self.view_is,
-      length-append (flat c.self.inside.ended.blocks) (unended c.self.inside.last ∷ []),
+      length-append (flat c.self.inside.front.blocks) (unended c.self.inside.last ∷ []),
     ) in
     sym (ap (λ (s : IndexState). slice_get (spans s.paragraphs) c.args.number) c.self.view_is)
-    ∙ span_of_last (flat c.self.inside.ended.blocks) (unended c.self.inside.last) c.args.number c.size-start.result.1 last c.size-start.ensures.bytes
+    ∙ span_of_last (flat c.self.inside.front.blocks) (unended c.self.inside.last) c.args.number c.size-start.result.1 last c.size-start.ensures.bytes
