@@ -51,10 +51,10 @@ run_begins kept o ps w i l h =
     (w.runs (i - o.begin) 0 (omega (arith, length-drop o.begin ps)))
 
 pub first_begins : (kept : List (Option Kept)) (o : OpenChain) (ps : List ℕ) → IsOpenChain kept o ps → BeginsRun kept o.level (get_or ps o.begin 0)
-first_begins kept o ps w = run_begins kept o ps w o.begin (omega arith) w.begun
+first_begins kept o ps w = run_begins kept o ps w o.begin (omega arith) w.begin_within
 
 pub last_begins : (kept : List (Option Kept)) (o : OpenChain) (ps : List ℕ) → IsOpenChain kept o ps → BeginsRun kept o.level (newest_index ps)
-last_begins kept o ps w = let h : o.begin < length ps = w.begun in run_begins kept o ps w (length ps - 1) (omega arith) (omega arith)
+last_begins kept o ps w = let h : o.begin < length ps = w.begin_within in run_begins kept o ps w (length ps - 1) (omega arith) (omega arith)
 
 pub opened : (kept : List (Option Kept)) (os rest : List OpenChain) (o : OpenChain) (ps : List ℕ) → os ≡ o ∷ rest → AreOpen kept os ps → IsOpenChain kept o ps
 opened kept os rest o ps e a = (subst (λ xs. AreOpen kept xs ps) e a).0
@@ -71,7 +71,7 @@ pub over_is : (cs : List Class) (kept : List (Option Kept)) (os rest : List Open
 over_is cs kept os rest o ps q e a =
     let w : IsOpenChain kept o ps = opened kept os rest o ps e a in
     let b : BeginsRun kept o.level (newest_index ps) = last_begins kept o ps w in
-    ap (λ xs. is_over cs (chains_of kept xs ps) q) e ∙ ap (λ c. is_over cs (c ∷ chains_of kept rest (take o.begin ps)) q) (newest_first kept o.begin ps w.begun)
+    ap (λ xs. is_over cs (chains_of kept xs ps) q) e ∙ ap (λ c. is_over cs (c ∷ chains_of kept rest (take o.begin ps)) q) (newest_first kept o.begin ps w.begin_within)
     ∙ ap (λ l. nat_lt q.level l || not (starts_with_initiator (drop (run_at kept (newest_index ps)).last cs))) b.of_level
     ∙ ap (λ l. nat_lt q.level o.level || not (starts_with_initiator (drop l cs))) w.ends
 
@@ -100,7 +100,7 @@ module _ (x : Explicit) (os rest : List OpenChain) (o : OpenChain) (ps : List �
   sequence_is =
       ap (λ xs. sequence_of_runs x.level x.classes.items kept (reverse (newest (chains_of kept xs ps)))) e
       ∙ ap (sequence_of_runs x.level x.classes.items kept) (reverse-reverse (map (run_at kept) (drop o.begin ps)))
-      ∙ ap (λ qs. sequence_of_runs x.level x.classes.items kept (map (run_at kept) qs)) (drop_more ps o.begin 0 w.begun)
+      ∙ ap (λ qs. sequence_of_runs x.level x.classes.items kept (map (run_at kept) qs)) (drop_more ps o.begin 0 w.begin_within)
 
   pub level_is : o.level ≡ (newest_sequence stacked).level
   level_is = sym (ap (λ (s : RunSequence). s.level) sequence_is ∙ (first_begins kept o ps w).of_level)
@@ -120,7 +120,7 @@ module _ (x : Explicit) (os rest : List OpenChain) (o : OpenChain) (ps : List �
 
   last_is : last_run (run_at kept (get_or ps o.begin 0)) (map (run_at kept) (drop (o.begin + 1) ps)) ≡ run_at kept (newest_index ps)
   last_is =
-      let h : o.begin < length ps = w.begun in
+      let h : o.begin < length ps = w.begin_within in
       let k : o.begin + length (drop (o.begin + 1) ps) ≡ length ps - 1 = omega (arith, length-drop (o.begin + 1) ps) in
       last_run_map (get_or ps o.begin 0) (drop (o.begin + 1) ps)
       ∙ ap (λ qs. run_at kept (get_or qs (length (drop (o.begin + 1) ps)) 0)) (sym (drop_more ps o.begin 0 h))
@@ -144,5 +144,5 @@ module _ (x : Explicit) (os rest : List OpenChain) (o : OpenChain) (ps : List �
 
   pub indexes_is : indexes_from o.level kept (drop o.begin ps) ≡ (newest_sequence stacked).indexes
   indexes_is =
-      sym (ap (λ (s : RunSequence). s.indexes) sequence_is ∙ ap (λ qs. chain_indexes kept (map (run_at kept) qs)) (sym (drop_more ps o.begin 0 w.begun))
+      sym (ap (λ (s : RunSequence). s.indexes) sequence_is ∙ ap (λ qs. chain_indexes kept (map (run_at kept) qs)) (sym (drop_more ps o.begin 0 w.begin_within))
       ∙ walked_all (drop o.begin ps) w.runs)

@@ -196,8 +196,8 @@ module _ (paragraph : ℕ) (cs : List Class) (kept : List (Option Kept)) (law : 
       joined_here : (chains : List (List Run)) → Met done chains from → follows cs done q ≡ follows cs (heads chains) q
       joined_here chains w = All-head (λ x. follows cs done x ≡ follows cs (heads chains) x) q rest (joined_next chains w)
 
-      begun : (chains : List (List Run)) → All (λ (u : Run). u.level < q.level) (heads chains) → Met done chains from → Step chains ((q ∷ []) ∷ chains)
-      begun chains l w =
+      begin_within : (chains : List (List Run)) → All (λ (u : Run). u.level < q.level) (heads chains) → Met done chains from → Step chains ((q ∷ []) ∷ chains)
+      begin_within chains l w =
           let free : All (λ u. is_joined cs u q ≡ false) (heads chains) =
           none_joined cs (runs_from 0 kept) law done chains from q rest (met chains w) l w.waits in
           let first : follows cs done q ≡ false = joined_here chains w ∙ list_any_none (λ u. is_joined cs u q) (heads chains) free in
@@ -251,7 +251,7 @@ module _ (paragraph : ℕ) (cs : List Class) (kept : List (Option Kept)) (law : 
           )
 
       taken : (chains : List (List Run)) → is_over cs chains q ≡ false → Met done chains from → Step chains (with_run chains q)
-      taken [] o w = begun [] (All-nil (λ (u : Run). u.level < q.level)) w
+      taken [] o w = begin_within [] (All-nil (λ (u : Run). u.level < q.level)) w
       taken ([] ∷ chains) o w = absurd w.waits
       taken ((r ∷ rs) ∷ chains) o w =
           let parts : (nat_lt q.level r.level ≡ false) × (not (ends_in_initiator cs r) ≡ false) =
@@ -263,7 +263,7 @@ module _ (paragraph : ℕ) (cs : List Class) (kept : List (Option Kept)) (law : 
             | true ↦ λ s. gone_on r rs chains (eqb-true q.level r.level s) (not-false (ends_in_initiator cs r) parts.1) w
             | false ↦ λ s.
                 let other : q.level ≢ r.level = eqb-false q.level r.level s in
-                begun ((r ∷ rs) ∷ chains) (All-cons (λ (u : Run). u.level < q.level) r (heads chains) (omega arith)
+                begin_within ((r ∷ rs) ∷ chains) (All-cons (λ (u : Run). u.level < q.level) r (heads chains) (omega arith)
                 (lower_all r.level q.level (heads chains) high c.lower)) w
           ] refl
 
@@ -287,6 +287,6 @@ all_given e runs levels low is =
     let kept : List (Option Kept) = e.kept.items in
     let law : AreResumed e.classes.items (runs_from 0 kept) =
     subst (λ g. AreResumed e.classes.items (runs_from 0 g)) (sym levels) (joined_by_level e.level e.classes.items low) in
-    let begun : IsMet e.classes.items kept [] [] 0 = record { split = refl; waits = tt; joined = λ i d h. refl } in
+    let begin_within : IsMet e.classes.items kept [] [] 0 = record { split = refl; waits = tt; joined = λ i d h. refl } in
     subst (λ rs. AreGiven (ending e.level e.classes.items kept [] rs) (sequences e.level e.classes.items kept)) (sym is)
-    (given_all e.level e.classes.items kept law (runs_from 0 kept) [] [] 0 refl begun)
+    (given_all e.level e.classes.items kept law (runs_from 0 kept) [] [] 0 refl begin_within)

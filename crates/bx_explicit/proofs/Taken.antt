@@ -53,14 +53,14 @@ module _ (kept : List (Option Kept)) (ps : List ℕ) (q : Run) (own : q ≡ run_
       let w : IsOpenChain kept o ps = a.0 in
       let r : Run = run_at kept (newest_index ps) in
       let c : List (List Run) = chains_of kept os (take o.begin ps) in
-      let n : reverse (map (run_at kept) (drop o.begin ps)) ≡ r ∷ older kept o.begin ps = newest_first kept o.begin ps w.begun in
+      let n : reverse (map (run_at kept) (drop o.begin ps)) ≡ r ∷ older kept o.begin ps = newest_first kept o.begin ps w.begin_within in
       let l : r.level ≡ o.level = (last_begins kept o ps w).of_level in
       let right : (b : Bool) → (q.level == o.level) ≡ b → with_run (chains_of kept (o ∷ os) ps) q
       ≡ elim b as (λ x. List (List Run)) [ true ↦ (q ∷ r ∷ older kept o.begin ps) ∷ c | false ↦ (q ∷ []) ∷ (r ∷ older kept o.begin ps) ∷ c ] =
       λ b t. ap (λ x. with_run (x ∷ c) q) n ∙ with_run_at r (older kept o.begin ps) c q b (ap (λ k. q.level == k) l ∙ t) in
       elim (q.level == o.level) as (λ b. (q.level == o.level) ≡ b
       → chains_of kept (open_with q (length ps) (o ∷ os)) more ≡ with_run (chains_of kept (o ∷ os) ps) q) [
-        | true ↦ λ t. let h : o.begin ≤ length ps = omega (arith, w.begun) in ap (λ xs. chains_of kept xs more) (open_with_at q (length ps) o os true t)
+        | true ↦ λ t. let h : o.begin ≤ length ps = omega (arith, w.begin_within) in ap (λ xs. chains_of kept xs more) (open_with_at q (length ps) o os true t)
             ∙ went_on o os h ∙ ap (λ x. (q ∷ x) ∷ c) n ∙ sym (right true t)
         | false ↦ λ t. ap (λ xs. chains_of kept xs more) (open_with_at q (length ps) o os false t) ∙ begun_alone (o ∷ os) ∙ ap (λ x. (q ∷ []) ∷ x ∷ c) n
             ∙ sym (right false t)
@@ -79,7 +79,7 @@ module _ (kept : List (Option Kept)) (ps : List ℕ) (q : Run) (own : q ≡ run_
     open_alone : (os : List OpenChain) → AreOpen kept os ps → AreOpen kept (open_chain q.level q.last (length ps) ∷ os) more
     open_alone os a = (
       record {
-        begun = omega (arith, length_push ps q.first);
+        begin_within = omega (arith, length_push ps q.first);
         runs = subst (All (BeginsRun kept q.level)) (sym (drop_at ps (q.first ∷ []) (length ps) refl))
             (All-cons (BeginsRun kept q.level) q.first [] begins (All-nil (BeginsRun kept q.level)));
         ends = ends_there;
@@ -90,11 +90,11 @@ module _ (kept : List (Option Kept)) (ps : List ℕ) (q : Run) (own : q ≡ run_
     open_on : (o : OpenChain) (os : List OpenChain) → q.level ≡ o.level → IsOpenChain kept o ps → AreOpen kept os (take o.begin ps)
         → AreOpen kept (open_chain q.level q.last o.begin ∷ os) more
     open_on o os l w a =
-        let h : o.begin < length ps = w.begun in
+        let h : o.begin < length ps = w.begin_within in
         let g : o.begin ≤ length ps = omega arith in
         let before : All (BeginsRun kept q.level) (drop o.begin ps) = subst (λ k. All (BeginsRun kept k) (drop o.begin ps)) (sym l) w.runs in (
           record {
-            begun = omega (arith, length_push ps q.first);
+            begin_within = omega (arith, length_push ps q.first);
             runs = subst (All (BeginsRun kept q.level)) (sym (drop-append-le o.begin ps (q.first ∷ []) g))
                 (All-append (BeginsRun kept q.level) (drop o.begin ps) (q.first ∷ []) before
                 (All-cons (BeginsRun kept q.level) q.first [] begins (All-nil (BeginsRun kept q.level))));

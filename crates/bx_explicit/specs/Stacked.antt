@@ -22,7 +22,7 @@ pub record BeginsRun (kept : List (Option Kept)) (level p : ℕ) : Type 0 where
 
 -- what is kept of the newest chain is that of its runs
 pub record IsOpenChain (kept : List (Option Kept)) (o : OpenChain) (ps : List ℕ) : Type 0 where
-  pub begun : o.begin < length ps
+  pub begin_within : o.begin < length ps
   pub runs : All (BeginsRun kept o.level) (drop o.begin ps)
   pub ends : (run_at kept (slice_index_or ps (length ps - 1) 0)).last ≡ o.last
 

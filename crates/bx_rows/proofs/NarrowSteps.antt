@@ -105,32 +105,32 @@ mark-narrow class body start m b rest more o e h = record {
 
 -- the run with the open cluster, whose end the next character or the body's end tells
 pub record IsLonger (class : ℕ → Class) (body : List ℕ) (at : ℕ) (r : NarrowRun) : Type 0 where
-  pub place : IsRunIn body at r
+  pub bounds : IsRunIn body at r
   pub units : (w : ℕ) → IsNarrowRun class w body at r
 
 longer : (class : ℕ → Class) (body : List ℕ) (at : ℕ) (r : NarrowRun) (first stop : ℕ) (k b : Bool) → IsRunIn body at r
     → ((w : ℕ) → IsNarrowRun class w body at r) → IsSimpleAt body r.stop (record { first = first; columns = 1; is_marked = k; stop = stop })
     → b ≡ is_one_blank class (cond k None (Some first)) → IsLonger class body at (grown r stop b)
-longer class body at r first stop k b place units s e = record {
-  place = run-in-grown body at r stop b place s.grows s.boundary;
+longer class body at r first stop k b bounds units s e = record {
+  bounds = run-in-grown body at r stop b bounds s.grows s.boundary;
   units = λ w. run-grown class w body at r first stop k b (units w) s e;
 }
 
 pub longer-next : (class : ℕ → Class) (body : List ℕ) (at : ℕ) (r q : NarrowRun) (b : Bool) (rest more : List ℕ) (stop d : ℕ) → IsUtf8 body
     → IsRunIn body at r → ((w : ℕ) → IsNarrowRun class w body at r) → HasOpen class body r.stop b rest → stop + length rest ≡ length body
     → rest ≡ encode_utf8 d ++ more → begins d ≡ true → q ≡ grown r stop b → IsLonger class body at q
-longer-next class body at r q b rest more stop d u place units o e next begin is =
+longer-next class body at r q b rest more stop d u bounds units o e next begin is =
     subst (IsLonger class body at) (sym is)
-    (longer class body at r o.first stop o.marked b place units
-    (at-next body r.stop o.first o.marked rest u place.boundary o.cluster stop d 1 more e next begin o.columns) o.end)
+    (longer class body at r o.first stop o.marked b bounds units
+    (at-next body r.stop o.first o.marked rest u bounds.boundary o.cluster stop d 1 more e next begin o.columns) o.end)
 
 pub longer-last : (class : ℕ → Class) (body : List ℕ) (at : ℕ) (r q : NarrowRun) (b : Bool) (rest : List ℕ) → IsUtf8 body → IsRunIn body at r
     → ((w : ℕ) → IsNarrowRun class w body at r) → HasOpen class body r.stop b rest → length rest ≡ 0 → q ≡ grown r (length body) b
     → IsLonger class body at q
-longer-last class body at r q b rest u place units o none is =
+longer-last class body at r q b rest u bounds units o none is =
     subst (IsLonger class body at) (sym is)
-    (longer class body at r o.first (length body) o.marked b place units
-    (at-last body r.stop o.first o.marked rest u place.boundary o.cluster (length body) 1 refl none o.columns) o.end)
+    (longer class body at r o.first (length body) o.marked b bounds units
+    (at-last body r.stop o.first o.marked rest u bounds.boundary o.cluster (length body) 1 refl none o.columns) o.end)
 
 pub grown-stop : (r q : NarrowRun) (stop : ℕ) (b : Bool) → q ≡ grown r stop b → q.stop ≡ stop
 grown-stop r q stop true e = ap (λ x. x.stop) e

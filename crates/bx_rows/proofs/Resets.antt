@@ -9,7 +9,7 @@ use Rattle.bx_ucd.specs.declared.class.Class.{Class}
 use Rattle.bx_cells.specs.Units.{unit_chars}
 use Rattle.bx_rows.proofs.Pieces.{map-length}
 
--- the character before place n, and those from there on
+-- the character before index n, and those from there on
 at_before : {B : Type 0} (f : List CharLevel → B) (cs : List CharLevel) (n : ℕ) (d : CharLevel) → 0 < n → n ≤ length cs
     → f (drop (n - 1) cs) ≡ f (get_or cs (n - 1) d ∷ drop n cs)
 at_before f cs n d h k =
@@ -68,7 +68,7 @@ drop-capped (suc n) [] = let e : min (suc n) 0 ≡ 0 = omega arith in ap (λ k. 
 drop-capped (suc n) (x ∷ xs) =
     let e : min (suc n) (length (x ∷ xs)) ≡ suc (min n (length xs)) = omega arith in ap (λ k. drop k (x ∷ xs)) e ∙ drop-capped n xs
 
--- the levels from a place on, or none
+-- the levels from an index on, or none
 pub drop_each_capped : (n : ℕ) (xs : List (Option ℕ)) → drop (min n (length xs)) xs ≡ drop n xs
 drop_each_capped = drop-capped
 

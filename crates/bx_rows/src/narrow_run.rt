@@ -59,7 +59,7 @@ fn grown(run: NarrowRun, stop: usize, is_break: bool) -> NarrowRun
 pub(crate) fn narrow_run<D: BidiData>(body: &str, at: usize, most: u16, source: &D) -> NarrowRun
     requires { IsCharBoundary body.now at }
     ensures most { result.count ≤ most }
-    ensures place { IsRunIn body.now at result }
+    ensures bounds { IsRunIn body.now at result }
     ensures units { (w : ℕ) → IsNarrowRun (D.class_of source.now) w body.now at result }
 {
     let mut run = NarrowRun {

@@ -42,7 +42,7 @@ pub trait Store {
 
     /// Begins a save.
     fn begin(&mut self) -> Result<(), StoreFault>
-        ensures begun { OnOk result (has_draft self.new ≡ true) }
+        ensures has_draft { OnOk result (has_draft self.new ≡ true) }
         ensures draft { OnOk result (draft self.new ≡ no_bytes (contents self.old)) }
         ensures stored { contents self.new ≡ contents self.old }
         ensures no_failure { OnOk result (failure_count self.new ≡ failure_count self.old) }
@@ -51,7 +51,7 @@ pub trait Store {
     /// Puts the next bytes.
     fn put(&mut self, bytes: &[u8]) -> Result<(), StoreFault>
         requires { has_draft self.old ≡ true }
-        ensures begun { OnOk result (has_draft self.new ≡ true) }
+        ensures has_draft { OnOk result (has_draft self.new ≡ true) }
         ensures draft { OnOk result (draft self.new ≡ with_bytes bytes.now (draft self.old)) }
         ensures stored { contents self.new ≡ contents self.old }
         ensures no_failure { OnOk result (failure_count self.new ≡ failure_count self.old) }

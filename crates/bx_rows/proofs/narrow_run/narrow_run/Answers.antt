@@ -21,12 +21,12 @@ chars-init g c =
           (c.in-Begins.ensures.0, c.in-Begins.ensures.1 ∙ c.if-columns-ne1.false) (c.is_blank-is_break.ensures ∙ ap is_blank c.class.ensures);
       within = omega (arith, shorter, whole, length-drop c.args.at body);
       most = some-if c.args.most c.if-most-eq0.false;
-      place = run-in-none body c.args.at c.requires;
+      bounds = run-in-none body c.args.at c.requires;
       units = λ w. run-none class w body c.args.at;
     }
 
-pub returns-then-columns-ne1-2-clause-place : goal.returns-then-columns-ne1-2-clause-place
-returns-then-columns-ne1-2-clause-place g c =
+pub returns-then-columns-ne1-2-clause-bounds : goal.returns-then-columns-ne1-2-clause-bounds
+returns-then-columns-ne1-2-clause-bounds g c =
     let body = c.args.body.now in
     let rest = c.chars.rest.now in
     let i = c.chars.invariant in
@@ -34,7 +34,7 @@ returns-then-columns-ne1-2-clause-place g c =
     let stop = length body - length rest in
     let e : stop + length rest ≡ length body = omega arith in
     (longer-next (g.D.BidiData.class_of c.args.source.now) body c.args.at c.chars.run c.grown.result c.chars.is_break rest _ stop c.in-Some-first_char.c
-    c.utf8.body i.place i.units i.cluster e c.in-Some-first_char.ensures.0 c.in-Begins-simple_kind.ensures.0 c.grown.ensures).place
+    c.utf8.body i.bounds i.units i.cluster e c.in-Some-first_char.ensures.0 c.in-Begins-simple_kind.ensures.0 c.grown.ensures).bounds
 
 pub returns-then-columns-ne1-2-clause-units : goal.returns-then-columns-ne1-2-clause-units
 returns-then-columns-ne1-2-clause-units g c =
@@ -45,10 +45,10 @@ returns-then-columns-ne1-2-clause-units g c =
     let stop = length body - length rest in
     let e : stop + length rest ≡ length body = omega arith in
     (longer-next (g.D.BidiData.class_of c.args.source.now) body c.args.at c.chars.run c.grown.result c.chars.is_break rest _ stop c.in-Some-first_char.c
-    c.utf8.body i.place i.units i.cluster e c.in-Some-first_char.ensures.0 c.in-Begins-simple_kind.ensures.0 c.grown.ensures).units
+    c.utf8.body i.bounds i.units i.cluster e c.in-Some-first_char.ensures.0 c.in-Begins-simple_kind.ensures.0 c.grown.ensures).units
 
-pub returns-then-run-most-clause-place : goal.returns-then-run-most-clause-place
-returns-then-run-most-clause-place g c =
+pub returns-then-run-most-clause-bounds : goal.returns-then-run-most-clause-bounds
+returns-then-run-most-clause-bounds g c =
     let body = c.args.body.now in
     let rest = c.chars.rest.now in
     let i = c.chars.invariant in
@@ -56,8 +56,8 @@ returns-then-run-most-clause-place g c =
     let stop = length body - length rest in
     let e : stop + length rest ≡ length body = omega arith in
     (longer-next (g.D.BidiData.class_of c.args.source.now) body c.args.at c.chars.run c.grown-run.result c.chars.is_break rest _ stop
-    c.in-Some-first_char.c c.utf8.body i.place i.units i.cluster e c.in-Some-first_char.ensures.0 c.in-Begins-simple_kind.ensures.0
-    c.grown-run.ensures).place
+    c.in-Some-first_char.c c.utf8.body i.bounds i.units i.cluster e c.in-Some-first_char.ensures.0 c.in-Begins-simple_kind.ensures.0
+    c.grown-run.ensures).bounds
 
 pub returns-then-run-most-clause-units : goal.returns-then-run-most-clause-units
 returns-then-run-most-clause-units g c =
@@ -68,7 +68,7 @@ returns-then-run-most-clause-units g c =
     let stop = length body - length rest in
     let e : stop + length rest ≡ length body = omega arith in
     (longer-next (g.D.BidiData.class_of c.args.source.now) body c.args.at c.chars.run c.grown-run.result c.chars.is_break rest _ stop
-    c.in-Some-first_char.c c.utf8.body i.place i.units i.cluster e c.in-Some-first_char.ensures.0 c.in-Begins-simple_kind.ensures.0
+    c.in-Some-first_char.c c.utf8.body i.bounds i.units i.cluster e c.in-Some-first_char.ensures.0 c.in-Begins-simple_kind.ensures.0
     c.grown-run.ensures).units
 
 pub chars-preserved-else-run-most : goal.chars-preserved-else-run-most
@@ -82,17 +82,17 @@ chars-preserved-else-run-most g c =
     let within = i.within in
     let stop = length body - length rest in
     let e : stop + length rest ≡ length body = omega arith in
-    let longer = longer-next class body c.args.at c.chars.run c.grown-run.result c.chars.is_break rest _ stop c.in-Some-first_char.c c.utf8.body i.place
+    let longer = longer-next class body c.args.at c.chars.run c.grown-run.result c.chars.is_break rest _ stop c.in-Some-first_char.c c.utf8.body i.bounds
     i.units i.cluster e next.0 c.in-Begins-simple_kind.ensures.0 c.grown-run.ensures in
     record {
       text = IsUtf8-past_char rest _ c.in-Some-first_char.c i.text next.0;
       cluster = open-behind class body c.chars.run c.grown-run.result c.chars.is_break c.is_blank-is_break-in-Begins-simple_kind.result rest _ stop
-          c.in-Some-first_char.c c.utf8.body i.place.boundary i.cluster e next.0
+          c.in-Some-first_char.c c.utf8.body i.bounds.boundary i.cluster e next.0
           (c.in-Begins-simple_kind.ensures.0, c.in-Begins-simple_kind.ensures.1 ∙ c.if-columns-ne1-2.false)
           (c.is_blank-is_break-in-Begins-simple_kind.ensures ∙ ap is_blank c.class-in-Begins-simple_kind.ensures) c.grown-run.ensures;
       within = omega arith;
       most = grown-less c.chars.run c.grown-run.result stop c.args.most c.chars.is_break c.grown-run.ensures i.most c.if-run-most.false;
-      place = longer.place;
+      bounds = longer.bounds;
       units = longer.units;
     }
 
@@ -108,18 +108,18 @@ chars-preserved g c =
           c.chars.rest.now _ i.cluster next.0 c.in-Mark.ensures;
       within = omega arith;
       most = i.most;
-      place = i.place;
+      bounds = i.bounds;
       units = i.units;
     }
 
-pub returns-clause-place : goal.returns-clause-place
-returns-clause-place g c =
+pub returns-clause-bounds : goal.returns-clause-bounds
+returns-clause-bounds g c =
     let i = c.chars.invariant in
     (longer-last (g.D.BidiData.class_of c.args.source.now) c.args.body.now c.args.at c.chars.run c.grown-2.result c.chars.is_break c.chars.rest.now
-    c.utf8.body i.place i.units i.cluster c.in_default-first_char.ensures c.grown-2.ensures).place
+    c.utf8.body i.bounds i.units i.cluster c.in_default-first_char.ensures c.grown-2.ensures).bounds
 
 pub returns-clause-units : goal.returns-clause-units
 returns-clause-units g c =
     let i = c.chars.invariant in
     (longer-last (g.D.BidiData.class_of c.args.source.now) c.args.body.now c.args.at c.chars.run c.grown-2.result c.chars.is_break c.chars.rest.now
-    c.utf8.body i.place i.units i.cluster c.in_default-first_char.ensures c.grown-2.ensures).units
+    c.utf8.body i.bounds i.units i.cluster c.in_default-first_char.ensures c.grown-2.ensures).units

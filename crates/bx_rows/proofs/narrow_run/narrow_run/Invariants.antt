@@ -12,7 +12,7 @@ invariant-chars g l = record {
   cluster : HasOpen (g.D.BidiData.class_of l.source) l.body l.run.stop l.is_break l.rest;
   within : length l.rest ≤ length l.body;
   most : l.run.count < l.most;
-  place : IsRunIn l.body l.at l.run;
+  bounds : IsRunIn l.body l.at l.run;
   units : (w : ℕ) → IsNarrowRun (g.D.BidiData.class_of l.source) w l.body l.at l.run;
 }
 

@@ -18,7 +18,7 @@ start_class-requires c =
     let e : os ≡ o ∷ rest = ap reverse (sym c.deref.ensures.value) ∙ c.newest-newest.ensures in
     let w : IsOpenChain x.kept.items o ps = opened x.kept.items os rest o ps e c.self.invariant in
     let b : BeginsRun x.kept.items o.level (get_or ps o.begin 0) = first_begins x.kept.items o ps w in
-    let read : c.index.result.now ≡ get_or ps o.begin 0 = c.index.ensures ∙ get_or_default ps o.begin c.index.result.now 0 w.begun in
+    let read : c.index.result.now ≡ get_or ps o.begin 0 = c.index.ensures ∙ get_or_default ps o.begin c.index.result.now 0 w.begin_within in
     omega (arith, b.within, read)
 
 pub returns : goal.returns
@@ -30,6 +30,6 @@ returns c =
     let ps : List ℕ = c.self.inside.firsts.items in
     let e : os ≡ o ∷ rest = ap reverse (sym c.deref.ensures.value) ∙ c.newest-newest.ensures in
     let w : IsOpenChain x.kept.items o ps = opened x.kept.items os rest o ps e c.self.invariant in
-    let read : c.index.result.now ≡ get_or ps o.begin 0 = c.index.ensures ∙ get_or_default ps o.begin c.index.result.now 0 w.begun in
+    let read : c.index.result.now ≡ get_or ps o.begin 0 = c.index.ensures ∙ get_or_default ps o.begin c.index.result.now 0 w.begin_within in
     c.start_class.ensures ∙ sos_is x os rest o ps e c.self.invariant (run o.level c.index.result.now o.last) refl read
     ∙ ap (λ (v : OpenRuns). (newest_sequence v).sos) c.self.view_is
