@@ -1,5 +1,6 @@
 -- A run grows by a unit that is at none of its units' levels or below them, and by the run of the higher units after it.
-use Rattle.std.proofs.Common.{◌≡◌, ℕ, zero, suc, ◌+◌, ◌<◌, ◌≤◌, List, [], ◌∷◌, ◌++◌, refl, sym, ap, ◌∙◌, subst, arith, append_assoc, length, get_or, drop}
+use Rattle.std.proofs.Common.{◌≡◌, ℕ, zero, suc, ◌+◌, ◌<◌, ◌≤◌, List, [], ◌∷◌, ◌++◌, refl, sym, ap, ◌∙◌, subst, arith, append_assoc, length, get_or, drop, nat_lt, false}
+use Rattle.std.proofs.lemmas.Bool.Decides.{nat_tests}
 use Rattle.std.proofs.lemmas.List.{append-nil, at_drop_more}
 use Rattle.std.proofs.lemmas.List.FromFn.{get_or-enumerate_from, length-enumerate_from}
 use Rattle.std.proofs.Math.Seq.{drop-length}
@@ -93,3 +94,17 @@ levels_end ls low i h =
     let all : drop (length (enumerate_from 0 ls)) (enumerate_from 0 ls) ≡ [] = rw drop-length in
     let e : i ≡ length (enumerate_from 0 ls) = h ∙ sym (length-enumerate_from 0 ls) in
     subst (λ (rest : List (ℕ × ℕ)). BeginsBelow low rest) (sym (ap (λ k. drop k (enumerate_from 0 ls)) e ∙ all)) tt
+
+-- a unit with nothing higher behind it
+pub level_alone : (ls : List ℕ) (low i : ℕ) (us before items : List (ℕ × ℕ)) → i < length ls → get_or ls i 0 ≤ 255 → low ≤ get_or ls i 0
+    → IsGrown low us before (drop i (enumerate_from 0 ls)) → BeginsBelow (get_or ls i 0 + 1) (drop (i + 1) (enumerate_from 0 ls))
+    → items ≡ around (i, get_or ls i 0) before [] → IsGrown low us items (drop (i + 1) (enumerate_from 0 ls))
+level_alone ls low i us before items h b k g n e =
+    level_more ls low i (i + 1) us before [] items h b k g (record { run = []; split = refl; high = tt; order = sym order_of_nil; next = n }) e
+
+at_most : (a b : ℕ) → nat_lt a b ≡ false → b < a + 1
+at_most a b h = grind (arith, nat_tests)
+
+pub none_above : (ls : List ℕ) (level at : ℕ) → at < length ls → nat_lt level (get_or ls at 0) ≡ false
+    → BeginsBelow (level + 1) (drop at (enumerate_from 0 ls))
+none_above ls level at within h = level_below ls (level + 1) at within (at_most level (get_or ls at 0) h)

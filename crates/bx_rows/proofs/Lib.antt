@@ -21,3 +21,4 @@ pub mod RowUnits
 pub mod EachRow
 pub mod NarrowSteps
 mod Rows
+pub mod Unmirrored

@@ -88,6 +88,18 @@ fn push_text<'a>(
     Ok(())
 }
 
+/// Whether a character of a text has a mirror.
+fn has_mirror<D: BidiData>(text: &str, source: &D) -> bool
+    ensures { result ≡ false → mirror_image (D.mirror_of source.now) text.now ≡ text.now }
+{
+    for c in text.chars() {
+        if source.mirror(c).is_some() {
+            return true;
+        }
+    }
+    false
+}
+
 /// A text with each character mirrored that has a mirror.
 fn mirror_image<D: BidiData>(alloc: Global, text: &str, source: &D) -> Result<String, AllocError>
     ensures { IfOk result (λ t. string_bytes t ≡ mirror_image (D.mirror_of source.now) text.now) }
@@ -119,6 +131,9 @@ fn mirror_image_within<'a, D: BidiData>(
 ) -> Result<CowStr<'a, Global>, AllocError>
     ensures { IfOk result (λ t. cow_str_bytes t ≡ mirror_image_within (D.class_of source.now) (D.mirror_of source.now) w columns text.entry.now) }
 {
+    if !has_mirror(text, source) {
+        return Ok(CowStr::Borrowed(text));
+    }
     let other = mirror_image(alloc, text, source)?;
     let found = face(other.as_str(), source, w);
     if is_own(found, columns) {

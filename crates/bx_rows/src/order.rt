@@ -1,8 +1,8 @@
 //! Visual order.
-ghost use Rattle.std.specs.Prelude.{◌≡◌, ◌≤◌, ◌<◌, ◌++◌, ◌∷◌, All, length, drop, IfOk, map};
+ghost use Rattle.std.specs.Prelude.{◌≡◌, ◌≤◌, ◌<◌, ◌+◌, ◌++◌, ◌∷◌, [], false, All, length, drop, IfOk, OnOk, map};
 ghost use Rattle.std.specs.List.{enumerate_from};
 ghost use Rattle.bx_rows.specs.VisualOrder.{visual};
-ghost use Rattle.bx_rows.specs.Ordered.{IsRun, around, order_of};
+ghost use Rattle.bx_rows.specs.Ordered.{BeginsBelow, IsRun, around, order_of};
 
 use crate::error::RowError;
 use std::alloc::{AllocError, Global};
@@ -46,6 +46,26 @@ fn join(
     }
 }
 
+/// Whether the unit at an index is at a higher level than this one.
+fn is_above(levels: &[u8], at: usize, level: u8) -> bool
+    requires { at ≤ length levels.now }
+    ensures { result ≡ false → BeginsBelow (level + 1) (drop at (enumerate_from 0 levels.now)) }
+{
+    at < levels.len() && levels[at] > level
+}
+
+/// Puts a unit beside units of its level and higher ones, where nothing higher follows it: at an odd level to their left.
+fn push_beside(run: &mut VecDeque<(usize, u8)>, unit: (usize, u8)) -> Result<(), AllocError>
+    ensures { OnOk result (run.new.items ≡ around unit run.old.items []) }
+{
+    if unit.1 % 2 == 0 {
+        run.push_back(unit)?;
+    } else {
+        run.push_front(unit)?;
+    }
+    Ok(())
+}
+
 /// The units at level `low` or higher from index `from` on in their order, and the index behind them.
 fn order_run(
     alloc: Global,
@@ -63,6 +83,12 @@ fn order_run(
         let level = levels[i];
         if u16::from(level) < low {
             return Ok((run, i));
+        }
+        if !is_above(levels, i + 1, level) {
+            // There is nothing to order behind it, so no run is begun.
+            push_beside(&mut run, (i, level))?;
+            i += 1;
+            continue;
         }
         let (after, stop) = order_run(alloc, levels, i + 1, u16::from(level) + 1)?;
         run = join((i, level), run, after)?;

@@ -1,7 +1,7 @@
-use Rattle.std.proofs.Common.{◌≡◌, ◌≤◌, ◌+◌, ℕ, List, sym, subst, arith, rules, get_or, drop}
+use Rattle.std.proofs.Common.{◌≡◌, ◌≤◌, ◌+◌, ℕ, List, refl, sym, subst, arith, rules, get_or, drop}
 use Rattle.std.specs.List.{enumerate_from}
 use Rattle.bx_rows.specs.Ordered.{IsRun}
-use Rattle.bx_rows.proofs.Growth.{IsGrown, grown_start, grown_end, level_more, level_below, levels_end}
+use Rattle.bx_rows.proofs.Growth.{IsGrown, grown_start, grown_end, level_alone, level_more, level_below, levels_end}
 use Rattle.bx_rows.proofs.order.+order_run.Goals as goal
 
 pub loop-i-init : goal.loop-i-init
@@ -11,6 +11,20 @@ loop-i-init t c =
       after = omega arith;
       within = search rules;
       grown = subst (λ (xs : List (ℕ × ℕ)). IsGrown c.args.low units xs units) (sym c.new-run.ensures.items) (grown_start c.args.low units);
+    }
+
+pub loop-i-preserved-then-not-is_above : goal.loop-i-preserved-then-not-is_above
+loop-i-preserved-then-not-is_above t c =
+    let level : ℕ = get_or c.args.levels.now c.loop-i.i 0 in
+    let units : List (ℕ × ℕ) = enumerate_from 0 c.args.levels.now in
+    let same : c.from.result ≡ level = c.from.ensures in
+    record {
+      after = omega (arith, c.loop-i.invariant.after);
+      within = omega (arith, c.loop-i-test.true);
+      grown =
+          level_alone c.args.levels.now c.args.low c.loop-i.i (drop c.args.from units) c.loop-i.run.items c.push_beside.new.run.items
+          c.loop-i-test.true (omega (arith, c.type_inv.levels c.loop-i.i)) (omega (arith, same, c.if-from-low.false)) c.loop-i.invariant.grown
+          (c.if-not-is_above.ensures refl) c.in_ok-push_beside.ensures;
     }
 
 pub loop-i-preserved : goal.loop-i-preserved
