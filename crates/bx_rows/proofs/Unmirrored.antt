@@ -1,5 +1,6 @@
 -- A text of characters that have no mirrors is its own mirror image.
-use Rattle.std.proofs.Common.{◌≡◌, ℕ, ◌+◌, ◌<◌, ◌≤◌, ◌∷◌, ◌++◌, [], List, Bool, true, false, map, length, get_or, take, chars, refl, sym, ap, ap₂, ◌∙◌, take_all}
+use Rattle.std.proofs.Common.{◌≡◌, ℕ, ◌+◌, ◌<◌, ◌≤◌, ◌∷◌, ◌++◌, [], List, Bool, true, false, map, length, get_or, take, chars}
+use Rattle.std.proofs.Common.{refl, sym, ap, ap₂, ◌∙◌, take_all}
 use Rattle.std.proofs.Common.{IsUtf8}
 use Rattle.std.specs.Prelude.{encode_utf8_all, is_some, None, Option, Some, unwrap_or}
 use Rattle.std.proofs.lemmas.List.{map-append, take_more}
