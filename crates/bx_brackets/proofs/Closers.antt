@@ -1,5 +1,6 @@
 -- The pairs by a list of closers, and the openers that have none.
-use Rattle.std.proofs.Common.{◌≡◌, ◌≢◌, ◌<◌, ◌≤◌, ◌+◌, ◌∙◌, ℕ, zero, suc, List, [], ◌∷◌, length, get_or, set, drop, replicate, refl, ap, sym, subst, arith, cond}
+use Rattle.std.proofs.Common.{◌≡◌, ◌≢◌, ◌<◌, ◌≤◌, ◌+◌, ◌∙◌, ℕ, zero, suc, List, []}
+use Rattle.std.proofs.Common.{◌∷◌, length, get_or, set, drop, replicate, refl, ap, sym, subst, arith, cond}
 use Rattle.std.proofs.Common.{Option, Some, None, Bool, true, false, ◌⊎◌, inl, inr}
 use Rattle.std.specs.Prelude.{All, IfSome, find, nat_lt}
 use Rattle.std.proofs.lemmas.Bool.Decides.{nat_tests}
@@ -9,7 +10,8 @@ use Rattle.std.proofs.Math.ListN.{length-set}
 use Rattle.bx_ucd.specs.declared.data.Side.{Side}
 use Rattle.bx_ucd.specs.declared.data.Side.TheVariants.{Opener, Closer}
 use Rattle.bx_brackets.specs.Pairs.{insert_pair}
-use Rattle.bx_brackets.specs.Search.{below_first, is_for, index_of, left_by, IsFalling, pairs_in, with_closer, found_by, turn, Progress, IsUnclosed, AreUnclosed, IsSearched}
+use Rattle.bx_brackets.specs.Search.{below_first, is_for, index_of, left_by, IsFalling, pairs_in}
+use Rattle.bx_brackets.specs.Search.{with_closer, found_by, turn, Progress, IsUnclosed, AreUnclosed, IsSearched}
 use Rattle.bx_brackets.proofs.Stack.{found_below, falling_later, falling_below}
 
 -- one index

@@ -1,5 +1,6 @@
 -- The openers that are open, as a stack.
-use Rattle.std.proofs.Common.{◌≡◌, ◌<◌, ◌≤◌, ◌+◌, ◌∙◌, ℕ, List, [], ◌∷◌, length, refl, ap, sym, arith, Option, Some, None, Bool, true, false, cond, subst, get_or, drop}
+use Rattle.std.proofs.Common.{◌≡◌, ◌<◌, ◌≤◌, ◌+◌, ◌∙◌, ℕ, List, [], ◌∷◌, length, refl, ap}
+use Rattle.std.proofs.Common.{sym, arith, Option, Some, None, Bool, true, false, cond, subst, get_or, drop}
 use Rattle.std.proofs.lemmas.Bool.Decides.{nat_tests}
 use Rattle.std.specs.Prelude.{filter, find, not, nat_le, nat_lt, ◌&&◌, ◌==◌, ◌||◌}
 use Rattle.std.specs.List.{list_any}

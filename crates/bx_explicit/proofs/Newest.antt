@@ -71,7 +71,8 @@ pub over_is : (cs : List Class) (kept : List (Option Kept)) (os rest : List Open
 over_is cs kept os rest o ps q e a =
     let w : IsOpenChain kept o ps = opened kept os rest o ps e a in
     let b : BeginsRun kept o.level (newest_index ps) = last_begins kept o ps w in
-    ap (λ xs. is_over cs (chains_of kept xs ps) q) e ∙ ap (λ c. is_over cs (c ∷ chains_of kept rest (take o.begin ps)) q) (newest_first kept o.begin ps w.begin_within)
+    ap (λ xs. is_over cs (chains_of kept xs ps) q) e ∙ ap (λ c. is_over cs (c ∷ chains_of kept rest (take o.begin ps)) q)
+    (newest_first kept o.begin ps w.begin_within)
     ∙ ap (λ l. nat_lt q.level l || not (starts_with_initiator (drop (run_at kept (newest_index ps)).last cs))) b.of_level
     ∙ ap (λ l. nat_lt q.level o.level || not (starts_with_initiator (drop l cs))) w.ends
 

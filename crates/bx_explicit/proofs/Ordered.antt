@@ -43,7 +43,10 @@ begin_join : (kept g : List (Option Kept)) (k top : ℕ) (c : Kept) (rs : List R
 begin_join kept g k top c [] e w a = All-cons (BeginsIt kept) (run c.level k k) [] (begins_it kept g c.level k k c e (omega arith)) (All-nil (BeginsIt kept))
 begin_join kept g k top c (r ∷ rs) e w a =
     let v : IsRunWithin (k + 1) top r = All-head (IsRunWithin (k + 1) top) r rs w in
-    elim (r.level == c.level) as (λ b. All (BeginsIt kept) (elim b as (λ x. List Run) [ true ↦ run c.level k r.last ∷ rs | false ↦ run c.level k k ∷ r ∷ rs ])) [
+    elim (r.level == c.level) as (λ b. All (BeginsIt kept) (elim b as (λ x. List Run) [
+      | true ↦ run c.level k r.last ∷ rs
+      | false ↦ run c.level k k ∷ r ∷ rs
+    ])) [
       | true ↦ All-cons (BeginsIt kept) (run c.level k r.last) rs (begins_it kept g c.level k r.last c e (omega (arith, v.starts, v.ordered)))
           (All-tail (BeginsIt kept) r rs a)
       | false ↦ All-cons (BeginsIt kept) (run c.level k k) (r ∷ rs) (begins_it kept g c.level k k c e (omega arith)) a

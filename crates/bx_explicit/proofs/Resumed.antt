@@ -77,7 +77,8 @@ module _ (t : Run) (between : List Run) (q : Run) (after : List Run) where
         ]) cs) ≡ rest → IsUnlike t.level rest
         → begins_at (further (t.last + 1) (before_pdi 1 cs)) q.first ≡ is_first) [
           | true ↦ λ v e u. joined_inside (record s { stack = entry level Neutral true ∷ s.stack; valid_isolates = s.valid_isolates + 1 }) cs (valid_inside v) e
-          | false ↦ λ v e u. absurd (no_other_run (record s { overflow_isolates = s.overflow_isolates + 1 }) s.overflow_isolates t.level (t.last + 1) cs between q
+          | false ↦ λ v e u. absurd (no_other_run (record s { overflow_isolates = s.overflow_isolates + 1 }) s.overflow_isolates t.level
+              (t.last + 1) cs between q
               after (omega arith) same e u)
         ] refl
 

@@ -182,7 +182,8 @@ item_more bs ys h more =
     ∙ ap (λ d. continued d ys) (sym (item_first bs h))
 
 dropped_more : (bs ys : List ℕ) → is_item (take (beginning bs) bs) ≡ false → beginning bs < length bs
-    → decoding (drop (max 1 (beginning bs)) bs ++ ys) ≡ continued (decoding (drop (max 1 (beginning bs)) bs)) ys → decoding (bs ++ ys) ≡ continued (decoding bs) ys
+    → decoding (drop (max 1 (beginning bs)) bs ++ ys) ≡ continued (decoding (drop (max 1 (beginning bs)) bs)) ys → decoding (bs ++ ys) ≡ continued
+    (decoding bs) ys
 dropped_more bs ys h l more =
     let long : ℕ = beginning bs in
     let same : beginning (bs ++ ys) ≡ long = same_beginning bs ys (inr l) in
@@ -257,7 +258,8 @@ alone_by Ends b e =
 alone_by Breaks b e =
     let is = alone_dropped 0 b e in ap (λ (d : Decoding). d.keys) is ∙ sym (ap (λ (d : Decoding). option_to_list (first_key d.keys)) is)
 
-one_by : (f : Fate) (rest : List ℕ) (b : ℕ) → fate rest ≡ Waits → fate (rest ++ b ∷ []) ≡ f → (decoding (rest ++ b ∷ [])).keys ≡ option_to_list (key_after rest b)
+one_by : (f : Fate) (rest : List ℕ) (b : ℕ) → fate rest ≡ Waits → fate (rest ++ b ∷ []) ≡ f → (decoding (rest ++ b ∷ [])).keys ≡ option_to_list
+    (key_after rest b)
 one_by Waits rest b h e =
     let is = waits_decoding (rest ++ b ∷ []) e in ap (λ (d : Decoding). d.keys) is ∙ sym (ap (λ (d : Decoding). option_to_list (first_key d.keys)) is)
 one_by Ends rest b h e =

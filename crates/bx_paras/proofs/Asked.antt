@@ -22,7 +22,8 @@ module _ (offset : ℕ) where
   begun_cons at p ps = sum_by-cons (λ s. cond (nat_le s.0 offset) 1 0) (at, at + p.body) (spans_from (at + bytes_of p) ps)
 
   begun_first : (at : ℕ) (p : Lengths) (ps : List Lengths) → at ≤ offset → start_before at (p ∷ ps) ≡ 1 + start_before (at + bytes_of p) ps
-  begun_first at p ps h = let e : nat_le at offset ≡ true = grind (arith, nat_tests) in begun_cons at p ps ∙ ap (λ b. cond b 1 0 + start_before (at + bytes_of p) ps) e
+  begun_first at p ps h = let e : nat_le at offset ≡ true = grind (arith, nat_tests) in begun_cons at p ps ∙ ap (λ b. cond b 1 0 + start_before
+      (at + bytes_of p) ps) e
 
   none_begun : (at : ℕ) (ps : List Lengths) → offset < at → start_before at ps ≡ 0
   none_begun at [] h = refl

@@ -27,7 +27,8 @@ module _ {class : ℕ → Class} {old : List ℕ} {c : Change} {new : List ℕ} 
   abbrev pub behind_change : List ℕ
   behind_change = chars (drop (c.start + c.removed) old)
 
-  abbrev pub around_change : AreAround old c new (chars (take c.start old)) (chars (take c.removed (drop c.start old))) (chars (take c.added (drop c.start new))) behind_change
+  abbrev pub around_change : AreAround old c new (chars (take c.start old)) (chars (take c.removed (drop c.start old))) (chars (take c.added
+      (drop c.start new))) behind_change
   around_change = around old c new touched.old_utf8 touched.new_utf8 touched.leads
 
   -- the offset goes on from where the first paragraph begins
@@ -80,7 +81,17 @@ module _ {class : ℕ → Class} {old : List ℕ} {c : Change} {new : List ℕ} 
       let inside : c.start + c.removed ≤ length old = touched.leads.gave_way.stop_bounds.0 in
       let grown : length new + c.removed ≡ length old + c.added = touched.leads.grown in
       rest_at (unended last) [] (last_whole q.number n) (inl (omega (arith, inside, all_bytes, touched.last_is.start, all)))
-      ∙ same_lengths _ r.0 _ r.1 (omega (arith, k, ap (λ (i : ℕ × ℕ). i.0) w, grown, all_bytes, touched.last_is.start, touched.last_is.start_before, all, inside))
+      ∙ same_lengths _ r.0 _ r.1 (omega (
+        arith,
+        k,
+        ap (λ (i : ℕ × ℕ). i.0) w,
+        grown,
+        all_bytes,
+        touched.last_is.start,
+        touched.last_is.start_before,
+        all,
+        inside,
+      ))
       (omega (arith, ap (λ (i : ℕ × ℕ). i.1) w))
   rest_is (Some end) left r k e w =
       let h = has_end ps (c.start + c.removed) q end touched.last_is e in

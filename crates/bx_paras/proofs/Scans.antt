@@ -1,8 +1,10 @@
 -- The scan for the end of a paragraph.
-use Rattle.std.proofs.Common.{◌≡◌, ◌<◌, ◌≤◌, ◌+◌, ◌∙◌, ◌==◌, ◌&&◌, ℕ, Bool, true, false, nat_lt, List, [], ◌∷◌, ◌++◌, length, get_or, take, drop, chars, encode_utf8, slice_get, Option, Some, None}
+use Rattle.std.proofs.Common.{◌≡◌, ◌<◌, ◌≤◌, ◌+◌, ◌∙◌, ◌==◌, ◌&&◌, ℕ, Bool, true, false, nat_lt, List}
+use Rattle.std.proofs.Common.{[], ◌∷◌, ◌++◌, length, get_or, take, drop, chars, encode_utf8, slice_get, Option, Some, None}
 use Rattle.std.proofs.Common.{encode_utf8_all, IsUtf8, IsCharBoundary, refl, ap, sym, arith, append_assoc, append-nil}
 use Rattle.std.proofs.lemmas.Bool.Decides.{nat_tests}
-use Rattle.std.proofs.lemmas.Str.{chars-nil, chars-append, encodes-chars, encodes-append, scalars-chars, byte_from_char, char_from_byte, IsUtf8-take, IsUtf8-drop}
+use Rattle.std.proofs.lemmas.Str.{chars-nil, chars-append, encodes-chars, encodes-append}
+use Rattle.std.proofs.lemmas.Str.{scalars-chars, byte_from_char, char_from_byte, IsUtf8-take, IsUtf8-drop}
 use Rattle.std.proofs.lemmas.List.{take-append-drop, length-take, get_or-take, drop_all, get_or_append_left, get_or-append-add}
 use lib.Utf8.{scalar, scalars}
 use Rattle.bx_ucd.specs.declared.class.Class.{Class}
@@ -86,7 +88,8 @@ module _ (class : ℕ → Class) (text : List ℕ) (utf8 : IsUtf8 text) where
   pub begins_there : (n c : ℕ) → IsCharBoundary text n → slice_get (chars (drop n text)) 0 ≡ Some c → is_separator (class c) ≡ true → BeginsAt class text n c
   begins_there n c b e f = let (ds, g) = first_some (chars (drop n text)) c e in record { bounds = b; rest = ds; begins = g; separates = f }
 
-  pub none_found : (n : ℕ) (o : Option ℕ) → o ≡ slice_get (chars (drop n text)) 0 → ((c : ℕ) → o ≡ Some c → is_separator (class c) ≡ false) → NoneAt class text n
+  pub none_found : (n : ℕ) (o : Option ℕ) → o ≡ slice_get (chars (drop n text)) 0 → ((c : ℕ) → o ≡ Some c → is_separator (class c) ≡ false)
+      → NoneAt class text n
   none_found n None e h = end_there n (first_none (chars (drop n text)) (sym e))
   none_found n (Some c) e h = let (ds, g) = first_some (chars (drop n text)) c (sym e) in other_there n c ds g (h c refl)
 

@@ -43,10 +43,11 @@ module _ (P : ℕ → Type 0) where
 
   ends_insert : (p : ℕ × ℕ) (ps : List (ℕ × ℕ)) → P p.0 → P p.1 → HaveEnds P ps → HaveEnds P (insert_pair p ps)
   ends_insert p [] a b h = (a, b, tt)
-  ends_insert p (q ∷ qs) a b h = elim (nat_lt p.0 q.0) as (λ v. HaveEnds P (elim v as (λ x. List (ℕ × ℕ)) [ true ↦ p ∷ q ∷ qs | false ↦ q ∷ insert_pair p qs ])) [
-    | true ↦ (a, b, h)
-    | false ↦ (h.0, h.1, ends_insert p qs a b h.2)
-  ]
+  ends_insert p (q ∷ qs) a b h = elim (nat_lt p.0 q.0) as (λ v. HaveEnds P (elim v as (λ x. List (ℕ
+      × ℕ)) [ true ↦ p ∷ q ∷ qs | false ↦ q ∷ insert_pair p qs ])) [
+        | true ↦ (a, b, h)
+        | false ↦ (h.0, h.1, ends_insert p qs a b h.2)
+      ]
 
   at_opener : (j c : ℕ) (s : Search) → P j → IsOfBrackets P s → IsOfBrackets P (meet_opener s j c)
   at_opener j c s here h = elim (nat_lt (length (open_openers s)) bracket_room) as

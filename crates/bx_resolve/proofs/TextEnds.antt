@@ -1,5 +1,6 @@
 -- The ends of a text, and the offsets at which they begin.
-use Rattle.std.proofs.Common.{◌≡◌, ◌<◌, ◌≤◌, ◌+◌, ◌-◌, ◌*◌, ◌∙◌, ℕ, zero, suc, List, [], ◌∷◌, ◌++◌, length, get_or, drop, chars, refl, ap, sym, subst, arith, length-append}
+use Rattle.std.proofs.Common.{◌≡◌, ◌<◌, ◌≤◌, ◌+◌, ◌-◌, ◌*◌, ◌∙◌, ℕ, zero, suc, List, []}
+use Rattle.std.proofs.Common.{◌∷◌, ◌++◌, length, get_or, drop, chars, refl, ap, sym, subst, arith, length-append}
 use Rattle.std.proofs.Common.{◌⊎◌, inl, inr}
 use Rattle.std.specs.Str.{IsUtf8}
 use Rattle.std.proofs.lemmas.List.{drop-drop, drop_at}
@@ -39,7 +40,8 @@ at_most k zero h = inr (omega arith)
 at_most zero (suc n) h = inl (omega arith)
 at_most (suc k) (suc n) h = elim (at_most k n (omega arith)) [ inl l ↦ inl (omega arith) | inr e ↦ inr (ap suc e) ]
 
-here : (text rest : List ℕ) (n : ℕ) → IsUtf8 rest → IsEndOf text rest → chars rest ≡ drop (n * 8) (chars text) → IsOffset text (n * 8) (length text - length rest)
+here : (text rest : List ℕ) (n : ℕ) → IsUtf8 rest → IsEndOf text rest → chars rest ≡ drop (n * 8) (chars text) → IsOffset text (n * 8)
+    (length text - length rest)
 here text rest n u e cs = record {
   boundary = IsCharBoundary-from_drop text (length text - length rest) (omega arith) (subst IsUtf8 (sym e.same) u);
   rest = ap chars e.same ∙ cs;

@@ -136,7 +136,8 @@ first_in_buffers b x xs k h short c =
     let at : IsCharBoundary (piece_bytes b x) k = IsCharBoundary-left (piece_bytes b x) (bytes_of b xs) k (omega (arith, length-piece_bytes b x h)) c in
     record { inside = omega (arith, h.inside); utf8 = subst IsUtf8 (sym (first_bytes b x k short)) (IsUtf8-take (piece_bytes b x) k h.utf8 at) }
 
-rest_in_buffers : (b : Buffers) (x : Piece) (xs : List Piece) (k : ℕ) → IsInBuffer b x → k ≤ x.len → IsCharBoundary (bytes_of b (x ∷ xs)) k → IsInBuffer b (rest_of x k)
+rest_in_buffers : (b : Buffers) (x : Piece) (xs : List Piece) (k : ℕ) → IsInBuffer b x → k ≤ x.len → IsCharBoundary (bytes_of b (x ∷ xs)) k → IsInBuffer b
+    (rest_of x k)
 rest_in_buffers b x xs k h short c =
     let at : IsCharBoundary (piece_bytes b x) k = IsCharBoundary-left (piece_bytes b x) (bytes_of b xs) k (omega (arith, length-piece_bytes b x h)) c in
     record { inside = omega (arith, h.inside); utf8 = subst IsUtf8 (sym (rest_bytes b x k short)) (IsUtf8-drop (piece_bytes b x) k h.utf8 at) }

@@ -102,7 +102,8 @@ rest_bounds text k rest utf8 c rest_utf8 e =
     (IsCharBoundary-from_take (drop k text) (length rest) (IsUtf8-drop text k utf8 c) (omega (arith, ap length e, length-take (length rest) (drop k text)))
     (subst IsUtf8 (sym e) rest_utf8))
 
-pub is_rest : (b : Buffers) (ps : List Piece) (k : ℕ) (p : Piece) (j : ℕ) (rest : List ℕ) → Holds b ps k p j → AreInBuffers b ps → IsCharBoundary (bytes_of b ps) k
+pub is_rest : (b : Buffers) (ps : List Piece) (k : ℕ) (p : Piece) (j : ℕ) (rest : List ℕ) → Holds b ps k p j → AreInBuffers b ps → IsCharBoundary
+    (bytes_of b ps) k
     → IsUtf8 rest
     → rest ≡ piece_bytes b (rest_of p j) → length rest ≡ p.len - j → IsRest (bytes_of b ps) k rest
 is_rest b ps k p j rest h in_buffers c utf8 e count =

@@ -11,7 +11,8 @@ use Rattle.bx_text.specs.Steps.{after_swap, past_of, AreSteps}
 use Rattle.bx_text.proofs.Characters.{IsRange-splice}
 use Rattle.bx_text.proofs.Bytes.{length-bytes_of, IsUtf8-bytes_of, bytes_of-append, bytes_of-front, AreInBuffers-append, AreInBuffers-front}
 use Rattle.bx_text.proofs.Pushed.{bytes_of-with_added, AreInBuffers-with_added}
-use Rattle.bx_text.proofs.Versions.{grown, last_bytes, last_in_buffers, old_bytes, old_in_buffers, length-splice, splice_back, AreInBuffers-grown, bytes_of-grown}
+use Rattle.bx_text.proofs.Versions.{grown, last_bytes, last_in_buffers, old_bytes}
+use Rattle.bx_text.proofs.Versions.{old_in_buffers, length-splice, splice_back, AreInBuffers-grown, bytes_of-grown}
 use Rattle.bx_text.proofs.Versions.{past_of-grown, AreSteps-grown}
 
 -- the edit

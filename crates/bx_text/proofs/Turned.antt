@@ -146,7 +146,8 @@ redone_view b ps from to P from' to' in_buffers from_steps t =
     rw (t.2, reverse_last to to' (turned_step ps s) t.3, next) (redone_is b ps s in_buffers h.0 h.1 (reverse to) (reverse from'))
 
 -- what a step turned leads to
-step_leads : (b : Buffers) (ps : List Piece) (s : Step) (place : ℕ) → AreInBuffers b ps → IsRange (bytes_of b ps) s.start (s.start + s.len) → AreInBuffers b s.span
+step_leads : (b : Buffers) (ps : List Piece) (s : Step) (place : ℕ) → AreInBuffers b ps → IsRange (bytes_of b ps) s.start (s.start + s.len)
+    → AreInBuffers b s.span
     → Leads (bytes_of b ps) (record { start = s.start; removed = s.len; added = total s.span; place = place }) (bytes_of b (turned_pieces ps s))
 step_leads b ps s place in_buffers range span_in_buffers =
     rw (turned_bytes b ps s in_buffers range span_in_buffers, ← length-bytes_of b s.span span_in_buffers)

@@ -41,7 +41,8 @@ swap_bytes b ps span start len h c =
     ∙ ap (λ xs. bytes_of b span ++ xs) (last_bytes b ps start len h c))
     ∙ sym (append_assoc (take start (bytes_of b ps)) (bytes_of b span) (drop (start + len) (bytes_of b ps)))
 
-pub swap_in_buffers : (b : Buffers) (ps span : List Piece) (start len : ℕ) → AreInBuffers b ps → AreInBuffers b span → IsRange (bytes_of b ps) start (start + len)
+pub swap_in_buffers : (b : Buffers) (ps span : List Piece) (start len : ℕ) → AreInBuffers b ps → AreInBuffers b span → IsRange (bytes_of b ps) start
+    (start + len)
     → AreInBuffers b (front ps start ++ (span ++ back (back ps start) len))
 swap_in_buffers b ps span start len h k r =
     AreInBuffers-append b (front ps start) (span ++ back (back ps start) len) (AreInBuffers-front b ps start h r.start_bounds)

@@ -26,35 +26,40 @@ overflow_cast-result-then-at-window g c =
 
 pub overflow_add-end : goal.overflow_add-end
 overflow_add-end g c =
-    let f = found_in_piece (g.D.BidiData.class_of c.args.source.now) c.args.text.now.edited.text c.part_before-piece.result.now c.loop-at.at c.len-len.ensures.utf8
+    let f = found_in_piece (g.D.BidiData.class_of c.args.source.now) c.args.text.now.edited.text c.part_before-piece.result.now c.loop-at.at
+    c.len-len.ensures.utf8
     c.loop-at.invariant.bounds c.part_before-piece.ensures.bytes c.part_before-piece.ensures.next c.in-Some.before c.in-Some.c
     c.in-Some.ensures in
     omega (arith, f.inside, c.len-len.ensures.short)
 
 pub overflow_cast-result-in-Some : goal.overflow_cast-result-in-Some
 overflow_cast-result-in-Some g c =
-    let f = found_in_piece (g.D.BidiData.class_of c.args.source.now) c.args.text.now.edited.text c.part_before-piece.result.now c.loop-at.at c.len-len.ensures.utf8
+    let f = found_in_piece (g.D.BidiData.class_of c.args.source.now) c.args.text.now.edited.text c.part_before-piece.result.now c.loop-at.at
+    c.len-len.ensures.utf8
     c.loop-at.invariant.bounds c.part_before-piece.ensures.bytes c.part_before-piece.ensures.next c.in-Some.before c.in-Some.c
     c.in-Some.ensures in
     omega (arith, f.inside, c.len-len.ensures.short)
 
 pub overflow_add-end-in-Some : goal.overflow_add-end-in-Some
 overflow_add-end-in-Some g c =
-    let f = found_in_piece (g.D.BidiData.class_of c.args.source.now) c.args.text.now.edited.text c.part_before-piece.result.now c.loop-at.at c.len-len.ensures.utf8
+    let f = found_in_piece (g.D.BidiData.class_of c.args.source.now) c.args.text.now.edited.text c.part_before-piece.result.now c.loop-at.at
+    c.len-len.ensures.utf8
     c.loop-at.invariant.bounds c.part_before-piece.ensures.bytes c.part_before-piece.ensures.next c.in-Some.before c.in-Some.c
     c.in-Some.ensures in
     omega (arith, f.inside, c.len-len.ensures.short, c.len_utf8.ensures.len)
 
 pub separator_bytes-requires : goal.separator_bytes-requires
 separator_bytes-requires g c =
-    let f = found_in_piece (g.D.BidiData.class_of c.args.source.now) c.args.text.now.edited.text c.part_before-piece.result.now c.loop-at.at c.len-len.ensures.utf8
+    let f = found_in_piece (g.D.BidiData.class_of c.args.source.now) c.args.text.now.edited.text c.part_before-piece.result.now c.loop-at.at
+    c.len-len.ensures.utf8
     c.loop-at.invariant.bounds c.part_before-piece.ensures.bytes c.part_before-piece.ensures.next c.in-Some.before c.in-Some.c
     c.in-Some.ensures in
     subst (λ w. IsCharBoundary c.args.text.now.edited.text (c.loop-at.at + c.in-Some.before + w)) (sym c.len_utf8.ensures.len) f.ends_between
 
 pub returns-in-Some-clause-first : goal.returns-in-Some-clause-first
 returns-in-Some-clause-first g c =
-    let f = found_in_piece (g.D.BidiData.class_of c.args.source.now) c.args.text.now.edited.text c.part_before-piece.result.now c.loop-at.at c.len-len.ensures.utf8
+    let f = found_in_piece (g.D.BidiData.class_of c.args.source.now) c.args.text.now.edited.text c.part_before-piece.result.now c.loop-at.at
+    c.len-len.ensures.utf8
     c.loop-at.invariant.bounds c.part_before-piece.ensures.bytes c.part_before-piece.ensures.next c.in-Some.before c.in-Some.c
     c.in-Some.ensures in
     let bytes = c.separator_bytes.ensures
@@ -66,7 +71,8 @@ returns-in-Some-clause-first g c =
 
 pub loop-at-preserved : goal.loop-at-preserved
 loop-at-preserved g c =
-    let past = past_piece (g.D.BidiData.class_of c.args.source.now) c.args.text.now.edited.text c.part_before-piece.result.now c.loop-at.at c.len-len.ensures.utf8
+    let past = past_piece (g.D.BidiData.class_of c.args.source.now) c.args.text.now.edited.text c.part_before-piece.result.now c.loop-at.at
+    c.len-len.ensures.utf8
     c.loop-at.invariant.bounds c.part_before-piece.ensures.bytes c.part_before-piece.ensures.next c.in_default.ensures in
     record {
       bounds = c.part_before-piece.ensures.next;

@@ -16,7 +16,8 @@ returns-in-Some g c =
 pub returns-in_default : goal.returns-in_default
 returns-in_default g c =
     none_found (g.D.BidiData.class_of c.args.source.now) c.args.piece.now c.utf8.piece c.args.at (Some c.in-Some.c) c.in-Some.ensures
-    (λ d e. let same : c.in-Some.c ≡ d = cc in ap (λ k. is_separator (g.D.BidiData.class_of c.args.source.now k)) (sym same) ∙ sym c.separates.ensures ∙ c.if-separates.false)
+    (λ d e. let same : c.in-Some.c ≡ d = cc in ap (λ k. is_separator (g.D.BidiData.class_of c.args.source.now k)) (sym same) ∙ sym c.separates.ensures
+    ∙ c.if-separates.false)
 
 pub returns-in_default-2 : goal.returns-in_default-2
 returns-in_default-2 g c =

@@ -19,6 +19,7 @@ returns c =
     let (inside, same) = c.in_ok-lengths.ensures.lent in (
       refl,
       before_last c.args.blocks.now.blocks c.args.spot c.requires inside,
-      next_behind c.args.blocks.now.blocks c.args.spot c.requires c.in_ok-lengths.lengths.now inside same c.first_filled.result (omega (arith, c.if-within-lengths.false))
+      next_behind c.args.blocks.now.blocks c.args.spot c.requires c.in_ok-lengths.lengths.now inside same c.first_filled.result (omega
+          (arith, c.if-within-lengths.false))
           c.first_filled.ensures.inside c.first_filled.ensures.none_between c.first_filled.ensures.filled,
     )

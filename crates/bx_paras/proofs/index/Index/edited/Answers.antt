@@ -131,4 +131,5 @@ returns g c =
     let last = no_end (flat c.self.inside.front.blocks) _ c.touched-reached.result.1 touched.last_is c.in_default.is in
     let left : c.len-len.result - c.replace-at.result ≡ r = omega (arith, f.bytes, c.replace-at.ensures.stop, c.len-len.ensures.len) in
     ap (λ ps. record { paragraphs = ps; room = None })
-    (closed_at_end touched c.len-len.result c.touched-reached.result.1.number r (c.len-len.result - c.replace-at.result) _ last left f c.replace-at.ensures.paragraphs)
+    (closed_at_end touched c.len-len.result c.touched-reached.result.1.number r (c.len-len.result - c.replace-at.result) _ last left f
+    c.replace-at.ensures.paragraphs)
