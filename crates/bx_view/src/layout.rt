@@ -59,6 +59,21 @@ impl Layout {
         }
     }
 
+    /// The base direction. No memory.
+    pub fn base(&self) -> Base
+        ensures { result ≡ self.now.base }
+    {
+        self.base
+    }
+
+    /// The window's columns. No memory.
+    pub fn width(&self) -> u16
+        ensures width { result ≡ self.now.w }
+        ensures side { is_side self.now.w ≡ true }
+    {
+        self.w
+    }
+
     /// The number among those held of a paragraph of the text, which is laid out if it is not held.
     ///
     /// Errors: `OutOfMemory`.
