@@ -1,5 +1,6 @@
 //! The layout of a text.
 ghost use Rattle.std.specs.Prelude.{◌≡◌, ℕ, ◌<◌, ◌≤◌, [], true, length, IfOk, IsUtf8};
+ghost use Rattle.std.specs.Str.{IsCharBoundary};
 ghost use Rattle.bx_terms.specs.Sizes.{is_side};
 ghost use Rattle.bx_text.specs.Edits.{largest_text};
 ghost use Rattle.bx_paras.specs.Paragraphs.{lengths};
@@ -57,6 +58,21 @@ impl Layout {
             held: Vec::new(alloc),
             recent: 0,
         }
+    }
+
+    /// The base direction. No memory.
+    pub fn base(&self) -> Base
+        ensures { result ≡ self.now.base }
+    {
+        self.base
+    }
+
+    /// The window's columns. No memory.
+    pub fn width(&self) -> u16
+        ensures width { result ≡ self.now.w }
+        ensures side { is_side self.now.w ≡ true }
+    {
+        self.w
     }
 
     /// The number among those held of a paragraph of the text, which is laid out if it is not held.
@@ -261,6 +277,7 @@ impl Layout {
         ensures keeps { Keeps (D.class_of source.now) (D.bracket_of source.now) self.old self.new }
         ensures home { IfOk result (λ home. home
             ≡ row_home (text_rows (D.class_of source.now) (D.bracket_of source.now) self.old.base self.old.w text.now.edited.text) place) }
+        ensures boundary { IfOk result (λ o. IsCharBoundary text.now.edited.text o) }
     {
         let at = self.row_at(text, index, source, place)?;
         let paragraph = self.paragraph(text, source, at.paragraph, at.held);
