@@ -1,6 +1,6 @@
 //! Codes: a number for each column, so that rows are compared at once.
 
-ghost use Rattle.std.specs.Prelude.{◌≡◌, ◌≤◌, ◌-◌, ◌<◌, ◌^◌, [], ◌∷◌, ◌++◌, length, take, drop, replicate, true, IfOk};
+ghost use Rattle.std.specs.Prelude.{◌≡◌, ◌≤◌, ◌-◌, ◌<◌, ◌^◌, [], ◌∷◌, ◌++◌, length, take, drop, replicate, set, true, IfOk};
 ghost use Rattle.std.specs.List.{list_all};
 ghost use Rattle.bx_grid.specs.Columns.{Glyph, are_equal};
 ghost use Rattle.bx_grid.specs.Codes as spec;
@@ -12,13 +12,6 @@ use std::alloc::{AllocError, Global};
 
 /// The code of a column that has none of its own.
 const NO_CODE: u64 = 0x8000_0000_0000_0000;
-
-/// The code of a character of one byte in one column.
-pub fn byte_code(byte: u8, negative: bool) -> u64
-    ensures { result ≡ code_of (Glyph (byte ∷ []) 1 0 negative) }
-{
-    code_in(256 + u64::from(byte), 1, 0, negative)
-}
 
 fn code_in(number: u64, columns: u16, offset: u16, negative: bool) -> u64
     requires { number < 2 ^ 57 }
@@ -42,6 +35,17 @@ fn code_of(column: &Column) -> u64
         },
         _ => NO_CODE,
     }
+}
+
+/// Sets a column and its code.
+pub fn set_column(columns: &mut Vec<Column>, codes: &mut Vec<u64>, index: usize, column: Column)
+    requires inside { index < length columns.old.items }
+    requires also { index < length codes.old.items }
+    ensures columns { columns.new.items ≡ set columns.old.items index column }
+    ensures codes { codes.new.items ≡ set codes.old.items index (code_of (seen column)) }
+{
+    codes[index] = code_of(&column);
+    columns[index] = column;
 }
 
 /// The codes of so many blanks.

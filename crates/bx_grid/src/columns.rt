@@ -112,6 +112,12 @@ fn put_glyphs(
     ensures short { length run.now ≤ 7 → IsOk result }
     ensures err { OnErr result (AreSameAround from count (all_seen columns.old) (all_seen columns.new)) }
 {
+    if count == 1 {
+        if let Some(column) = Column::narrow(run, negative) {
+            columns[from] = column;
+            return Ok(());
+        }
+    }
     if are_ascii_printable(run) {
         put_run(columns, from, run.as_bytes(), negative);
         return Ok(());

@@ -1,6 +1,6 @@
 //! The text of a glyph, as a column keeps it.
 
-ghost use Rattle.std.specs.Prelude.{◌≡◌, ◌+◌, ◌*◌, ◌^◌, ◌≤◌, ◌<◌, [], ◌∷◌, length, IfOk, IsOk, MatchOption, false, true};
+ghost use Rattle.std.specs.Prelude.{◌≡◌, ◌+◌, ◌*◌, ◌^◌, ◌≤◌, ◌<◌, [], ◌∷◌, length, IfOk, IfSome, IsOk, MatchOption, false, true};
 ghost use Rattle.std.specs.Str.{bytes_eq};
 ghost use Rattle.bx_grid.specs.Codes.{packed, is_short};
 ghost use Rattle.bx_grid.specs.Columns.{is_ascii_glyph};
@@ -100,6 +100,18 @@ impl GlyphText {
         }
         Ok(GlyphText {
             stored: Stored::Long(String::from_str(alloc, text)?),
+        })
+    }
+
+    /// A text of at most seven bytes.
+    pub(crate) fn short(text: &str) -> Option<GlyphText>
+        ensures { IfSome result (λ t. t ≡ text.now) }
+    {
+        if text.len() > SHORT {
+            return None;
+        }
+        Some(GlyphText {
+            stored: Stored::Short(ShortText::new(text.as_bytes())),
         })
     }
 
