@@ -15,6 +15,9 @@ use Rattle.bx_grid.proofs.Doing.{run_is, sequence_does}
 use Rattle.bx_grid.proofs.Halves.{obeyed_capped}
 use Rattle.bx_grid.proofs.Reading.{at, reads-append, IsFinal}
 use Rattle.bx_grid.proofs.RunEnds.{half_ended}
+use Rattle.bx_grid.proofs.Texts.{text_read}
+use Rattle.bx_bytes.specs.Utf8.{are_printable}
+use Rattle.std.specs.Str.{IsUtf8}
 
 -- ---- a run that ends leaves the size
 
@@ -69,6 +72,22 @@ obeyed_by t ps f after command none all final asks high wide =
     ap (reads t) parts
     ∙ reads-append t (0x1B ∷ 0x5B ∷ (ps ++ f ∷ [])) after
     ∙ ap (λ u. reads u after) (sequence_reads t ps f none all (final_is f final) high wide ∙ ap (after_command (run_ended t)) (sym asks))
+
+-- ---- a text
+
+-- a text with no control goes on with the run
+pub text_goes_on : (u t : Terminal) (text bytes pending : List ℕ) → u ≡ t → t.half_read ≡ [] → text ≡ bytes → IsUtf8 bytes → are_printable text ≡ true
+    → pending ≡ u.run ++ text → record u { run = pending } ≡ reads t bytes
+text_goes_on u t text bytes pending same idle is utf8 printed e =
+    ap (λ ps. record u { run = ps }) (e ∙ ap (λ bs. u.run ++ bs) is)
+    ∙ ap (λ (x : Terminal). record x { run = x.run ++ bytes }) same
+    ∙ ap (λ half_read. record t { run = t.run ++ bytes; half_read = half_read }) idle
+    ∙ sym (text_read t bytes utf8 (ap are_printable (sym is) ∙ printed) idle)
+
+-- reading in two parts
+pub in_two : (t u : Terminal) (bytes : List ℕ) (n : ℕ) → u ≡ reads t (take n bytes) → reads u (drop n bytes) ≡ reads t bytes
+in_two t u bytes n e =
+    ap (λ x. reads x (drop n bytes)) e ∙ sym (reads-append t (take n bytes) (drop n bytes)) ∙ ap (reads t) (take-append-drop n bytes)
 
 -- the sequence of a body whose first bytes are its parameters
 pub sequence_told : (body ps rest : List ℕ) (n f : ℕ) (command : Command) → n ≤ length body → take n body ≡ params body → ps ≡ take n body

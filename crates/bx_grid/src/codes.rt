@@ -20,6 +20,7 @@ fn code_in(number: u64, columns: u16, offset: u16, negative: bool) -> u64
     ((number * 4 + u64::from(columns)) * 4 + u64::from(offset)) * 2 + u64::from(negative)
 }
 
+#[inline(always)]
 fn code_of(column: &Column) -> u64
     ensures { result ≡ code_of (seen column.now) }
 {
@@ -38,6 +39,7 @@ fn code_of(column: &Column) -> u64
 }
 
 /// Sets a column and its code.
+#[inline(always)]
 pub fn set_column(columns: &mut Vec<Column>, codes: &mut Vec<u64>, index: usize, column: Column)
     requires inside { index < length columns.old.items }
     requires also { index < length codes.old.items }

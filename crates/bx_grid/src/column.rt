@@ -1,4 +1,4 @@
-ghost use Rattle.std.specs.Prelude.{◌≡◌, ◌↔◌, ◌∷◌, [], IsTrue, IfSome, length, map};
+ghost use Rattle.std.specs.Prelude.{◌≡◌, ◌↔◌, ◌∷◌, [], IsTrue, ◌≤◌, length, map};
 ghost use Rattle.bx_grid.specs.Columns as spec;
 ghost use Rattle.bx_grid.specs.Columns.{is_blank, blank, col_eq, are_equal};
 ghost use Rattle.bx_grid.specs.Seen.{seen};
@@ -31,16 +31,18 @@ impl Column {
         }
     }
 
-    /// A short text, in one column.
-    pub(crate) fn narrow(text: &str, negative: bool) -> Option<Column>
-        ensures { IfSome result (λ column. seen column ≡ spec.Glyph text.now 1 0 negative) }
+    /// A text of at most seven bytes, in one column.
+    #[inline(always)]
+    pub(crate) fn narrow(text: &str, negative: bool) -> Column
+        requires { length text.now ≤ 7 }
+        ensures { seen result ≡ spec.Glyph text.now 1 0 negative }
     {
-        Some(Column::Glyph {
-            text: GlyphText::short(text)?,
+        Column::Glyph {
+            text: GlyphText::short(text),
             columns: 1,
             offset: 0,
             negative,
-        })
+        }
     }
 
     /// Whether this is a space, one column wide, in normal rendition.

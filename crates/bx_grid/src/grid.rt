@@ -11,6 +11,7 @@ use crate::codes::{blank_codes, note_codes, set_column};
 use crate::column::Column;
 use crate::columns::{are_blank, blank_columns, put_over_blanks};
 use crate::error::GridError;
+use crate::glyph_text::SHORT;
 use crate::row::Row;
 use bx_terms::{is_side, run_width};
 use std::alloc::{AllocError, Global};
@@ -103,11 +104,10 @@ impl Grid {
         ensures short { length text.now ≤ 7 → IsOk result }
     {
         let index = (cell.line - 1) as usize * self.width as usize + (cell.column - 1) as usize;
-        if count == 1 {
-            if let Some(column) = Column::narrow(text, negative) {
-                set_column(&mut self.columns, &mut self.codes, index, column);
-                return Ok(());
-            }
+        if count == 1 && text.len() <= SHORT {
+            let column = Column::narrow(text, negative);
+            set_column(&mut self.columns, &mut self.codes, index, column);
+            return Ok(());
         }
         let alloc = *self.columns.allocator();
         let count = count as u16;

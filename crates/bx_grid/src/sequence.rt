@@ -1,9 +1,11 @@
-//! Control sequences that stand whole in what is read.
+//! Control sequences and texts that stand whole in what is read.
 
-ghost use Rattle.std.specs.Prelude.{◌≡◌, ◌∷◌, IfSome};
+ghost use Rattle.std.specs.Prelude.{◌≡◌, ◌∷◌, ◌≤◌, length, IfSome};
+ghost use Rattle.bx_bytes.specs.Utf8.{are_printable};
 ghost use Rattle.bx_grid.specs.Sequences.{BeginWithSequence};
 
 use crate::token::{Command, ESCAPE, command_of, is_last, params_len};
+use bx_terms::is_control;
 
 /// A control sequence of parameter bytes and a final byte: what it asks for, and how many bytes it has.
 #[derive(Clone, Copy)]
@@ -35,4 +37,25 @@ pub fn first_sequence(bytes: &[u8]) -> Option<Sequence>
         [ESCAPE, b'[', body @ ..] => sequence_in(body),
         _ => None,
     }
+}
+
+/// How many bytes stand before the first escape.
+pub fn text_len(bytes: &[u8]) -> usize
+    ensures { result ≤ length bytes.now }
+{
+    let mut len = 0;
+    for byte in bytes {
+        if *byte == ESCAPE {
+            return len;
+        }
+        len += 1;
+    }
+    len
+}
+
+/// Whether a text has no control.
+pub fn are_printable(text: &str) -> bool
+    ensures { result ≡ are_printable text.now }
+{
+    text.chars().all(|c| !is_control(c))
 }

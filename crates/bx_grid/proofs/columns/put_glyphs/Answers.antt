@@ -15,9 +15,9 @@ returns-clause-ok c =
     (glyphs_of c.args.negative c.args.run.now c.args.count (sym c.if-are_ascii_printable.ensures) c.requires.counted))
     c.put_glyph.ensures.ok
 
-pub returns-in-Some-clause-ok : goal.returns-in-Some-clause-ok
-returns-in-Some-clause-ok c =
+pub returns-then-run-le-SHORT-clause-ok : goal.returns-then-run-le-SHORT-clause-ok
+returns-then-run-le-SHORT-clause-ok c =
     let run = c.args.run.now in
-    set_seen c.args.columns.now c.args.from c.in-Some.column (Glyph run 1 0 c.args.negative) c.in-Some.ensures
+    set_seen c.args.columns.now c.args.from c.narrow.result (Glyph run 1 0 c.args.negative) c.narrow.ensures
     (omega (arith, c.requires.inside, c.if-count-eq1.true, length-map c.args.columns.now seen))
     ∙ ap (paste (all_seen c.args.columns.now) c.args.from) (sym (narrow_columns c.args.negative run (sym c.requires.counted ∙ c.if-count-eq1.true)))

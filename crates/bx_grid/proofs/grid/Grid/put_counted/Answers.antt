@@ -21,16 +21,16 @@ invariant_of-self c =
     let index = (cell.line - 1) * g.width + (cell.column - 1) in
     let new : all_seen c.set_column.new.columns.items ≡ paste g.columns index (run_columns c.args.negative text) =
     ap all_seen c.set_column.ensures.columns
-    ∙ narrow_seen g c.self.inside.columns.items c.in-Some.column cell.line cell.column text c.args.negative refl c.in-Some.ensures
+    ∙ narrow_seen g c.self.inside.columns.items c.narrow-column.result cell.line cell.column text c.args.negative refl c.narrow-column.ensures
     (sym c.requires.counted ∙ c.if-count-eq1.true) c.self.invariant.0 can in (
       subst (λ (cs : List Col). IsGrid g.height g.width cs) (sym new) (put_kept g cell.line cell.column text c.args.negative c.self.invariant.0 can),
       c.set_column.ensures.codes
-          ∙ code_set c.self.inside.columns.items c.self.inside.codes.items c.in-Some.column (seen c.in-Some.column) index _ refl refl c.self.invariant.1
+          ∙ code_set c.self.inside.columns.items c.self.inside.codes.items c.narrow-column.result (seen c.narrow-column.result) index _ refl refl c.self.invariant.1
           ∙ ap (λ cs. codes_of (all_seen cs)) (sym c.set_column.ensures.columns),
     )
 
-pub returns-in-Some-clause-ok : goal.returns-in-Some-clause-ok
-returns-in-Some-clause-ok c =
+pub returns-then-text-le-SHORT-clause-ok : goal.returns-then-text-le-SHORT-clause-ok
+returns-then-text-le-SHORT-clause-ok c =
     let g : GridState = record { height = c.self.inside.height; width = c.self.inside.width; columns = all_seen c.self.inside.columns.items } in
     let cell = c.args.cell in
     let text = c.args.text.now in
@@ -38,7 +38,7 @@ returns-in-Some-clause-ok c =
     (record { inside = c.requires.inside; glyph = c.requires.glyph; utf8 = c.utf8.text; room = c.requires.room }) in
     ap (λ (cs : List Col). record { height = g.height; width = g.width; columns = cs })
     (ap all_seen c.set_column.ensures.columns
-    ∙ narrow_seen g c.self.inside.columns.items c.in-Some.column cell.line cell.column text c.args.negative refl c.in-Some.ensures
+    ∙ narrow_seen g c.self.inside.columns.items c.narrow-column.result cell.line cell.column text c.args.negative refl c.narrow-column.ensures
     (sym c.requires.counted ∙ c.if-count-eq1.true) c.self.invariant.0 can)
     ∙ ap (λ (x : GridState). record {
       height = x.height;
