@@ -4,7 +4,7 @@ ghost use Rattle.std.specs.Prelude.{◌≡◌, ◌≤◌, ◌-◌, ◌<◌, ◌^
 ghost use Rattle.std.specs.List.{list_all};
 ghost use Rattle.bx_grid.specs.Columns.{Glyph, are_equal};
 ghost use Rattle.bx_grid.specs.Codes as spec;
-ghost use Rattle.bx_grid.specs.Codes.{no_code, code_of, is_code, codes_of, are_same_narrow};
+ghost use Rattle.bx_grid.specs.Codes.{no_code, code_of, is_code, codes_of, are_same_code, columns_in, offset_in};
 ghost use Rattle.bx_grid.specs.Seen.{seen, all_seen};
 
 use crate::column::{Column, all_same};
@@ -110,10 +110,23 @@ pub fn are_same(columns: &[Column], codes: &[u64], others: &[Column], other_code
     bits.any < NO_CODE || all_same(columns, others)
 }
 
-/// Whether two columns are the same one of a glyph of one column, as far as their codes tell it: not every such glyph has
-/// a code of its own.
-pub fn are_same_narrow(code: u64, other: u64) -> bool
-    ensures { result ≡ are_same_narrow code other }
+/// Whether both codes tell the same column.
+pub fn is_same_code(code: u64, other: u64) -> bool
+    ensures { result ≡ are_same_code code other }
 {
-    code == other && code < NO_CODE && code / 8 % 4 == 1
+    code == other && code < NO_CODE
+}
+
+/// How many columns the glyph takes of which a code tells one.
+pub fn columns_in(code: u64) -> u64
+    ensures { result ≡ columns_in code }
+{
+    code / 8 % 4
+}
+
+/// Which of its glyph's columns a code tells, from 0.
+pub fn offset_in(code: u64) -> u64
+    ensures { result ≡ offset_in code }
+{
+    code / 2 % 4
 }

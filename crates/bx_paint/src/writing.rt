@@ -141,7 +141,7 @@ fn write_at(
     ensures rendition { IfOk result (λ after. after.negative
         ≡ (column_sent row index pen.near pen.negative (drop index old.now) (drop index new.now)).negative) }
 {
-    if old.shares_narrow(new, index) {
+    if old.begins_alike(new, index) {
         return Ok(Pen {
             near: false,
             negative: pen.negative,
