@@ -1,8 +1,8 @@
-//! The file that is edited.
+//! The files that the program reads.
 
 use crate::fault::ProgramFault;
 use bx_terms::LARGEST_TEXT;
-use std::fs::File;
+use std::fs::{self, File};
 use std::io::{self, ErrorKind, Read};
 
 /// All bytes of a reader, or as many as show that they are too many for a text.
@@ -14,15 +14,22 @@ fn bytes_of<R: Read + Drop>(rt: &HostRuntime, reader: R) -> io::Result<Vec<u8>> 
     Ok(bytes)
 }
 
-/// The file's bytes, of one that is longer than a text may be one byte more than that. A file that isn't there is an empty
-/// text.
+/// The bytes of the file that is edited, of one that is longer than a text one byte more than a text may have. None where no
+/// file is there.
 ///
 /// Errors: `Unreadable`; `OutOfMemory`.
-pub fn text_of(rt: &HostRuntime, path: &str) -> Result<Vec<u8>, ProgramFault> {
+pub fn text_of<'a>(rt: &HostRuntime, path: &'a str) -> Result<Option<Vec<u8>>, ProgramFault<'a>> {
     let read = match File::open(rt, path) {
-        Ok(file) => bytes_of(rt, file),
-        Err(error) if error.kind() == ErrorKind::NotFound => Ok(Vec::new(rt.alloc())),
+        Ok(file) => bytes_of(rt, file).map(Some),
+        Err(error) if error.kind() == ErrorKind::NotFound => Ok(None),
         Err(error) => Err(error),
     };
-    read.map_err(|error| ProgramFault::of_file(error.kind()))
+    read.map_err(|error| ProgramFault::of_file(path, error.kind()))
+}
+
+/// The bytes of one of Unicode's files.
+///
+/// Errors: `Unreadable`, also where no file is there; `OutOfMemory`.
+pub fn table_of<'a>(rt: &HostRuntime, path: &'a str) -> Result<Vec<u8>, ProgramFault<'a>> {
+    fs::read(rt, path).map_err(|error| ProgramFault::of_file(path, error.kind()))
 }

@@ -1,0 +1,1 @@
+//! The lines and the exit statuses of faults.
