@@ -1,5 +1,8 @@
 //! One run of the editor over a reader, a writer and a store.
 
+ghost use Rattle.std.specs.Prelude.{◌≡◌, true};
+ghost use Rattle.bx_terms.specs.Sizes.{is_side};
+
 use crate::fault::ProgramFault;
 use crate::session::{open, run};
 use bx_explicit::Base;
@@ -26,7 +29,10 @@ pub fn edit<R: Read, W: Write, S: Store>(
     rows: u16,
     cols: u16,
     direction: Base,
-) -> Result<(), ProgramFault<'static>> {
+) -> Result<(), ProgramFault<'static>>
+    requires rows { is_side rows ≡ true }
+    requires cols { is_side cols ≡ true }
+{
     let tables = Tables::read(alloc, classes, brackets, mirroring)?;
     let bytes = file.unwrap_or(Vec::new(alloc));
     let mut session = open(alloc, bytes, tables, rows, cols, direction)?;

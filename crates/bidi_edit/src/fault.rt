@@ -3,6 +3,7 @@
 use bx_session::{OpenError, RunFault};
 use bx_store::StoreFault;
 use bx_ucd::UcdError;
+use std::alloc::AllocError;
 use std::io::ErrorKind;
 use thiserror::Error;
 
@@ -56,6 +57,12 @@ impl From<RunFault> for ProgramFault<'_> {
 impl From<StoreFault> for ProgramFault<'_> {
     /// A store that cannot be made is want of memory.
     fn from(_fault: StoreFault) -> Self {
+        ProgramFault::OutOfMemory
+    }
+}
+
+impl From<AllocError> for ProgramFault<'_> {
+    fn from(_error: AllocError) -> Self {
         ProgramFault::OutOfMemory
     }
 }

@@ -25,6 +25,8 @@ pub struct Options<'a> {
     /// The path of the file that is edited.
     pub file: &'a str,
     pub direction: Base,
+    ghost has_rows: { is_side rows ≡ true },
+    ghost has_cols: { is_side cols ≡ true },
 }
 
 static DIRECTIONS: [&str; 3] = ["auto", "ltr", "rtl"];
