@@ -1,7 +1,8 @@
 //! One run of the editor over a reader, a writer and a store.
 
-ghost use Rattle.std.specs.Prelude.{◌≡◌, true};
+ghost use Rattle.std.specs.Prelude.{◌≡◌, None, OnOk, true};
 ghost use Rattle.bx_terms.specs.Sizes.{is_side};
+ghost use Rattle.bx_ucd.specs.Reading.{refusal};
 
 use crate::fault::ProgramFault;
 use crate::session::{open, run};
@@ -32,6 +33,7 @@ pub fn edit<R: Read, W: Write, S: Store>(
 ) -> Result<(), ProgramFault<'static>>
     requires rows { is_side rows ≡ true }
     requires cols { is_side cols ≡ true }
+    ensures { OnOk result (refusal classes.now brackets.now mirroring.now ≡ None) }
 {
     let tables = Tables::read(alloc, classes, brackets, mirroring)?;
     let bytes = file.unwrap_or(Vec::new(alloc));

@@ -1,10 +1,11 @@
 //! The program's words.
 
-ghost use Rattle.std.specs.Prelude.{◌≡◌, true};
+ghost use Rattle.std.specs.Prelude.{◌≡◌, true, IfSome};
 ghost use Rattle.bx_terms.specs.Sizes.{is_side};
 
 use bx_explicit::Base;
 use bx_terms::is_side;
+use clap::error::ErrorKind;
 use clap::{Arg, ArgMatches, Command, value_parser};
 use std::alloc::{AllocError, Global};
 use std::convert::AsStr;
@@ -70,38 +71,48 @@ fn command<'a>(alloc: Global) -> Result<Command<'a>, AllocError> {
         .arg(Arg::new(alloc, "file").value_name("FILE").required(true))
 }
 
-fn side_of(matches: &ArgMatches<'_>, name: &str) -> u16
-    ensures { is_side result ≡ true }
+/// The side of the window that an option names.
+fn side_of(matches: &ArgMatches<'_>, name: &str) -> Option<u16>
+    ensures { IfSome result (λ n. is_side n ≡ true) }
 {
-    match matches.get_one::<u16>(name) {
-        Some(n) if is_side(n) => n,
-        _ => 1,
-    }
+    matches.get_one::<u16>(name).filter(|n| is_side(*n))
 }
 
-fn base_of(name: &str) -> Base {
+/// The direction that a word names.
+fn base_of(name: &str) -> Option<Base> {
     match name {
-        "ltr" => Base::Ltr,
-        "rtl" => Base::Rtl,
-        _ => Base::Auto,
+        "auto" => Some(Base::Auto),
+        "ltr" => Some(Base::Ltr),
+        "rtl" => Some(Base::Rtl),
+        _ => None,
     }
 }
 
-/// The words after the program's name.
+/// What clap found; none where it lacks a value or has one that is none of ours.
+fn options_of<'a>(matches: &ArgMatches<'a>) -> Option<Options<'a>> {
+    Some(Options {
+        rows: side_of(matches, "rows")?,
+        cols: side_of(matches, "cols")?,
+        classes: matches.get_str("classes")?,
+        brackets: matches.get_str("brackets")?,
+        mirroring: matches.get_str("mirroring")?,
+        file: matches.get_str("file")?,
+        direction: base_of(matches.get_str("direction")?)?,
+    })
+}
+
+/// What the words after the program's name ask for.
 ///
 /// Errors: clap's, whose text tells what is wrong with the words.
 pub fn command_line<'a, S: AsStr>(
     alloc: Global,
     words: &'a [S],
 ) -> Result<Options<'a>, clap::Error> {
-    let matches = command(alloc)?.try_get_matches_from(words)?;
-    Ok(Options {
-        rows: side_of(&matches, "rows"),
-        cols: side_of(&matches, "cols"),
-        classes: matches.get_str("classes").unwrap_or(""),
-        brackets: matches.get_str("brackets").unwrap_or(""),
-        mirroring: matches.get_str("mirroring").unwrap_or(""),
-        file: matches.get_str("file").unwrap_or(""),
-        direction: base_of(matches.get_str("direction").unwrap_or("auto")),
-    })
+    let mut command = command(alloc)?;
+    let matches = command.try_get_matches_from_mut(words)?;
+    match options_of(&matches) {
+        Some(options) => Ok(options),
+        // clap has refused such words before: each argument is required or has a default, and has a parser
+        None => Err(command.error(ErrorKind::InvalidValue, "a value is missing")?),
+    }
 }
