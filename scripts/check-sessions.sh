@@ -1,7 +1,7 @@
 #!/bin/sh
-# Runs the program on recorded sessions, and prints how many of how many agree. The folder given holds a folder for each session
-# and a script compare.py, which takes the program and that folder. It stands beside the gate; a second word is handed on to
-# compare.py, as --max=200 to see all that differ.
+# Runs the program on recorded sessions, and prints how many of how many agree. The first word is the folder of the sessions: a
+# folder for each, and a script compare.py that takes the program and that folder. Further words go to compare.py, as
+# `--only 17` for one session or `--max 300` to see all that differ. It stands beside the gate.
 set -eu
 
 if [ $# = 0 ] || [ ! -f "$1/compare.py" ]; then
@@ -10,7 +10,11 @@ if [ $# = 0 ] || [ ! -f "$1/compare.py" ]; then
 fi
 folder=$(readlink -f "$1")
 shift
+
 cd "$(dirname "$0")/../crates/bidi_edit"
-# without words the program only tells what it wants, with status 2
-rt run >/dev/null 2>&1 || true
+# without words the program only tells its usage, which shows that it was built
+if ! rt run 2>&1 | grep -q '^Usage: bidi_edit'; then
+    echo "the program was not built: see rt check" >&2
+    exit 1
+fi
 python3 "$folder/compare.py" out/bidi_edit "$folder" "$@"

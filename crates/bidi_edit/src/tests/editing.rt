@@ -3,7 +3,7 @@
 use crate::edit::edit;
 use crate::fault::ProgramFault;
 use bx_explicit::Base;
-use bx_session::{OpenError, RunFault};
+use bx_session::RunFault;
 use bx_store::MemoryStore;
 use bx_ucd::sample::{BRACKETS, CLASSES, MIRRORING};
 use std::alloc::Global;
@@ -38,9 +38,10 @@ fn outcome(alloc: Global, file: &[u8], mut keys: &[u8]) -> Result<(), ProgramFau
     run_over(alloc, Some(file), &mut keys, &mut Vec::new(alloc))
 }
 
-/// The line of the fault that these tables end with; empty where there is none.
-fn line_of_tables(
+/// The line of the fault that a run over these tables ends with; empty where there is none.
+fn line_of(
     alloc: Global,
+    file: Option<Vec<u8>>,
     classes: &str,
     brackets: &str,
     mirroring: &str,
@@ -50,7 +51,7 @@ fn line_of_tables(
         &mut b"".as_slice(),
         &mut Vec::new(alloc),
         &mut MemoryStore::new(alloc, None),
-        None,
+        file,
         classes.as_bytes(),
         brackets.as_bytes(),
         mirroring.as_bytes(),
@@ -113,7 +114,7 @@ fn refused_lines(rt: HostRuntime) -> Result<(), Fail> {
         ),
         ("", "", "", ""),
     ] {
-        let found = line_of_tables(rt.alloc(), classes, brackets, mirroring)?;
+        let found = line_of(rt.alloc(), None, classes, brackets, mirroring)?;
         assert_eq!(rt; found.as_str(), line);
     }
     Ok(())
@@ -150,7 +151,8 @@ fn input_and_output_that_fail(rt: HostRuntime) {
 
 #[test]
 fn tables_are_refused_before_the_file(rt: HostRuntime) -> Result<(), Fail> {
-    let found = line_of_tables(rt.alloc(), "0041", "0041", "0041")?;
-    assert_eq!(rt; found.as_str(), "bidi_edit: classes line 1: bad line");
+    let file = Vec::from_slice(rt.alloc(), b"\xff")?;
+    let found = line_of(rt.alloc(), Some(file), "", "", "0041")?;
+    assert_eq!(rt; found.as_str(), "bidi_edit: mirroring line 1: bad line");
     Ok(())
 }
