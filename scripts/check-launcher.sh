@@ -361,7 +361,8 @@ check_editor() {
         rm -f "$folder/work/new"
     fi
     if asked end; then
-        cp "$top/README.md" "$note"
+        printf 'some words' >"$note"
+        cp "$note" "$folder/opened"
         start 8 60 "$top/bidi-edit" note
         kill -s TERM "$(process_of "$editor")"
         finish 'end, the program killed' 143 50
@@ -371,7 +372,7 @@ check_editor() {
             kill -s "$signal" "$(process_of "$shell .*/bidi-edit note")"
             finish "end, the launcher by $signal" "$((128 + $(signal_number "$signal")))" 50
         done
-        cmp "$note" "$top/README.md" >/dev/null
+        cmp "$note" "$folder/opened" >/dev/null
         report 'end, the file is as before' $? 'it is not'
     fi
     if asked file; then
@@ -409,7 +410,6 @@ check_editor() {
 
 # The mean processor time of ten runs, in thousandths of a second, by the shell's own count of its children.
 times_of_ten() {
-    rm -f "$folder/times"
     {
         echo "cd '$folder/work'"
         for _ in 1 2 3 4 5 6 7 8 9 10; do echo "$shell '$top/bidi-edit' note"; done
