@@ -95,7 +95,7 @@ start() { # ROWS COLS LAUNCHER WORD..
     {
         echo "export TMPDIR='$folder/private' BX_RECORD='$folder/record' BX_WORDS='$folder/words'"
         echo "cd '$folder/work'"
-        echo "echo the screen before"
+        echo "echo as before"
         echo "stty -g >'$folder/before'"
         printf "%s" "$shell"
         for word in "$@"; do printf " '%s'" "$word"; done
@@ -124,7 +124,7 @@ finish() { # NAME STATUS TENTHS
     wait_for "$3" has_ended || report "$1, its end" 1 'it goes on'
     same "$1, status" "$(cat "$folder/status" 2>/dev/null)" "$2"
     same "$1, the terminal's settings" "$(cat "$folder/after" 2>/dev/null)" "$(cat "$folder/before")"
-    same "$1, the screen before" "$(terminal capture-pane -p -t person | grep -c .) $(terminal capture-pane -p -t person | head -n 1)" '1 the screen before'
+    same "$1, the screen before" "$(terminal capture-pane -p -t person | grep -c .) $(terminal capture-pane -p -t person | head -n 1)" '1 as before'
     same "$1, processes that stay" "$(ps -t "${tty#/dev/}" -o args= | grep -v -e '^sleep 600' | paste -s -d '|')" ''
     same "$1, files that stay" "$(ls -A "$folder/private")" ''
     terminal kill-session -t person
@@ -364,7 +364,7 @@ check_editor() {
         printf 'some words' >"$note"
         cp "$note" "$folder/opened"
         start 8 60 "$top/bidi-edit" note
-        kill -s TERM "$(process_of "$editor")"
+        kill -s TERM "$(process_of '.*bidi_edit --rows')"
         finish 'end, the program killed' 143 50
         for signal in TERM HUP; do
             start 8 60 "$top/bidi-edit" note
