@@ -24,6 +24,7 @@ folder=$(mktemp -d)
 socket="bx$$"
 passed=0 failed=0
 trap 'tmux -L "$socket" kill-server 2>/dev/null; rm -rf "$folder"' EXIT
+trap 'exit 1' HUP INT TERM
 mkdir "$folder/private" "$folder/work"
 cd "$folder/work" || exit 1
 
