@@ -1,10 +1,12 @@
 //! The editor: a text, the cursor's place in it and what keys make of them, and the picture that is shown of it.
 #![tactic(auto)]
 
-mod drawing;
+mod editor;
+mod error;
 pub mod message;
 mod status;
 
-pub use drawing::put_row;
+pub use editor::Editor;
+pub use error::{EditorError, OpenError};
 pub use message::Message;
 pub use status::{put_text, status_line};

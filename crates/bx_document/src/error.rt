@@ -1,0 +1,18 @@
+//! The refusals.
+use bx_grid::GridError;
+use bx_paras::ParasError;
+use bx_text::TextError;
+use bx_view::ViewError;
+use std::alloc::AllocError;
+use thiserror::Error;
+
+/// Why a text could not be opened, or a call had no effect.
+#[derive(Clone, Copy, PartialEq, Eq, Debug, Error)]
+pub enum DocumentError {
+    /// The text has more than 16,777,216 bytes.
+    #[error("file too long")]
+    TooLong,
+    /// Memory ran out.
+    #[error("out of memory")]
+    OutOfMemory,
+}
