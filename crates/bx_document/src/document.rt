@@ -18,15 +18,15 @@ use std::marker::Model;
 
 /// A text under edits, its paragraphs, and its layout in a window's columns under a base direction, by Unicode's tables.
 #[derive(Drop)]
-pub struct Document<D: BidiData> {
+pub struct Document<D: BidiData + Drop> {
     pub(crate) text: Text,
     pub(crate) index: Index,
     pub(crate) layout: Layout,
     pub(crate) tables: D,
 }
 
-impl<D: BidiData> Model for Document<D> {
-    ghost use Rattle.std.specs.Prelude.{◌≡◌, ◌×◌};
+impl<D: BidiData + Drop> Model for Document<D> {
+    ghost use Rattle.std.specs.Prelude.{◌≡◌};
     ghost use Rattle.bx_paras.specs.Paragraphs.{lengths};
     ghost use Rattle.bx_view.specs.Holding.{IsViewBy};
     ghost use Rattle.bx_document.specs.Document.{DocumentState, KeepsBoundaries};
@@ -39,15 +39,21 @@ impl<D: BidiData> Model for Document<D> {
     } };
 
     ghost invariant = { λ d. (d.index.paragraphs ≡ lengths (D.class_of d.tables) d.text.edited.text)
-      × IsViewBy (D.class_of d.tables) (D.bracket_of d.tables) d.layout
-      × KeepsBoundaries d.text.edited };
+        × IsViewBy (D.class_of d.tables) (D.bracket_of d.tables) d.layout
+        × KeepsBoundaries d.text.edited };
 }
 
-impl<D: BidiData> Document<D> {
+impl<D: BidiData + Drop> Document<D> {
     /// A text that has no past and no future, in so many columns. A refusal drops the text and the tables.
     ///
     /// Errors: `TooLong` above 16,777,216 bytes; `OutOfMemory`.
-    pub fn open(alloc: Global, text: String, tables: D, w: u16, base: Base) -> Result<Document<D>, DocumentError>
+    pub fn open(
+        alloc: Global,
+        text: String,
+        tables: D,
+        w: u16,
+        base: Base,
+    ) -> Result<Document<D>, DocumentError>
         requires stub { ⊥ }
         requires side { is_side w ≡ true }
         ensures ok { IfOk result (λ d. d ≡ record { tables = tables; document = at_opening (string_bytes text) w base }) }
@@ -61,7 +67,6 @@ impl<D: BidiData> Document<D> {
         ensures len { result ≡ length self.now.document.content.text }
         ensures short { length self.now.document.content.text ≤ largest_text }
         ensures utf8 { IsUtf8 self.now.document.content.text }
-        ensures side { is_side self.now.document.w ≡ true }
     {
         self.text.len()
     }
@@ -93,14 +98,12 @@ impl<D: BidiData> Document<D> {
     pub fn set_base(&mut self, base: Base)
         requires stub { ⊥ }
         ensures { self.new ≡ record self.old { document = record self.old.document { base = base } } }
-    {
-    }
+    {}
 
     /// Lays the text out anew in so many columns. No memory.
     pub fn set_width(&mut self, w: u16)
         requires stub { ⊥ }
         requires side { is_side w ≡ true }
         ensures { self.new ≡ record self.old { document = record self.old.document { w = w } } }
-    {
-    }
+    {}
 }

@@ -1,5 +1,5 @@
 //! Edits, each with the place that it leads to. Each takes its memory first, and then changes the text.
-ghost use Rattle.std.specs.Prelude.{◌≡◌, ◌×◌, ℕ, Bool, true, false, None, Some, IfOk, IfSome, IsCharBoundary, IsErrOf, MatchOption, OnErr, OnOk, option_map};
+ghost use Rattle.std.specs.Prelude.{◌≡◌, [], true, false, IfOk, IfSome, IsCharBoundary, IsErrOf, MatchOption, OnErr, OnOk, option_map};
 ghost use Rattle.bx_text.specs.Edits.{IsRange, fits, next_redo, next_undo, redone, undone};
 ghost use Rattle.bx_document.specs.Document.{after_insertion, after_removal, place_behind};
 
@@ -8,7 +8,7 @@ use crate::document::Document;
 use crate::error::DocumentError;
 use bx_ucd::BidiData;
 
-impl<D: BidiData> Document<D> {
+impl<D: BidiData + Drop> Document<D> {
     /// Puts characters in at a place, and answers the new place; none where the text would pass 16,777,216 bytes, and then
     /// nothing has changed.
     ///
@@ -19,7 +19,7 @@ impl<D: BidiData> Document<D> {
         ensures ok { IfOk result (λ after. MatchOption after
             ((fits self.old.document.content.text place place new.now ≡ false) × (self.new ≡ self.old))
             (λ o. (fits self.old.document.content.text place place new.now ≡ true) × (self.new ≡ record self.old { document = after_insertion (⟦<D as Answers>⟧.data self.old.tables) self.old.document place new.now })
-                × (o ≡ place_behind (⟦<D as Answers>⟧.data self.old.tables) self.old.document place place new.now))) }
+            × (o ≡ place_behind (⟦<D as Answers>⟧.data self.old.tables) self.old.document place place new.now))) }
         ensures boundary { IfOk result (λ after. IfSome after (λ o. IsCharBoundary self.new.document.content.text o)) }
         ensures err { OnErr result (self.new ≡ self.old) }
         ensures memory { OnErr result (IsErrOf result DocumentError.OutOfMemory) }
@@ -30,7 +30,12 @@ impl<D: BidiData> Document<D> {
     /// Takes out what stands from one offset to another, where the cursor stands at `place`, and answers the new place.
     ///
     /// Errors: `OutOfMemory`, and nothing has changed.
-    pub fn remove(&mut self, start: usize, stop: usize, place: usize) -> Result<usize, DocumentError>
+    pub fn remove(
+        &mut self,
+        start: usize,
+        stop: usize,
+        place: usize,
+    ) -> Result<usize, DocumentError>
         requires stub { ⊥ }
         requires range { IsRange self.old.document.content.text start stop }
         requires boundary { IsCharBoundary self.old.document.content.text place }

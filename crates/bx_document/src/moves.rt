@@ -9,7 +9,7 @@ use crate::error::DocumentError;
 use bx_ucd::BidiData;
 use bx_view::{Logical, Vertical, Visual};
 
-impl<D: BidiData> Document<D> {
+impl<D: BidiData + Drop> Document<D> {
     /// The place before or after one in the order of the text; at the text's ends the place itself.
     ///
     /// Errors: `OutOfMemory`.

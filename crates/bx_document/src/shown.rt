@@ -1,5 +1,5 @@
 //! The rows that are shown, and where the cursor stands among them.
-ghost use Rattle.std.specs.Prelude.{◌≡◌, ◌+◌, ◌-◌, ◌<◌, ◌≤◌, ◌++◌, ◌*◌, ◌×◌, IfOk, OnOk, replicate};
+ghost use Rattle.std.specs.Prelude.{◌≡◌, ◌+◌, ◌-◌, ◌<◌, ◌≤◌, ◌++◌, ◌*◌, IfOk, OnOk, replicate};
 ghost use Rattle.bx_grid.specs.Columns.{blank};
 ghost use Rattle.bx_view.specs.TextRows.{cell_of, row_of};
 ghost use Rattle.bx_view.specs.Top.{follow};
@@ -13,7 +13,7 @@ use crate::error::DocumentError;
 use bx_grid::Grid;
 use bx_ucd::BidiData;
 
-impl<D: BidiData> Document<D> {
+impl<D: BidiData + Drop> Document<D> {
     /// The offset at which the rows begin to be shown, `t` of them, among which the row of the place is: the row that the
     /// offset `top` falls in, moved by as few rows as that takes.
     ///
@@ -62,15 +62,23 @@ impl<D: BidiData> Document<D> {
     /// how many rows stand above the one of the place: `top` is such that it is among them.
     ///
     /// Errors: `OutOfMemory`.
-    pub fn draw(&mut self, grid: &mut Grid, top: usize, place: usize, count: u16) -> Result<u16, DocumentError>
+    pub fn draw(
+        &mut self,
+        grid: &mut Grid,
+        top: usize,
+        place: usize,
+        count: u16,
+    ) -> Result<u16, DocumentError>
         requires stub { ⊥ }
         requires blank { IsBlankFrom grid.old 0 }
         requires width { grid.old.width ≡ self.old.document.w }
         requires inside { count ≤ grid.old.height }
         requires top { top ≡ follow (rows (⟦<D as Answers>⟧.data self.old.tables) self.old.document) top place count }
         ensures same { self.new ≡ self.old }
-        ensures drawn { OnOk result (grid.new ≡ record grid.old { columns = shown_columns (⟦<D as Answers>⟧.data self.old.tables) self.old.document top count
-            ++ replicate ((grid.old.height - count) * grid.old.width) blank }) }
+        ensures drawn { OnOk result (grid.new ≡ record grid.old {
+          columns = shown_columns (⟦<D as Answers>⟧.data self.old.tables) self.old.document top count
+              ++ replicate ((grid.old.height - count) * grid.old.width) blank;
+        }) }
         ensures row { IfOk result (λ n. n ≡ row_of (rows (⟦<D as Answers>⟧.data self.old.tables) self.old.document) place - row_of (rows (⟦<D as Answers>⟧.data self.old.tables) self.old.document) top) }
         ensures among { IfOk result (λ n. n < count) }
     {

@@ -1,0 +1,6 @@
+pub mod Data
+pub mod Editor
+pub mod Keys
+pub mod Opening
+pub mod Picture
+pub mod Status

@@ -1,5 +1,5 @@
 -- Why a file is not opened.
-use Rattle.std.specs.Prelude.{◌≡◌, ◌×◌, ℕ, ◌<◌, ◌≤◌, true, false, List, length, take, IsUtf8}
+use Rattle.std.specs.Prelude.{◌≡◌, ℕ, ◌<◌, ◌≤◌, true, false, List, length, take, IsUtf8}
 use Rattle.bx_terms.specs.Sizes.{largest_text}
 use Rattle.bx_grid.specs.Picture.{is_size}
 use Rattle.bx_editor.specs.declared.error.OpenError.{OpenError}

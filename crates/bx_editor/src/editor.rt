@@ -1,5 +1,5 @@
 //! The editor.
-ghost use Rattle.std.specs.Prelude.{◌≡◌, ◌×◌, ℕ, List, true, false, IfErr, IfOk, IsUtf8, OnErr, OnOk};
+ghost use Rattle.std.specs.Prelude.{◌≡◌, ℕ, List, true, false, IfErr, IfOk, IsUtf8, OnErr, OnOk};
 ghost use Rattle.std.specs.Borrow.{Bor};
 ghost use Rattle.std.specs.Iterator.{Drains};
 ghost use Rattle.bx_terms.specs.Sizes.{is_side};
@@ -24,7 +24,7 @@ use std::marker::Model;
 /// A text that is edited, the cursor's place in it, and what the last key had to say, in a window of so many rows and
 /// columns.
 #[derive(Drop)]
-pub struct Editor<D: BidiData> {
+pub struct Editor<D: BidiData + Drop> {
     pub(crate) document: Document<D>,
     pub(crate) place: usize,
     pub(crate) changed: bool,
@@ -34,8 +34,8 @@ pub struct Editor<D: BidiData> {
     pub(crate) height: u16,
 }
 
-impl<D: BidiData> Model for Editor<D> {
-    ghost use Rattle.std.specs.Prelude.{◌≡◌, ◌×◌, true, IsCharBoundary};
+impl<D: BidiData + Drop> Model for Editor<D> {
+    ghost use Rattle.std.specs.Prelude.{◌≡◌, true, IsCharBoundary};
     ghost use Rattle.bx_terms.specs.Sizes.{is_side};
     ghost use Rattle.bx_editor.specs.Editor.{EditorState};
 
@@ -59,12 +59,19 @@ impl<D: BidiData> Model for Editor<D> {
     ghost invariant = { λ e. IsCharBoundary e.document.document.content.text e.place × (is_side e.height ≡ true) };
 }
 
-impl<D: BidiData> Editor<D> {
+impl<D: BidiData + Drop> Editor<D> {
     /// Opens a file's bytes, with the place at its start. A refusal drops the bytes and the tables.
     ///
     /// Errors, in this order: `TooLong` above 16,777,216 bytes; `NotUtf8` with the number of the first bytes that are UTF-8;
     /// `SizeOutOfRange` where a side is not from 1 to 500; `OutOfMemory`.
-    pub fn open(alloc: Global, bytes: Vec<u8>, tables: D, height: u16, width: u16, base: Base) -> Result<Editor<D>, OpenError>
+    pub fn open(
+        alloc: Global,
+        bytes: Vec<u8>,
+        tables: D,
+        height: u16,
+        width: u16,
+        base: Base,
+    ) -> Result<Editor<D>, OpenError>
         requires stub { ⊥ }
         ensures ok { IfOk result (λ e. e ≡ record { tables = tables; editor = at_start bytes.items height width base }) }
         ensures utf8 { OnOk result (IsUtf8 bytes.items) }
@@ -94,21 +101,18 @@ impl<D: BidiData> Editor<D> {
         requires stub { ⊥ }
         requires sized { is_size height width ≡ true }
         ensures { self.new ≡ record self.old { editor = with_size self.old.editor height width } }
-    {
-    }
+    {}
 
     /// A Save came to its end: it succeeded or failed. No memory.
     pub fn finish_save(&mut self, saved: bool)
         requires stub { ⊥ }
         ensures { self.new ≡ record self.old { editor = after_key (⟦<D as Answers>⟧.data self.old.tables) saved self.old.editor Key.Save } }
-    {
-    }
+    {}
 
     /// The text's pieces in order, which joined are the text. No memory.
     pub fn pieces(&self) -> Slices<'_>
         ensures text { result ≡ self.now.editor.content.text }
         ensures joined { (slices : List (Bor (List ℕ))) → Drains lends result slices → joined slices ≡ self.now.editor.content.text }
-        ensures utf8 { IsUtf8 self.now.editor.content.text }
     {
         self.document.pieces()
     }
