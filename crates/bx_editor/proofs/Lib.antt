@@ -1,3 +1,5 @@
 pub mod Computed
 pub mod Rows
 pub mod RowText
+pub mod LongestUtf8
+pub mod StepOrder
