@@ -60,9 +60,9 @@ impl<D: BidiData + Drop> Editor<D> {
         }) }
         ensures err { OnErr result (self.new ≡ self.old) }
     {
-        let stop = self.place;
-        let start = self.document.step_logical(Logical::Back, stop)?;
-        self.remove(start, stop)?;
+        let place = self.place;
+        let start = self.document.step_logical(Logical::Back, place)?;
+        self.remove(start, place)?;
         Ok(())
     }
 
@@ -74,9 +74,9 @@ impl<D: BidiData + Drop> Editor<D> {
         }) }
         ensures err { OnErr result (self.new ≡ self.old) }
     {
-        let start = self.place;
-        let stop = self.document.step_logical(Logical::Forward, start)?;
-        self.remove(start, stop)?;
+        let place = self.place;
+        let stop = self.document.step_logical(Logical::Forward, place)?;
+        self.remove(place, stop)?;
         Ok(())
     }
 
