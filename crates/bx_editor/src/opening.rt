@@ -11,6 +11,7 @@ use bx_document::Document;
 use bx_explicit::Base;
 use bx_terms::{LARGEST_TEXT, is_side};
 use bx_ucd::BidiData;
+use simdutf8::compat::from_utf8;
 use std::alloc::Global;
 
 /// Bytes as a text, with no copy of them; else how many of the first ones are UTF-8.
@@ -20,10 +21,11 @@ fn text_of(bytes: Vec<u8>) -> Result<String, usize>
     ensures more { IfErr result (λ n. n < length bytes.items) }
     ensures longest { IfErr result (IsLongestUtf8 bytes.items) }
 {
-    match String::from_utf8(bytes) {
-        Ok(text) => Ok(text),
-        Err(error) => Err(error.utf8_error().valid_up_to()),
+    if let Err(error) = from_utf8(bytes.as_slice()) {
+        return Err(error.valid_up_to());
     }
+    // They were just looked at, and a second look would cost more than the rest of the opening.
+    Ok(unsafe { String::from_utf8_unchecked(bytes) })
 }
 
 impl<D: BidiData + Drop> Editor<D> {
