@@ -5,7 +5,7 @@ use Rattle.std.proofs.lemmas.List.{length-take-le, take-append-drop}
 use Rattle.bx_grid.specs.Columns.{Col, blank, paste}
 use Rattle.bx_grid.specs.Picture.{GridState, HasRoom, IsWithin, IsGrid}
 use Rattle.bx_grid.proofs.Laid.{blank_next, laid_next}
-use Rattle.bx_editor.specs.Drawing.{IsBlankFrom, with_row}
+use Rattle.bx_document.specs.Drawing.{IsBlankFrom, with_row}
 
 -- the row is inside, and blank with all behind it
 pub record IsRoomy (old : GridState) (row : ℕ) : Type 0 where

@@ -19,9 +19,9 @@ use Rattle.bx_grid.proofs.Reading.{and_left, and_right}
 use Rattle.bx_rows.specs.declared.drawn.Drawn.{Drawn}
 use Rattle.bx_rows.specs.RowPicture.{Glyph}
 use Rattle.bx_rows.specs.Shown.{glyph_of}
-use Rattle.bx_editor.specs.Drawing.{with_row}
-use Rattle.bx_editor.specs.Picture.{side_by_side}
-use Rattle.bx_editor.proofs.PutOn.{IsRoomy, put_next, put_none, room_next, within_next}
+use Rattle.bx_document.specs.Drawing.{with_row}
+use Rattle.bx_document.specs.Drawing.{side_by_side}
+use Rattle.bx_document.proofs.PutOn.{IsRoomy, put_next, put_none, room_next, within_next}
 
 -- ---- one glyph
 

@@ -3,8 +3,8 @@ ghost use Rattle.std.specs.Prelude.{◌≡◌, ◌<◌, ◌*◌, ◌++◌, true,
 ghost use Rattle.std.specs.Cow.{cow_str_bytes};
 ghost use Rattle.bx_terms.specs.Glyphs.{is_one_glyph, run_width};
 ghost use Rattle.bx_rows.specs.Shown.{glyph_of};
-ghost use Rattle.bx_editor.specs.Drawing.{IsBlankFrom, with_row};
-ghost use Rattle.bx_editor.specs.Picture.{side_by_side};
+ghost use Rattle.bx_document.specs.Drawing.{IsBlankFrom, with_row};
+ghost use Rattle.bx_document.specs.Drawing.{side_by_side};
 
 use bx_grid::{Cell, Grid, GridError};
 use bx_rows::RowPicture;

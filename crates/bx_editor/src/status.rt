@@ -2,7 +2,7 @@
 ghost use Rattle.std.specs.Prelude.{◌≡◌, ◌<◌, ◌≤◌, false, true, IfOk, OnErr, OnOk, length, string_bytes};
 ghost use Rattle.bx_terms.specs.Characters.{are_ascii_printable};
 ghost use Rattle.bx_grid.specs.Columns.{plain_columns};
-ghost use Rattle.bx_editor.specs.Drawing.{IsBlankFrom, with_row};
+ghost use Rattle.bx_document.specs.Drawing.{IsBlankFrom, with_row};
 ghost use Rattle.bx_editor.specs.Status.{status_line};
 
 use crate::message::Message;

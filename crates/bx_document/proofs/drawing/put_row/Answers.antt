@@ -2,9 +2,9 @@ use Rattle.std.proofs.Common.{◌≡◌, ◌+◌, ◌-◌, ◌*◌, sym, subst}
 use Rattle.bx_terms.specs.Glyphs.{run_width}
 use Rattle.bx_grid.specs.Columns.{paste, run_columns}
 use Rattle.bx_grid.specs.Picture.{HasRoom}
-use Rattle.bx_editor.proofs.PutOn.{roomy}
-use Rattle.bx_editor.proofs.RowGlyphs.{is_next, next_put, room, within}
-use Rattle.bx_editor.proofs.drawing.put_row.Goals as goal
+use Rattle.bx_document.proofs.PutOn.{roomy}
+use Rattle.bx_document.proofs.RowGlyphs.{is_next, next_put, room, within}
+use Rattle.bx_document.proofs.drawing.put_row.Goals as goal
 
 pub put-requires-clause-inside : goal.put-requires-clause-inside
 put-requires-clause-inside c =

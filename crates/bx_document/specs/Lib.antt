@@ -1,0 +1,4 @@
+pub mod Data
+pub mod Document
+pub mod Drawing
+pub mod Numbers

@@ -1,0 +1,78 @@
+//! Edits, each with the place that it leads to. Each takes its memory first, and then changes the text.
+ghost use Rattle.std.specs.Prelude.{◌≡◌, [], true, false, IfOk, IfSome, IsCharBoundary, IsErrOf, MatchOption, OnErr, OnOk, option_map};
+ghost use Rattle.bx_text.specs.Edits.{IsRange, fits, next_redo, next_undo, redone, undone};
+ghost use Rattle.bx_document.specs.Document.{after_insertion, after_removal, place_behind};
+
+use crate::answers::Answers;
+use crate::document::Document;
+use crate::error::DocumentError;
+use bx_ucd::BidiData;
+
+impl<D: BidiData + Drop> Document<D> {
+    /// Puts characters in at a place, and answers the new place; none where the text would pass 16,777,216 bytes, and then
+    /// nothing has changed.
+    ///
+    /// Errors: `OutOfMemory`, and nothing has changed.
+    pub fn insert(&mut self, place: usize, new: &str) -> Result<Option<usize>, DocumentError>
+        requires stub { ⊥ }
+        requires boundary { IsCharBoundary self.old.document.content.text place }
+        ensures ok { IfOk result (λ after. MatchOption after
+            ((fits self.old.document.content.text place place new.now ≡ false) × (self.new ≡ self.old))
+            (λ o. (fits self.old.document.content.text place place new.now ≡ true) × (self.new ≡ record self.old { document = after_insertion (⟦<D as Answers>⟧.data self.old.tables) self.old.document place new.now })
+            × (o ≡ place_behind (⟦<D as Answers>⟧.data self.old.tables) self.old.document place place new.now))) }
+        ensures boundary { IfOk result (λ after. IfSome after (λ o. IsCharBoundary self.new.document.content.text o)) }
+        ensures err { OnErr result (self.new ≡ self.old) }
+        ensures memory { OnErr result (IsErrOf result DocumentError.OutOfMemory) }
+    {
+        Err(DocumentError::OutOfMemory)
+    }
+
+    /// Takes out what stands from one offset to another, where the cursor stands at `place`, and answers the new place.
+    ///
+    /// Errors: `OutOfMemory`, and nothing has changed.
+    pub fn remove(
+        &mut self,
+        start: usize,
+        stop: usize,
+        place: usize,
+    ) -> Result<usize, DocumentError>
+        requires stub { ⊥ }
+        requires range { IsRange self.old.document.content.text start stop }
+        requires boundary { IsCharBoundary self.old.document.content.text place }
+        ensures ok { OnOk result (self.new ≡ record self.old { document = after_removal (⟦<D as Answers>⟧.data self.old.tables) self.old.document start stop place }) }
+        ensures place { IfOk result (λ o. o ≡ place_behind (⟦<D as Answers>⟧.data self.old.tables) self.old.document start stop []) }
+        ensures boundary { IfOk result (λ o. IsCharBoundary self.new.document.content.text o) }
+        ensures err { OnErr result (self.new ≡ self.old) }
+        ensures memory { OnErr result (IsErrOf result DocumentError.OutOfMemory) }
+    {
+        Err(DocumentError::OutOfMemory)
+    }
+
+    /// Takes back the latest edit, and answers the place before it; none where there is nothing to take back.
+    ///
+    /// Errors: `OutOfMemory`, and nothing has changed.
+    pub fn undo(&mut self) -> Result<Option<usize>, DocumentError>
+        requires stub { ⊥ }
+        ensures ok { OnOk result (self.new ≡ record self.old { document = record self.old.document { content = undone self.old.document.content } }) }
+        ensures place { IfOk result (λ o. o ≡ option_map (λ c. c.place) (next_undo self.old.document.content)) }
+        ensures boundary { IfOk result (λ place. IfSome place (λ o. IsCharBoundary self.new.document.content.text o)) }
+        ensures err { OnErr result (self.new ≡ self.old) }
+        ensures memory { OnErr result (IsErrOf result DocumentError.OutOfMemory) }
+    {
+        Err(DocumentError::OutOfMemory)
+    }
+
+    /// Makes the next edit again, and answers the place after it; none where there is nothing to make again.
+    ///
+    /// Errors: `OutOfMemory`, and nothing has changed.
+    pub fn redo(&mut self) -> Result<Option<usize>, DocumentError>
+        requires stub { ⊥ }
+        ensures ok { OnOk result (self.new ≡ record self.old { document = record self.old.document { content = redone self.old.document.content } }) }
+        ensures place { IfOk result (λ o. o ≡ option_map (λ c. c.place) (next_redo self.old.document.content)) }
+        ensures boundary { IfOk result (λ place. IfSome place (λ o. IsCharBoundary self.new.document.content.text o)) }
+        ensures err { OnErr result (self.new ≡ self.old) }
+        ensures memory { OnErr result (IsErrOf result DocumentError.OutOfMemory) }
+    {
+        Err(DocumentError::OutOfMemory)
+    }
+}
