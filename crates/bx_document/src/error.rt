@@ -16,3 +16,25 @@ pub enum DocumentError {
     #[error("out of memory")]
     OutOfMemory,
 }
+
+impl From<ViewError> for DocumentError {
+    ghost use Rattle.std.specs.Prelude.{◌≡◌};
+    ghost use Rattle.bx_document.specs.declared.error.DocumentError.TheVariants.{OutOfMemory};
+
+    ghost from_gives = { λ e r. r ≡ OutOfMemory };
+
+    fn from(_error: ViewError) -> Self {
+        DocumentError::OutOfMemory
+    }
+}
+
+impl From<GridError> for DocumentError {
+    ghost use Rattle.std.specs.Prelude.{◌≡◌};
+    ghost use Rattle.bx_document.specs.declared.error.DocumentError.TheVariants.{OutOfMemory};
+
+    ghost from_gives = { λ e r. r ≡ OutOfMemory };
+
+    fn from(_error: GridError) -> Self {
+        DocumentError::OutOfMemory
+    }
+}
