@@ -1,9 +1,9 @@
 -- Rows of a document that are put into a grid, one below another.
-use Rattle.std.specs.Prelude.{◌≡◌, ℕ, ◌-◌, ◌*◌, List, ◌++◌, flat_map, length, take, drop, replicate}
+use Rattle.std.specs.Prelude.{◌≡◌, ℕ, ◌+◌, ◌-◌, ◌*◌, ◌≤◌, ◌<◌, List, ◌++◌, flat_map, length, take, drop, replicate}
 use Rattle.bx_grid.specs.Columns.{Col, blank, glyph_columns}
 use Rattle.bx_grid.specs.Picture.{GridState}
 use Rattle.bx_rows.specs.RowPicture.{Glyph}
-use Rattle.bx_view.specs.TextRows.{TextRow, text_row_glyphs}
+use Rattle.bx_view.specs.TextRows.{TextRow, row_of, text_row_glyphs}
 use Rattle.bx_view.specs.Top.{shown_rows}
 use Rattle.bx_document.specs.Data.{Data}
 use Rattle.bx_document.specs.Document.{Document, rows}
@@ -23,6 +23,11 @@ rows_columns d width count shown = flat_map (row_columns d width) shown ++ repli
 -- those of `count` rows of a document, from the row on that the offset `top` falls in
 abbrev pub shown_columns : Data → Document → ℕ → ℕ → List Col
 shown_columns d t top count = rows_columns d t.w count (shown_rows (rows d t) top count)
+
+-- the row of a place is among `count` rows that are shown from the row on that the offset `top` falls in
+pub record IsAmong (rows : List TextRow) (top place count : ℕ) : Type 0 where
+  pub above : row_of rows top ≤ row_of rows place
+  pub below : row_of rows place < row_of rows top + count
 
 -- from row number `row` on, counted from 0, all is blank
 abbrev pub IsBlankFrom : GridState → ℕ → Type 0

@@ -1,4 +1,5 @@
 //! The refusals.
+use bx_grid::GridError;
 use bx_paras::ParasError;
 use bx_text::TextError;
 use bx_view::ViewError;
@@ -33,6 +34,17 @@ impl From<ParasError> for DocumentError {
     ghost from_gives = { λ e r. r ≡ OutOfMemory };
 
     fn from(_error: ParasError) -> Self {
+        DocumentError::OutOfMemory
+    }
+}
+
+impl From<GridError> for DocumentError {
+    ghost use Rattle.std.specs.Prelude.{◌≡◌};
+    ghost use Rattle.bx_document.specs.declared.error.DocumentError.TheVariants.{OutOfMemory};
+
+    ghost from_gives = { λ e r. r ≡ OutOfMemory };
+
+    fn from(_error: GridError) -> Self {
         DocumentError::OutOfMemory
     }
 }

@@ -5,6 +5,7 @@
 mod answers;
 mod document;
 mod drawing;
+mod drawn_rows;
 mod edits;
 mod error;
 mod moves;

@@ -4,11 +4,12 @@ ghost use Rattle.bx_grid.specs.Columns.{blank};
 ghost use Rattle.bx_view.specs.TextRows.{cell_of, row_of};
 ghost use Rattle.bx_view.specs.Top.{follow};
 ghost use Rattle.bx_document.specs.Document.{rows};
-ghost use Rattle.bx_document.specs.Drawing.{IsBlankFrom, shown_columns};
+ghost use Rattle.bx_document.specs.Drawing.{IsAmong, IsBlankFrom, shown_columns};
 ghost use Rattle.bx_document.specs.Numbers.{paragraph_number, unit_number};
 
 use crate::answers::Answers;
 use crate::document::Document;
+use crate::drawn_rows::draw_rows;
 use crate::error::DocumentError;
 use bx_grid::Grid;
 use bx_ucd::BidiData;
@@ -19,47 +20,59 @@ impl<D: BidiData + Drop> Document<D> {
     ///
     /// Errors: `OutOfMemory`.
     pub fn follow(&mut self, top: usize, place: usize, t: usize) -> Result<usize, DocumentError>
-        requires stub { ⊥ }
         requires some { 0 < t }
         ensures same { self.new ≡ self.old }
         ensures top { IfOk result (λ o. o ≡ follow (rows (⟦<D as Answers>⟧.data self.old.tables) self.old.document) top place t) }
+        ensures among { IfOk result (λ o. IsAmong (rows (⟦<D as Answers>⟧.data self.old.tables) self.old.document) o place t) }
     {
-        Err(DocumentError::OutOfMemory)
+        let _utf8 = self.text.len();
+        let _side = self.layout.width();
+        let top = self
+            .layout
+            .follow(&self.text, &self.index, &self.tables, top, place, t)?;
+        Ok(top)
     }
 
     /// The column, from 1, of the cell of a place.
     ///
     /// Errors: `OutOfMemory`.
     pub fn cell_of(&mut self, place: usize) -> Result<u16, DocumentError>
-        requires stub { ⊥ }
         ensures same { self.new ≡ self.old }
         ensures cell { IfOk result (λ column. column ≡ cell_of self.old.document.w (rows (⟦<D as Answers>⟧.data self.old.tables) self.old.document) place) }
         ensures inside { IfOk result (λ column. (1 ≤ column) × (column ≤ self.old.document.w)) }
     {
-        Err(DocumentError::OutOfMemory)
+        let _utf8 = self.text.len();
+        let _side = self.layout.width();
+        let column = self
+            .layout
+            .cell_of(&self.text, &self.index, &self.tables, place)?;
+        Ok(column)
     }
 
-    /// The number of the paragraph, from 0, that an offset falls in. No memory.
-    pub fn paragraph_of(&self, offset: usize) -> usize
-        requires stub { ⊥ }
-        ensures { result ≡ paragraph_number (D.class_of self.now.tables) self.now.document.content.text offset }
+    /// The number, from 1, of the paragraph that an offset falls in. No memory.
+    pub fn paragraph_number(&self, offset: usize) -> usize
+        ensures { result ≡ paragraph_number (D.class_of self.now.tables) self.now.document.content.text offset + 1 }
     {
-        0
+        let _utf8 = self.text.len();
+        let _count = self.index.count();
+        self.index.paragraph_of(offset) + 1
     }
 
     /// The number, from 1, of a place among the units of its paragraph.
     ///
     /// Errors: `OutOfMemory`.
     pub fn unit_number(&mut self, place: usize) -> Result<usize, DocumentError>
-        requires stub { ⊥ }
         ensures same { self.new ≡ self.old }
         ensures number { IfOk result (λ n. n ≡ unit_number (D.class_of self.old.tables) self.old.document.w self.old.document.content.text place) }
     {
-        Err(DocumentError::OutOfMemory)
+        let number = self
+            .layout
+            .unit_number(&self.text, &self.index, &self.tables, place)?;
+        Ok(number)
     }
 
     /// Draws so many rows into the first rows of a blank grid, from the row on that the offset `top` falls in, and answers
-    /// how many rows stand above the one of the place: `top` is such that it is among them.
+    /// how many rows stand above the one of the place, which is among them.
     ///
     /// Errors: `OutOfMemory`.
     pub fn draw(
@@ -69,11 +82,10 @@ impl<D: BidiData + Drop> Document<D> {
         place: usize,
         count: u16,
     ) -> Result<u16, DocumentError>
-        requires stub { ⊥ }
         requires blank { IsBlankFrom grid.old 0 }
         requires width { grid.old.width ≡ self.old.document.w }
         requires inside { count ≤ grid.old.height }
-        requires top { top ≡ follow (rows (⟦<D as Answers>⟧.data self.old.tables) self.old.document) top place count }
+        requires among { IsAmong (rows (⟦<D as Answers>⟧.data self.old.tables) self.old.document) top place count }
         ensures same { self.new ≡ self.old }
         ensures drawn { OnOk result (grid.new ≡ record grid.old {
           columns = shown_columns (⟦<D as Answers>⟧.data self.old.tables) self.old.document top count
@@ -82,6 +94,19 @@ impl<D: BidiData + Drop> Document<D> {
         ensures row { IfOk result (λ n. n ≡ row_of (rows (⟦<D as Answers>⟧.data self.old.tables) self.old.document) place - row_of (rows (⟦<D as Answers>⟧.data self.old.tables) self.old.document) top) }
         ensures among { IfOk result (λ n. n < count) }
     {
-        Err(DocumentError::OutOfMemory)
+        let at = self
+            .layout
+            .row_at(&self.text, &self.index, &self.tables, top)?;
+        let above = draw_rows(
+            &mut self.layout,
+            &self.text,
+            &self.index,
+            &self.tables,
+            at,
+            place,
+            grid,
+            count,
+        )?;
+        Ok(above)
     }
 }

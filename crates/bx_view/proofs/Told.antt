@@ -46,6 +46,7 @@ module _ (class : ℕ → Class) (bracket : ℕ → Option (Side × ℕ)) where
         side = side;
         by = is.rows;
         w_is = is.w_is;
+        body_is = body;
         rows_are = same;
         count_is = row_count l (ap is_side is.w_is ∙ side) class bracket is.rows ∙ ap length same;
       }

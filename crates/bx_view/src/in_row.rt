@@ -30,8 +30,8 @@ pub(crate) fn place_in(start: usize, offset: Option<usize>) -> Option<usize>
 }
 
 impl Layout {
-    /// The offset at which a row begins. No memory.
-    pub(crate) fn first_in<D: BidiData>(&self, text: &Text, source: &D, at: RowAt) -> usize
+    /// The offset at which a row begins, in bytes of the text. No memory.
+    pub fn first_in<D: BidiData>(&self, text: &Text, source: &D, at: RowAt) -> usize
         requires data { IsViewBy (D.class_of source.now) (D.bracket_of source.now) self.now }
         requires row { (n : ℕ) × StandsOn (D.class_of source.now) (D.bracket_of source.now) self.now text.now.edited.text at n }
         ensures { OfRow (D.class_of source.now) (D.bracket_of source.now) self.now text.now.edited.text at (λ r. result ≡ first r) }

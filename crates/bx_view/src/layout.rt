@@ -78,7 +78,7 @@ impl Layout {
     /// The number among those held of a paragraph of the text, which is laid out if it is not held.
     ///
     /// Errors: `OutOfMemory`.
-    fn find<D: BidiData>(
+    pub(crate) fn find<D: BidiData>(
         &mut self,
         text: &Text,
         index: &Index,

@@ -12,6 +12,7 @@ mod moves;
 mod shown;
 mod span;
 mod top;
+mod unit_number;
 mod vertical;
 mod visual;
 
