@@ -14,7 +14,7 @@ nothing c =
 
 pub returns-then-shares_narrow-clause-bytes : goal.returns-then-shares_narrow-clause-bytes
 returns-then-shares_narrow-clause-bytes c =
-    let out = c.args.out.now.items in
+    let out = c.args.out.now.painting in
     sym (append-nil out) ∙ ap (λ (s : Step). out ++ s.bytes) (sym (nothing c))
 
 pub returns-then-shares_narrow-clause-near : goal.returns-then-shares_narrow-clause-near
