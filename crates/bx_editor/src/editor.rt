@@ -1,8 +1,8 @@
 //! The editor.
-ghost use Rattle.std.specs.Prelude.{◌≡◌, ℕ, List, true, false, IfErr, IfOk, IsUtf8, OnErr, OnOk};
+ghost use Rattle.std.specs.Prelude.{◌≡◌, ◌≤◌, ℕ, List, true, false, IfErr, IfOk, IsUtf8, OnErr, OnOk, length};
 ghost use Rattle.std.specs.Borrow.{Bor};
 ghost use Rattle.std.specs.Iterator.{Drains};
-ghost use Rattle.bx_terms.specs.Sizes.{is_side};
+ghost use Rattle.bx_terms.specs.Sizes.{is_side, largest_text};
 ghost use Rattle.bx_text.specs.Slices.{joined, lends};
 ghost use Rattle.bx_grid.specs.Picture.{is_size};
 ghost use Rattle.bx_editor.specs.Editor.{after_save, at_start, with_size};
@@ -74,6 +74,7 @@ impl<D: BidiData + Drop> Editor<D> {
     ) -> Result<Editor<D>, OpenError>
         requires stub { ⊥ }
         ensures ok { IfOk result (λ e. e ≡ record { tables = tables; editor = at_start bytes.items height width base }) }
+        ensures short { OnOk result (length bytes.items ≤ largest_text) }
         ensures utf8 { OnOk result (IsUtf8 bytes.items) }
         ensures sized { OnOk result (is_size height width ≡ true) }
         ensures refused { IfErr result (Causes bytes.items height width) }
