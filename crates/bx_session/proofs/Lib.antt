@@ -1,5 +1,4 @@
-pub mod Texts
-pub mod Drawing
-pub mod Painted
+pub mod Bytes
+pub mod Pictures
+pub mod Stored
 pub mod Turns
-pub mod Rows
