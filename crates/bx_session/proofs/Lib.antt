@@ -1,4 +1,5 @@
 pub mod Bytes
+pub mod Computed
 pub mod Pictures
-pub mod Stored
+pub mod Rows
 pub mod Turns

@@ -1,5 +1,5 @@
 -- Pictures have their editor's size, and what a painting leaves of a session.
-use Rattle.std.proofs.Common.{◌≡◌, ℕ, ◌≤◌, Bool, true, false, List, ◌++◌, length, drop, Option, Some, None, refl, sym, ap, ◌∙◌, if◌then◌else◌}
+use Rattle.std.proofs.Common.{◌≡◌, ℕ, ◌≤◌, Bool, true, false, List, ◌++◌, length, drop, Some, refl, ap, ◌∙◌, if◌then◌else◌}
 use Rattle.std.proofs.lemmas.List.{drop-append-le}
 use Rattle.bx_grid.specs.Picture.{PictureState, IsPicture}
 use Rattle.bx_editor.specs.Data.{Data}
@@ -23,19 +23,19 @@ pub picture_width : (d : Data) (e : Editor) (top : ℕ) → (picture d e top).wi
 picture_width d e top = either_width e.ended (blank_picture e.height e.width) (text_picture d e top (rows d e)) e.width refl refl
 
 -- bytes behind a queue of which the first have gone
-pub behind : (n : ℕ) (queue more new : List ℕ) → n ≤ length queue → new ≡ queue ++ more → drop n new ≡ drop n queue ++ more
-behind n queue more new fits is = ap (drop n) is ∙ drop-append-le n queue more fits
+pub longer_queue : (n : ℕ) (queue more new : List ℕ) → n ≤ length queue → new ≡ queue ++ more → drop n new ≡ drop n queue ++ more
+longer_queue n queue more new fits is = ap (drop n) is ∙ drop-append-le n queue more fits
 
 -- a session with this painting queued
-pub painted_is : (d : Data) (s : Session) (e : Editor) (top : ℕ) (p : PictureState) (pending : List ℕ) → e ≡ s.editor
+pub painting_is : (d : Data) (s : Session) (e : Editor) (top : ℕ) (p : PictureState) (pending : List ℕ) → e ≡ s.editor
     → top ≡ next_top d s.editor s.top → p ≡ picture d s.editor top → pending ≡ s.pending ++ painting s.painted p
     → record s { editor = e; top = top; painted = Some p; painting_owed = false; pending = pending } ≡ with_painting d s
-painted_is d s e top p pending same follows is appends = rw (appends, is, follows, same) refl
+painting_is d s e top p pending same follows is appends = rw (appends, is, follows, same) refl
 
-pub queues : (d : Data) (s : Session) (e : Editor) (top : ℕ) (p : PictureState) (pending : List ℕ) → e ≡ s.editor
+pub painting_queues : (d : Data) (s : Session) (e : Editor) (top : ℕ) (p : PictureState) (pending : List ℕ) → e ≡ s.editor
     → p ≡ picture d s.editor top → pending ≡ s.pending ++ painting s.painted p → Leads s.painted (painting s.painted p) p → IsPicture p
     → QueuesPicture d s.pending s.painted (record s { editor = e; top = top; painted = Some p; painting_owed = false; pending = pending })
-queues d s e top p pending same is appends leads sized = (
+painting_queues d s e top p pending same is appends leads sized = (
   painting s.painted p,
   record {
     appends = appends;

@@ -15,7 +15,11 @@ returns-then-ended-clause-bytes g c =
 
 pub loop-byte-preserved : goal.loop-byte-preserved
 loop-byte-preserved g c =
-    let says : g.row.D.Denot → Data = λ t. record { class = g.D.BidiData.class_of t; bracket = g.D.BidiData.bracket_of t; mirror = g.D.BidiData.mirror_of t } in
+    let says : g.row.D.Denot → Data = λ t. record {
+      class = g.D.BidiData.class_of t;
+      bracket = g.D.BidiData.bracket_of t;
+      mirror = g.D.BidiData.mirror_of t;
+    } in
     let h = c.loop-byte.invariant.0 in
     let stay = c.loop-byte.invariant.1 in (
       (

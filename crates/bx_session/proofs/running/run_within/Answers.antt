@@ -21,7 +21,11 @@ reads-init g c =
 
 pub returns-in_err-send-2-clause-runs : goal.returns-in_err-send-2-clause-runs
 returns-in_err-send-2-clause-runs g c =
-    let says : g.row.D.Denot → Data = λ t. record { class = g.D.BidiData.class_of t; bracket = g.D.BidiData.bracket_of t; mirror = g.D.BidiData.mirror_of t } in
+    let says : g.row.D.Denot → Data = λ t. record {
+      class = g.D.BidiData.class_of t;
+      bracket = g.D.BidiData.bracket_of t;
+      mirror = g.D.BidiData.mirror_of t;
+    } in
     let run = c.reads.invariant.0 in
     let fed = c.feed_all.ensures.bytes in
     let sent = c.send-in-reads.ensures.sent in (
@@ -35,7 +39,11 @@ returns-in_err-send-2-clause-runs g c =
 
 pub reads-preserved : goal.reads-preserved
 reads-preserved g c =
-    let says : g.row.D.Denot → Data = λ t. record { class = g.D.BidiData.class_of t; bracket = g.D.BidiData.bracket_of t; mirror = g.D.BidiData.mirror_of t } in
+    let says : g.row.D.Denot → Data = λ t. record {
+      class = g.D.BidiData.class_of t;
+      bracket = g.D.BidiData.bracket_of t;
+      mirror = g.D.BidiData.mirror_of t;
+    } in
     let run = c.reads.invariant.0 in
     let fed = c.feed_all.ensures.bytes in
     let sent = c.send-in-reads.ensures.sent in (

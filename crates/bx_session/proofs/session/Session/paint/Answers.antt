@@ -1,9 +1,9 @@
-use Rattle.std.proofs.Common.{◌≡◌, ◌≤◌, ◌∙◌, ◌++◌, sym, ap, drop, length, arith}
+use Rattle.std.proofs.Common.{◌≡◌, ◌∙◌, sym, ap, drop, length, arith}
 use Rattle.std.proofs.lemmas.List.{length-append}
 use Rattle.bx_grid.specs.Picture.{PictureState}
 use Rattle.bx_editor.specs.Data.{Data}
 use Rattle.bx_editor.specs.Editor.{Editor, EditorState}
-use Rattle.bx_session.proofs.Pictures.{picture_height, picture_width, behind, painted_is, queues}
+use Rattle.bx_session.proofs.Pictures.{picture_height, picture_width, longer_queue, painting_is, painting_queues}
 use Rattle.bx_session.specs.Session.{Session, painting}
 use Rattle.bx_session.proofs.session.Session.paint.Goals as goal
 
@@ -44,9 +44,9 @@ returns-clause-ok g c =
       pending = drop c.self.inside.taken c.self.inside.queue.items;
     } in
     rw (← c.self.view_is)
-    (painted_is d s c.picture.new.self.editor c.in-Ok.top c.in-Ok.picture (drop c.self.inside.taken c.append.new.queue.items)
+    (painting_is d s c.picture.new.self.editor c.in-Ok.top c.in-Ok.picture (drop c.self.inside.taken c.append.new.queue.items)
     (ap (λ (x : EditorState g.row.D.Denot). x.editor) c.in-Ok.ensures.same) c.in-Ok.ensures.top c.in-Ok.ensures.picture
-    (behind c.self.inside.taken c.self.inside.queue.items (painting c.self.inside.painted c.in-Ok.picture) c.append.new.queue.items c.self.invariant.0
+    (longer_queue c.self.inside.taken c.self.inside.queue.items (painting c.self.inside.painted c.in-Ok.picture) c.append.new.queue.items c.self.invariant.0
     c.in-Ok-append.ensures.bytes))
 
 pub returns-clause-paints : goal.returns-clause-paints
@@ -65,7 +65,7 @@ returns-clause-paints g c =
       pending = drop c.self.inside.taken c.self.inside.queue.items;
     } in
     rw (← c.self.view_is)
-    (queues d s c.picture.new.self.editor c.in-Ok.top c.in-Ok.picture (drop c.self.inside.taken c.append.new.queue.items)
+    (painting_queues d s c.picture.new.self.editor c.in-Ok.top c.in-Ok.picture (drop c.self.inside.taken c.append.new.queue.items)
     (ap (λ (x : EditorState g.row.D.Denot). x.editor) c.in-Ok.ensures.same) c.in-Ok.ensures.picture
-    (behind c.self.inside.taken c.self.inside.queue.items (painting c.self.inside.painted c.in-Ok.picture) c.append.new.queue.items c.self.invariant.0
+    (longer_queue c.self.inside.taken c.self.inside.queue.items (painting c.self.inside.painted c.in-Ok.picture) c.append.new.queue.items c.self.invariant.0
     c.in-Ok-append.ensures.bytes) c.append.ensures.leads c.append.ensures.is_picture)
