@@ -1,5 +1,5 @@
-pub mod Texts
-pub mod Drawing
-pub mod Painted
-pub mod Turns
+pub mod Bytes
+pub mod Computed
+pub mod Pictures
 pub mod Rows
+pub mod Turns
