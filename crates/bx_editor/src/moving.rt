@@ -70,7 +70,8 @@ impl<D: BidiData + Drop> Editor<D> {
     pub(crate) fn page(&mut self, way: Vertical) -> Result<(), EditorError>
         ensures ok { OnOk result (self.new ≡ record self.old {
           editor = with_place (without_message self.old.editor)
-              (page self.old.editor.width (rows (⟦<D as Answers>⟧.data self.old.tables) self.old.editor) way (text_height self.old.editor.height) self.old.editor.place);
+              (page self.old.editor.width (rows (⟦<D as Answers>⟧.data self.old.tables) self.old.editor) way (text_height self.old.editor.height)
+              self.old.editor.place);
         }) }
         ensures err { OnErr result (self.new ≡ self.old) }
     {

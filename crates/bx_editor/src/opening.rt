@@ -24,7 +24,7 @@ fn text_of(bytes: Vec<u8>) -> Result<String, usize>
     if let Err(error) = from_utf8(bytes.as_slice()) {
         return Err(error.valid_up_to());
     }
-    // They were just looked at, and a second look would cost more than the rest of the opening.
+    // The bytes are known to be UTF-8 here, and `String::from_utf8` would read them all again.
     Ok(unsafe { String::from_utf8_unchecked(bytes) })
 }
 

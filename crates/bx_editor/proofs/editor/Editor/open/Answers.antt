@@ -1,4 +1,4 @@
-use Rattle.std.proofs.Common.{ℕ, ◌≡◌, List, IsCharBoundary, sym, ap, subst, rules}
+use Rattle.std.proofs.Common.{ℕ, List, IsCharBoundary, sym, ap, subst, rules}
 use Rattle.std.proofs.lemmas.Str.{IsCharBoundary-start, IsUtf8-string_bytes}
 use Rattle.std.specs.String.{string_bytes}
 use Rattle.bx_document.specs.Document.{DocumentState}
