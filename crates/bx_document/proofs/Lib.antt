@@ -1,2 +1,4 @@
 pub mod PutOn
 pub mod RowGlyphs
+pub mod Cutting
+pub mod LeastPlace
