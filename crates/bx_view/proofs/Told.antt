@@ -1,5 +1,5 @@
 -- What the rows of a paragraph that is held tell of the rows of the text.
-use Rattle.std.proofs.Common.{◌≡◌, ℕ, ◌+◌, ◌-◌, ◌<◌, ◌≤◌, true, List, length, get_or, nat_le, Option, Some, None, option_map, IsUtf8, IsCharBoundary}
+use Rattle.std.proofs.Common.{◌≡◌, ℕ, ◌+◌, ◌-◌, ◌<◌, ◌≤◌, Bool, true, List, length, reverse, find, get_or, nat_le, Option, Some, None, option_map, IsUtf8, IsCharBoundary}
 use Rattle.std.proofs.Common.{refl, sym, ap, ap₂, subst, ◌∙◌, arith, leb-true}
 use Rattle.std.specs.Prelude.{All, IfSome, map}
 use Rattle.std.proofs.lemmas.Bool.{and_parts}
@@ -9,7 +9,7 @@ use Rattle.bx_ucd.specs.declared.data.Side.{Side}
 use Rattle.bx_text.specs.Edits.{IsRange}
 use Rattle.bx_paras.specs.Paragraphs.{lengths}
 use Rattle.bx_paras.specs.Positions.{paragraph_of}
-use Rattle.bx_paragraph.specs.BodyRows.{body_rows, first_of, last_of}
+use Rattle.bx_paragraph.specs.BodyRows.{body_rows, first_of, last_of, offsets_of}
 use Rattle.bx_paragraph.specs.BodyRows.{row_at as row_at_body, row_of as row_of_body}
 use Rattle.bx_paragraph.specs.Layout.{LayoutState, row_by, rows_by}
 use Rattle.bx_paragraph.specs.declared.moves.Visual.{Visual}
@@ -23,7 +23,7 @@ use Rattle.bx_view.specs.Moves.{row_end, row_home}
 use Rattle.bx_view.specs.Standing.{IsRow, body_at, count, rows_ahead, rows_in, start_at}
 use Rattle.bx_view.specs.TextRows.{TextRow, cell_of, first, row_at, row_of, text_row, text_rows}
 use Rattle.bx_view.proofs.Numbers.{body-range, body-utf8}
-use Rattle.bx_view.proofs.Within.{Lies, LiesIn, Within, slots-fit, beside-fits, body-row-lies, end-fits, entry-fits, last-fits, start-fits}
+use Rattle.bx_view.proofs.Within.{Lies, LiesIn, Within, slots-fit, beside-fits, body-row-lies, end-fits, entry-fits, find-lies, last-fits, start-fits, within-reverse}
 use Rattle.bx_view.proofs.Walking.{before-over, before-some, first-short, next-in, next-none, next-over, row-is, row-under}
 
 pub side-some : (w : ℕ) → is_side w ≡ true → 1 ≤ w
@@ -113,6 +113,18 @@ module _ (class : ℕ → Class) (bracket : ℕ → Option (Side × ℕ)) where
       slots-short ss e =
           slots-fit at.start high most ss (omega (arith, short, high-fits)) (subst (λ xs. Within high (map (λ (s : Slot). s.offset) xs)) (sym e)
           lies-in.slots)
+
+      pub found-short : (p : ℕ → Bool) (os : List ℕ) (o : Option ℕ) → os ≡ offsets_of (row_by class bracket l at.row) → o ≡ find p os
+          → IfSome o (λ k. at.start + k ≤ most)
+      found-short p os o e f =
+          fits-in most o short (subst (Lies high) (sym (f ∙ ap (find p) e)) (find-lies high p (offsets_of (row_by class bracket l at.row)) lies-in.places))
+
+      pub found-back-short : (p : ℕ → Bool) (os : List ℕ) (o : Option ℕ) → os ≡ offsets_of (row_by class bracket l at.row) → o ≡ find p (reverse os)
+          → IfSome o (λ k. at.start + k ≤ most)
+      found-back-short p os o e f =
+          let mine = offsets_of (row_by class bracket l at.row) in
+          fits-in most o short (subst (Lies high) (sym (f ∙ ap (λ qs. find p (reverse qs)) e))
+          (find-lies high p (reverse mine) (within-reverse high mine lies-in.places)))
 
       pub beside-short : (side : Visual) (offset : ℕ) (o : Option ℕ) → o ≡ beside l.w (row_by class bracket l at.row) side offset
           → IfSome o (λ p. at.start + p ≤ most)

@@ -43,7 +43,7 @@ within-append : (high : ℕ) (os ps : List ℕ) → Within high os → Within hi
 within-append high [] ps a b = b
 within-append high (o ∷ os) ps a b = (a.0, within-append high os ps a.1 b)
 
-within-reverse : (high : ℕ) (os : List ℕ) → Within high os → Within high (reverse os)
+pub within-reverse : (high : ℕ) (os : List ℕ) → Within high os → Within high (reverse os)
 within-reverse high [] a = tt
 within-reverse high (o ∷ os) a =
     subst (Within high) (sym (reverse-append (o ∷ []) os)) (within-append high (reverse os) (o ∷ []) (within-reverse high os a.1) (a.0, tt))
@@ -107,6 +107,14 @@ found-lies high column s ss false e a = a
 covering-lies : (high column : ℕ) (ss : List Slot) → Within high (map (λ s. s.offset) ss) → Lies high (covering_in ss column)
 covering-lies high column [] a = tt
 covering-lies high column (s ∷ ss) a = found-lies high column s ss (covers column s) a.0 (covering-lies high column ss a.1)
+
+chosen-lies : (high o : ℕ) (rest : Option ℕ) (b : Bool) → o ≤ high → Lies high rest → Lies high (cond b (Some o) rest)
+chosen-lies high o rest true e a = e
+chosen-lies high o rest false e a = a
+
+pub find-lies : (high : ℕ) (p : ℕ → Bool) (os : List ℕ) → Within high os → Lies high (find p os)
+find-lies high p [] a = tt
+find-lies high p (o ∷ os) a = chosen-lies high o (find p os) (p o) a.0 (find-lies high p os a.1)
 
 either-lies : (high : ℕ) (one other : Option ℕ) → Lies high one → Lies high other → Lies high (or_else one other)
 either-lies high None other a b = b

@@ -18,7 +18,7 @@ use bx_text::Text;
 use bx_ucd::BidiData;
 
 /// An offset of a body as one of the text, in which the body begins at the offset `start`.
-fn place_in(start: usize, offset: Option<usize>) -> Option<usize>
+pub(crate) fn place_in(start: usize, offset: Option<usize>) -> Option<usize>
     requires { IfSome offset (λ o. start + o ≤ largest_text) }
     ensures { result ≡ option_map (λ o. start + o) offset }
 {
@@ -41,7 +41,12 @@ impl Layout {
     }
 
     /// The last place of a row.
-    fn last_in<D: BidiData>(&self, text: &Text, source: &D, at: RowAt) -> Result<usize, ViewError>
+    pub(crate) fn last_in<D: BidiData>(
+        &self,
+        text: &Text,
+        source: &D,
+        at: RowAt,
+    ) -> Result<usize, ViewError>
         requires data { IsViewBy (D.class_of source.now) (D.bracket_of source.now) self.now }
         requires row { (n : ℕ) × StandsOn (D.class_of source.now) (D.bracket_of source.now) self.now text.now.edited.text at n }
         ensures { OfRow (D.class_of source.now) (D.bracket_of source.now) self.now text.now.edited.text at

@@ -7,6 +7,7 @@ mod holder;
 mod in_row;
 mod in_text;
 mod layout;
+mod logical;
 mod moves;
 mod shown;
 mod span;
