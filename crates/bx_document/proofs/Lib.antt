@@ -2,3 +2,4 @@ pub mod PutOn
 pub mod RowGlyphs
 pub mod Cutting
 pub mod LeastPlace
+pub mod WindowPlace
