@@ -10,7 +10,7 @@ ghost use Rattle.bx_document.specs.Document.{at_opening};
 use crate::error::DocumentError;
 use bx_explicit::Base;
 use bx_paras::Index;
-use bx_text::{Slices, Text};
+use bx_text::{Slices, Text, TextError};
 use bx_ucd::BidiData;
 use bx_view::Layout;
 use std::alloc::Global;
@@ -23,6 +23,7 @@ pub struct Document<D: BidiData + Drop> {
     pub(crate) index: Index,
     pub(crate) layout: Layout,
     pub(crate) tables: D,
+    pub(crate) alloc: Global,
 }
 
 impl<D: BidiData + Drop> Model for Document<D> {
@@ -54,12 +55,24 @@ impl<D: BidiData + Drop> Document<D> {
         w: u16,
         base: Base,
     ) -> Result<Document<D>, DocumentError>
-        requires stub { ⊥ }
         requires side { is_side w ≡ true }
         ensures ok { IfOk result (λ d. d ≡ record { tables = tables; document = at_opening (string_bytes text) w base }) }
         ensures too_long { IsErrOf result DocumentError.TooLong ↔ (largest_text < length (string_bytes text)) }
     {
-        Err(DocumentError::OutOfMemory)
+        let text = match Text::open(alloc, text) {
+            Ok(text) => text,
+            Err(TextError::TooLong) => return Err(DocumentError::TooLong),
+            Err(_) => return Err(DocumentError::OutOfMemory),
+        };
+        let index = Index::build(alloc, &text, &tables)?;
+        let layout = Layout::of(alloc, w, base);
+        Ok(Document {
+            text,
+            index,
+            layout,
+            tables,
+            alloc,
+        })
     }
 
     /// How many bytes the text has. No memory.
@@ -96,14 +109,18 @@ impl<D: BidiData + Drop> Document<D> {
 
     /// Lays the text out anew under another base direction. No memory.
     pub fn set_base(&mut self, base: Base)
-        requires stub { ⊥ }
         ensures { self.new ≡ record self.old { document = record self.old.document { base = base } } }
-    {}
+    {
+        self.layout = Layout::of(self.alloc, self.layout.width(), base);
+    }
 
-    /// Lays the text out anew in so many columns. No memory.
+    /// Lays the text out anew in so many columns, where it has others. No memory.
     pub fn set_width(&mut self, w: u16)
-        requires stub { ⊥ }
         requires side { is_side w ≡ true }
         ensures { self.new ≡ record self.old { document = record self.old.document { w = w } } }
-    {}
+    {
+        if w != self.layout.width() {
+            self.layout = Layout::of(self.alloc, w, self.layout.base());
+        }
+    }
 }

@@ -34,7 +34,10 @@ impl<D: BidiData + Drop> Document<D> {
         ensures place { IfOk result (λ o. o ≡ step_visual self.old.document.w (rows (⟦<D as Answers>⟧.data self.old.tables) self.old.document) side place) }
         ensures boundary { IfOk result (λ o. IsCharBoundary self.old.document.content.text o) }
     {
-        Err(DocumentError::OutOfMemory)
+        let place = self
+            .layout
+            .step_visual(&self.text, &self.index, &self.tables, side, place)?;
+        Ok(place)
     }
 
     /// The place in the row above or below that of a place, in the same column.
@@ -47,7 +50,10 @@ impl<D: BidiData + Drop> Document<D> {
         ensures place { IfOk result (λ o. o ≡ vertical self.old.document.w (rows (⟦<D as Answers>⟧.data self.old.tables) self.old.document) way place) }
         ensures boundary { IfOk result (λ o. IsCharBoundary self.old.document.content.text o) }
     {
-        Err(DocumentError::OutOfMemory)
+        let place = self
+            .layout
+            .vertical(&self.text, &self.index, &self.tables, way, place)?;
+        Ok(place)
     }
 
     /// The place in the row that is `t` rows above or below that of a place, at most the first or the last row, in the same
@@ -61,7 +67,10 @@ impl<D: BidiData + Drop> Document<D> {
         ensures place { IfOk result (λ o. o ≡ page self.old.document.w (rows (⟦<D as Answers>⟧.data self.old.tables) self.old.document) way t place) }
         ensures boundary { IfOk result (λ o. IsCharBoundary self.old.document.content.text o) }
     {
-        Err(DocumentError::OutOfMemory)
+        let place = self
+            .layout
+            .page(&self.text, &self.index, &self.tables, way, t, place)?;
+        Ok(place)
     }
 
     /// The first offset of the row that a place falls in.
@@ -73,7 +82,10 @@ impl<D: BidiData + Drop> Document<D> {
         ensures place { IfOk result (λ o. o ≡ row_home (rows (⟦<D as Answers>⟧.data self.old.tables) self.old.document) place) }
         ensures boundary { IfOk result (λ o. IsCharBoundary self.old.document.content.text o) }
     {
-        Err(DocumentError::OutOfMemory)
+        let place = self
+            .layout
+            .row_home(&self.text, &self.index, &self.tables, place)?;
+        Ok(place)
     }
 
     /// The paragraph's end in its last row, else the place before the row's last unit.
@@ -85,6 +97,9 @@ impl<D: BidiData + Drop> Document<D> {
         ensures place { IfOk result (λ o. o ≡ row_end (rows (⟦<D as Answers>⟧.data self.old.tables) self.old.document) place) }
         ensures boundary { IfOk result (λ o. IsCharBoundary self.old.document.content.text o) }
     {
-        Err(DocumentError::OutOfMemory)
+        let place = self
+            .layout
+            .row_end(&self.text, &self.index, &self.tables, place)?;
+        Ok(place)
     }
 }
