@@ -3,3 +3,4 @@ pub mod RowGlyphs
 pub mod Cutting
 pub mod LeastPlace
 pub mod WindowPlace
+pub mod WindowTold

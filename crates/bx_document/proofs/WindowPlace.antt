@@ -30,7 +30,7 @@ scalars_back : (x m : List ℕ) → scalars (x ++ m) ≡ true → scalars m ≡ 
 scalars_back [] m e = e
 scalars_back (c ∷ x) m e = scalars_back x m (grind (arith, nat_tests))
 
-take_parts : (i j : ℕ) (xs : List ℕ) → i ≤ j → take j xs ≡ take i xs ++ take (j - i) (drop i xs)
+pub take_parts : (i j : ℕ) (xs : List ℕ) → i ≤ j → take j xs ≡ take i xs ++ take (j - i) (drop i xs)
 take_parts i j xs h =
     let sum : j ≡ i + (j - i) = omega (arith, h) in
     sym (take-append-drop i (take j xs)) ∙ ap (λ ys. ys ++ drop i (take j xs)) (take-take i j xs h)
