@@ -1,14 +1,57 @@
 //! Edits, each with the place that it leads to. Each takes its memory first, and then changes the text.
 ghost use Rattle.std.specs.Prelude.{◌≡◌, [], true, false, IfOk, IfSome, IsCharBoundary, IsErrOf, MatchOption, OnErr, OnOk, option_map};
-ghost use Rattle.bx_text.specs.Edits.{IsRange, fits, next_redo, next_undo, redone, undone};
+ghost use Rattle.bx_text.specs.Edits.{IsRange, fits, next_redo, next_undo, redone, splice, undone};
 ghost use Rattle.bx_document.specs.Document.{after_insertion, after_removal, place_behind};
 
 use crate::answers::Answers;
 use crate::document::Document;
 use crate::error::DocumentError;
+use crate::window::window;
+use bx_paras::Index;
+use bx_terms::LARGEST_TEXT;
+use bx_text::Text;
 use bx_ucd::BidiData;
 
 impl<D: BidiData + Drop> Document<D> {
+    /// The place behind an edit that puts characters in the place of those from start to stop, which is not made yet.
+    ///
+    /// Errors: `OutOfMemory`.
+    fn place_behind(
+        &mut self,
+        start: usize,
+        stop: usize,
+        new: &str,
+    ) -> Result<usize, DocumentError>
+        requires range { IsRange self.old.document.content.text start stop }
+        requires fits { fits self.old.document.content.text start stop new.now ≡ true }
+        ensures same { self.new ≡ self.old }
+        ensures place { IfOk result (λ o. o ≡ place_behind (⟦<D as Answers>⟧.data self.old.tables) self.old.document start stop new.now) }
+        ensures boundary { IfOk result (λ o. IsCharBoundary (splice self.old.document.content.text start stop new.now) o) }
+        ensures memory { OnErr result (IsErrOf result DocumentError.OutOfMemory) }
+    {
+        let _utf8 = self.text.len();
+        let _side = self.layout.width();
+        let (first, characters) = window(
+            self.alloc,
+            &self.text,
+            &self.index,
+            &self.tables,
+            start,
+            stop,
+            new,
+        )?;
+        // It is no longer than the text after the edit.
+        let Ok(text) = Text::open(self.alloc, characters) else {
+            return Err(DocumentError::OutOfMemory);
+        };
+        let index = Index::build(self.alloc, &text, &self.tables)?;
+        let offset = start - first + new.len();
+        let place = self
+            .layout
+            .place_from(&text, &index, &self.tables, offset)?;
+        Ok(first + place)
+    }
+
     /// Puts characters in at a place, and answers the new place; none where the text would pass 16,777,216 bytes, and then
     /// nothing has changed.
     ///
