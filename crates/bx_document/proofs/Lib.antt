@@ -4,3 +4,5 @@ pub mod Cutting
 pub mod LeastPlace
 pub mod WindowPlace
 pub mod WindowTold
+pub mod PlaceBehind
+pub mod PlacesKept

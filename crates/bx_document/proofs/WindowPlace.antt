@@ -236,5 +236,6 @@ module _ (class : ℕ → Class) (text : List ℕ) (utf8 : IsUtf8 text) where
         ∙ ap (λ n. n + place_from (text_rows class bracket base w (mine ++ behind_all)) (start - a + length new)) before_bytes
         ∙ ap (λ n. a + n) (back_at_end (start - a + length new) bracket base w h (omega (arith, mine_bytes)) back.ends)
 
-    pub window_short : length mine ≤ length (splice text start stop new)
-    window_short = omega (arith, ap length whole, length-append before (mine ++ behind_all), length-append mine behind_all)
+    pub splice_utf8 : IsUtf8 (splice text start stop new)
+    splice_utf8 =
+        subst IsUtf8 (sym whole) (IsUtf8-append before (mine ++ behind_all) before_utf8 (IsUtf8-append mine behind_all mine_utf8 behind_utf8))

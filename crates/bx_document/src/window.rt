@@ -1,12 +1,17 @@
 //! The part of a text that tells the place behind an edit: the paragraphs that the edit touches, as they are after it.
-ghost use Rattle.std.specs.Prelude.{◌≡◌, ◌+◌, ◌≤◌, ◌++◌, true, IfOk, IsCharBoundary, OnOk, length, slice_range, string_bytes};
-ghost use Rattle.bx_text.specs.Edits.{IsRange, fits, largest_text};
+ghost use Rattle.std.specs.Prelude.{◌≡◌, ◌≤◌, ◌++◌, true, IfOk, IsCharBoundary, IsErrOf, OnErr, OnOk, slice_range, string_bytes};
+ghost use Rattle.bx_text.specs.Edits.{IsRange, fits};
 ghost use Rattle.bx_paras.specs.Paragraphs.{lengths};
+ghost use Rattle.bx_view.specs.Cursor.{rows_by};
+ghost use Rattle.bx_view.specs.Holding.{IsViewBy, Keeps};
+ghost use Rattle.bx_view.specs.Moves.{place_from};
 ghost use Rattle.bx_document.specs.Window.{window, window_start, window_stop};
 
+use crate::error::DocumentError;
 use bx_paras::Index;
 use bx_text::Text;
 use bx_ucd::BidiData;
+use bx_view::Layout;
 use std::alloc::{AllocError, Global};
 
 /// Where the paragraph begins that the byte before an offset stands in. No memory.
@@ -80,4 +85,28 @@ pub(crate) fn window<D: BidiData>(
     characters.push_str(new)?;
     push_range(text, stop, last, &mut characters)?;
     Ok((first, characters))
+}
+
+/// The place at an offset of some characters or behind it, where they are a text of their own, which is not too long.
+///
+/// Errors: `OutOfMemory`.
+pub(crate) fn place_in<D: BidiData>(
+    alloc: Global,
+    characters: String,
+    source: &D,
+    layout: &mut Layout,
+    offset: usize,
+) -> Result<usize, DocumentError>
+    requires data { IsViewBy (D.class_of source.now) (D.bracket_of source.now) layout.old }
+    ensures keeps { Keeps (D.class_of source.now) (D.bracket_of source.now) layout.old layout.new }
+    ensures place { IfOk result (λ o. o ≡ place_from
+        (rows_by (D.class_of source.now) (D.bracket_of source.now) layout.old (string_bytes characters)) offset) }
+    ensures memory { OnErr result (IsErrOf result DocumentError.OutOfMemory) }
+{
+    let Ok(text) = Text::open(alloc, characters) else {
+        return Err(DocumentError::OutOfMemory);
+    };
+    let index = Index::build(alloc, &text, source)?;
+    let place = layout.place_from(&text, &index, source, offset)?;
+    Ok(place)
 }
