@@ -14,13 +14,15 @@ impl<D: BidiData + Drop> Document<D> {
     ///
     /// Errors: `OutOfMemory`.
     pub fn step_logical(&mut self, way: Logical, place: usize) -> Result<usize, DocumentError>
-        requires stub { ⊥ }
         requires boundary { IsCharBoundary self.old.document.content.text place }
         ensures same { self.new ≡ self.old }
         ensures place { IfOk result (λ o. o ≡ step_logical (rows (⟦<D as Answers>⟧.data self.old.tables) self.old.document) way place) }
         ensures boundary { IfOk result (λ o. IsCharBoundary self.old.document.content.text o) }
     {
-        Err(DocumentError::OutOfMemory)
+        let place = self
+            .layout
+            .step_logical(&self.text, &self.index, &self.tables, way, place)?;
+        Ok(place)
     }
 
     /// The place of the next slot of the row to a side, or past its last slot the place where the next row or the row
@@ -28,7 +30,6 @@ impl<D: BidiData + Drop> Document<D> {
     ///
     /// Errors: `OutOfMemory`.
     pub fn step_visual(&mut self, side: Visual, place: usize) -> Result<usize, DocumentError>
-        requires stub { ⊥ }
         requires boundary { IsCharBoundary self.old.document.content.text place }
         ensures same { self.new ≡ self.old }
         ensures place { IfOk result (λ o. o ≡ step_visual self.old.document.w (rows (⟦<D as Answers>⟧.data self.old.tables) self.old.document) side place) }
@@ -44,7 +45,6 @@ impl<D: BidiData + Drop> Document<D> {
     ///
     /// Errors: `OutOfMemory`.
     pub fn vertical(&mut self, way: Vertical, place: usize) -> Result<usize, DocumentError>
-        requires stub { ⊥ }
         requires boundary { IsCharBoundary self.old.document.content.text place }
         ensures same { self.new ≡ self.old }
         ensures place { IfOk result (λ o. o ≡ vertical self.old.document.w (rows (⟦<D as Answers>⟧.data self.old.tables) self.old.document) way place) }
@@ -61,7 +61,6 @@ impl<D: BidiData + Drop> Document<D> {
     ///
     /// Errors: `OutOfMemory`.
     pub fn page(&mut self, way: Vertical, t: usize, place: usize) -> Result<usize, DocumentError>
-        requires stub { ⊥ }
         requires boundary { IsCharBoundary self.old.document.content.text place }
         ensures same { self.new ≡ self.old }
         ensures place { IfOk result (λ o. o ≡ page self.old.document.w (rows (⟦<D as Answers>⟧.data self.old.tables) self.old.document) way t place) }
@@ -77,7 +76,6 @@ impl<D: BidiData + Drop> Document<D> {
     ///
     /// Errors: `OutOfMemory`.
     pub fn row_home(&mut self, place: usize) -> Result<usize, DocumentError>
-        requires stub { ⊥ }
         ensures same { self.new ≡ self.old }
         ensures place { IfOk result (λ o. o ≡ row_home (rows (⟦<D as Answers>⟧.data self.old.tables) self.old.document) place) }
         ensures boundary { IfOk result (λ o. IsCharBoundary self.old.document.content.text o) }
@@ -92,7 +90,6 @@ impl<D: BidiData + Drop> Document<D> {
     ///
     /// Errors: `OutOfMemory`.
     pub fn row_end(&mut self, place: usize) -> Result<usize, DocumentError>
-        requires stub { ⊥ }
         ensures same { self.new ≡ self.old }
         ensures place { IfOk result (λ o. o ≡ row_end (rows (⟦<D as Answers>⟧.data self.old.tables) self.old.document) place) }
         ensures boundary { IfOk result (λ o. IsCharBoundary self.old.document.content.text o) }

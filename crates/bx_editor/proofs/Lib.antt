@@ -1,3 +1,4 @@
 pub mod Computed
 pub mod Rows
 pub mod RowText
+pub mod StepOrder

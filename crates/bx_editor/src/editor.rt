@@ -1,24 +1,16 @@
 //! The editor.
-ghost use Rattle.std.specs.Prelude.{◌≡◌, ℕ, List, true, false, IfErr, IfOk, IsUtf8, OnErr, OnOk};
+ghost use Rattle.std.specs.Prelude.{◌≡◌, ℕ, List, true};
 ghost use Rattle.std.specs.Borrow.{Bor};
 ghost use Rattle.std.specs.Iterator.{Drains};
 ghost use Rattle.bx_terms.specs.Sizes.{is_side};
 ghost use Rattle.bx_text.specs.Slices.{joined, lends};
 ghost use Rattle.bx_grid.specs.Picture.{is_size};
-ghost use Rattle.bx_editor.specs.Editor.{after_save, at_start, with_size};
-ghost use Rattle.bx_editor.specs.Keys.{after_key, is_edit_or_move, is_save, is_size_key};
-ghost use Rattle.bx_editor.specs.Opening.{Causes};
-ghost use Rattle.bx_editor.specs.Picture.{next_top, picture};
+ghost use Rattle.bx_editor.specs.Editor.{with_size};
 
-use crate::error::{EditorError, OpenError};
 use crate::message::Message;
-use bx_document::{Answers, Document};
-use bx_explicit::Base;
-use bx_grid::Picture;
-use bx_keys::Key;
+use bx_document::Document;
 use bx_text::Slices;
 use bx_ucd::BidiData;
-use std::alloc::Global;
 use std::marker::Model;
 
 /// A text that is edited, the cursor's place in it, and what the last key had to say, in a window of so many rows and
@@ -60,54 +52,14 @@ impl<D: BidiData + Drop> Model for Editor<D> {
 }
 
 impl<D: BidiData + Drop> Editor<D> {
-    /// Opens a file's bytes, with the place at its start. A refusal drops the bytes and the tables.
-    ///
-    /// Errors, in this order: `TooLong` above 16,777,216 bytes; `NotUtf8` with the number of the first bytes that are UTF-8;
-    /// `SizeOutOfRange` where a side is not from 1 to 500; `OutOfMemory`.
-    pub fn open(
-        alloc: Global,
-        bytes: Vec<u8>,
-        tables: D,
-        height: u16,
-        width: u16,
-        base: Base,
-    ) -> Result<Editor<D>, OpenError>
-        requires stub { ⊥ }
-        ensures ok { IfOk result (λ e. e ≡ record { tables = tables; editor = at_start bytes.items height width base }) }
-        ensures utf8 { OnOk result (IsUtf8 bytes.items) }
-        ensures sized { OnOk result (is_size height width ≡ true) }
-        ensures refused { IfErr result (Causes bytes.items height width) }
-    {
-        Err(OpenError::OutOfMemory)
-    }
-
-    /// Applies a key that neither saves nor tells a size.
-    ///
-    /// Errors: `OutOfMemory`, for a key that edits, undoes, redoes or moves alone: nothing has changed.
-    pub fn apply(&mut self, key: Key) -> Result<(), EditorError>
-        requires stub { ⊥ }
-        requires no_save { is_save key ≡ false }
-        requires no_size { is_size_key key ≡ false }
-        ensures ok { OnOk result (self.new.editor ≡ after_key (⟦<D as Answers>⟧.data self.old.tables) false self.old.editor key) }
-        ensures tables { self.new.tables ≡ self.old.tables }
-        ensures err { OnErr result (self.new ≡ self.old) }
-        ensures edits { OnErr result (is_edit_or_move key ≡ true) }
-    {
-        Err(EditorError::OutOfMemory)
-    }
-
     /// The window has so many rows and columns. No memory.
     pub fn resize(&mut self, height: u16, width: u16)
-        requires stub { ⊥ }
         requires sized { is_size height width ≡ true }
         ensures { self.new ≡ record self.old { editor = with_size self.old.editor height width } }
-    {}
-
-    /// A Save came to its end: it succeeded or failed. No memory.
-    pub fn finish_save(&mut self, saved: bool)
-        requires stub { ⊥ }
-        ensures { self.new ≡ record self.old { editor = after_key (⟦<D as Answers>⟧.data self.old.tables) saved self.old.editor Key.Save } }
-    {}
+    {
+        self.document.set_width(width);
+        self.height = height;
+    }
 
     /// The text's pieces in order, which joined are the text. No memory.
     pub fn pieces(&self) -> Slices<'_>
@@ -115,19 +67,6 @@ impl<D: BidiData + Drop> Editor<D> {
         ensures joined { (slices : List (Bor (List ℕ))) → Drains lends result slices → joined slices ≡ self.now.editor.content.text }
     {
         self.document.pieces()
-    }
-
-    /// What is shown of the editor where the rows were shown from the offset `top` on: the offset from which on they are
-    /// shown now, and the picture.
-    ///
-    /// Errors: `OutOfMemory`.
-    pub fn picture(&mut self, alloc: Global, top: usize) -> Result<(usize, Picture), EditorError>
-        requires stub { ⊥ }
-        ensures same { self.new ≡ self.old }
-        ensures top { IfOk result (λ shown. shown.0 ≡ next_top (⟦<D as Answers>⟧.data self.old.tables) self.old.editor top) }
-        ensures picture { IfOk result (λ shown. shown.1 ≡ picture (⟦<D as Answers>⟧.data self.old.tables) self.old.editor shown.0) }
-    {
-        Err(EditorError::OutOfMemory)
     }
 
     /// Whether Quit has ended the editor. No memory.

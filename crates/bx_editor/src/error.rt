@@ -1,4 +1,5 @@
 //! The refusals.
+use bx_document::DocumentError;
 use thiserror::Error;
 
 /// Why a file was not opened.
@@ -24,4 +25,10 @@ pub enum EditorError {
     /// Memory ran out.
     #[error("out of memory")]
     OutOfMemory,
+}
+
+impl From<DocumentError> for EditorError {
+    fn from(_error: DocumentError) -> Self {
+        EditorError::OutOfMemory
+    }
 }

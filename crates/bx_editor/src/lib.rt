@@ -1,9 +1,14 @@
 //! The editor: a text, the cursor's place in it and what keys make of them, and the picture that is shown of it.
 #![tactic(auto)]
 
+mod editing;
 mod editor;
 mod error;
+mod keys;
 pub mod message;
+mod moving;
+mod opening;
+mod picture;
 mod status;
 
 pub use editor::Editor;

@@ -113,7 +113,7 @@ module _ (class : ℕ → Class) (bracket : ℕ → Option (Side × ℕ)) (base 
     pub rows-bound : EachRow (IsBound text w) rows
     rows-bound = bound-from text [] (paragraphs class text) (sym (text-bytes class text utf8)) (text-parts class text utf8).utf8
 
-    row-bound : (n : ℕ) → n < length rows → IsBound text w (row_at rows n)
+    pub row-bound : (n : ℕ) → n < length rows → IsBound text w (row_at rows n)
     row-bound n within = each-at (IsBound text w) rows n rows-bound within
 
     some-row : 0 < length rows
@@ -137,11 +137,11 @@ module _ (class : ℕ → Class) (bracket : ℕ → Option (Side × ℕ)) (base 
     pub places-bound : Within Bound (places rows)
     places-bound = places-bound-of rows rows-bound
 
-    else-bound : (o : Option ℕ) (place : ℕ) → Lies Bound o → Bound place → Bound (unwrap_or o place)
+    pub else-bound : (o : Option ℕ) (place : ℕ) → Lies Bound o → Bound place → Bound (unwrap_or o place)
     else-bound None place a b = b
     else-bound (Some o) place a b = a
 
-    in-row-bound : (r : TextRow) (o : Option ℕ) → Lies (λ k. Bound (r.start + k)) o → Lies Bound (place_in r o)
+    pub in-row-bound : (r : TextRow) (o : Option ℕ) → Lies (λ k. Bound (r.start + k)) o → Lies Bound (place_in r o)
     in-row-bound r None a = tt
     in-row-bound r (Some o) a = a
 
@@ -186,23 +186,33 @@ module _ (class : ℕ → Class) (bracket : ℕ → Option (Side × ℕ)) (base 
     past-at true k = start-of-bound (row_after rows k) (each-get (IsBound text w) rows (k + 1) rows-bound)
     past-at false k = end-of-bound (row_before rows k) (before-bound k)
 
+    pub past-bound : (side : Visual) (k : ℕ) → Lies Bound (past w rows side k)
+    past-bound side k = past-at (reads_on side (row_at rows k).row) k
+
+    pub beside-bound : (side : Visual) (k place : ℕ) → k < length rows
+        → Lies Bound (place_in (row_at rows k) (beside w (row_at rows k).row side (place - (row_at rows k).start)))
+    beside-bound side k place within =
+        let r = row_at rows k in
+        in-row-bound r (beside w r.row side (place - r.start)) (beside-fits (λ o. Bound (r.start + o)) w r.row (row-bound k within) side (place - r.start))
+
+    pub entry-bound : (k column : ℕ) → k < length rows → Lies Bound (entry_in w (row_at rows k) column)
+    entry-bound k column within =
+        let r = row_at rows k in
+        in-row-bound r (entry w r.row column) (entry-fits (λ o. Bound (r.start + o)) w r.row (row-bound k within) column)
+
     pub boundary-step_visual : (side : Visual) (place : ℕ) → Bound place → Bound (step_visual w rows side place)
     boundary-step_visual side place b =
         let k = row_of rows place in
         let r = row_at rows k in
         let next = place_in r (beside w r.row side (place - r.start)) in
         else-bound (or_else next (past w rows side k)) place
-        (either-lies Bound next (past w rows side k) (in-row-bound r (beside w r.row side (place - r.start))
-        (beside-fits (λ o. Bound (r.start + o)) w r.row (row-bound k (own-row place)) side (place - r.start))) (past-at (reads_on side r.row) k)) b
+        (either-lies Bound next (past w rows side k) (beside-bound side k place (own-row place)) (past-bound side k)) b
 
     to-row-at : (same : Bool) (place k : ℕ) → k < length rows → Bound place
         → Bound (elim same [ true ↦ place | false ↦ unwrap_or (entry_in w (row_at rows k) (cell_of w rows place)) place ])
     to-row-at true place k within b = b
     to-row-at false place k within b =
-        let r = row_at rows k in
-        let column = cell_of w rows place in
-        else-bound (entry_in w r column) place
-        (in-row-bound r (entry w r.row column) (entry-fits (λ o. Bound (r.start + o)) w r.row (row-bound k within) column)) b
+        let column = cell_of w rows place in else-bound (entry_in w (row_at rows k) column) place (entry-bound k column within) b
 
     pub boundary-rows_away : (way : Vertical) (n place : ℕ) → Bound place → Bound (rows_away w rows way n place)
     boundary-rows_away way n place b =

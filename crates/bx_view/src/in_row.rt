@@ -1,5 +1,6 @@
 //! Places of a row of the text.
 ghost use Rattle.std.specs.Prelude.{◌≡◌, ℕ, ◌+◌, ◌-◌, ◌≤◌, IfOk, IfSome, option_map};
+ghost use Rattle.std.specs.Str.{IsCharBoundary};
 ghost use Rattle.bx_text.specs.Edits.{largest_text};
 ghost use Rattle.bx_paras.specs.Paragraphs.{lengths};
 ghost use Rattle.bx_paragraph.specs.BodyRows.{last_of};
@@ -149,6 +150,7 @@ impl Layout {
         requires index { index.now.paragraphs ≡ lengths (D.class_of source.now) text.now.edited.text }
         ensures keeps { Keeps (D.class_of source.now) (D.bracket_of source.now) self.old self.new }
         ensures end { IfOk result (λ o. o ≡ row_end (rows_by (D.class_of source.now) (D.bracket_of source.now) self.old text.now.edited.text) place) }
+        ensures boundary { IfOk result (λ o. IsCharBoundary text.now.edited.text o) }
     {
         let at = self.row_at(text, index, source, place)?;
         let end = self.last_in(text, source, at)?;

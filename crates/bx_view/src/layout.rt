@@ -1,5 +1,6 @@
 //! The layout of a text.
 ghost use Rattle.std.specs.Prelude.{◌≡◌, ℕ, ◌<◌, ◌≤◌, [], true, length, IfOk, IsUtf8};
+ghost use Rattle.std.specs.Str.{IsCharBoundary};
 ghost use Rattle.bx_terms.specs.Sizes.{is_side};
 ghost use Rattle.bx_text.specs.Edits.{largest_text};
 ghost use Rattle.bx_paras.specs.Paragraphs.{lengths};
@@ -276,6 +277,7 @@ impl Layout {
         ensures keeps { Keeps (D.class_of source.now) (D.bracket_of source.now) self.old self.new }
         ensures home { IfOk result (λ home. home
             ≡ row_home (text_rows (D.class_of source.now) (D.bracket_of source.now) self.old.base self.old.w text.now.edited.text) place) }
+        ensures boundary { IfOk result (λ o. IsCharBoundary text.now.edited.text o) }
     {
         let at = self.row_at(text, index, source, place)?;
         let paragraph = self.paragraph(text, source, at.paragraph, at.held);

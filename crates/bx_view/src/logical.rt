@@ -1,5 +1,6 @@
 //! The moves in the order of the text, and the place at an offset or behind it.
 ghost use Rattle.std.specs.Prelude.{◌≡◌, ℕ, ◌≤◌, IfOk, find, nat_le, nat_lt, reverse, unwrap_or};
+ghost use Rattle.std.specs.Str.{IsCharBoundary};
 ghost use Rattle.bx_paras.specs.Paragraphs.{lengths};
 ghost use Rattle.bx_view.specs.Cursor.{OfRow, StandsOn, rows_by};
 ghost use Rattle.bx_view.specs.Holding.{IsViewBy, Keeps};
@@ -115,6 +116,7 @@ impl Layout {
         ensures keeps { Keeps (D.class_of source.now) (D.bracket_of source.now) self.old self.new }
         ensures place { IfOk result (λ o. o ≡ place_from
             (rows_by (D.class_of source.now) (D.bracket_of source.now) self.old text.now.edited.text) offset) }
+        ensures boundary { IfOk result (λ o. IsCharBoundary text.now.edited.text o) }
     {
         let at = self.row_at(text, index, source, offset)?;
         if let Some(place) = self.from_in_row(text, source, at, offset)? {
@@ -140,6 +142,7 @@ impl Layout {
         ensures keeps { Keeps (D.class_of source.now) (D.bracket_of source.now) self.old self.new }
         ensures place { IfOk result (λ o. o ≡ unwrap_or (find (nat_lt place)
             (places (rows_by (D.class_of source.now) (D.bracket_of source.now) self.old text.now.edited.text))) place) }
+        ensures boundary { IsCharBoundary text.now.edited.text place → IfOk result (λ o. IsCharBoundary text.now.edited.text o) }
     {
         let at = self.row_at(text, index, source, place)?;
         if let Some(behind) = self.behind_in_row(text, source, at, place)? {
@@ -164,6 +167,7 @@ impl Layout {
         ensures keeps { Keeps (D.class_of source.now) (D.bracket_of source.now) self.old self.new }
         ensures place { IfOk result (λ o. o ≡ unwrap_or (find (λ p. nat_lt p place)
             (reverse (places (rows_by (D.class_of source.now) (D.bracket_of source.now) self.old text.now.edited.text)))) place) }
+        ensures boundary { IsCharBoundary text.now.edited.text place → IfOk result (λ o. IsCharBoundary text.now.edited.text o) }
     {
         let at = self.row_at(text, index, source, place)?;
         if let Some(before) = self.before_in_row(text, source, at, place)? {
@@ -192,6 +196,7 @@ impl Layout {
         ensures keeps { Keeps (D.class_of source.now) (D.bracket_of source.now) self.old self.new }
         ensures step { IfOk result (λ o. o ≡ step_logical
             (rows_by (D.class_of source.now) (D.bracket_of source.now) self.old text.now.edited.text) way place) }
+        ensures boundary { IsCharBoundary text.now.edited.text place → IfOk result (λ o. IsCharBoundary text.now.edited.text o) }
     {
         match way {
             Logical::Forward => {

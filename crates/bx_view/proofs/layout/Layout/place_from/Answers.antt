@@ -1,7 +1,9 @@
-use Rattle.std.proofs.Common.{ℕ, ◌+◌, ◌≡◌, length, subst, sym}
+use Rattle.std.proofs.Common.{ℕ, ◌+◌, ◌≡◌, length, subst, sym, IsCharBoundary}
 use Rattle.bx_view.specs.Cursor.{IsNext, IsSameAtEnd, StandsOn, rows_by}
 use Rattle.bx_view.specs.TextRows.{row_of}
 use Rattle.bx_view.proofs.StepsTold.{least-here, least-last, least-next}
+use Rattle.bx_view.proofs.Boundaries.{boundary-place_from}
+use Rattle.bx_view.proofs.KeptRows.{side-kept}
 use Rattle.bx_view.proofs.layout.Layout.place_from.Goals as goal
 
 pub returns-in-Some-clause-place : goal.returns-in-Some-clause-place
@@ -58,3 +60,33 @@ returns-clause-place g c =
     least-next class bracket c.args.self.now v text c.args.offset c.in_ok-at.at c.row_at.ensures.utf8 c.row_at.ensures.keeps on c.in_ok-place.field-0
     c.in_default.is later c.next_row.ensures.keeps c.in-Some-2.next there c.first_in.result (c.first_in.ensures (n + 1) there)
     (c.in_ok-place.ensures n on)
+
+pub returns-in-Some-clause-boundary : goal.returns-in-Some-clause-boundary
+returns-in-Some-clause-boundary g c =
+    let class = g.D.BidiData.class_of c.args.source.now in
+    let bracket = g.D.BidiData.bracket_of c.args.source.now in
+    let text = c.args.text.now.edited.text in
+    let old = c.args.self.now in
+    let utf8 = c.row_at.ensures.utf8 in
+    let some = side-kept class bracket old c.row_at.new.self text c.args.offset c.in_ok-at.at utf8 c.row_at.ensures.keeps c.in_ok-at.ensures.row in
+    subst (IsCharBoundary text) (sym (returns-in-Some-clause-place g c)) (boundary-place_from class bracket old.base old.w some text utf8 c.args.offset)
+
+pub returns-in_default-2-clause-boundary : goal.returns-in_default-2-clause-boundary
+returns-in_default-2-clause-boundary g c =
+    let class = g.D.BidiData.class_of c.args.source.now in
+    let bracket = g.D.BidiData.bracket_of c.args.source.now in
+    let text = c.args.text.now.edited.text in
+    let old = c.args.self.now in
+    let utf8 = c.row_at.ensures.utf8 in
+    let some = side-kept class bracket old c.row_at.new.self text c.args.offset c.in_ok-at.at utf8 c.row_at.ensures.keeps c.in_ok-at.ensures.row in
+    subst (IsCharBoundary text) (sym (returns-in_default-2-clause-place g c)) (boundary-place_from class bracket old.base old.w some text utf8 c.args.offset)
+
+pub returns-clause-boundary : goal.returns-clause-boundary
+returns-clause-boundary g c =
+    let class = g.D.BidiData.class_of c.args.source.now in
+    let bracket = g.D.BidiData.bracket_of c.args.source.now in
+    let text = c.args.text.now.edited.text in
+    let old = c.args.self.now in
+    let utf8 = c.row_at.ensures.utf8 in
+    let some = side-kept class bracket old c.row_at.new.self text c.args.offset c.in_ok-at.at utf8 c.row_at.ensures.keeps c.in_ok-at.ensures.row in
+    subst (IsCharBoundary text) (sym (returns-clause-place g c)) (boundary-place_from class bracket old.base old.w some text utf8 c.args.offset)
