@@ -2,3 +2,4 @@ pub mod Data
 pub mod Document
 pub mod Drawing
 pub mod Numbers
+pub mod Window

@@ -3,6 +3,7 @@ use bx_grid::GridError;
 use bx_paras::ParasError;
 use bx_text::TextError;
 use bx_view::ViewError;
+use std::alloc::AllocError;
 use thiserror::Error;
 
 /// Why a text could not be opened, or a call had no effect.
@@ -14,6 +15,17 @@ pub enum DocumentError {
     /// Memory ran out.
     #[error("out of memory")]
     OutOfMemory,
+}
+
+impl From<AllocError> for DocumentError {
+    ghost use Rattle.std.specs.Prelude.{◌≡◌};
+    ghost use Rattle.bx_document.specs.declared.error.DocumentError.TheVariants.{OutOfMemory};
+
+    ghost from_gives = { λ e r. r ≡ OutOfMemory };
+
+    fn from(_error: AllocError) -> Self {
+        DocumentError::OutOfMemory
+    }
 }
 
 impl From<ViewError> for DocumentError {

@@ -10,6 +10,7 @@ mod edits;
 mod error;
 mod moves;
 mod shown;
+mod window;
 
 pub use answers::Answers;
 pub use document::Document;
