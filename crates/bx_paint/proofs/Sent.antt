@@ -12,7 +12,8 @@ use Rattle.bx_grid.specs.Columns.{Col, Unknown, Glyph, blank, is_blank}
 use Rattle.bx_grid.specs.Glyphs.{BeginAlike}
 use Rattle.bx_grid.proofs.Equal.{are_equal_refl}
 use Rattle.std.proofs.Math.Nat.{mul-le-mul_right}
-use Rattle.bx_paint.specs.Painting.{Sent, then_sent, before_tail, leading_blanks, nothing_sent, column_sent, columns_sent, tail_sent, tail_after, row_sent, rows_sent}
+use Rattle.bx_paint.specs.Painting.{Sent, then_sent, before_tail, leading_blanks, nothing_sent}
+use Rattle.bx_paint.specs.Painting.{column_sent, columns_sent, tail_sent, tail_after, row_sent, rows_sent}
 
 -- ---- the tail
 
