@@ -1,4 +1,4 @@
-//! The calls of the session. For now it takes no tables, no direction and no store.
+//! The session's two calls that will take more: it has no tables, no direction and no store yet.
 
 use bx_explicit::Base;
 use bx_session::{self, End, OpenError, RunFault, Session};
@@ -7,6 +7,7 @@ use bx_ucd::Tables;
 use std::alloc::Global;
 use std::io::{Read, Write};
 
+/// Opens a session. The tables and the direction are not used yet.
 pub fn open(
     alloc: Global,
     bytes: Vec<u8>,
@@ -18,6 +19,7 @@ pub fn open(
     Session::open(alloc, bytes.as_slice(), height, width)
 }
 
+/// Runs a session. The store is not used yet.
 pub fn run<R: Read, W: Write, S: Store>(
     reader: &mut R,
     writer: &mut W,

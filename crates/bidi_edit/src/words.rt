@@ -25,11 +25,13 @@ pub struct Options<'a> {
     pub mirroring: &'a str,
     /// The path of the file that is edited.
     pub file: &'a str,
+    /// How the direction of each paragraph is chosen at first.
     pub direction: Base,
     ghost has_rows: { is_side rows ≡ true },
     ghost has_cols: { is_side cols ≡ true },
 }
 
+/// The names of the directions.
 static DIRECTIONS: [&str; 3] = ["auto", "ltr", "rtl"];
 
 /// An option whose value is a side of the window.
@@ -49,6 +51,7 @@ fn table<'a>(alloc: Global, name: &'a str) -> Arg<'a> {
         .required(true)
 }
 
+/// The option that names a direction.
 fn direction<'a>(alloc: Global) -> Arg<'a> {
     Arg::new(alloc, "direction")
         .long("direction")
@@ -56,7 +59,7 @@ fn direction<'a>(alloc: Global) -> Arg<'a> {
         .default_value("auto")
 }
 
-/// The words that the program knows.
+/// The command line that the program takes.
 fn command<'a>(alloc: Global) -> Result<Command<'a>, AllocError> {
     Command::new(alloc, "bidi_edit")
         .no_binary_name(true)
