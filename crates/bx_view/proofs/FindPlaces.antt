@@ -12,7 +12,7 @@ use Rattle.std.proofs.lemmas.List.Folds.{find-append}
 use Rattle.bx_paragraph.specs.BodyRows.{last_of, last_offset, offsets_of}
 use Rattle.bx_view.specs.Moves.{place_from}
 use Rattle.bx_view.specs.TextRows.{TextRow, first, no_text_row, places, places_of, row_at, row_of}
-use Rattle.bx_view.proofs.PlacesRise.{AllHeads, IsHead}
+use Rattle.bx_view.proofs.PlacesRise.{AllHeads, IsHead, firsts-of}
 use Rattle.bx_view.proofs.Rising.{Rises, begun, begun-few, begun-here, begun-not-here, rises-ahead, rises-behind, rises-within}
 
 -- ---- what is found among offsets that rise
@@ -216,14 +216,6 @@ heads-at : (rows : List TextRow) (n : ℕ) → AllHeads rows → n < length rows
 heads-at [] n a h = absurd (omega (arith, h))
 heads-at (r ∷ rs) zero a h = a.0
 heads-at (r ∷ rs) (suc n) a h = heads-at rs n a.1 (omega (arith, h))
-
--- the first places of rows rise as all do
-firsts-of : (low : ℕ) (rows : List TextRow) (high : ℕ) → AllHeads rows → Rises low (places rows) high → Rises low (map first rows) high
-firsts-of low [] high a r = r
-firsts-of low (s ∷ ss) high a r =
-    let opened : places (s ∷ ss) ≡ first s ∷ (a.0.0 ++ places ss) = flat_map-cons places_of s ss ∙ ap (λ os. os ++ places ss) a.0.1 in
-    let rise : Rises low (first s ∷ (a.0.0 ++ places ss)) high = subst (λ os. Rises low os high) opened r in
-    (rise.0, firsts-of (first s + 1) ss high a.1 (rises-behind (first s + 1) a.0.0 (places ss) high rise.1))
 
 module _ (rows : List TextRow) (high : ℕ) (rise : Rises 0 (places rows) high) (heads : AllHeads rows) (offset : ℕ)
     (some : 1 ≤ begun offset (map first rows)) where

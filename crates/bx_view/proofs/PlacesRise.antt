@@ -22,7 +22,7 @@ use Rattle.bx_view.proofs.Around.{from, own}
 use Rattle.bx_view.proofs.BodyFirsts.{next-units, none-in, starts_of, units-before}
 use Rattle.bx_view.proofs.Numbers.{bytes-length}
 use Rattle.bx_view.proofs.Parts.{AreEnded, AreUtf8, text-bytes, text-parts}
-use Rattle.bx_view.proofs.Rising.{Rises, rises-append, rises-further, rises-moved}
+use Rattle.bx_view.proofs.Rising.{Rises, rises-append, rises-behind, rises-further, rises-moved}
 
 -- ---- the rows of a body have all its units, and each has some
 
@@ -217,3 +217,17 @@ module _ (class : ℕ → Class) (bracket : ℕ → Option (Side × ℕ)) (base 
   -- and each row has its first offset as its first place
   pub rows-headed-in : (text : List ℕ) → IsUtf8 text → AllHeads (text_rows class bracket base w text)
   rows-headed-in text utf8 = from-heads 0 (paragraphs class text) (text-parts class text utf8).utf8
+
+-- the first places of rows rise as all do
+pub firsts-of : (low : ℕ) (rows : List TextRow) (high : ℕ) → AllHeads rows → Rises low (places rows) high → Rises low (map first rows) high
+firsts-of low [] high a r = r
+firsts-of low (s ∷ ss) high a r =
+    let opened : places (s ∷ ss) ≡ first s ∷ (a.0.0 ++ places ss) = flat_map-cons places_of s ss ∙ ap (λ os. os ++ places ss) a.0.1 in
+    let rise : Rises low (first s ∷ (a.0.0 ++ places ss)) high = subst (λ os. Rises low os high) opened r in
+    (rise.0, firsts-of (first s + 1) ss high a.1 (rises-behind (first s + 1) a.0.0 (places ss) high rise.1))
+
+pub firsts-rise-in : (class : ℕ → Class) (bracket : ℕ → Option (Side × ℕ)) (base : Base) (w : ℕ) → 1 ≤ w → (text : List ℕ) → IsUtf8 text
+    → Rises 0 (map first (text_rows class bracket base w text)) (length text + 1)
+firsts-rise-in class bracket base w h text utf8 =
+    firsts-of 0 (text_rows class bracket base w text) (length text + 1) (rows-headed-in class bracket base w h text utf8)
+    (places-rise class bracket base w h text utf8)

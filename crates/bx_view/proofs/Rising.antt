@@ -35,6 +35,10 @@ pub rises-within : (low : ℕ) (os : List ℕ) (high : ℕ) → Rises low os hig
 rises-within low [] high r = r
 rises-within low (o ∷ os) high r = omega (arith, r.0, rises-within (o + 1) os high r.1)
 
+pub rises-few : (low : ℕ) (os : List ℕ) (high : ℕ) → Rises low os high → low + length os ≤ high
+rises-few low [] high r = omega (arith, r)
+rises-few low (o ∷ os) high r = omega (arith, r.0, rises-few (o + 1) os high r.1)
+
 pub rises-moved : (at low : ℕ) (os : List ℕ) (high : ℕ) → Rises low os high → Rises (at + low) (map (λ o. at + o) os) (at + high)
 rises-moved at low [] high r = omega (arith, r)
 rises-moved at low (o ∷ os) high r =

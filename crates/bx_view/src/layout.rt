@@ -26,9 +26,9 @@ use std::marker::Model;
 /// once, and no rows of the whole text.
 #[derive(Drop)]
 pub struct Layout {
-    base: Base,
-    w: u16,
-    held: Vec<ParagraphLayout>,
+    pub(crate) base: Base,
+    pub(crate) w: u16,
+    pub(crate) held: Vec<ParagraphLayout>,
     // the number of the one that was found last
     recent: usize,
 }

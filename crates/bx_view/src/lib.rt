@@ -1,6 +1,7 @@
 //! The rows of a whole text, the places of its cursor in them, the moves, and the rows that are shown.
 #![tactic(auto)]
 
+mod counting;
 mod cursor;
 mod error;
 mod holder;
