@@ -2,3 +2,4 @@ pub mod Session
 pub mod Saving
 pub mod Painting
 pub mod Running
+pub mod Laws

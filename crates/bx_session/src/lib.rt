@@ -4,6 +4,7 @@
 mod end;
 mod error;
 mod feeding;
+mod laws;
 mod open;
 mod painting;
 mod running;
@@ -14,6 +15,7 @@ mod status;
 pub use bx_editor::OpenError;
 pub use end::{End, RunFault};
 pub use error::Refused;
+pub use laws::{keys_are_those_of_input, paintings_keep_up};
 pub use running::{run, run_within};
 pub use session::Session;
 pub use status::Status;
