@@ -1,12 +1,12 @@
 -- Characters that are cut where a paragraph begins: each part has its own paragraphs.
-use Rattle.std.proofs.Common.{◌≡◌, ◌<◌, ◌∙◌, ◌+◌, ◌⊎◌, inl, inr, ℕ, Bool, true, false, List, [], ◌∷◌, ◌++◌, length, encode_utf8, refl, ap, sym, arith, append_assoc}
+use Rattle.std.proofs.Common.{◌≡◌, ◌<◌, ◌∙◌, inl, inr, ℕ, Bool, true, false, List, [], ◌∷◌, ◌++◌, length, encode_utf8, refl, ap, sym, arith, append_assoc}
 use Rattle.std.proofs.Common.{append-nil, length-append}
 use Rattle.std.proofs.lemmas.Bool.Decides.{nat_tests}
 use Rattle.bx_ucd.specs.declared.class.Class.{Class}
 use Rattle.bx_paras.specs.declared.lengths.Lengths.{Lengths}
 use Rattle.bx_paras.specs.Paragraphs.{Paragraph, after_character, after_cr, bare, cut}
 use Rattle.bx_paras.specs.Positions.{bytes_of, total}
-use Rattle.bx_paras.proofs.Cuts.{Beginning, IsFirst, beginning, ends, is_paired, lens, parts, parts_append, parts_same, unended, widths, widths_append}
+use Rattle.bx_paras.proofs.Cuts.{Beginning, beginning, ends, is_paired, lens, parts, parts_append, parts_same, widths, widths_append}
 
 module _ (class : ℕ → Class) where
   -- ---- where a paragraph begins

@@ -11,13 +11,12 @@ use Rattle.std.proofs.lemmas.Str.{chars-append, IsUtf8-append, IsUtf8-nil}
 use Rattle.bx_ucd.specs.declared.class.Class.{Class}
 use Rattle.bx_ucd.specs.declared.data.Side.{Side}
 use Rattle.bx_explicit.specs.declared.base.Base.{Base}
-use Rattle.bx_paras.specs.declared.lengths.Lengths.{Lengths}
 use Rattle.bx_paras.specs.Paragraphs.{Paragraph, bare, cut, lengths_of, paragraphs}
 use Rattle.bx_paras.specs.Positions.{bytes_of, total}
 use Rattle.bx_paras.proofs.Cuts.{parts}
 use Rattle.bx_paras.proofs.Totals.{total_push}
 use Rattle.bx_paras.proofs.Turns.{total_lengths}
-use Rattle.bx_paragraph.specs.BodyRows.{BodyRow, body_rows, first_of, last_offset, offsets_of}
+use Rattle.bx_paragraph.specs.BodyRows.{BodyRow, first_of, last_offset, offsets_of}
 use Rattle.bx_view.specs.Moves.{place_from}
 use Rattle.bx_view.specs.TextRows.{TextRow, places, places_of, rows_from, text_row, text_rows}
 use Rattle.bx_view.proofs.Around.{from-append, own}

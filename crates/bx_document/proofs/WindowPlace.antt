@@ -1,5 +1,5 @@
 -- The place behind an edit is told by the paragraphs that the edit touches.
-use Rattle.std.proofs.Common.{◌≡◌, ℕ, ◌+◌, ◌-◌, ◌<◌, ◌≤◌, ◌⊎◌, inl, inr, Bool, true, List, [], ◌∷◌, ◌++◌, map, length, take, drop, chars, slice_range, Option}
+use Rattle.std.proofs.Common.{◌≡◌, ℕ, ◌+◌, ◌-◌, ◌<◌, ◌≤◌, ◌⊎◌, inl, inr, true, List, [], ◌∷◌, ◌++◌, map, length, take, drop, chars, slice_range, Option}
 use Rattle.std.proofs.Common.{encode_utf8_all, IsUtf8, IsCharBoundary, refl, sym, ap, subst, ◌∙◌, arith, append_assoc, append-nil, length-append, length-drop}
 use Rattle.std.proofs.Common.{⊎_elim}
 use Rattle.std.proofs.lemmas.Bool.{cases_lt}
@@ -12,13 +12,13 @@ use Rattle.bx_ucd.specs.declared.class.Class.{Class}
 use Rattle.bx_ucd.specs.declared.data.Side.{Side}
 use Rattle.bx_explicit.specs.declared.base.Base.{Base}
 use Rattle.bx_text.specs.Edits.{IsRange, splice}
-use Rattle.bx_paras.specs.Paragraphs.{lengths, lengths_of, paragraphs}
+use Rattle.bx_paras.specs.Paragraphs.{lengths, lengths_of}
 use Rattle.bx_paras.specs.Positions.{paragraph_of, total}
 use Rattle.bx_paras.proofs.Cuts.{lens, parts, widths}
 use Rattle.bx_paras.proofs.Turns.{total_lengths}
 use Rattle.bx_view.specs.Moves.{place_from}
 use Rattle.bx_view.specs.Standing.{count, start_at}
-use Rattle.bx_view.specs.TextRows.{TextRow, text_rows}
+use Rattle.bx_view.specs.TextRows.{text_rows}
 use Rattle.bx_view.proofs.Numbers.{ahead, behind, falls-at, here, holds-of, lengths-count, parts-at, some-paragraph, start-is}
 use Rattle.bx_document.specs.Window.{window, window_start, window_stop}
 use Rattle.bx_document.proofs.Cutting.{parts_ahead, parts_behind, seam}

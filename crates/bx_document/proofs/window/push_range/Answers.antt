@@ -1,4 +1,4 @@
-use Rattle.std.proofs.Common.{◌≤◌, ◌+◌, length, string_bytes}
+use Rattle.std.proofs.Common.{◌+◌, length, string_bytes}
 use Rattle.bx_text.specs.Edits.{IsRange}
 use Rattle.bx_document.proofs.WindowTold.{pushed_part}
 use Rattle.bx_document.proofs.window.push_range.Goals as goal

@@ -1,5 +1,5 @@
 -- What was put behind the characters stands before the offset.
-use Rattle.std.proofs.Common.{◌≡◌, ◌≤◌, ◌-◌, ◌++◌, slice_range, string_bytes}
+use Rattle.std.proofs.Common.{◌≡◌, ◌-◌, ◌++◌, slice_range, string_bytes}
 use Rattle.bx_text.specs.Edits.{IsRange}
 use Rattle.bx_document.proofs.window.push_range.Given as goal
 
