@@ -1,3 +1,5 @@
 pub mod Computed
 pub mod Rows
 pub mod RowText
+pub mod Shown
+pub mod StatusRow

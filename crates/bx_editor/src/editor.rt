@@ -8,13 +8,11 @@ ghost use Rattle.bx_grid.specs.Picture.{is_size};
 ghost use Rattle.bx_editor.specs.Editor.{after_save, at_start, with_size};
 ghost use Rattle.bx_editor.specs.Keys.{after_key, is_edit_or_move, is_save, is_size_key};
 ghost use Rattle.bx_editor.specs.Opening.{Causes};
-ghost use Rattle.bx_editor.specs.Picture.{next_top, picture};
 
 use crate::error::{EditorError, OpenError};
 use crate::message::Message;
 use bx_document::{Answers, Document};
 use bx_explicit::Base;
-use bx_grid::Picture;
 use bx_keys::Key;
 use bx_text::Slices;
 use bx_ucd::BidiData;
@@ -115,19 +113,6 @@ impl<D: BidiData + Drop> Editor<D> {
         ensures joined { (slices : List (Bor (List ℕ))) → Drains lends result slices → joined slices ≡ self.now.editor.content.text }
     {
         self.document.pieces()
-    }
-
-    /// What is shown of the editor where the rows were shown from the offset `top` on: the offset from which on they are
-    /// shown now, and the picture.
-    ///
-    /// Errors: `OutOfMemory`.
-    pub fn picture(&mut self, alloc: Global, top: usize) -> Result<(usize, Picture), EditorError>
-        requires stub { ⊥ }
-        ensures same { self.new ≡ self.old }
-        ensures top { IfOk result (λ shown. shown.0 ≡ next_top (⟦<D as Answers>⟧.data self.old.tables) self.old.editor top) }
-        ensures picture { IfOk result (λ shown. shown.1 ≡ picture (⟦<D as Answers>⟧.data self.old.tables) self.old.editor shown.0) }
-    {
-        Err(EditorError::OutOfMemory)
     }
 
     /// Whether Quit has ended the editor. No memory.

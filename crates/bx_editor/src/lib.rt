@@ -4,6 +4,7 @@
 mod editor;
 mod error;
 pub mod message;
+mod picture;
 mod status;
 
 pub use editor::Editor;
