@@ -1,5 +1,5 @@
 -- The text of the status row: its characters, and the columns that it takes of a row.
-use Rattle.std.proofs.Common.{◌≡◌, ℕ, zero, suc, ◌+◌, ◌-◌, ◌*◌, ◌%◌, ◌^◌, ◌<◌, ◌≤◌, Bool, true, false, nat_le, ◌&&◌, List, [], ◌∷◌, ◌++◌, length, map, min, take}
+use Rattle.std.proofs.Common.{◌≡◌, ℕ, zero, suc, ◌+◌, ◌-◌, ◌*◌, ◌%◌, ◌^◌, ◌<◌, ◌≤◌, Bool, true, false, nat_le, ◌&&◌, List, [], ◌∷◌, ◌++◌, length, map, take}
 use Rattle.std.proofs.Common.{drop, replicate, decimal, Option, Some, None, refl, sym, ap, ap₂, subst, ◌∙◌, arith, get_or, IsCharBoundary}
 use Rattle.std.specs.Prelude.{codes, if◌then◌else◌}
 use Rattle.std.specs.Str.{IsAscii}

@@ -24,7 +24,11 @@ put_status-requires-clause-blank g c =
 pub returns-clause-top : goal.returns-clause-top
 returns-clause-top g c =
     let i = c.self.inside in
-    let d : Data = (record { class = g.D.BidiData.class_of i.document.tables; bracket = g.D.BidiData.bracket_of i.document.tables; mirror = g.D.BidiData.mirror_of i.document.tables }) in
+    let d : Data = (record {
+      class = g.D.BidiData.class_of i.document.tables;
+      bracket = g.D.BidiData.bracket_of i.document.tables;
+      mirror = g.D.BidiData.mirror_of i.document.tables;
+    }) in
     let e : Editor = (record {
       content = i.document.document.content;
       place = i.place;
@@ -37,14 +41,22 @@ returns-clause-top g c =
       width = i.document.document.w;
     }) in
     let count = c.from.ensures ∙ c.text_height-count.ensures.rows in
-    subst (λ s. c.in_ok-top.top ≡ next_top (record { class = g.D.BidiData.class_of s.tables; bracket = g.D.BidiData.bracket_of s.tables; mirror = g.D.BidiData.mirror_of s.tables }) s.editor c.args.top) c.self.view_is
+    subst (λ s. c.in_ok-top.top ≡ next_top (record {
+      class = g.D.BidiData.class_of s.tables;
+      bracket = g.D.BidiData.bracket_of s.tables;
+      mirror = g.D.BidiData.mirror_of s.tables;
+    }) s.editor c.args.top) c.self.view_is
     (c.in_ok-top.ensures.top ∙ ap (follow (rows d e) c.args.top i.place) count
     ∙ sym (ap (λ b. if b then c.args.top else follow (rows d e) c.args.top i.place (text_height i.height)) c.if-self.false))
 
 pub returns-clause-picture : goal.returns-clause-picture
 returns-clause-picture g c =
     let i = c.self.inside in
-    let d : Data = (record { class = g.D.BidiData.class_of i.document.tables; bracket = g.D.BidiData.bracket_of i.document.tables; mirror = g.D.BidiData.mirror_of i.document.tables }) in
+    let d : Data = (record {
+      class = g.D.BidiData.class_of i.document.tables;
+      bracket = g.D.BidiData.bracket_of i.document.tables;
+      mirror = g.D.BidiData.mirror_of i.document.tables;
+    }) in
     let e : Editor = (record {
       content = i.document.document.content;
       place = i.place;
@@ -66,14 +78,34 @@ returns-clause-picture g c =
     let same2 = c.draw.ensures.same ∙ same1 in
     let same3 = c.cell_of.ensures.same ∙ same2 in
     let drawn = subst (λ doc. mid ≡ record was {
-      columns = shown_columns (record { class = g.D.BidiData.class_of doc.tables; bracket = g.D.BidiData.bracket_of doc.tables; mirror = g.D.BidiData.mirror_of doc.tables }) doc.document top n ++ replicate ((was.height - n) * was.width) blank;
+      columns = shown_columns (record {
+        class = g.D.BidiData.class_of doc.tables;
+        bracket = g.D.BidiData.bracket_of doc.tables;
+        mirror = g.D.BidiData.mirror_of doc.tables;
+      }) doc.document top n ++ replicate ((was.height - n) * was.width) blank;
     }) same1 c.in_ok-row.ensures.drawn in
-    let row = subst (λ doc. c.in_ok-row.row ≡ row_of (document_rows (record { class = g.D.BidiData.class_of doc.tables; bracket = g.D.BidiData.bracket_of doc.tables; mirror = g.D.BidiData.mirror_of doc.tables }) doc.document) i.place
-    - row_of (document_rows (record { class = g.D.BidiData.class_of doc.tables; bracket = g.D.BidiData.bracket_of doc.tables; mirror = g.D.BidiData.mirror_of doc.tables }) doc.document) top) same1 c.in_ok-row.ensures.row in
-    let cell = subst (λ doc. c.in_ok-column.column ≡ cell_of doc.document.w (document_rows (record { class = g.D.BidiData.class_of doc.tables; bracket = g.D.BidiData.bracket_of doc.tables; mirror = g.D.BidiData.mirror_of doc.tables }) doc.document) i.place) same2
+    let row = subst (λ doc. c.in_ok-row.row ≡ row_of (document_rows (record {
+      class = g.D.BidiData.class_of doc.tables;
+      bracket = g.D.BidiData.bracket_of doc.tables;
+      mirror = g.D.BidiData.mirror_of doc.tables;
+    }) doc.document) i.place
+    - row_of (document_rows (record {
+      class = g.D.BidiData.class_of doc.tables;
+      bracket = g.D.BidiData.bracket_of doc.tables;
+      mirror = g.D.BidiData.mirror_of doc.tables;
+    }) doc.document) top) same1 c.in_ok-row.ensures.row in
+    let cell = subst (λ doc. c.in_ok-column.column ≡ cell_of doc.document.w (document_rows (record {
+      class = g.D.BidiData.class_of doc.tables;
+      bracket = g.D.BidiData.bracket_of doc.tables;
+      mirror = g.D.BidiData.mirror_of doc.tables;
+    }) doc.document) i.place) same2
     c.in_ok-column.ensures.cell in
     let status = subst (λ doc. new ≡ record mid {
-      columns = take (text_height i.height * doc.document.w) mid.columns ++ status_columns (record { class = g.D.BidiData.class_of doc.tables; bracket = g.D.BidiData.bracket_of doc.tables; mirror = g.D.BidiData.mirror_of doc.tables }) (record {
+      columns = take (text_height i.height * doc.document.w) mid.columns ++ status_columns (record {
+        class = g.D.BidiData.class_of doc.tables;
+        bracket = g.D.BidiData.bracket_of doc.tables;
+        mirror = g.D.BidiData.mirror_of doc.tables;
+      }) (record {
         content = doc.document.content;
         place = i.place;
         changed = i.changed;
@@ -93,7 +125,11 @@ returns-clause-picture g c =
     ≡ rows_columns d e.width (text_height i.height) (shown_rows all top (text_height i.height)) =
     ap₂ (λ t w. take (t * w) mid.columns) (sym c.text_height-count.ensures.rows) (sym wide) ∙ front
     ∙ ap (λ t. rows_columns d e.width t (shown_rows all top t)) c.text_height-count.ensures.rows in
-    subst (λ s. c.new-2.result ≡ picture (record { class = g.D.BidiData.class_of s.tables; bracket = g.D.BidiData.bracket_of s.tables; mirror = g.D.BidiData.mirror_of s.tables }) s.editor top) c.self.view_is
+    subst (λ s. c.new-2.result ≡ picture (record {
+      class = g.D.BidiData.class_of s.tables;
+      bracket = g.D.BidiData.bracket_of s.tables;
+      mirror = g.D.BidiData.mirror_of s.tables;
+    }) s.editor top) c.self.view_is
     (picture-is new (rows_columns d e.width (text_height e.height) (shown_rows all top (text_height e.height)) ++ status_columns d e) e.height e.width
     (row_of all e.place - row_of all top) (cell_of e.width all e.place) (c.in_ok-row.row + 1) c.in_ok-column.column c.new-2.result c.new-2.ensures
     (ap (λ x. x.height) status ∙ ap (λ x. x.height) drawn ∙ high) (ap (λ x. x.width) status ∙ wide)
