@@ -1,5 +1,7 @@
 //! The refusals.
 use bx_document::DocumentError;
+use bx_grid::GridError;
+use std::alloc::AllocError;
 use thiserror::Error;
 
 /// Why a file was not opened.
@@ -29,6 +31,18 @@ pub enum EditorError {
 
 impl From<DocumentError> for EditorError {
     fn from(_error: DocumentError) -> Self {
+        EditorError::OutOfMemory
+    }
+}
+
+impl From<GridError> for EditorError {
+    fn from(_error: GridError) -> Self {
+        EditorError::OutOfMemory
+    }
+}
+
+impl From<AllocError> for EditorError {
+    fn from(_error: AllocError) -> Self {
         EditorError::OutOfMemory
     }
 }

@@ -5,17 +5,11 @@ ghost use Rattle.bx_editor.specs.Editor.{rows, text_height, with_place, without_
 
 use crate::editor::Editor;
 use crate::error::EditorError;
+use crate::picture::text_height;
 use bx_document::Answers;
 use bx_paragraph::Visual;
 use bx_ucd::BidiData;
 use bx_view::{Logical, Vertical};
-
-/// How many rows of text a window of so many rows shows.
-fn text_height(height: u16) -> u16
-    ensures { result ≡ text_height height }
-{
-    if height >= 2 { height - 1 } else { 1 }
-}
 
 impl<D: BidiData + Drop> Editor<D> {
     /// The cursor goes to a place.
