@@ -5,9 +5,8 @@ ghost use Rattle.bx_terms.specs.Sizes.{is_side};
 ghost use Rattle.bx_ucd.specs.Reading.{refusal};
 
 use crate::fault::ProgramFault;
-use crate::session::{open, run};
 use bx_explicit::Base;
-use bx_session::End;
+use bx_session::{End, Session, run};
 use bx_store::Store;
 use bx_ucd::Tables;
 use std::alloc::Global;
@@ -37,7 +36,7 @@ pub fn edit<R: Read, W: Write, S: Store>(
 {
     let tables = Tables::read(alloc, classes, brackets, mirroring)?;
     let bytes = file.unwrap_or(Vec::new(alloc));
-    let mut session = open(alloc, bytes, tables, rows, cols, direction)?;
+    let mut session = Session::open(alloc, bytes, tables, rows, cols, direction)?;
     match run(reader, writer, store, &mut session)? {
         End::InputEnded { changed: true } => Err(ProgramFault::Unsaved),
         End::InputEnded { changed: false } | End::Quit => Ok(()),

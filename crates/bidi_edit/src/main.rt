@@ -9,7 +9,6 @@ mod edit;
 mod exit;
 mod fault;
 mod files;
-mod session;
 mod words;
 
 use bx_store::FileStore;

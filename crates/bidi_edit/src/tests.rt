@@ -3,4 +3,6 @@
 mod editing;
 mod ending;
 mod files;
+mod saving;
+mod sessions;
 mod words;

@@ -3,7 +3,7 @@
 use crate::edit::edit;
 use crate::fault::ProgramFault;
 use bx_explicit::Base;
-use bx_session::RunFault;
+use bx_session::{OpenError, RunFault};
 use bx_store::MemoryStore;
 use bx_ucd::sample::{BRACKETS, CLASSES, MIRRORING};
 use std::alloc::Global;
@@ -73,6 +73,13 @@ fn ends_of_input(rt: HostRuntime) {
     );
     assert_eq!(rt; outcome(rt.alloc(), b"ab", b""), Ok(()));
     assert_eq!(rt; outcome(rt.alloc(), b"ab", b"\x11"), Ok(()));
+}
+
+#[test]
+fn a_file_that_is_not_utf8(rt: HostRuntime) -> Result<(), Fail> {
+    let outcome = outcome(rt.alloc(), b"a\xff", b"");
+    assert_eq!(rt; outcome, Err(ProgramFault::Open(OpenError::NotUtf8(1))));
+    Ok(())
 }
 
 #[test]

@@ -17,6 +17,7 @@ fn faults_by_their_lines(rt: HostRuntime) -> Result<(), Fail> {
         ProgramFault::of_file("a path", ErrorKind::NotFound),
         ProgramFault::of_file("a path", ErrorKind::OutOfMemory),
         ProgramFault::from(OpenError::TooLong),
+        ProgramFault::from(OpenError::NotUtf8(1)),
         ProgramFault::from(OpenError::OutOfMemory),
         ProgramFault::from(RunFault::ReadFault),
         ProgramFault::from(RunFault::WriteFault),
@@ -29,7 +30,7 @@ fn faults_by_their_lines(rt: HostRuntime) -> Result<(), Fail> {
     }
     assert_eq!(rt;
         text.as_str(),
-        "bidi_edit: cannot read a path\nbidi_edit: out of memory\nbidi_edit: file too long\nbidi_edit: out of memory\nbidi_edit: input failed\nbidi_edit: output failed\nbidi_edit: too many reads\nbidi_edit: out of memory\nbidi_edit: input ended before saving\n"
+        "bidi_edit: cannot read a path\nbidi_edit: out of memory\nbidi_edit: file too long\nbidi_edit: not UTF-8 at byte 1\nbidi_edit: out of memory\nbidi_edit: input failed\nbidi_edit: output failed\nbidi_edit: too many reads\nbidi_edit: out of memory\nbidi_edit: input ended before saving\n"
     );
     Ok(())
 }
