@@ -160,6 +160,16 @@ process_of() { # PATTERN
     ps -t "${tty#/dev/}" -o pid=,args= | sed 's/^ *//' | grep -e "^[0-9]* $1" | awk 'NR == 1 { print $1 }'
 }
 
+is_there() {
+    [ -n "$(process_of "$1")" ]
+}
+
+# Sends a signal to a process of this terminal, once it is there.
+send_signal() { # SIGNAL PATTERN
+    wait_for 50 is_there "$2"
+    send_signal "$1" "$2"
+}
+
 # ---- a program that records
 
 # Lies where an installed launcher looks for its program.
@@ -267,23 +277,23 @@ check_recorder() {
     if asked kill; then
         for signal in TERM HUP INT QUIT; do
             start 24 80 "$recorder" still
-            kill -s "$signal" "$(process_of "$shell .*bin/bidi-edit")"
+            send_signal "$signal" "$shell .*bin/bidi-edit"
             finish "kill, the launcher by $signal" "$((128 + $(signal_number "$signal")))" 50
         done
         start 24 80 "$recorder" still
         wait_for 50 test -s "$folder/words"
-        kill -s KILL "$(process_of 'sleep 1000')"
+        send_signal KILL 'sleep 1000'
         finish 'kill, the program' 137 50
         start 24 80 "$recorder" f
         wait_for 50 test -e "$folder/record"
-        kill -s KILL "$(process_of 'dd bs=512')"
+        send_signal KILL 'dd bs=512'
         finish 'kill, the reader of keys' 9 50
         start 24 80 "$recorder" still
         terminal load-buffer -b text "$folder/paste"
         terminal paste-buffer -r -b text -t person
         resize 20 70
         sleep 0.3
-        kill -s TERM "$(process_of "$shell .*bin/bidi-edit")"
+        send_signal TERM "$shell .*bin/bidi-edit"
         is_flooded=1
         finish 'kill, the launcher while the pipe is full' 143 50
         is_flooded=''
@@ -396,12 +406,12 @@ check_editor() {
         printf 'some words' >"$note"
         cp "$note" "$folder/opened"
         start 8 60 "$top/bidi-edit" note
-        kill -s TERM "$(process_of '.*bidi_edit --rows')"
+        send_signal TERM '.*bidi_edit --rows'
         finish 'end, the program killed' 143 50
         for signal in TERM HUP; do
             start 8 60 "$top/bidi-edit" note
             type_keys x
-            kill -s "$signal" "$(process_of "$shell .*/bidi-edit note")"
+            send_signal "$signal" "$shell .*/bidi-edit note"
             finish "end, the launcher by $signal" "$((128 + $(signal_number "$signal")))" 50
         done
         cmp "$note" "$folder/opened" >/dev/null
