@@ -167,7 +167,7 @@ is_there() {
 # Sends a signal to a process of this terminal, once it is there.
 send_signal() { # SIGNAL PATTERN
     wait_for 50 is_there "$2"
-    send_signal "$1" "$2"
+    kill -s "$1" "$(process_of "$2")"
 }
 
 # ---- a program that records
