@@ -22,7 +22,7 @@ editor=$top/crates/bidi_edit/out/bidi_edit
 wanted="$*"
 folder=$(mktemp -d)
 socket="bx$$"
-passed=0 failed=0
+passed=0 failed=0 tables='' is_flooded=''
 trap 'tmux -L "$socket" kill-server 2>/dev/null; rm -rf "$folder"' EXIT
 trap 'exit 1' HUP INT TERM
 mkdir "$folder/private" "$folder/work"
@@ -82,6 +82,10 @@ is_editing() {
     [ "$(terminal display-message -p -t person '#{alternate_on}')" = 1 ]
 }
 
+is_editing_or_over() {
+    is_editing || [ -e "$folder/ended" ]
+}
+
 has_ended() {
     [ -e "$folder/ended" ]
 }
@@ -92,9 +96,9 @@ has_ended() {
 start() { # ROWS COLS LAUNCHER WORD..
     rows=$1 cols=$2
     shift 2
-    rm -f "$folder/ended" "$folder/status" "$folder/before" "$folder/after" "$folder/record" "$folder/words"
+    rm -f "$folder/line" "$folder/ended" "$folder/status" "$folder/before" "$folder/after" "$folder/record" "$folder/words"
     {
-        echo "export TMPDIR='$folder/private' BX_RECORD='$folder/record' BX_WORDS='$folder/words'"
+        echo "export BIDI_EDIT_DATA='$tables' TMPDIR='$folder/private' BX_RECORD='$folder/record' BX_WORDS='$folder/words'"
         echo "cd '$folder/work'"
         echo "echo as before"
         echo "stty -g >'$folder/before'"
@@ -104,12 +108,14 @@ start() { # ROWS COLS LAUNCHER WORD..
         echo "echo \$? >'$folder/status'"
         echo "stty -g >'$folder/after'"
         echo "touch '$folder/ended'"
+        echo "read -r line"
+        echo "echo \"\$line\" >'$folder/line'"
         echo "exec sleep 600"
     } >"$folder/run"
     terminal new-session -d -s person -x "$cols" -y "$rows" "sh $folder/run" \; set -g status off
     terminal resize-window -t person -x "$cols" -y "$rows" 2>/dev/null
     tty=$(terminal display-message -p -t person '#{pane_tty}')
-    wait_for 50 is_editing
+    wait_for 50 is_editing_or_over
 }
 
 type_keys() {
@@ -125,9 +131,18 @@ finish() { # NAME STATUS TENTHS
     wait_for "$3" has_ended || report "$1, its end" 1 'it goes on'
     same "$1, status" "$(cat "$folder/status" 2>/dev/null)" "$2"
     same "$1, the terminal's settings" "$(cat "$folder/after" 2>/dev/null)" "$(cat "$folder/before")"
-    same "$1, the screen before" "$(terminal capture-pane -p -t person | grep -c .) $(terminal capture-pane -p -t person | head -n 1)" '1 as before'
-    same "$1, processes that stay" "$(ps -t "${tty#/dev/}" -o args= | grep -v -e '^sleep 600' | paste -s -d '|')" ''
+    same "$1, processes that stay" "$(ps -t "${tty#/dev/}" -o args= | grep -v -x -e "sh $folder/run" -e 'sleep 600' | paste -s -d '|')" ''
     same "$1, files that stay" "$(ls -A "$folder/private")" ''
+    # What was pasted and not taken is the shell's.
+    if [ -n "$is_flooded" ]; then
+        terminal kill-session -t person
+        return
+    fi
+    same "$1, the screen before" "$(terminal capture-pane -p -t person | grep -c .) $(terminal capture-pane -p -t person | head -n 1)" '1 as before'
+    type_keys -l 'a line'
+    type_keys Enter
+    wait_for 20 test -s "$folder/line"
+    same "$1, the shell's next line" "$(cat "$folder/line" 2>/dev/null)" 'a line'
     terminal kill-session -t person
 }
 
@@ -143,6 +158,16 @@ asked() {
 # The process of this terminal whose words fit.
 process_of() { # PATTERN
     ps -t "${tty#/dev/}" -o pid=,args= | sed 's/^ *//' | grep -e "^[0-9]* $1" | awk 'NR == 1 { print $1 }'
+}
+
+is_there() {
+    [ -n "$(process_of "$1")" ]
+}
+
+# Sends a signal to a process of this terminal, once it is there.
+send_signal() { # SIGNAL PATTERN
+    wait_for 50 is_there "$2"
+    kill -s "$1" "$(process_of "$2")"
 }
 
 # ---- a program that records
@@ -186,6 +211,20 @@ check_recorder() {
         same 'words, direction' "$(word_after --direction)" rtl
         same 'words, file' "$(tail -n 1 "$folder/words")" 'a file'
         same 'words, fault' "$(cat "$folder/errors")" 'bidi_edit: a fault'
+    fi
+    if asked tables; then
+        tables=$top/data
+        start 24 80 "$recorder" f
+        wait_for 50 test -e "$folder/record"
+        type_keys C-q
+        finish tables 7 50
+        same 'tables, where BIDI_EDIT_DATA says' "$(word_after --classes)" "$top/data/DerivedBidiClass.txt"
+        tables=$folder/work
+        start 24 80 "$recorder" f
+        finish 'tables, none there' 1 50
+        same 'tables, none there: the words' "$(cat "$folder/errors")" \
+            "bidi-edit: BIDI_EDIT_DATA names $folder/work, which lacks DerivedBidiClass.txt, BidiBrackets.txt or BidiMirroring.txt"
+        tables=''
     fi
     if asked size; then
         start 24 80 "$recorder" f
@@ -238,24 +277,26 @@ check_recorder() {
     if asked kill; then
         for signal in TERM HUP INT QUIT; do
             start 24 80 "$recorder" still
-            kill -s "$signal" "$(process_of "$shell .*bin/bidi-edit")"
+            send_signal "$signal" "$shell .*bin/bidi-edit"
             finish "kill, the launcher by $signal" "$((128 + $(signal_number "$signal")))" 50
         done
         start 24 80 "$recorder" still
         wait_for 50 test -s "$folder/words"
-        kill -s KILL "$(process_of 'sleep 1000')"
+        send_signal KILL 'sleep 1000'
         finish 'kill, the program' 137 50
         start 24 80 "$recorder" f
         wait_for 50 test -e "$folder/record"
-        kill -s KILL "$(process_of 'dd bs=512')"
+        send_signal KILL 'dd bs=512'
         finish 'kill, the reader of keys' 9 50
         start 24 80 "$recorder" still
         terminal load-buffer -b text "$folder/paste"
         terminal paste-buffer -r -b text -t person
         resize 20 70
         sleep 0.3
-        kill -s TERM "$(process_of "$shell .*bin/bidi-edit")"
+        send_signal TERM "$shell .*bin/bidi-edit"
+        is_flooded=1
         finish 'kill, the launcher while the pipe is full' 143 50
+        is_flooded=''
     fi
 }
 
@@ -365,12 +406,12 @@ check_editor() {
         printf 'some words' >"$note"
         cp "$note" "$folder/opened"
         start 8 60 "$top/bidi-edit" note
-        kill -s TERM "$(process_of '.*bidi_edit --rows')"
+        send_signal TERM '.*bidi_edit --rows'
         finish 'end, the program killed' 143 50
         for signal in TERM HUP; do
             start 8 60 "$top/bidi-edit" note
             type_keys x
-            kill -s "$signal" "$(process_of "$shell .*/bidi-edit note")"
+            send_signal "$signal" "$shell .*/bidi-edit note"
             finish "end, the launcher by $signal" "$((128 + $(signal_number "$signal")))" 50
         done
         cmp "$note" "$folder/opened" >/dev/null
