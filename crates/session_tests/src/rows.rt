@@ -45,7 +45,7 @@ fn an_erasure_at_the_start_sends_nothing(rt: HostRuntime) -> Result<(), Fail> {
 fn a_wide_glyph_moves_along(rt: HostRuntime) -> Result<(), Fail> {
     let mut scene = Scene::open(rt.alloc(), "\u{4e16}", 1, 4, Base::Auto)?;
     scene.types(b"x")?;
-    assert!(rt; scene.sends(b"\x1b[1;1Hx\xe4\xb8\x96\x1b[1;2H")?);
+    assert!(rt; scene.sends(b"\x1b[1;1Hx\x1b[1;2H\xe4\xb8\x96\x1b[1;2H")?);
     Ok(())
 }
 
