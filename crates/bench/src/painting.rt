@@ -26,7 +26,7 @@ fn put_glyph(grid: &mut Grid, cell: Cell, glyph: Glyph, negative: bool) -> Resul
     if !grid.has_room(cell, glyph.columns as usize) {
         bail!("no room for a glyph");
     }
-    grid.put(cell, glyph.text, negative)?;
+    grid.put_counted(cell, glyph.text, glyph.columns as usize, negative)?;
     Ok(())
 }
 

@@ -1,63 +1,68 @@
-//! Why the program ends with a status that is not 0.
+//! Why the program ends with status 1.
 
 use bx_session::{OpenError, RunFault};
+use bx_store::StoreFault;
+use bx_ucd::UcdError;
+use std::alloc::AllocError;
 use std::io::ErrorKind;
 use thiserror::Error;
 
 /// A fault, whose text is the line that is told of it.
 #[derive(Debug, Drop, PartialEq, Eq, Error)]
-pub enum ProgramFault {
-    #[error("the words are not ROWS COLS FILE")]
-    Words,
-    #[error("a word is not UTF-8")]
-    WordNotUtf8,
-    /// FILE is there, and cannot be read.
-    #[error("cannot read FILE")]
-    Unreadable,
-    #[error("{0}")]
+pub enum ProgramFault<'a> {
+    /// A line of one of Unicode's files is refused.
+    #[error("bidi_edit: {0}")]
+    Tables(UcdError),
+    /// The file of this path is not there, or cannot be read.
+    #[error("bidi_edit: cannot read {0}")]
+    Unreadable(&'a str),
+    #[error("bidi_edit: {0}")]
     Open(OpenError),
-    #[error("{0}")]
+    #[error("bidi_edit: {0}")]
     Run(RunFault),
-    #[error("input ended before saving")]
+    #[error("bidi_edit: input ended before saving")]
     Unsaved,
-    #[error("out of memory")]
+    #[error("bidi_edit: out of memory")]
     OutOfMemory,
 }
 
-impl ProgramFault {
-    /// Why the words of the command line could not be had.
-    pub fn of_words(kind: ErrorKind) -> ProgramFault {
+impl<'a> ProgramFault<'a> {
+    /// Why the file of a path could not be read.
+    pub fn of_file(path: &'a str, kind: ErrorKind) -> ProgramFault<'a> {
         match kind {
             ErrorKind::OutOfMemory => ProgramFault::OutOfMemory,
-            _ => ProgramFault::WordNotUtf8,
-        }
-    }
-
-    /// Why FILE could not be read.
-    pub fn of_file(kind: ErrorKind) -> ProgramFault {
-        match kind {
-            ErrorKind::OutOfMemory => ProgramFault::OutOfMemory,
-            _ => ProgramFault::Unreadable,
-        }
-    }
-
-    /// The status that the program ends with: 2 where its words are refused, else 1.
-    pub fn status(&self) -> u8 {
-        match self {
-            ProgramFault::Words | ProgramFault::WordNotUtf8 => 2,
-            _ => 1,
+            _ => ProgramFault::Unreadable(path),
         }
     }
 }
 
-impl From<OpenError> for ProgramFault {
+impl From<UcdError> for ProgramFault<'_> {
+    fn from(error: UcdError) -> Self {
+        ProgramFault::Tables(error)
+    }
+}
+
+impl From<OpenError> for ProgramFault<'_> {
     fn from(error: OpenError) -> Self {
         ProgramFault::Open(error)
     }
 }
 
-impl From<RunFault> for ProgramFault {
+impl From<RunFault> for ProgramFault<'_> {
     fn from(fault: RunFault) -> Self {
         ProgramFault::Run(fault)
+    }
+}
+
+impl From<StoreFault> for ProgramFault<'_> {
+    /// A store that cannot be made is want of memory.
+    fn from(_fault: StoreFault) -> Self {
+        ProgramFault::OutOfMemory
+    }
+}
+
+impl From<AllocError> for ProgramFault<'_> {
+    fn from(_error: AllocError) -> Self {
+        ProgramFault::OutOfMemory
     }
 }

@@ -1,59 +1,70 @@
 //! A full-screen editor: keys come from standard input, the screen goes to standard output.
 //!
-//! `bidi_edit ROWS COLS FILE`. Exit status 0: ended by Quit, or the input ended with nothing changed;
-//! 1: a fault; 2: the words are no such three. A line on standard error tells the fault.
+//! `bidi_edit [--rows N] [--cols N] [--direction auto|ltr|rtl] --classes F --brackets F --mirroring F FILE`. Exit status 0:
+//! ended by Quit, or the input ended with nothing changed; 1: a fault, which a line on standard error tells; 2: the command
+//! line was refused, and standard error tells why.
 #![tactic(auto)]
 
 mod edit;
+mod exit;
 mod fault;
-mod file;
+mod files;
 mod words;
 
+use bx_store::FileStore;
 use edit::edit;
+use exit::{finish, refuse, refuse_words};
 use fault::ProgramFault;
-use file::text_of;
+use files::{table_of, text_of};
 use std::env;
-use std::io::{Read, Write};
+use std::io::{self, Read, Write};
 use std::process::ExitCode;
-use words::command_line;
+use words::{Options, command_line};
 
 /// Edits what the command line asks for.
-fn program<R: Read, W: Write>(
+fn program<'a, R: Read, W: Write>(
     rt: &HostRuntime,
-    words: env::Args,
+    options: &Options<'a>,
     reader: &mut R,
     writer: &mut W,
-) -> Result<(), ProgramFault> {
-    let options = command_line(words).ok_or(ProgramFault::Words)?;
-    let text = text_of(rt, options.file.as_str())?;
+) -> Result<(), ProgramFault<'a>> {
+    let classes = table_of(rt, options.classes)?;
+    let brackets = table_of(rt, options.brackets)?;
+    let mirroring = table_of(rt, options.mirroring)?;
+    let file = text_of(rt, options.file)?;
+    let mut store = FileStore::new(rt, rt.alloc(), options.file)?;
     edit(
         rt.alloc(),
         reader,
         writer,
-        text.as_slice(),
+        &mut store,
+        file,
+        classes.as_slice(),
+        brackets.as_slice(),
+        mirroring.as_slice(),
         options.rows,
         options.cols,
+        options.direction,
     )
 }
 
-/// Tells a fault on standard error, and the status that the program ends with.
-fn finish(rt: &HostRuntime, outcome: Result<(), ProgramFault>) -> ExitCode {
-    match outcome {
-        Ok(()) => ExitCode::SUCCESS,
-        Err(fault) => {
-            // where standard error takes no line there is nobody to tell
-            let _ = eprintln!(rt; "bidi_edit: {fault}");
-            ExitCode::from(fault.status())
-        }
-    }
+/// The words after the program's name.
+fn words_of(rt: &HostRuntime) -> io::Result<Vec<String>> {
+    Ok(env::args(rt)?.skip(1).collect(rt.alloc())?)
 }
 
 fn main(rt: HostRuntime) -> ExitCode {
-    let outcome = match env::args(&rt) {
-        Ok(words) => program(&rt, words, &mut rt.reader(), &mut rt.stdout()),
-        Err(error) => Err(ProgramFault::of_words(error.kind())),
+    let words = match words_of(&rt) {
+        Ok(words) => words,
+        Err(error) => return refuse_words(&rt, error.kind()),
     };
-    finish(&rt, outcome)
+    match command_line(rt.alloc(), words.as_slice()) {
+        Ok(options) => {
+            let outcome = program(&rt, &options, &mut rt.reader(), &mut rt.stdout());
+            finish(&rt, outcome)
+        }
+        Err(error) => refuse(&rt, &error),
+    }
 }
 
 #[cfg(test)]

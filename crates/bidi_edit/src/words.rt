@@ -3,38 +3,119 @@
 ghost use Rattle.std.specs.Prelude.{◌≡◌, true, IfSome};
 ghost use Rattle.bx_terms.specs.Sizes.{is_side};
 
+use bx_explicit::Base;
 use bx_terms::is_side;
-use std::env;
+use clap::error::ErrorKind;
+use clap::{Arg, ArgMatches, Command, value_parser};
+use std::alloc::{AllocError, Global};
+use std::convert::AsStr;
 
 /// What the program is asked to do.
 #[derive(Drop)]
-pub struct Options {
+pub struct Options<'a> {
     /// The window's rows, from 1 to 500.
     pub rows: u16,
     /// The window's columns, from 1 to 500.
     pub cols: u16,
-    pub file: String,
+    /// The path of DerivedBidiClass.txt.
+    pub classes: &'a str,
+    /// The path of BidiBrackets.txt.
+    pub brackets: &'a str,
+    /// The path of BidiMirroring.txt.
+    pub mirroring: &'a str,
+    /// The path of the file that is edited.
+    pub file: &'a str,
+    /// How the direction of each paragraph is chosen at first.
+    pub direction: Base,
+    ghost has_rows: { is_side rows ≡ true },
+    ghost has_cols: { is_side cols ≡ true },
 }
 
-/// A side of the window, from 1 to 500.
-fn side(word: &str) -> Option<u16>
+/// The names of the directions.
+static DIRECTIONS: [&str; 3] = ["auto", "ltr", "rtl"];
+
+/// An option whose value is a side of the window.
+fn side<'a>(alloc: Global, name: &'a str, default: &'a str) -> Arg<'a> {
+    Arg::new(alloc, name)
+        .long(name)
+        .value_name("N")
+        .value_parser(value_parser!(u16).range(1..=500))
+        .default_value(default)
+}
+
+/// An option that names one of Unicode's files.
+fn table<'a>(alloc: Global, name: &'a str) -> Arg<'a> {
+    Arg::new(alloc, name)
+        .long(name)
+        .value_name("F")
+        .required(true)
+}
+
+/// The option that names a direction.
+fn direction<'a>(alloc: Global) -> Arg<'a> {
+    Arg::new(alloc, "direction")
+        .long("direction")
+        .value_parser(DIRECTIONS.as_slice())
+        .default_value("auto")
+}
+
+/// The command line that the program takes.
+fn command<'a>(alloc: Global) -> Result<Command<'a>, AllocError> {
+    Command::new(alloc, "bidi_edit")
+        .no_binary_name(true)
+        .disable_help_flag(true)
+        .disable_version_flag(true)
+        .arg(side(alloc, "rows", "24"))?
+        .arg(side(alloc, "cols", "80"))?
+        .arg(direction(alloc))?
+        .arg(table(alloc, "classes"))?
+        .arg(table(alloc, "brackets"))?
+        .arg(table(alloc, "mirroring"))?
+        .arg(Arg::new(alloc, "file").value_name("FILE").required(true))
+}
+
+/// The side of the window that an option names.
+fn side_of(matches: &ArgMatches<'_>, name: &str) -> Option<u16>
     ensures { IfSome result (λ n. is_side n ≡ true) }
 {
-    match word.parse::<u16>() {
-        Ok(n) if is_side(n) => Some(n),
+    matches.get_one::<u16>(name).filter(|n| is_side(*n))
+}
+
+/// The direction that a word names.
+fn base_of(name: &str) -> Option<Base> {
+    match name {
+        "auto" => Some(Base::Auto),
+        "ltr" => Some(Base::Ltr),
+        "rtl" => Some(Base::Rtl),
         _ => None,
     }
 }
 
-/// The words, of which the first is the program's name; none where the others are not a window's rows, its columns and
-/// a file.
-pub fn command_line(mut words: env::Args) -> Option<Options> {
-    let _program = words.next()?;
-    let rows = side(words.next()?.as_str())?;
-    let cols = side(words.next()?.as_str())?;
-    let file = words.next()?;
-    if words.next().is_some() {
-        return None;
+/// What clap found; none where it lacks a value or has one that is none of ours.
+fn options_of<'a>(matches: &ArgMatches<'a>) -> Option<Options<'a>> {
+    Some(Options {
+        rows: side_of(matches, "rows")?,
+        cols: side_of(matches, "cols")?,
+        classes: matches.get_str("classes")?,
+        brackets: matches.get_str("brackets")?,
+        mirroring: matches.get_str("mirroring")?,
+        file: matches.get_str("file")?,
+        direction: base_of(matches.get_str("direction")?)?,
+    })
+}
+
+/// What the words after the program's name ask for.
+///
+/// Errors: clap's, whose text tells what is wrong with the words.
+pub fn command_line<'a, S: AsStr>(
+    alloc: Global,
+    words: &'a [S],
+) -> Result<Options<'a>, clap::Error> {
+    let mut command = command(alloc)?;
+    let matches = command.try_get_matches_from_mut(words)?;
+    match options_of(&matches) {
+        Some(options) => Ok(options),
+        // clap has refused such words before: each argument is required or has a default, and has a parser
+        None => Err(command.error(ErrorKind::InvalidValue, "a value is missing")?),
     }
-    Some(Options { rows, cols, file })
 }

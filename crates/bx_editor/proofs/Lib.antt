@@ -1,5 +1,6 @@
 pub mod Computed
 pub mod Rows
-pub mod PutOn
-pub mod RowGlyphs
 pub mod RowText
+pub mod StepOrder
+pub mod Shown
+pub mod StatusRow

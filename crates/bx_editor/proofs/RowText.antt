@@ -9,8 +9,8 @@ use Rattle.bx_grid.specs.Columns.{Glyph, paste, plain_columns, run_columns, run_
 use Rattle.bx_grid.specs.Picture.{GridState, HasRoom, IsWithin}
 use Rattle.bx_grid.proofs.Laid.{plain_is_one, plain_run_width, plain_text}
 use Rattle.bx_grid.proofs.Reading.{and_left, and_right}
-use Rattle.bx_editor.specs.Drawing.{with_row}
-use Rattle.bx_editor.proofs.PutOn.{IsRoomy, put_next, room_next, within_next}
+use Rattle.bx_document.specs.Drawing.{with_row}
+use Rattle.bx_document.proofs.PutOn.{IsRoomy, put_next, room_next, within_next}
 
 pub printable_at : (text : List ℕ) (i : ℕ) → are_ascii_printable text ≡ true → i < length text → is_ascii_printable (get_or text i 0) ≡ true
 printable_at [] i h inside = absurd (omega arith)

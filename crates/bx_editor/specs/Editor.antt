@@ -25,6 +25,11 @@ pub record Editor : Type 0 where
   pub height : ℕ
   pub width : ℕ
 
+-- an editor with the tables that it edits by
+pub record EditorState (D : Type 0) : Type 0 where
+  pub tables : D
+  pub editor : Editor
+
 -- at opening
 abbrev pub at_start : List ℕ → ℕ → ℕ → Base → Editor
 at_start text height width base = record {

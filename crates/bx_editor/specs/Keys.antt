@@ -59,6 +59,10 @@ abbrev pub is_save : Key → Bool
 is_save Save = true
 is_save _ = false
 
+abbrev pub is_size_key : Key → Bool
+is_size_key (Size height width) = true
+is_size_key _ = false
+
 -- a key after which nothing is taken for known of the screen
 abbrev pub asks_for_whole : Key → Bool
 asks_for_whole Repaint = true

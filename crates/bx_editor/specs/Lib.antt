@@ -1,6 +1,6 @@
 pub mod Data
 pub mod Editor
 pub mod Keys
-pub mod Status
+pub mod Opening
 pub mod Picture
-pub mod Drawing
+pub mod Status

@@ -1,25 +1,13 @@
 -- The picture of an editor's state: rows of text from the top on, the status row, and the cursor.
 use Rattle.std.specs.Prelude.{ℕ, ◌-◌, ◌*◌, List, ◌++◌, length, flat_map, replicate, if◌then◌else◌}
-use Rattle.bx_view.specs.TextRows.{TextRow, row_of, cell_of, text_row_glyphs}
+use Rattle.bx_view.specs.TextRows.{TextRow, row_of, cell_of}
 use Rattle.bx_view.specs.Top.{follow, shown_rows}
-use Rattle.bx_rows.specs.RowPicture.{Glyph}
-use Rattle.bx_grid.specs.Columns.{Col, blank, glyph_columns}
+pub use Rattle.bx_document.specs.Drawing.{row_columns, rows_columns, side_by_side}
+use Rattle.bx_grid.specs.Columns.{blank}
 use Rattle.bx_grid.specs.Picture.{PictureState}
 use Rattle.bx_editor.specs.Data.{Data}
 use Rattle.bx_editor.specs.Editor.{Editor, rows, text_height}
 use Rattle.bx_editor.specs.Status.{status_columns}
-
--- the columns of glyphs side by side
-abbrev pub side_by_side : List Glyph → List Col
-side_by_side glyphs = flat_map (λ g. glyph_columns g.text g.columns g.negative) glyphs
-
--- the columns of a row of text
-abbrev pub row_columns : Data → ℕ → TextRow → List Col
-row_columns d width r = side_by_side (text_row_glyphs d.class d.mirror width r)
-
--- those of the rows that are shown, and blank rows where the text ends
-abbrev pub rows_columns : Data → ℕ → ℕ → List TextRow → List Col
-rows_columns d width count shown = flat_map (row_columns d width) shown ++ replicate ((count - length shown) * width) blank
 
 abbrev pub blank_picture : ℕ → ℕ → PictureState
 blank_picture height width = record { height = height; width = width; columns = replicate (height * width) blank; row = 0; column = 0 }

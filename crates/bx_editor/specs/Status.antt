@@ -1,11 +1,8 @@
 -- The status row: whether there are changes, where the cursor stands, and a message.
-use Rattle.std.specs.Prelude.{ℕ, ◌+◌, nat_le, nat_lt, List, [], ◌∷◌, ◌++◌, map, take, replicate, count_by, slice_index_or, Option, Some, None, codes, decimal}
+use Rattle.std.specs.Prelude.{ℕ, ◌+◌, nat_le, List, [], ◌∷◌, ◌++◌, map, take, replicate, Option, Some, None, codes, decimal}
 use Rattle.std.specs.Prelude.{Bool, false, if◌then◌else◌}
 use Rattle.bx_explicit.specs.declared.base.Base.TheVariants.{Auto, Ltr, Rtl}
-use Rattle.bx_ucd.specs.declared.class.Class.{Class}
-use Rattle.bx_paras.specs.Paragraphs.{Paragraph, paragraphs, lengths_of}
-use Rattle.bx_paras.specs.Positions.{paragraph_of, spans}
-use Rattle.bx_cells.specs.Units.{units}
+pub use Rattle.bx_document.specs.Numbers.{paragraph_number, unit_number}
 use Rattle.bx_grid.specs.Columns.{Col, Glyph, blank}
 use Rattle.bx_editor.specs.declared.message.Message.{Message}
 use Rattle.bx_editor.specs.declared.message.Message.TheVariants.{Saved, SaveFailed, TextFull, NothingToUndo, NothingToRedo, Unsaved, Direction}
@@ -27,16 +24,6 @@ abbrev pub message_part : Option Message → List ℕ
 message_part None = []
 message_part (Some message) = codes " " ++ message_text message
 
--- how many units of a body that begins at the offset `start` begin before a place
-abbrev pub units_before : (ℕ → Class) → ℕ → ℕ → ℕ → List ℕ → ℕ
-units_before class width start place body = count_by (λ u. nat_lt (start + u.start) place) (units class width body)
-
--- the number of a place among the units of paragraph `k`, from 1
-abbrev pub unit_number : (ℕ → Class) → ℕ → List Paragraph → ℕ → ℕ → ℕ
-unit_number class width ps k place =
-    let start = (slice_index_or (spans (map lengths_of ps)) k (0, 0)).0 in
-    units_before class width start place (slice_index_or (map (λ p. p.body) ps) k []) + 1
-
 -- a star where there are changes, the numbers of a paragraph and of a unit in it, both from 1, and a message
 abbrev pub status_line : Bool → ℕ → ℕ → Option Message → List ℕ
 status_line changed paragraph unit message =
@@ -45,9 +32,7 @@ status_line changed paragraph unit message =
 -- that of an editor: where the cursor stands
 abbrev pub status_text : Data → Editor → List ℕ
 status_text d e =
-    let ps = paragraphs d.class e.content.text in
-    let k = paragraph_of (map lengths_of ps) e.place in
-    status_line e.changed (k + 1) (unit_number d.class e.width ps k e.place) e.message
+    status_line e.changed (paragraph_number d.class e.content.text e.place + 1) (unit_number d.class e.width e.content.text e.place) e.message
 
 -- a text of characters from SPACE to TILDE, cut or filled up with blanks to the width
 abbrev pub text_columns : ℕ → List ℕ → List Col

@@ -1,10 +1,17 @@
 //! The editor: a text, the cursor's place in it and what keys make of them, and the picture that is shown of it.
 #![tactic(auto)]
 
-mod drawing;
+mod editing;
+mod editor;
+mod error;
+mod keys;
 pub mod message;
+mod moving;
+mod opening;
+mod picture;
 mod status;
 
-pub use drawing::put_row;
+pub use editor::Editor;
+pub use error::{EditorError, OpenError};
 pub use message::Message;
 pub use status::{put_text, status_line};

@@ -1,8 +1,8 @@
 //! The status row.
-ghost use Rattle.std.specs.Prelude.{◌≡◌, ◌<◌, ◌≤◌, false, true, IfOk, OnErr, OnOk, length, string_bytes};
+ghost use Rattle.std.specs.Prelude.{◌≡◌, ◌<◌, ◌≤◌, false, true, IfOk, OnErr, OnOk, length, string_bytes, take};
 ghost use Rattle.bx_terms.specs.Characters.{are_ascii_printable};
 ghost use Rattle.bx_grid.specs.Columns.{plain_columns};
-ghost use Rattle.bx_editor.specs.Drawing.{IsBlankFrom, with_row};
+ghost use Rattle.bx_document.specs.Drawing.{IsBlankFrom, with_row};
 ghost use Rattle.bx_editor.specs.Status.{status_line};
 
 use crate::message::Message;
@@ -10,11 +10,8 @@ use bx_grid::{Cell, Grid, GridError};
 use itoa::Buffer;
 use std::alloc::{AllocError, Global};
 
-/// The text of the status row: a star where there are changes, the numbers of the cursor's paragraph and of its unit there,
-/// both from 1, and a message.
-///
-/// Errors: want of memory.
-pub fn status_line(
+/// The text of the status row.
+fn write_line(
     alloc: Global,
     changed: bool,
     paragraph: usize,
@@ -34,6 +31,34 @@ pub fn status_line(
         line.push_str(message.text())?;
     }
     Ok(line)
+}
+
+/// The text of the status row: a star where there are changes, the numbers of the cursor's paragraph and of its unit there,
+/// both from 1, and a message.
+///
+/// Errors: want of memory.
+pub fn status_line(
+    alloc: Global,
+    changed: bool,
+    paragraph: usize,
+    unit: usize,
+    message: Option<Message>,
+) -> Result<String, AllocError>
+    ensures line { IfOk result (λ t. string_bytes t ≡ status_line changed paragraph unit message) }
+    ensures printable { IfOk result (λ t. are_ascii_printable (string_bytes t) ≡ true) }
+{
+    let line = write_line(alloc, changed, paragraph, unit, message)?;
+    Ok(line)
+}
+
+/// The first characters of a text of characters from SPACE to TILDE, at most so many.
+pub fn cut(text: &str, width: usize) -> &str
+    requires printable { are_ascii_printable text.now ≡ true }
+    ensures cut { result.now ≡ take width text.now }
+    ensures printable { are_ascii_printable result.now ≡ true }
+    ensures fits { length result.now ≤ width }
+{
+    &text[..text.len().min(width)]
 }
 
 /// Puts characters from SPACE to TILDE into row number `row` of a grid, from 0, which is blank from that row on.

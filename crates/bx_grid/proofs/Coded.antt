@@ -1,16 +1,18 @@
 -- Rows whose codes are equal and all tell their columns show the same.
-use Rattle.std.proofs.Common.{◌≡◌, ℕ, ◌+◌, ◌*◌, ◌-◌, ◌/◌, ◌%◌, ◌≤◌, ◌<◌, Bool, true, false, not, ◌&&◌, nat_eq, nat_le, nat_lt, if◌then◌else◌, List, [], ◌∷◌, ◌++◌, length}
+use Rattle.std.proofs.Common.{◌≡◌, ℕ, ◌+◌, ◌*◌, ◌-◌, ◌/◌, ◌%◌, ◌≤◌, ◌<◌, Bool, true}
+use Rattle.std.proofs.Common.{false, not, ◌&&◌, nat_eq, nat_le, nat_lt, if◌then◌else◌, List, [], ◌∷◌, ◌++◌, length}
 use Rattle.std.proofs.Common.{take, drop, set, get_or, zero, suc, refl, ap, sym, ◌∙◌, append_assoc, length-append, below_more, min, inl, inr, arith}
 use Rattle.std.proofs.lemmas.Bool.{cases_lt}
 use lib.Bits.{bit_or, bit_xor, xor_assoc, xor_self, xor_zero_l, xor_zero_r}
 use Rattle.std.specs.List.{list_all}
-use Rattle.std.proofs.lemmas.List.{same_lists, drop_more, get_or-drop, get_or-map, length-drop, length-map, length-take-le, map-append, set_at, take_more, take-map, take_all}
+use Rattle.std.proofs.lemmas.List.{same_lists, drop_more, get_or-drop, get_or-map, length-drop, length-map}
+use Rattle.std.proofs.lemmas.List.{length-take-le, map-append, set_at, take_more, take-map, take_all}
 use Rattle.std.proofs.lemmas.List.{drop-map}
 use Rattle.std.proofs.lemmas.Bool.Decides.{nat_tests}
 use Rattle.std.proofs.lemmas.Nat.{le_or_l, le_or_r}
 use Rattle.bx_grid.specs.Columns.{Col, Unknown, Glyph, col_eq, are_equal, paste}
-use Rattle.bx_grid.specs.Codes.{is_byte, is_short, packed, no_code, is_code, code_in, code_of, codes_of, columns_in, are_same_narrow}
-use Rattle.bx_grid.specs.Glyphs.{IsNarrow}
+use Rattle.bx_grid.specs.Codes.{is_byte, is_short, packed, no_code, is_code, code_in, code_of, codes_of, columns_in, offset_in, are_same_code}
+use Rattle.bx_grid.specs.Glyphs.{BeginAlike}
 use Rattle.bx_grid.specs.Seen.{seen, all_seen}
 use Rattle.bx_grid.specs.declared.column.Column.{Column}
 use Rattle.bx_grid.proofs.Equal.{are_equal_refl, lists_are, col_is}
@@ -126,23 +128,76 @@ same_by_codes xs ys a b ea eb e h =
 told_columns : (n c o x : ℕ) → c < 4 → o < 4 → x ≤ 1 → (((((n * 4 + c) * 4 + o) * 2 + x) / 8) % 4) ≡ c
 told_columns n c o x lc lo lx = omega arith
 
-narrow_by : (x : Col) → is_code (code_of x) ≡ true → columns_in (code_of x) ≡ 1 → IsNarrow x
-narrow_by Unknown h e = absurd (none_is h)
-narrow_by (Glyph text columns offset negative) h e =
+told_offset : (n c o x : ℕ) → c < 4 → o < 4 → x ≤ 1 → (((((n * 4 + c) * 4 + o) * 2 + x) / 2) % 4) ≡ o
+told_offset n c o x lc lo lx = omega arith
+
+same_told : (x y : Col) (a b : ℕ) → a ≡ code_of x → b ≡ code_of y → are_same_code a b ≡ true → (x ≡ y) × (is_code (code_of x) ≡ true)
+same_told x y a b ea eb h =
+    let same : nat_eq a b ≡ true = and_left (nat_eq a b) (is_code a) h in
+    let code : is_code a ≡ true = and_right (nat_eq a b) (is_code a) h in
+    let equal : a ≡ b = grind (arith, nat_tests) in
+    let told : is_code (code_of x) ≡ true = ap is_code (sym ea) ∙ code in
+    (code_same x y (sym ea ∙ equal ∙ eb) told, told)
+
+-- a column that is not its glyph's first
+alike_inside : (x : Col) (xs ys : List Col) → is_code (code_of x) ≡ true → 0 < offset_in (code_of x) → BeginAlike (x ∷ xs) (x ∷ ys)
+alike_inside Unknown xs ys h some = tt
+alike_inside (Glyph text columns offset negative) xs ys h some = λ none.
     let told = told_by (fits text columns offset) text columns offset negative refl h in
-    let here : columns_in (code_in (packed text) columns offset negative) ≡ 1 = ap columns_in (sym told.code) ∙ e in
+    let is : offset_in (code_of (Glyph text columns offset negative)) ≡ offset =
+    ap offset_in told.code ∙ told_offset (packed text) columns offset (flag negative) told.narrow told.near (flag_low negative) in
+    absurd (omega (arith, is, none, some))
+
+count_is : (text : List ℕ) (columns offset n : ℕ) (negative : Bool) → is_code (code_of (Glyph text columns offset negative)) ≡ true
+    → columns_in (code_of (Glyph text columns offset negative)) ≡ n → columns ≡ n
+count_is text columns offset n negative h e =
+    let told = told_by (fits text columns offset) text columns offset negative refl h in
+    let here : columns_in (code_in (packed text) columns offset negative) ≡ n = ap columns_in (sym told.code) ∙ e in
     sym (told_columns (packed text) columns offset (flag negative) told.narrow told.near (flag_low negative)) ∙ here
 
-pub narrow_told : (x y : Col) (a b : ℕ) → a ≡ code_of x → b ≡ code_of y → are_same_narrow a b ≡ true → (x ≡ y) × IsNarrow x
-narrow_told x y a b ea eb h =
-    let front = and_left (nat_eq a b && is_code a) (nat_eq (columns_in a) 1) h in
-    let same : nat_eq a b ≡ true = and_left (nat_eq a b) (is_code a) front in
-    let code : is_code a ≡ true = and_right (nat_eq a b) (is_code a) front in
-    let one : nat_eq (columns_in a) 1 ≡ true = and_right (nat_eq a b && is_code a) (nat_eq (columns_in a) 1) h in
-    let equal : a ≡ b = grind (arith, nat_tests) in
-    let narrow : columns_in a ≡ 1 = grind (arith, nat_tests) in
-    let told : is_code (code_of x) ≡ true = ap is_code (sym ea) ∙ code in
-    (code_same x y (sym ea ∙ equal ∙ eb) told, narrow_by x told (ap columns_in (sym ea) ∙ narrow))
+-- a glyph of one column, and one of two
+alike_narrow : (x : Col) (xs ys : List Col) → is_code (code_of x) ≡ true → columns_in (code_of x) ≡ 1 → BeginAlike (x ∷ xs) (x ∷ ys)
+alike_narrow Unknown xs ys h e = tt
+alike_narrow (Glyph text columns offset negative) xs ys h e = λ first.
+    let one : columns ≡ 1 = count_is text columns offset 1 negative h e in
+    rw one refl
+
+alike_wide : (x z : Col) (xs ys : List Col) → is_code (code_of x) ≡ true → columns_in (code_of x) ≡ 2 → BeginAlike (x ∷ z ∷ xs) (x ∷ z ∷ ys)
+alike_wide Unknown z xs ys h e = tt
+alike_wide (Glyph text columns offset negative) z xs ys h e = λ first.
+    let two : columns ≡ 2 = count_is text columns offset 2 negative h e in
+    rw two refl
+
+-- what codes at an index tell of two rows
+pub inside_told : (xs ys : List Col) (i a b : ℕ) → i < length xs → i < length ys → a ≡ code_of (get_or xs i Unknown) → b ≡ code_of (get_or ys i Unknown)
+    → are_same_code a b ≡ true → 0 < offset_in a → BeginAlike (drop i xs) (drop i ys)
+inside_told xs ys i a b low also ea eb h some =
+    let same = same_told (get_or xs i Unknown) (get_or ys i Unknown) a b ea eb h in
+    rw (drop_more xs i Unknown low, drop_more ys i Unknown also, ← same.0)
+    (alike_inside (get_or xs i Unknown) (drop (i + 1) xs) (drop (i + 1) ys) same.1 (rw (← ea) some))
+
+pub narrow_told : (xs ys : List Col) (i a b : ℕ) → i < length xs → i < length ys → a ≡ code_of (get_or xs i Unknown) → b ≡ code_of (get_or ys i Unknown)
+    → are_same_code a b ≡ true → columns_in a ≡ 1 → BeginAlike (drop i xs) (drop i ys)
+narrow_told xs ys i a b low also ea eb h one =
+    let same = same_told (get_or xs i Unknown) (get_or ys i Unknown) a b ea eb h in
+    rw (drop_more xs i Unknown low, drop_more ys i Unknown also, ← same.0)
+    (alike_narrow (get_or xs i Unknown) (drop (i + 1) xs) (drop (i + 1) ys) same.1 (rw (← ea) one))
+
+pub wide_told : (xs ys : List Col) (i a b a' b' : ℕ) → i + 1 < length xs → i + 1 < length ys → a ≡ code_of (get_or xs i Unknown)
+    → b ≡ code_of (get_or ys i Unknown) → a' ≡ code_of (get_or xs (i + 1) Unknown) → b' ≡ code_of (get_or ys (i + 1) Unknown)
+    → are_same_code a b ≡ true → are_same_code a' b' ≡ true → columns_in a ≡ 2 → BeginAlike (drop i xs) (drop i ys)
+wide_told xs ys i a b a' b' low also ea eb ea' eb' h g two =
+    let same = same_told (get_or xs i Unknown) (get_or ys i Unknown) a b ea eb h in
+    let next = same_told (get_or xs (i + 1) Unknown) (get_or ys (i + 1) Unknown) a' b' ea' eb' g in
+    rw (
+      drop_more xs i Unknown (omega (arith, low)),
+      drop_more ys i Unknown (omega (arith, also)),
+      drop_more xs (i + 1) Unknown low,
+      drop_more ys (i + 1) Unknown also,
+      ← same.0,
+      ← next.0,
+    )
+    (alike_wide (get_or xs i Unknown) (get_or xs (i + 1) Unknown) (drop (i + 1 + 1) xs) (drop (i + 1 + 1) ys) same.1 (rw (← ea) two))
 
 -- the code at an index
 pub code_at : (columns : List Column) (codes : List ℕ) (i : ℕ) (d : ℕ) → codes ≡ codes_of (all_seen columns) → i < length (all_seen columns)

@@ -11,11 +11,9 @@ use Rattle.bx_grid.specs.Glyphs.{WholeGlyph, IsGlyph, columns_of}
 use Rattle.bx_grid.specs.Codes.{code_of, codes_of}
 use Rattle.bx_grid.specs.Seen.{seen, all_seen}
 use Rattle.bx_grid.specs.declared.column.Column.{Column}
-use Rattle.bx_grid.specs.Columns.{is_ascii_printable}
 use Rattle.bx_grid.specs.Picture.{GridState, HasRoom, IsGrid, IsWithin}
-use Rattle.bx_grid.proofs.Laid.{plain_is_one}
 use Rattle.bx_grid.proofs.Pasted.{length-paste, rows_paste}
-use Rattle.bx_grid.proofs.Puts.{run_length}
+use Rattle.bx_grid.proofs.Puts.{run_length, narrow_columns}
 use Rattle.bx_grid.proofs.Whole.{rows-blank, columns_some, whole_glyph}
 
 pub set_is_paste : (xs : List Col) (k : ℕ) (y : Col) → k < length xs → set xs k y ≡ paste xs k (y ∷ [])
@@ -66,21 +64,20 @@ pub record CanPut (g : GridState) (line column : ℕ) (text : List ℕ) : Type 0
 pub can_along : (g old : GridState) (line column : ℕ) (text : List ℕ) → g ≡ old → CanPut old line column text → CanPut g line column text
 can_along g old line column text e can = subst (λ (x : GridState). CanPut x line column text) (sym e) can
 
--- a character of one byte, put by its column
-pub plain_seen : (g : GridState) (items : List Column) (x : Column) (line column : ℕ) (text : List ℕ) (byte : ℕ) (negative : Bool) → g.columns ≡ all_seen items
-    → seen x ≡ Glyph (byte ∷ []) 1 0 negative → text ≡ byte ∷ [] → is_ascii_printable byte ≡ true → IsGrid g.height g.width g.columns
-    → CanPut g line column text
+-- a glyph of one column, put by its column
+pub narrow_seen : (g : GridState) (items : List Column) (x : Column) (line column : ℕ) (text : List ℕ) (negative : Bool) → g.columns ≡ all_seen items
+    → seen x ≡ Glyph text 1 0 negative → run_width text ≡ 1 → IsGrid g.height g.width g.columns → CanPut g line column text
     → all_seen (set items ((line - 1) * g.width + (column - 1)) x) ≡ paste g.columns ((line - 1) * g.width + (column - 1)) (run_columns negative text)
-plain_seen g items x line column text byte negative seen_as one e h is can =
+narrow_seen g items x line column text negative seen_as one narrow is can =
     let r = line - 1 in
     let k = column - 1 in
-    let y : Col = Glyph (byte ∷ []) 1 0 negative in
+    let y : Col = Glyph text 1 0 negative in
     let below : r < g.height = omega (arith, can.inside) in
     let room : k + 1 ≤ g.width = omega (arith, can.inside) in
     let fits : r * g.width + k + 1 ≤ length g.columns = span_inside r k 1 g.height g.width (length g.columns) is.sized.each below room in
     set_seen items (r * g.width + k) x y one (omega (arith, ap length seen_as))
     ∙ ap (λ cs. paste cs (r * g.width + k) (y ∷ [])) (sym seen_as)
-    ∙ ap (paste g.columns (r * g.width + k)) (sym (plain_is_one negative text byte e h))
+    ∙ ap (paste g.columns (r * g.width + k)) (sym (narrow_columns negative text narrow))
 
 pub put_kept : (g : GridState) (line column : ℕ) (text : List ℕ) (negative : Bool) → IsGrid g.height g.width g.columns → CanPut g line column text
     → IsGrid g.height g.width (paste g.columns ((line - 1) * g.width + (column - 1)) (run_columns negative text))

@@ -18,3 +18,4 @@ pub mod Pasted
 pub mod Laid
 pub mod Blanks
 pub mod Shared
+mod AtOnce

@@ -89,3 +89,16 @@ run_length_by false n run e = let w = str_width false (chars run) in rw e (lengt
 -- a run has as many columns as it is wide
 pub run_length : (n : Bool) (run : List ℕ) → length (run_columns n run) ≡ run_width run
 run_length n run = run_length_by (are_ascii_printable run) n run refl
+
+narrow_by : (t : Bool) (negative : Bool) (run : List ℕ) → are_ascii_printable run ≡ t → run_width run ≡ 1
+    → run_columns negative run ≡ Glyph run 1 0 negative ∷ []
+narrow_by true negative [] e h = absurd (let g : 0 ≡ 1 = h in omega arith)
+narrow_by true negative (b ∷ []) e h = rw e refl
+narrow_by true negative (b ∷ d ∷ rest) e h = absurd (let g : suc (suc (length rest)) ≡ 1 = rw e at h in omega arith)
+narrow_by false negative run e h =
+    let one : str_width false (chars run) ≡ 1 = rw e at h in
+    rw (e, one) refl
+
+-- a run of one column
+pub narrow_columns : (negative : Bool) (run : List ℕ) → run_width run ≡ 1 → run_columns negative run ≡ Glyph run 1 0 negative ∷ []
+narrow_columns negative run h = narrow_by (are_ascii_printable run) negative run refl h

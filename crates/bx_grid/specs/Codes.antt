@@ -38,6 +38,10 @@ codes_of columns = map code_of columns
 abbrev pub columns_in : ℕ → ℕ
 columns_in code = (code / 8) % 4
 
--- both are the code of one glyph of one column
-abbrev pub are_same_narrow : ℕ → ℕ → Bool
-are_same_narrow code other = (code == other) && is_code code && (columns_in code == 1)
+-- which of its glyph's columns a code tells
+abbrev pub offset_in : ℕ → ℕ
+offset_in code = (code / 2) % 4
+
+-- both are the code of one column
+abbrev pub are_same_code : ℕ → ℕ → Bool
+are_same_code code other = (code == other) && is_code code

@@ -62,7 +62,8 @@ abbrev pub DifferInWholeGlyphs : List Col → List Col → Type 0
 DifferInWholeGlyphs old new = (i k : ℕ) → i < length old → IsOfGlyph (slice_index_or old i Unknown) i k
     → slice_index_or old i Unknown ≢ slice_index_or new i Unknown → slice_index_or old k Unknown ≢ slice_index_or new k Unknown
 
--- the column at an index is one of a glyph of one column
-abbrev pub IsNarrow : Col → Type 0
-IsNarrow Unknown = ⊥
-IsNarrow (Glyph text count offset negative) = count ≡ 1
+-- where the second columns begin with a glyph, the first ones begin with all its columns
+abbrev pub BeginAlike : List Col → List Col → Type 0
+BeginAlike old [] = Unit {0}
+BeginAlike old (Unknown ∷ cs) = Unit {0}
+BeginAlike old (Glyph text count offset negative ∷ cs) = offset ≡ 0 → take count old ≡ take count (Glyph text count offset negative ∷ cs)

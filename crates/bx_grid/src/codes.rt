@@ -1,10 +1,10 @@
 //! Codes: a number for each column, so that rows are compared at once.
 
-ghost use Rattle.std.specs.Prelude.{◌≡◌, ◌≤◌, ◌-◌, ◌<◌, ◌^◌, [], ◌∷◌, ◌++◌, length, take, drop, replicate, true, IfOk};
+ghost use Rattle.std.specs.Prelude.{◌≡◌, ◌≤◌, ◌-◌, ◌<◌, ◌^◌, [], ◌∷◌, ◌++◌, length, take, drop, replicate, set, true, IfOk};
 ghost use Rattle.std.specs.List.{list_all};
 ghost use Rattle.bx_grid.specs.Columns.{Glyph, are_equal};
 ghost use Rattle.bx_grid.specs.Codes as spec;
-ghost use Rattle.bx_grid.specs.Codes.{no_code, code_of, is_code, codes_of, are_same_narrow};
+ghost use Rattle.bx_grid.specs.Codes.{no_code, code_of, is_code, codes_of, are_same_code, columns_in, offset_in};
 ghost use Rattle.bx_grid.specs.Seen.{seen, all_seen};
 
 use crate::column::{Column, all_same};
@@ -13,13 +13,6 @@ use std::alloc::{AllocError, Global};
 /// The code of a column that has none of its own.
 const NO_CODE: u64 = 0x8000_0000_0000_0000;
 
-/// The code of a character of one byte in one column.
-pub fn byte_code(byte: u8, negative: bool) -> u64
-    ensures { result ≡ code_of (Glyph (byte ∷ []) 1 0 negative) }
-{
-    code_in(256 + u64::from(byte), 1, 0, negative)
-}
-
 fn code_in(number: u64, columns: u16, offset: u16, negative: bool) -> u64
     requires { number < 2 ^ 57 }
     ensures { result ≡ spec.code_in number columns offset negative }
@@ -27,6 +20,7 @@ fn code_in(number: u64, columns: u16, offset: u16, negative: bool) -> u64
     ((number * 4 + u64::from(columns)) * 4 + u64::from(offset)) * 2 + u64::from(negative)
 }
 
+#[inline(always)]
 fn code_of(column: &Column) -> u64
     ensures { result ≡ code_of (seen column.now) }
 {
@@ -42,6 +36,18 @@ fn code_of(column: &Column) -> u64
         },
         _ => NO_CODE,
     }
+}
+
+/// Sets a column and its code.
+#[inline(always)]
+pub fn set_column(columns: &mut Vec<Column>, codes: &mut Vec<u64>, index: usize, column: Column)
+    requires inside { index < length columns.old.items }
+    requires also { index < length codes.old.items }
+    ensures columns { columns.new.items ≡ set columns.old.items index column }
+    ensures codes { codes.new.items ≡ set codes.old.items index (code_of (seen column)) }
+{
+    codes[index] = code_of(&column);
+    columns[index] = column;
 }
 
 /// The codes of so many blanks.
@@ -104,10 +110,23 @@ pub fn are_same(columns: &[Column], codes: &[u64], others: &[Column], other_code
     bits.any < NO_CODE || all_same(columns, others)
 }
 
-/// Whether two columns are the same one of a glyph of one column, as far as their codes tell it: not every such glyph has
-/// a code of its own.
-pub fn are_same_narrow(code: u64, other: u64) -> bool
-    ensures { result ≡ are_same_narrow code other }
+/// Whether both codes tell the same column.
+pub fn is_same_code(code: u64, other: u64) -> bool
+    ensures { result ≡ are_same_code code other }
 {
-    code == other && code < NO_CODE && code / 8 % 4 == 1
+    code == other && code < NO_CODE
+}
+
+/// How many columns the glyph takes of which a code tells one.
+pub fn columns_in(code: u64) -> u64
+    ensures { result ≡ columns_in code }
+{
+    code / 8 % 4
+}
+
+/// Which of its glyph's columns a code tells, from 0.
+pub fn offset_in(code: u64) -> u64
+    ensures { result ≡ offset_in code }
+{
+    code / 2 % 4
 }

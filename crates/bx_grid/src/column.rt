@@ -1,4 +1,4 @@
-ghost use Rattle.std.specs.Prelude.{◌≡◌, ◌↔◌, ◌∷◌, [], IsTrue, length, map};
+ghost use Rattle.std.specs.Prelude.{◌≡◌, ◌↔◌, ◌∷◌, [], IsTrue, ◌≤◌, length, map};
 ghost use Rattle.bx_grid.specs.Columns as spec;
 ghost use Rattle.bx_grid.specs.Columns.{is_blank, blank, col_eq, are_equal};
 ghost use Rattle.bx_grid.specs.Seen.{seen};
@@ -25,6 +25,20 @@ impl Column {
     {
         Column::Glyph {
             text: GlyphText::of_byte(byte),
+            columns: 1,
+            offset: 0,
+            negative,
+        }
+    }
+
+    /// A text of at most seven bytes, in one column.
+    #[inline(always)]
+    pub(crate) fn narrow(text: &str, negative: bool) -> Column
+        requires { length text.now ≤ 7 }
+        ensures { seen result ≡ spec.Glyph text.now 1 0 negative }
+    {
+        Column::Glyph {
+            text: GlyphText::short(text),
             columns: 1,
             offset: 0,
             negative,

@@ -11,7 +11,7 @@ ghost use Rattle.bx_grid.specs.Seen.{seen, all_seen};
 ghost use Rattle.bx_grid.specs.Uncut.{AreUncut};
 
 use crate::column::Column;
-use crate::glyph_text::GlyphText;
+use crate::glyph_text::{GlyphText, SHORT};
 use bx_terms::are_ascii_printable;
 use std::alloc::{AllocError, Global};
 
@@ -112,6 +112,10 @@ fn put_glyphs(
     ensures short { length run.now ≤ 7 → IsOk result }
     ensures err { OnErr result (AreSameAround from count (all_seen columns.old) (all_seen columns.new)) }
 {
+    if count == 1 && run.len() <= SHORT {
+        columns[from] = Column::narrow(run, negative);
+        return Ok(());
+    }
     if are_ascii_printable(run) {
         put_run(columns, from, run.as_bytes(), negative);
         return Ok(());

@@ -11,7 +11,7 @@ use std::alloc::{AllocError, Global};
 use std::marker::Model;
 
 /// The most bytes of a text that takes no memory of its own.
-const SHORT: usize = 7;
+pub(crate) const SHORT: usize = 7;
 
 /// A text of at most seven bytes.
 #[derive(Drop)]
@@ -31,6 +31,7 @@ impl Model for ShortText {
 }
 
 impl ShortText {
+    #[inline(always)]
     fn new(text: &[u8]) -> ShortText
         requires { length text.now ≤ 7 }
         ensures { result ≡ text.now }
@@ -94,13 +95,22 @@ impl GlyphText {
         ensures short { length text.now ≤ 7 → IsOk result }
     {
         if text.len() <= SHORT {
-            return Ok(GlyphText {
-                stored: Stored::Short(ShortText::new(text.as_bytes())),
-            });
+            return Ok(GlyphText::short(text));
         }
         Ok(GlyphText {
             stored: Stored::Long(String::from_str(alloc, text)?),
         })
+    }
+
+    /// A text of at most seven bytes.
+    #[inline(always)]
+    pub(crate) fn short(text: &str) -> GlyphText
+        requires { length text.now ≤ 7 }
+        ensures { result ≡ text.now }
+    {
+        GlyphText {
+            stored: Stored::Short(ShortText::new(text.as_bytes())),
+        }
     }
 
     /// The text of one byte.
@@ -150,6 +160,7 @@ impl GlyphText {
     }
 
     /// The number that tells a short text, and none for any other.
+    #[inline(always)]
     pub(crate) fn packed(&self) -> Option<u64>
         ensures { MatchOption result (is_short self.now ≡ false) (λ n. (n ≡ packed self.now) × (is_short self.now ≡ true) × (n < 2 ^ 57)) }
     {
@@ -161,6 +172,7 @@ impl GlyphText {
 }
 
 /// The number that tells at most seven bytes.
+#[inline(always)]
 fn packed_bytes(bytes: &[u8]) -> u64
     requires { length bytes.now ≤ 7 }
     ensures number { result ≡ packed bytes.now }

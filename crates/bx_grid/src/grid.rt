@@ -7,12 +7,13 @@ ghost use Rattle.bx_grid.specs.Seen.{seen, all_seen};
 ghost use Rattle.bx_grid.specs.Picture.{GridState, HasRoom, IsGrid, IsWithin, is_size};
 
 use crate::cell::Cell;
-use crate::codes::{blank_codes, byte_code, note_codes};
+use crate::codes::{blank_codes, note_codes, set_column};
 use crate::column::Column;
 use crate::columns::{are_blank, blank_columns, put_over_blanks};
 use crate::error::GridError;
+use crate::glyph_text::SHORT;
 use crate::row::Row;
-use bx_terms::{ascii_glyph, is_side, run_width};
+use bx_terms::{is_side, run_width};
 use std::alloc::{AllocError, Global};
 use std::marker::Model;
 
@@ -77,15 +78,39 @@ impl Grid {
         ensures memory { OnErr result (result ≡ Err GridError.OutOfMemory) }
         ensures short { length text.now ≤ 7 → IsOk result }
     {
+        let count = run_width(text);
+        self.put_counted(cell, text, count, negative)
+    }
+
+    /// `put`, where it is known how many columns the glyph takes.
+    ///
+    /// Errors: `OutOfMemory`, and nothing has changed.
+    pub fn put_counted(
+        &mut self,
+        cell: Cell,
+        text: &str,
+        count: usize,
+        negative: bool,
+    ) -> Result<(), GridError>
+        requires inside { IsWithin self.old.height self.old.width cell.line cell.column }
+        requires glyph { is_one_glyph text.now ≡ true }
+        requires counted { count ≡ run_width text.now }
+        requires room { HasRoom self.old cell.line cell.column (run_width text.now) }
+        ensures ok { OnOk result (self.new ≡ record self.old {
+          columns = paste self.old.columns ((cell.line - 1) * self.old.width + (cell.column - 1)) (run_columns negative text.now);
+        }) }
+        ensures err { OnErr result (self.new ≡ self.old) }
+        ensures memory { OnErr result (result ≡ Err GridError.OutOfMemory) }
+        ensures short { length text.now ≤ 7 → IsOk result }
+    {
         let index = (cell.line - 1) as usize * self.width as usize + (cell.column - 1) as usize;
-        if let Some(byte) = ascii_glyph(text) {
-            let code = byte_code(byte, negative);
-            self.columns[index] = Column::of_byte(byte, negative);
-            self.codes[index] = code;
+        if count == 1 && text.len() <= SHORT {
+            let column = Column::narrow(text, negative);
+            set_column(&mut self.columns, &mut self.codes, index, column);
             return Ok(());
         }
         let alloc = *self.columns.allocator();
-        let count = run_width(text) as u16;
+        let count = count as u16;
         put_over_blanks(
             alloc,
             self.columns.as_mut_slice(),

@@ -19,6 +19,7 @@ mod live;
 mod picture;
 mod row;
 mod screen;
+mod sequence;
 mod token;
 
 pub use cell::Cell;

@@ -13,6 +13,7 @@ ghost use Rattle.bx_grid.specs.Terminal.{character_read, token_read, after_first
 use crate::column::{Column, all_same};
 use crate::columns::{erase_at, fill_blank, fill_unknown, show_at, unknown_columns};
 use crate::picture::Picture;
+use crate::sequence::{are_printable, first_sequence, text_len};
 use crate::token::{Command, ESCAPE, command_in, fate_of};
 use bx_bytes::{Fate, character};
 use bx_terms::{is_control, run_width};
@@ -268,11 +269,66 @@ impl Live {
         }
     }
 
-    pub fn read(&mut self, bytes: &[u8]) -> Result<(), AllocError>
+    /// A whole sequence, where no token is half read.
+    fn obey_sequence(&mut self, command: Command) -> Result<(), AllocError>
+        ensures { OnOk result (self.new ≡ after_command (run_ended self.old) command) }
+    {
+        self.end_run()?;
+        self.obey(command);
+        Ok(())
+    }
+
+    /// Reads byte by byte.
+    fn read_bytes(&mut self, bytes: &[u8]) -> Result<(), AllocError>
         ensures { OnOk result (self.new ≡ reads self.old bytes.now) }
     {
         for byte in bytes {
             self.read_byte(*byte)?;
+        }
+        Ok(())
+    }
+
+    /// Reads bytes where no token is half read: at once where they are a text with no control.
+    fn read_text(&mut self, bytes: &[u8]) -> Result<(), AllocError>
+        requires { self.old.half_read ≡ [] }
+        ensures { OnOk result (self.new ≡ reads self.old bytes.now) }
+    {
+        match str::from_utf8(bytes) {
+            Ok(text) if are_printable(text) => {
+                self.run.push_str(text)?;
+                Ok(())
+            }
+            _ => self.read_bytes(bytes),
+        }
+    }
+
+    /// Reads a sequence or a text that stands at the front, or a byte: how many bytes that are.
+    fn read_front(&mut self, bytes: &[u8]) -> Result<usize, AllocError>
+        requires { 0 < length bytes.now }
+        ensures read { IfOk result (λ count. reads self.new (drop count bytes.now) ≡ reads self.old bytes.now) }
+        ensures some { IfOk result (λ count. (1 ≤ count) × (count ≤ length bytes.now)) }
+    {
+        if self.half_read.is_empty() {
+            if let Some(sequence) = first_sequence(bytes) {
+                self.obey_sequence(sequence.command)?;
+                return Ok(sequence.len);
+            }
+            let count = text_len(bytes);
+            if count > 0 {
+                self.read_text(&bytes[..count])?;
+                return Ok(count);
+            }
+        }
+        self.read_byte(bytes[0])?;
+        Ok(1)
+    }
+
+    pub fn read(&mut self, bytes: &[u8]) -> Result<(), AllocError>
+        ensures { OnOk result (self.new ≡ reads self.old bytes.now) }
+    {
+        let mut index = 0;
+        while index < bytes.len() {
+            index += self.read_front(&bytes[index..])?;
         }
         Ok(())
     }

@@ -1,12 +1,12 @@
 //! A row of a grid, or a part of one, lent.
 
-ghost use Rattle.std.specs.Prelude.{◌≡◌, ℕ, ◌≤◌, ◌<◌, length, take, drop, true, false, slice_index_or};
-ghost use Rattle.bx_grid.specs.Columns.{Unknown, are_equal};
-ghost use Rattle.bx_grid.specs.Glyphs.{IsNarrow};
+ghost use Rattle.std.specs.Prelude.{◌≡◌, ℕ, ◌≤◌, ◌<◌, length, take, drop, true, false};
+ghost use Rattle.bx_grid.specs.Columns.{are_equal};
+ghost use Rattle.bx_grid.specs.Glyphs.{BeginAlike};
 ghost use Rattle.bx_grid.specs.Codes.{codes_of};
 ghost use Rattle.bx_grid.specs.Seen.{all_seen};
 
-use crate::codes::{are_same, are_same_narrow};
+use crate::codes::{are_same, columns_in, is_same_code, offset_in};
 use crate::column::Column;
 use std::marker::Model;
 
@@ -63,17 +63,31 @@ impl<'g> Row<'g> {
         Row::new(&self.columns[from..], &self.codes[from..])
     }
 
-    /// Whether both have the same glyph of one column at an index, as far as codes tell it. Where a glyph has no code of its
-    /// own it is false.
-    pub fn shares_narrow(&self, other: &Row<'_>, index: usize) -> bool
+    /// Whether codes tell that a glyph which begins in the other row at an index stands in this one too. It is true where no
+    /// glyph begins in a column that both have, and false where a glyph has more than two columns or no code of its own.
+    pub fn begins_alike(&self, other: &Row<'_>, index: usize) -> bool
         requires inside { index < length self.now }
         requires also { index < length other.now }
-        ensures { result ≡ true → (slice_index_or self.now index Unknown ≡ slice_index_or other.now index Unknown)
-            × IsNarrow (slice_index_or self.now index Unknown) }
+        ensures { result ≡ true → BeginAlike (drop index self.now) (drop index other.now) }
     {
         let codes = self.codes;
         let others = other.codes;
-        are_same_narrow(codes[index], others[index])
+        let code = codes[index];
+        if !is_same_code(code, others[index]) {
+            return false;
+        }
+        if offset_in(code) > 0 {
+            return true;
+        }
+        let count = columns_in(code);
+        if count == 1 {
+            return true;
+        }
+        let next = index + 1;
+        if count != 2 || next >= codes.len() || next >= others.len() {
+            return false;
+        }
+        is_same_code(codes[next], others[next])
     }
 
     /// Whether codes tell that both begin with different columns.

@@ -32,7 +32,7 @@ fn intermediate(byte: u8) -> bool
     0x20 <= byte && byte <= 0x2F
 }
 
-fn last(byte: u8) -> bool
+pub fn is_last(byte: u8) -> bool
     ensures { result ≡ is_final byte }
 {
     0x40 <= byte && byte <= 0x7E
@@ -54,7 +54,7 @@ fn fate_in_sequence(body: &[u8], byte: u8) -> Fate
     requires { after_intermediates (after_params body.now) ≡ [] }
     ensures { result ≡ final_fate (after_intermediates (after_params (body.now ++ byte ∷ []))) }
 {
-    if last(byte) {
+    if is_last(byte) {
         Fate::Ends
     } else if intermediate(byte) {
         Fate::Waits
@@ -105,7 +105,7 @@ fn fate_after_escape(rest: &[u8], byte: u8) -> Fate
 }
 
 /// Where the parameters end.
-fn params_len(body: &[u8]) -> usize
+pub fn params_len(body: &[u8]) -> usize
     ensures within { result ≤ length body.now }
     ensures front { take result body.now ≡ params body.now }
     ensures back { drop result body.now ≡ after_params body.now }
@@ -167,6 +167,29 @@ fn move_of(params: &[u8]) -> Command
     }
 }
 
+/// What parameters and a final byte ask for.
+pub fn command_of(params: &[u8], last: u8) -> Command
+    ensures { result ≡ capped (command_of params.now last) }
+{
+    match last {
+        b'H' => move_of(params),
+        b'J' => match params {
+            [b'2'] => Command::Clear,
+            _ => Command::Other,
+        },
+        b'K' => match params {
+            [] | [b'0'] => Command::Erase,
+            _ => Command::Other,
+        },
+        b'm' => match params {
+            [] | [b'0'] => Command::Render(false),
+            [b'7'] => Command::Render(true),
+            _ => Command::Other,
+        },
+        _ => Command::Other,
+    }
+}
+
 /// What the bytes after the start of a sequence ask for.
 pub fn command_in(body: &[u8]) -> Command
     ensures { result ≡ capped (command body.now) }
@@ -174,20 +197,7 @@ pub fn command_in(body: &[u8]) -> Command
     let len = params_len(body);
     let (params, rest) = body.split_at(len);
     match rest {
-        [b'H'] => move_of(params),
-        [b'J'] => match params {
-            [b'2'] => Command::Clear,
-            _ => Command::Other,
-        },
-        [b'K'] => match params {
-            [] | [b'0'] => Command::Erase,
-            _ => Command::Other,
-        },
-        [b'm'] => match params {
-            [] | [b'0'] => Command::Render(false),
-            [b'7'] => Command::Render(true),
-            _ => Command::Other,
-        },
+        [last] => command_of(params, *last),
         _ => Command::Other,
     }
 }

@@ -62,11 +62,14 @@ rows_same (suc count) r width negative xs =
     let after : Sent → Sent = λ s. then_sent s.bytes (rows_sent count (r + 1) width s.negative (drop width xs) (drop width xs)) in
     ap after (row_same r negative (take width xs)) ∙ rows_same count (r + 1) width negative (drop width xs)
 
-pub no_changes : (p : PictureState) → changes_bytes p p ≡ []
+no_changes : (p : PictureState) → changes_bytes p p ≡ []
 no_changes p =
     let row : nat_eq p.row p.row ≡ true = grind (arith, nat_tests) in
     let column : nat_eq p.column p.column ≡ true = grind (arith, nat_tests) in
     rw (rows_same p.height 0 p.width false p.columns, row, column) refl
+
+pub same_changes : (old new : PictureState) → old ≡ new → changes_bytes old new ≡ []
+same_changes old new same = ap (λ p. changes_bytes p new) same ∙ no_changes new
 
 -- ---- no more than the columns that differ
 

@@ -1,17 +1,19 @@
 -- The parts of a row, and what is sent for them, one column after another.
 use Rattle.std.proofs.Common.{◌≡◌, ℕ, ◌+◌, ◌*◌, ◌-◌, ◌<◌, ◌≤◌, Bool, true, false, get_or, List, [], ◌∷◌, ◌++◌, length, take, drop, suc, refl, ap, sym, ◌∙◌}
-use Rattle.std.proofs.Common.{append_assoc, nat_eq, replicate, arith}
+use Rattle.std.proofs.Common.{append_assoc, zero, nat_eq, replicate, arith}
 use Rattle.std.specs.List.{list_all}
+use Rattle.std.proofs.lemmas.Bool.Decides.{nat_tests}
 use Rattle.std.proofs.lemmas.List.{take_more, drop_more, drop-drop, map-append, take-replicate, drop-replicate}
 use Rattle.bx_grid.specs.Seen.{seen, all_seen}
 use Rattle.bx_grid.specs.declared.column.Column.{Column}
 use Rattle.std.proofs.lemmas.List.Folds.{list_all-append}
 use Rattle.std.proofs.Math.Bool.{and-false, and-true}
-use Rattle.bx_grid.specs.Columns.{Col, Unknown, Glyph, blank, is_blank, are_equal}
-use Rattle.bx_grid.specs.Glyphs.{IsNarrow}
+use Rattle.bx_grid.specs.Columns.{Col, Unknown, Glyph, blank, is_blank}
+use Rattle.bx_grid.specs.Glyphs.{BeginAlike}
 use Rattle.bx_grid.proofs.Equal.{are_equal_refl}
 use Rattle.std.proofs.Math.Nat.{mul-le-mul_right}
-use Rattle.bx_paint.specs.Painting.{Sent, then_sent, before_tail, leading_blanks, nothing_sent, column_sent, columns_sent, tail_sent, tail_after, row_sent, rows_sent}
+use Rattle.bx_paint.specs.Painting.{Sent, then_sent, before_tail, leading_blanks, nothing_sent}
+use Rattle.bx_paint.specs.Painting.{column_sent, columns_sent, tail_sent, tail_after, row_sent, rows_sent}
 
 -- ---- the tail
 
@@ -152,22 +154,16 @@ row_more height row width negative negative' old new po pn out out' low eo en e 
 
 -- ---- columns that both rows have
 
-narrow_by : (x : Col) (row column : ℕ) (near negative : Bool) (old new : List Col) → IsNarrow x
-    → column_sent row column near negative (x ∷ old) (x ∷ new) ≡ nothing_sent negative
-narrow_by Unknown row column near negative old new h = absurd h
-narrow_by (Glyph text count offset other) row column near negative old new h =
-    let x = Glyph text 1 offset other in
-    let same : are_equal (x ∷ []) (x ∷ []) ≡ true = are_equal_refl (x ∷ []) in
-    rw (h, same, and-false (nat_eq offset 0)) refl
-
--- nothing is sent for a glyph of one column that stands there
-pub narrow_sent : (row i : ℕ) (near negative : Bool) (old new : List Col) → i < length old → i < length new
-    → get_or old i Unknown ≡ get_or new i Unknown → IsNarrow (get_or old i Unknown)
-    → column_sent row i near negative (drop i old) (drop i new) ≡ nothing_sent negative
-narrow_sent row i near negative old new low also e h =
-    let x = get_or old i Unknown in
-    let mine : drop i new ≡ x ∷ drop (i + 1) new = drop_more new i Unknown also ∙ ap (λ y. y ∷ drop (i + 1) new) (sym e) in
-    rw (drop_more old i Unknown low, mine) (narrow_by x row i near negative (drop (i + 1) old) (drop (i + 1) new) h)
+-- nothing is sent for a glyph that stands there
+pub alike_sent : (row column : ℕ) (near negative : Bool) (old new : List Col) → BeginAlike old new
+    → column_sent row column near negative old new ≡ nothing_sent negative
+alike_sent row column near negative old [] h = refl
+alike_sent row column near negative old (Unknown ∷ cs) h = refl
+alike_sent row column near negative old (Glyph text count zero other ∷ cs) h =
+    rw (h refl, are_equal_refl (take count (Glyph text count zero other ∷ cs))) refl
+alike_sent row column near negative old (Glyph text count (suc offset) other ∷ cs) h =
+    let later : nat_eq (suc offset) 0 ≡ false = grind (arith, nat_tests) in
+    rw later refl
 
 -- a row of blanks
 pub blank_row : (h row width : ℕ) → row < h → take width (drop (row * width) (replicate (h * width) blank)) ≡ replicate width blank

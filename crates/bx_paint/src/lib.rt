@@ -3,8 +3,9 @@
 
 mod error;
 mod numbers;
+mod output;
 mod painting;
 mod writing;
 
 pub use error::PaintError;
-pub use painting::{changes, whole};
+pub use painting::{changes, changes_into, whole, whole_into};

@@ -1,35 +1,72 @@
-//! Numbers in decimal.
+//! The numbers of a line and of a column, as a move sends them.
 
 ghost use Rattle.std.specs.Prelude.{◌≡◌, ◌+◌, ◌<◌, ◌++◌, ◌∷◌, [], decimal, OnOk};
 
+use crate::output::Output;
 use itoa::Buffer;
 use std::alloc::AllocError;
 
-fn write_digit(out: &mut Vec<u8>, digit: u16) -> Result<(), AllocError>
-    requires { digit < 10 }
-    ensures { OnOk result (out.new.items ≡ out.old.items ++ (48 + digit) ∷ []) }
+fn digit(number: u16) -> u8
+    requires { number < 10 }
+    ensures { result ≡ 48 + number }
 {
-    out.push(b'0' + digit as u8)?;
-    Ok(())
+    b'0' + number as u8
 }
 
-/// Sends a number. One of at most three digits, as lines and columns are, is sent digit by digit.
-#[tactic(auto, using(crate::proofs::Decimals::one_digit))]
-pub fn write_number(out: &mut Vec<u8>, number: u16) -> Result<(), AllocError>
-    ensures { OnOk result (out.new.items ≡ out.old.items ++ decimal number) }
+/// Sends a number.
+fn write_number(out: &mut Output, number: u16) -> Result<(), AllocError>
+    ensures bytes { OnOk result (out.new.painting ≡ out.old.painting ++ decimal number) }
+    ensures before { out.new.before ≡ out.old.before }
 {
-    if number < 10 {
-        return write_digit(out, number);
-    }
-    if number < 100 {
-        write_digit(out, number / 10)?;
-        return write_digit(out, number % 10);
-    }
-    if number < 1000 {
-        write_digit(out, number / 100)?;
-        write_digit(out, number / 10 % 10)?;
-        return write_digit(out, number % 10);
-    }
     let mut buffer = Buffer::new();
-    out.extend_from_slice(buffer.format(number).as_bytes())
+    out.append(buffer.format(number).as_bytes())
+}
+
+/// Sends what of a move stands before its column. A number of at most three digits goes out at once with what stands round it.
+pub fn write_line_number(out: &mut Output, line: u16) -> Result<(), AllocError>
+    ensures bytes { OnOk result (out.new.painting ≡ out.old.painting ++ 0x1B ∷ 0x5B ∷ (decimal line ++ 0x3B ∷ [])) }
+    ensures before { out.new.before ≡ out.old.before }
+{
+    if line < 10 {
+        return out.append(&[0x1B, b'[', digit(line), b';']);
+    }
+    if line < 100 {
+        return out.append(&[0x1B, b'[', digit(line / 10), digit(line % 10), b';']);
+    }
+    if line < 1000 {
+        return out.append(&[
+            0x1B,
+            b'[',
+            digit(line / 100),
+            digit(line / 10 % 10),
+            digit(line % 10),
+            b';',
+        ]);
+    }
+    out.append(b"\x1b[")?;
+    write_number(out, line)?;
+    out.push(b';')
+}
+
+/// Sends the column of a move, and its end.
+pub fn write_column_number(out: &mut Output, column: u16) -> Result<(), AllocError>
+    ensures bytes { OnOk result (out.new.painting ≡ out.old.painting ++ (decimal column ++ 0x48 ∷ [])) }
+    ensures before { out.new.before ≡ out.old.before }
+{
+    if column < 10 {
+        return out.append(&[digit(column), b'H']);
+    }
+    if column < 100 {
+        return out.append(&[digit(column / 10), digit(column % 10), b'H']);
+    }
+    if column < 1000 {
+        return out.append(&[
+            digit(column / 100),
+            digit(column / 10 % 10),
+            digit(column % 10),
+            b'H',
+        ]);
+    }
+    write_number(out, column)?;
+    out.push(b'H')
 }

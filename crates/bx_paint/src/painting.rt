@@ -8,27 +8,31 @@ ghost use Rattle.bx_paint.specs.Changed.{changed, differing};
 ghost use Rattle.bx_paint.specs.Painting.{whole_bytes, changes_bytes, columns_changed, ended, render_change, move_bytes};
 
 use crate::error::PaintError;
+use crate::output::Output;
 use crate::writing::{write_move, write_over_blanks, write_rendition, write_rows};
 use bx_grid::{Cell, Grid, Picture};
 use std::alloc::{AllocError, Global};
+use std::mem;
 
 /// Room for the bytes of a few glyphs.
 const ROOM: usize = 64;
 
 /// Normal rendition, and the cursor.
-fn write_end(out: &mut Vec<u8>, negative: bool, cursor: Cell) -> Result<(), AllocError>
+fn write_end(out: &mut Output, negative: bool, cursor: Cell) -> Result<(), AllocError>
     requires line { (1 ≤ cursor.line) × (cursor.line ≤ 500) }
     requires column { (1 ≤ cursor.column) × (cursor.column ≤ 500) }
-    ensures { OnOk result (out.new.items ≡ out.old.items ++ (render_change negative false ++ move_bytes (cursor.line - 1) (cursor.column - 1))) }
+    ensures bytes { OnOk result (out.new.painting ≡ out.old.painting ++ (render_change negative false ++ move_bytes (cursor.line - 1) (cursor.column - 1))) }
+    ensures before { out.new.before ≡ out.old.before }
 {
     write_rendition(out, negative, false)?;
     write_move(out, cursor.line - 1, cursor.column - 1)
 }
 
 /// Sends a picture whole.
-fn write_whole(alloc: Global, out: &mut Vec<u8>, picture: &Picture) -> Result<(), AllocError>
-    requires { out.old.items ≡ [] }
-    ensures bytes { OnOk result (out.new.items ≡ whole_bytes picture.now) }
+fn write_whole(alloc: Global, out: &mut Output, picture: &Picture) -> Result<(), AllocError>
+    requires { out.old.painting ≡ [] }
+    ensures bytes { OnOk result (out.new.painting ≡ whole_bytes picture.now) }
+    ensures before { out.new.before ≡ out.old.before }
     ensures picture { IsPicture picture.now }
 {
     let grid = picture.grid();
@@ -36,17 +40,18 @@ fn write_whole(alloc: Global, out: &mut Vec<u8>, picture: &Picture) -> Result<()
     let Ok(blanks) = Grid::blank(alloc, 1, grid.width()) else {
         return Err(AllocError);
     };
-    out.extend_from_slice(b"\x1b[0m\x1b[2J")?;
+    out.append(b"\x1b[0m\x1b[2J")?;
     let negative = write_over_blanks(out, &blanks.row(0), grid)?;
     write_end(out, negative, cursor)
 }
 
 /// Sends what leads from one picture to another of its size.
-fn write_changes(out: &mut Vec<u8>, old: &Picture, new: &Picture) -> Result<(), AllocError>
-    requires empty { out.old.items ≡ [] }
+fn write_changes(out: &mut Output, old: &Picture, new: &Picture) -> Result<(), AllocError>
+    requires empty { out.old.painting ≡ [] }
     requires height { old.now.height ≡ new.now.height }
     requires width { old.now.width ≡ new.now.width }
-    ensures bytes { OnOk result (out.new.items ≡ changes_bytes old.now new.now) }
+    ensures bytes { OnOk result (out.new.painting ≡ changes_bytes old.now new.now) }
+    ensures before { out.new.before ≡ out.old.before }
     ensures old { IsGrid old.now.height old.now.width old.now.columns }
     ensures new { IsPicture new.now }
 {
@@ -58,8 +63,63 @@ fn write_changes(out: &mut Vec<u8>, old: &Picture, new: &Picture) -> Result<(), 
     write_end(out, negative, cursor)
 }
 
-/// The bytes that paint a picture whole (ECMA-48: SGR, ED, CUP and the characters): they make a
-/// terminal of the picture's size that has nothing half read show it, whatever else its state is.
+/// Appends the bytes that paint a picture whole (ECMA-48: SGR, ED, CUP and the characters): they make a terminal of the
+/// picture's size that has nothing half read show it, whatever else its state is.
+///
+/// Errors: `OutOfMemory`, and nothing is appended.
+pub fn whole_into(out: &mut Vec<u8>, picture: &Picture) -> Result<(), PaintError>
+    ensures bytes { OnOk result (out.new.items ≡ out.old.items ++ whole_bytes picture.now) }
+    ensures err { OnErr result (out.new.items ≡ out.old.items) }
+    ensures shows { (t : Terminal) → IsIdle t → t.height ≡ picture.now.height → t.width ≡ picture.now.width
+        → Shows (reads t (whole_bytes picture.now)) picture.now }
+{
+    let alloc = *out.allocator();
+    let mut output = Output::behind(mem::replace(out, Vec::new(alloc)));
+    match write_whole(alloc, &mut output, picture) {
+        Ok(()) => {
+            *out = output.into_bytes();
+            Ok(())
+        }
+        Err(_) => {
+            *out = output.into_before();
+            Err(PaintError::OutOfMemory)
+        }
+    }
+}
+
+/// Appends the bytes that lead from one picture to another of its size: they make a terminal that shows the old picture show
+/// the new one (ECMA-48: CUP, SGR, EL and the characters).
+///
+/// A glyph before its row's blank tail is sent once if one of its columns differs, else never; a row is
+/// erased to its end once if a column of its tail differs, else never. Where grids and cursors are
+/// equal there is no byte.
+///
+/// Errors: `OutOfMemory`, and nothing is appended.
+pub fn changes_into(out: &mut Vec<u8>, old: &Picture, new: &Picture) -> Result<(), PaintError>
+    requires height { old.now.height ≡ new.now.height }
+    requires width { old.now.width ≡ new.now.width }
+    ensures bytes { OnOk result (out.new.items ≡ out.old.items ++ changes_bytes old.now new.now) }
+    ensures err { OnErr result (out.new.items ≡ out.old.items) }
+    ensures shows { (t : Terminal) → Shows t old.now → Shows (reads t (changes_bytes old.now new.now)) new.now }
+    ensures sends { (t : Terminal) → Shows t old.now → effects t (changes_bytes old.now new.now) ≡ changed old.now new.now }
+    ensures few { length (changed old.now new.now) ≤ differing old.now.columns new.now.columns }
+    ensures nothing { old.now ≡ new.now → changes_bytes old.now new.now ≡ [] }
+{
+    let alloc = *out.allocator();
+    let mut output = Output::behind(mem::replace(out, Vec::new(alloc)));
+    match write_changes(&mut output, old, new) {
+        Ok(()) => {
+            *out = output.into_bytes();
+            Ok(())
+        }
+        Err(_) => {
+            *out = output.into_before();
+            Err(PaintError::OutOfMemory)
+        }
+    }
+}
+
+/// What `whole_into` appends, alone.
 ///
 /// Errors: `OutOfMemory`.
 pub fn whole(alloc: Global, picture: &Picture) -> Result<Vec<u8>, PaintError>
@@ -68,16 +128,11 @@ pub fn whole(alloc: Global, picture: &Picture) -> Result<Vec<u8>, PaintError>
         → Shows (reads t out.items) picture.now) }
 {
     let mut out = Vec::new(alloc);
-    write_whole(alloc, &mut out, picture)?;
+    whole_into(&mut out, picture)?;
     Ok(out)
 }
 
-/// The bytes that lead from one picture to another of its size: they make a terminal that shows the
-/// old picture show the new one (ECMA-48: CUP, SGR, EL and the characters).
-///
-/// A glyph before its row's blank tail is sent once if one of its columns differs, else never; a row is
-/// erased to its end once if a column of its tail differs, else never. Where grids and cursors are
-/// equal there is no byte.
+/// What `changes_into` appends, alone.
 ///
 /// Errors: `OutOfMemory`.
 pub fn changes(alloc: Global, old: &Picture, new: &Picture) -> Result<Vec<u8>, PaintError>
@@ -90,6 +145,6 @@ pub fn changes(alloc: Global, old: &Picture, new: &Picture) -> Result<Vec<u8>, P
     ensures nothing { IfOk result (λ out. old.now ≡ new.now → out.items ≡ []) }
 {
     let mut out = Vec::with_capacity(alloc, ROOM)?;
-    write_changes(&mut out, old, new)?;
+    changes_into(&mut out, old, new)?;
     Ok(out)
 }

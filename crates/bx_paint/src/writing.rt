@@ -8,34 +8,32 @@ ghost use Rattle.bx_paint.specs.Painting as spec;
 ghost use Rattle.bx_paint.specs.Painting.{move_bytes, render_change, glyph_bytes, before_tail, leading_blanks, column_sent, columns_sent, tail_sent, row_sent};
 ghost use Rattle.bx_paint.specs.Painting.{rows_sent};
 
-use crate::numbers::write_number;
+use crate::numbers::{write_column_number, write_line_number};
+use crate::output::Output;
 use bx_grid::{Column, GlyphText, Grid, Row};
 use std::alloc::AllocError;
 
 /// Sends the cursor to a row and a column, from 0.
-pub fn write_move(out: &mut Vec<u8>, row: u16, column: u16) -> Result<(), AllocError>
+pub fn write_move(out: &mut Output, row: u16, column: u16) -> Result<(), AllocError>
     requires small { (row < 65535) × (column < 65535) }
-    ensures { OnOk result (out.new.items ≡ out.old.items ++ move_bytes row column) }
+    ensures bytes { OnOk result (out.new.painting ≡ out.old.painting ++ move_bytes row column) }
+    ensures before { out.new.before ≡ out.old.before }
 {
-    out.push(0x1B)?;
-    out.push(b'[')?;
-    write_number(out, row + 1)?;
-    out.push(b';')?;
-    write_number(out, column + 1)?;
-    out.push(b'H')?;
-    Ok(())
+    write_line_number(out, row + 1)?;
+    write_column_number(out, column + 1)
 }
 
-pub fn write_rendition(out: &mut Vec<u8>, from: bool, to: bool) -> Result<(), AllocError>
-    ensures { OnOk result (out.new.items ≡ out.old.items ++ render_change from to) }
+pub fn write_rendition(out: &mut Output, from: bool, to: bool) -> Result<(), AllocError>
+    ensures bytes { OnOk result (out.new.painting ≡ out.old.painting ++ render_change from to) }
+    ensures before { out.new.before ≡ out.old.before }
 {
     if from == to {
         return Ok(());
     }
     if to {
-        out.extend_from_slice(b"\x1b[7m")
+        out.append(b"\x1b[7m")
     } else {
-        out.extend_from_slice(b"\x1b[0m")
+        out.append(b"\x1b[0m")
     }
 }
 
@@ -48,7 +46,7 @@ struct Pen {
 
 /// Sends a glyph.
 fn write_glyph(
-    out: &mut Vec<u8>,
+    out: &mut Output,
     row: u16,
     column: u16,
     pen: Pen,
@@ -56,13 +54,14 @@ fn write_glyph(
     negative: bool,
 ) -> Result<(), AllocError>
     requires small { (row < 65535) × (column < 65535) }
-    ensures { OnOk result (out.new.items ≡ out.old.items ++ glyph_bytes row column pen.near pen.negative text.now negative) }
+    ensures bytes { OnOk result (out.new.painting ≡ out.old.painting ++ glyph_bytes row column pen.near pen.negative text.now negative) }
+    ensures before { out.new.before ≡ out.old.before }
 {
     if !(pen.near && text.is_ascii_glyph()) {
         write_move(out, row, column)?;
     }
     write_rendition(out, pen.negative, negative)?;
-    out.extend_from_slice(text.as_bytes())
+    out.append(text.as_bytes())
 }
 
 /// Whether both begin with the same columns, so many or all that there are.
@@ -94,7 +93,7 @@ fn is_sent(old: &Row<'_>, new: &Row<'_>) -> bool
 
 /// Sends the glyph that begins with the first column, if a column of it differs.
 fn write_column(
-    out: &mut Vec<u8>,
+    out: &mut Output,
     row: u16,
     column: u16,
     pen: Pen,
@@ -102,7 +101,8 @@ fn write_column(
     new: &Row<'_>,
 ) -> Result<Pen, AllocError>
     requires small { (row < 65535) × (column < 65535) }
-    ensures bytes { OnOk result (out.new.items ≡ out.old.items ++ (column_sent row column pen.near pen.negative old.now new.now).bytes) }
+    ensures bytes { OnOk result (out.new.painting ≡ out.old.painting ++ (column_sent row column pen.near pen.negative old.now new.now).bytes) }
+    ensures before { out.new.before ≡ out.old.before }
     ensures near { IfOk result (λ after. after.near ≡ (column_sent row column pen.near pen.negative old.now new.now).near) }
     ensures rendition { IfOk result (λ after. after.negative ≡ (column_sent row column pen.near pen.negative old.now new.now).negative) }
 {
@@ -124,7 +124,7 @@ fn write_column(
 
 /// Sends the glyph that begins at an index of a row, if a column of it differs.
 fn write_at(
-    out: &mut Vec<u8>,
+    out: &mut Output,
     row: u16,
     index: usize,
     pen: Pen,
@@ -134,13 +134,14 @@ fn write_at(
     requires small { (row < 65535) × (length new.now < 65535) }
     requires same { length old.now ≡ length new.now }
     requires inside { index < length new.now }
-    ensures bytes { OnOk result (out.new.items ≡ out.old.items
+    ensures bytes { OnOk result (out.new.painting ≡ out.old.painting
         ++ (column_sent row index pen.near pen.negative (drop index old.now) (drop index new.now)).bytes) }
+    ensures before { out.new.before ≡ out.old.before }
     ensures near { IfOk result (λ after. after.near ≡ (column_sent row index pen.near pen.negative (drop index old.now) (drop index new.now)).near) }
     ensures rendition { IfOk result (λ after. after.negative
         ≡ (column_sent row index pen.near pen.negative (drop index old.now) (drop index new.now)).negative) }
 {
-    if old.shares_narrow(new, index) {
+    if old.begins_alike(new, index) {
         return Ok(Pen {
             near: false,
             negative: pen.negative,
@@ -158,7 +159,7 @@ fn write_at(
 
 /// Sends what differs in the columns of a row before its tail.
 fn write_columns(
-    out: &mut Vec<u8>,
+    out: &mut Output,
     row: u16,
     negative: bool,
     old: &Row<'_>,
@@ -166,7 +167,8 @@ fn write_columns(
 ) -> Result<bool, AllocError>
     requires small { (row < 65535) × (length new.now < 65535) }
     requires same { length old.now ≡ length new.now }
-    ensures bytes { OnOk result (out.new.items ≡ out.old.items ++ (columns_sent row 0 false negative old.now new.now).bytes) }
+    ensures bytes { OnOk result (out.new.painting ≡ out.old.painting ++ (columns_sent row 0 false negative old.now new.now).bytes) }
+    ensures before { out.new.before ≡ out.old.before }
     ensures rendition { IfOk result (λ after. after ≡ (columns_sent row 0 false negative old.now new.now).negative) }
 {
     let mut pen = Pen {
@@ -209,14 +211,15 @@ fn blanks_len(columns: &[Column]) -> usize
 
 /// Erases a row's tail from its first column that differs.
 fn write_tail(
-    out: &mut Vec<u8>,
+    out: &mut Output,
     row: u16,
     column: u16,
     negative: bool,
     old: &[Column],
 ) -> Result<bool, AllocError>
     requires small { (row < 65535) × (column + length old.now < 65535) }
-    ensures bytes { OnOk result (out.new.items ≡ out.old.items ++ (tail_sent row column negative (all_seen old.now)).bytes) }
+    ensures bytes { OnOk result (out.new.painting ≡ out.old.painting ++ (tail_sent row column negative (all_seen old.now)).bytes) }
+    ensures before { out.new.before ≡ out.old.before }
     ensures rendition { IfOk result (λ after. after ≡ (tail_sent row column negative (all_seen old.now)).negative) }
 {
     let blanks = blanks_len(old);
@@ -225,13 +228,13 @@ fn write_tail(
     }
     write_move(out, row, column + blanks as u16)?;
     write_rendition(out, negative, false)?;
-    out.extend_from_slice(b"\x1b[0K")?;
+    out.append(b"\x1b[0K")?;
     Ok(false)
 }
 
 /// Sends what differs in the columns of a row, before its tail and in it.
 fn write_changed_row(
-    out: &mut Vec<u8>,
+    out: &mut Output,
     row: u16,
     negative: bool,
     old: &Row<'_>,
@@ -239,7 +242,8 @@ fn write_changed_row(
 ) -> Result<bool, AllocError>
     requires small { (row < 65535) × (length new.now < 65535) }
     requires same { length old.now ≡ length new.now }
-    ensures bytes { OnOk result (out.new.items ≡ out.old.items ++ (row_sent row negative old.now new.now).bytes) }
+    ensures bytes { OnOk result (out.new.painting ≡ out.old.painting ++ (row_sent row negative old.now new.now).bytes) }
+    ensures before { out.new.before ≡ out.old.before }
     ensures rendition { IfOk result (λ after. after ≡ (row_sent row negative old.now new.now).negative) }
 {
     let front = front_len(new.columns());
@@ -249,7 +253,7 @@ fn write_changed_row(
 
 /// Sends what differs in a row.
 fn write_row(
-    out: &mut Vec<u8>,
+    out: &mut Output,
     row: u16,
     negative: bool,
     old: &Row<'_>,
@@ -257,7 +261,8 @@ fn write_row(
 ) -> Result<bool, AllocError>
     requires small { (row < 65535) × (length new.now < 65535) }
     requires same { length old.now ≡ length new.now }
-    ensures bytes { OnOk result (out.new.items ≡ out.old.items ++ (row_sent row negative old.now new.now).bytes) }
+    ensures bytes { OnOk result (out.new.painting ≡ out.old.painting ++ (row_sent row negative old.now new.now).bytes) }
+    ensures before { out.new.before ≡ out.old.before }
     ensures rendition { IfOk result (λ after. after ≡ (row_sent row negative old.now new.now).negative) }
 {
     if old.is_same(new) {
@@ -267,10 +272,12 @@ fn write_row(
 }
 
 /// Sends what differs in all rows of two grids of one size.
-pub fn write_rows(out: &mut Vec<u8>, old: &Grid, new: &Grid) -> Result<bool, AllocError>
+pub fn write_rows(out: &mut Output, old: &Grid, new: &Grid) -> Result<bool, AllocError>
     requires height { old.now.height ≡ new.now.height }
     requires width { old.now.width ≡ new.now.width }
-    ensures bytes { OnOk result (out.new.items ≡ out.old.items ++ (rows_sent new.now.height 0 new.now.width false old.now.columns new.now.columns).bytes) }
+    ensures bytes { OnOk result (out.new.painting ≡ out.old.painting
+        ++ (rows_sent new.now.height 0 new.now.width false old.now.columns new.now.columns).bytes) }
+    ensures before { out.new.before ≡ out.old.before }
     ensures rendition { IfOk result (λ after. after ≡ (rows_sent new.now.height 0 new.now.width false old.now.columns new.now.columns).negative) }
 {
     let mut negative = false;
@@ -281,14 +288,11 @@ pub fn write_rows(out: &mut Vec<u8>, old: &Grid, new: &Grid) -> Result<bool, All
 }
 
 /// Sends all rows of a grid that stand where blanks are, of which one row is given.
-pub fn write_over_blanks(
-    out: &mut Vec<u8>,
-    blanks: &Row<'_>,
-    new: &Grid,
-) -> Result<bool, AllocError>
+pub fn write_over_blanks(out: &mut Output, blanks: &Row<'_>, new: &Grid) -> Result<bool, AllocError>
     requires { blanks.now ≡ replicate new.now.width blank }
-    ensures bytes { OnOk result (out.new.items ≡ out.old.items
+    ensures bytes { OnOk result (out.new.painting ≡ out.old.painting
         ++ (rows_sent new.now.height 0 new.now.width false (replicate (new.now.height * new.now.width) blank) new.now.columns).bytes) }
+    ensures before { out.new.before ≡ out.old.before }
     ensures rendition { IfOk result (λ after. after
         ≡ (rows_sent new.now.height 0 new.now.width false (replicate (new.now.height * new.now.width) blank) new.now.columns).negative) }
 {

@@ -1,5 +1,5 @@
 //! The layout of one paragraph.
-ghost use Rattle.std.specs.Prelude.{◌≡◌, ◌≤◌, ◌<◌, true, All, IfOk, count_by, length, nat_le, map, string_bytes, sum_by};
+ghost use Rattle.std.specs.Prelude.{◌≡◌, ◌≤◌, ◌<◌, true, All, IfOk, count_by, length, nat_le, map, slice_index_or, string_bytes, sum_by};
 ghost use Rattle.std.specs.Cow.{cow_str_bytes};
 ghost use Rattle.bx_terms.specs.Glyphs.{is_one_glyph, run_width};
 ghost use Rattle.bx_terms.specs.Sizes.{is_side};
@@ -135,6 +135,14 @@ impl ParagraphLayout {
         ensures { OfRows self.now (λ rows. result ≡ first_of (row_at rows row)) }
     {
         self.starts[row].offset
+    }
+
+    /// How many units of the body stand before a row. No memory.
+    pub fn units_ahead(&self, row: usize) -> usize
+        requires { row < length self.now.starts }
+        ensures { result ≡ slice_index_or (map (λ s. s.units) self.now.starts) row 0 }
+    {
+        self.starts[row].units
     }
 
     /// The units of a row with their levels.

@@ -5,6 +5,7 @@ mod cursor;
 mod error;
 mod layout;
 mod moves;
+mod numbers;
 mod reading;
 mod row_parts;
 mod slot;

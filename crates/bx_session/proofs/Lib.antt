@@ -1,5 +1,7 @@
-pub mod Texts
-pub mod Drawing
-pub mod Painted
-pub mod Turns
+pub mod Bytes
+pub mod Computed
+pub mod Input
+pub mod Pictures
 pub mod Rows
+pub mod Shown
+pub mod Turns

@@ -1,87 +1,123 @@
 -- Feeding, writing and reading in turns.
-use Rattle.std.proofs.Common.{◌≡◌, ◌≢◌, ℕ, ◌+◌, ◌<◌, ◌≤◌, Bool, true, false, List, [], ◌∷◌, ◌++◌, length, take, drop, Option, Some, None, Result, Ok, Err, refl}
-use Rattle.std.proofs.Common.{sym, ap, subst, ◌∙◌, append_assoc, if◌then◌else◌, arith}
+use Rattle.std.proofs.Common.{◌≡◌, ◌≢◌, ℕ, ◌+◌, ◌<◌, ◌≤◌, Bool, true, false, List, [], ◌∷◌, ◌++◌, length, take, drop}
+use Rattle.std.proofs.Common.{Option, Some, None, Result, Ok, Err, refl, sym, ap, subst, ◌∙◌, append_assoc, if◌then◌else◌, arith}
 use Rattle.std.specs.Io.KnownBytes.{Appends, Consumes, Keeps}
-use Rattle.std.proofs.KnownBytes.{Consumes-nil, Consumes-trans, Consumes-kept, Appends-nil, Appends-trans, Appends-kept}
+use Rattle.std.proofs.KnownBytes.{Consumes-nil, Consumes-trans, Appends-nil, Appends-trans, Appends-kept}
 use Rattle.std.proofs.lemmas.List.{append-nil, length-append, map-append, take-append-drop, length-drop}
-use Rattle.bx_paint.specs.Painting.{whole_bytes}
-use Rattle.bx_session.specs.declared.key.Key.{Key}
+use Rattle.bx_keys.specs.declared.key.Key.{Key}
+use Rattle.bx_keys.specs.Keys.{rest_after}
+use Rattle.bx_keys.specs.Waiting.{head_of}
+use Rattle.bx_editor.specs.Data.{Data}
+use Rattle.bx_editor.specs.Picture.{picture, next_top}
 use Rattle.bx_session.specs.declared.status.Status.{Status}
 use Rattle.bx_session.specs.declared.error.Refused.{Refused}
-use Rattle.bx_session.specs.declared.error.Refused.TheVariants.{Edit, Paint}
-use Rattle.bx_session.specs.Rows.{top_row, picture}
-use Rattle.bx_session.specs.Session.{SessionState, Feeds, with_painting, session_after_key, key_of_byte, unpainted_after_byte, is_idle}
+use Rattle.bx_session.specs.declared.error.Refused.TheVariants.{Edit, Paint, Size}
+use Rattle.bx_session.specs.Session.{Session, painting, with_painting, with_painting_owed, key_of_byte, after_spending, session_after_any}
+use Rattle.bx_session.specs.Session.{unpainted_after_byte, is_idle}
+use Rattle.bx_session.specs.Saving.{StoreState, AfterByte, Feeds}
 use Rattle.bx_session.specs.Running.{ByteAnswer, bytes_of, FeedsAll, FedUntilEnd, HasRead, Sent, HasRun}
 
 -- ---- what was pending before does not matter
 
 -- the session with these bytes pending before the others
-abbrev pub prefixed : List ℕ → SessionState → SessionState
+abbrev pub prefixed : List ℕ → Session → Session
 prefixed p s = record s { pending = p ++ s.pending }
 
-with_painting-prefixed : (p : List ℕ) (s : SessionState) → with_painting (prefixed p s) ≡ prefixed p (with_painting s)
-with_painting-prefixed p s =
-    let top = top_row s.editor s.top in
-    ap (λ (q : List ℕ). record s { top = top; painting_owed = false; pending = q }) (append_assoc p s.pending (whole_bytes (picture s.editor top)))
+with_painting-prefixed : (d : Data) (p : List ℕ) (s : Session) → with_painting d (prefixed p s) ≡ prefixed p (with_painting d s)
+with_painting-prefixed d p s =
+    let top = next_top d s.editor s.top in
+    ap (λ (q : List ℕ). record s { top = top; painted = Some (picture d s.editor top); painting_owed = false; pending = q })
+    (append_assoc p s.pending (painting s.painted (picture d s.editor top)))
 
-session_after_key-prefixed : (p : List ℕ) (s : SessionState) (key : Option Key) → session_after_key (prefixed p s) key ≡ prefixed p (session_after_key s key)
-session_after_key-prefixed p s None = refl
-session_after_key-prefixed p s (Some key) = refl
+spending_at : (ended : Bool) (p : List ℕ) (s : Session) (rest : List ℕ)
+    → (if ended then prefixed p s else record (prefixed p s) { rest = rest }) ≡ prefixed p (if ended then s else record s { rest = rest })
+spending_at true p s rest = refl
+spending_at false p s rest = refl
 
-fed_either : (idle : Bool) (p : List ℕ) (s : SessionState) (b : ℕ)
-    → (if idle then prefixed p s else with_painting (unpainted_after_byte (prefixed p s) b)) ≡ prefixed p (if idle then s else with_painting (unpainted_after_byte s b))
-fed_either true p s b = refl
-fed_either false p s b = ap with_painting (session_after_key-prefixed p s (key_of_byte s b)) ∙ with_painting-prefixed p (unpainted_after_byte s b)
+after_spending-prefixed : (p : List ℕ) (s : Session) (b : ℕ) → after_spending (prefixed p s) b ≡ prefixed p (after_spending s b)
+after_spending-prefixed p s b = spending_at s.editor.ended p s (head_of (rest_after s.rest b))
 
-Feeds-prefixed : (p : List ℕ) (s : SessionState) (b : ℕ) (a : Result Status Refused) (s' : SessionState) → Feeds s b a s'
-    → Feeds (prefixed p s) b a (prefixed p s')
-Feeds-prefixed p s b (Ok status) s' h = (ap (prefixed p) h.0 ∙ sym (fed_either (is_idle s b) p s b), h.1)
-Feeds-prefixed p s b (Err Edit) s' h = (ap (prefixed p) h.0, h.1)
-Feeds-prefixed p s b (Err Paint) s' h =
-    (ap (prefixed p) h.0 ∙ ap (λ (x : SessionState). record x { painting_owed = true }) (sym (session_after_key-prefixed p s (key_of_byte s b))), h.1)
+session_after_any-prefixed : (d : Data) (saved : Bool) (p : List ℕ) (s : Session) (key : Option Key)
+    → session_after_any d saved (prefixed p s) key ≡ prefixed p (session_after_any d saved s key)
+session_after_any-prefixed d saved p s None = refl
+session_after_any-prefixed d saved p s (Some key) = refl
 
-FeedsAll-prefixed : (p : List ℕ) (s : SessionState) (answered : List ByteAnswer) (s' : SessionState) → FeedsAll s answered s'
-    → FeedsAll (prefixed p s) answered (prefixed p s')
-FeedsAll-prefixed p s [] s' h = ap (prefixed p) h
-FeedsAll-prefixed p s (a ∷ answered) s' h =
-    (prefixed p h.0, h.1, Feeds-prefixed p s a.0 a.1 h.0 h.2, FeedsAll-prefixed p h.0 answered s' h.3)
+unpainted-prefixed : (d : Data) (saved : Bool) (p : List ℕ) (s : Session) (b : ℕ)
+    → unpainted_after_byte d saved (prefixed p s) b ≡ prefixed p (unpainted_after_byte d saved s b)
+unpainted-prefixed d saved p s b =
+    ap (λ (x : Session). session_after_any d saved x (key_of_byte s b)) (after_spending-prefixed p s b)
+    ∙ session_after_any-prefixed d saved p (after_spending s b) (key_of_byte s b)
 
-FeedsAll-append : (s : SessionState) (first second : List ByteAnswer) (m s' : SessionState) → FeedsAll s first m → FeedsAll m second s'
-    → FeedsAll s (first ++ second) s'
-FeedsAll-append s [] second m s' h k = subst (λ (x : SessionState). FeedsAll x second s') h k
-FeedsAll-append s (a ∷ first) second m s' h k = (h.0, h.1, h.2, FeedsAll-append h.0 first second m s' h.3 k)
+either_prefixed : (idle : Bool) (d : Data) (saved : Bool) (p : List ℕ) (s : Session) (b : ℕ)
+    → (if idle then after_spending (prefixed p s) b else with_painting d (unpainted_after_byte d saved (prefixed p s) b))
+    ≡ prefixed p (if idle then after_spending s b else with_painting d (unpainted_after_byte d saved s b))
+either_prefixed true d saved p s b = after_spending-prefixed p s b
+either_prefixed false d saved p s b =
+    ap (with_painting d) (unpainted-prefixed d saved p s b) ∙ with_painting-prefixed d p (unpainted_after_byte d saved s b)
+
+AfterByte-prefixed : (d : Data) (saved : Bool) (p : List ℕ) (s : Session) (b : ℕ) (a : Result Status Refused) (s' : Session) → AfterByte d saved s b a s'
+    → AfterByte d saved (prefixed p s) b a (prefixed p s')
+AfterByte-prefixed d saved p s b (Ok status) s' h = (ap (prefixed p) h.0 ∙ sym (either_prefixed (is_idle s b) d saved p s b), h.1)
+AfterByte-prefixed d saved p s b (Err Edit) s' h = (ap (prefixed p) h.0 ∙ sym (after_spending-prefixed p s b), h.1)
+AfterByte-prefixed d saved p s b (Err Paint) s' h = (ap (prefixed p) h.0 ∙ ap with_painting_owed (sym (unpainted-prefixed d saved p s b)), h.1)
+AfterByte-prefixed d saved p s b (Err Size) s' h = h
+
+Feeds-prefixed : (d : Data) (p : List ℕ) (s : Session) (store : StoreState) (b : ℕ) (a : Result Status Refused) (s' : Session) (store' : StoreState)
+    → Feeds d s store b a s' store' → Feeds d (prefixed p s) store b a (prefixed p s') store'
+Feeds-prefixed d p s store b a s' store' h = (h.0, h.1, AfterByte-prefixed d h.0 p s b a s' h.2)
+
+FeedsAll-prefixed : (d : Data) (p : List ℕ) (s : Session) (store : StoreState) (answered : List ByteAnswer) (s' : Session) (store' : StoreState)
+    → FeedsAll d s store answered s' store' → FeedsAll d (prefixed p s) store answered (prefixed p s') store'
+FeedsAll-prefixed d p s store [] s' store' h = (ap (prefixed p) h.0, h.1)
+FeedsAll-prefixed d p s store (a ∷ answered) s' store' h =
+    (prefixed p h.0, h.1, h.2, Feeds-prefixed d p s store a.0 a.1 h.0 h.1 h.3, FeedsAll-prefixed d p h.0 h.1 answered s' store' h.4)
+
+FeedsAll-append : (d : Data) (s : Session) (store : StoreState) (first second : List ByteAnswer) (m : Session) (m_store : StoreState)
+    (s' : Session) (store' : StoreState) → FeedsAll d s store first m m_store → FeedsAll d m m_store second s' store'
+    → FeedsAll d s store (first ++ second) s' store'
+FeedsAll-append d s store [] second m m_store s' store' h k =
+    subst (λ (x : Session). FeedsAll d x store second s' store') h.0 (subst (λ (x : StoreState). FeedsAll d m x second s' store') h.1 k)
+FeedsAll-append d s store (a ∷ first) second m m_store s' store' h k =
+    (h.0, h.1, h.2, h.3, FeedsAll-append d h.0 h.1 first second m m_store s' store' h.4 k)
 
 -- ---- turns
 
-pub record Fed (old : SessionState) (bytes : List ℕ) (i : ℕ) (now : SessionState) (answered : List ByteAnswer) : Type 0 where
+pub record Fed (d : Data) (old : Session) (store : StoreState) (bytes : List ℕ) (i : ℕ) (now : Session) (now_store : StoreState)
+    (answered : List ByteAnswer) : Type 0 where
   pub so_far : bytes_of answered ≡ take i bytes
-  pub feeds : FeedsAll old answered now
+  pub feeds : FeedsAll d old store answered now now_store
 
-pub fed_more : (old now new : SessionState) (bytes : List ℕ) (i b : ℕ) (a : Result Status Refused) (answered : List ByteAnswer)
-    → Fed old bytes i now answered → now.editor.ended ≡ false → Feeds now b a new → take (i + 1) bytes ≡ take i bytes ++ b ∷ []
-    → Fed old bytes (i + 1) new (answered ++ (b, a) ∷ [])
-fed_more old now new bytes i b a answered before running feeds more = record {
-  so_far = map-append (λ (x : ByteAnswer). x.0) answered ((b, a) ∷ []) ∙ ap (λ xs. xs ++ b ∷ []) before.so_far ∙ sym more;
-  feeds = FeedsAll-append old answered ((b, a) ∷ []) now new before.feeds (new, running, feeds, refl);
-}
+-- the tables are the same all along
+pub fed_more : {D : Type 0} (says : D → Data) (tables tables1 : D) (old now new : Session) (store store1 store2 : StoreState) (bytes : List ℕ)
+    (i b : ℕ) (a : Result Status Refused) (answered : List ByteAnswer) → Fed (says tables) old store bytes i now store1 answered → tables1 ≡ tables
+    → now.editor.ended ≡ false → Feeds (says tables1) now store1 b a new store2 → take (i + 1) bytes ≡ take i bytes ++ b ∷ []
+    → Fed (says tables) old store bytes (i + 1) new store2 (answered ++ (b, a) ∷ [])
+fed_more {D} says tables tables1 old now new store store1 store2 bytes i b a answered before same running feeds more =
+    let feeds' : Feeds (says tables) now store1 b a new store2 = subst (λ (t : D). Feeds (says t) now store1 b a new store2) same feeds in
+    record {
+      so_far = map-append (λ (x : ByteAnswer). x.0) answered ((b, a) ∷ []) ∙ ap (λ xs. xs ++ b ∷ []) before.so_far ∙ sym more;
+      feeds = FeedsAll-append (says tables) old store answered ((b, a) ∷ []) now store1 new store2 before.feeds
+          (new, store2, running, feeds', (refl, refl));
+    }
 
-pub fed_until : (old now : SessionState) (bytes : List ℕ) (i : ℕ) (answered : List ByteAnswer) → Fed old bytes i now answered
-    → (drop i bytes ≢ [] → now.editor.ended ≡ true) → FedUntilEnd old bytes now answered (drop i bytes)
-fed_until old now bytes i answered before ended = record {
+pub fed_until : (d : Data) (old now : Session) (store store1 : StoreState) (bytes : List ℕ) (i : ℕ) (answered : List ByteAnswer)
+    → Fed d old store bytes i now store1 answered → (drop i bytes ≢ [] → now.editor.ended ≡ true)
+    → FedUntilEnd d old store bytes now store1 answered (drop i bytes)
+fed_until d old now store store1 bytes i answered before ended = record {
   all = sym (take-append-drop i bytes) ∙ ap (λ xs. xs ++ drop i bytes) (sym before.so_far);
   feeds = before.feeds;
   drops = ended;
 }
 
-pub not_sent : (s : SessionState) (w : Option (List ℕ)) → Sent s s w w []
+pub not_sent : (s : Session) (w : Option (List ℕ)) → Sent s s w w []
 not_sent s w = record { writes = Appends-nil w; order = refl; session = refl }
 
-pub sent_more : (s s1 s2 : SessionState) (w w1 w2 : Option (List ℕ)) (written more : List ℕ) → Sent s s1 w w1 written → Sent s1 s2 w1 w2 more
+pub sent_more : (s s1 s2 : Session) (w w1 w2 : Option (List ℕ)) (written more : List ℕ) → Sent s s1 w w1 written → Sent s1 s2 w1 w2 more
     → Sent s s2 w w2 (written ++ more)
 sent_more s s1 s2 w w1 w2 written more a b = record {
   writes = Appends-trans w w1 w2 written more a.writes b.writes;
   order = a.order ∙ ap (λ xs. written ++ xs) b.order ∙ sym (append_assoc written more s2.pending);
-  session = b.session ∙ ap (λ (x : SessionState). record x { pending = s2.pending }) a.session;
+  session = b.session ∙ ap (λ (x : Session). record x { pending = s2.pending }) a.session;
 }
 
 none_written : (a b : Option (List ℕ)) → Appends a b [] → Keeps a b
@@ -90,10 +126,10 @@ none_written (Some xs) None h = h
 none_written (Some xs) (Some ys) h = h ∙ append-nil xs
 
 -- some of what is pending was written and taken off
-pub took : (s s1 : SessionState) (w w1 : Option (List ℕ)) (count : ℕ) (buffer : List ℕ) → buffer ≡ s.pending → Appends w w1 (take count buffer)
+pub took : (s s1 : Session) (w w1 : Option (List ℕ)) (count : ℕ) (buffer : List ℕ) → buffer ≡ s.pending → Appends w w1 (take count buffer)
     → s1 ≡ record s { pending = drop count s.pending } → Sent s s1 w w1 (take count buffer)
 took s s1 w w1 count buffer is written e =
-    let rest : s1.pending ≡ drop count s.pending = ap (λ (x : SessionState). x.pending) e in
+    let rest : s1.pending ≡ drop count s.pending = ap (λ (x : Session). x.pending) e in
     record {
       writes = written;
       order = sym (take-append-drop count s.pending) ∙ ap (λ xs. take count xs ++ drop count s.pending) (sym is)
@@ -101,12 +137,13 @@ took s s1 w w1 count buffer is written e =
       session = e ∙ ap (λ (q : List ℕ). record s { pending = q }) (sym rest);
     }
 
-pub sent_kept : (s s1 : SessionState) (w w1 w2 : Option (List ℕ)) (written : List ℕ) → Sent s s1 w w1 written → Keeps w1 w2 → Sent s s1 w w2 written
+pub sent_kept : (s s1 : Session) (w w1 w2 : Option (List ℕ)) (written : List ℕ) → Sent s s1 w w1 written → Keeps w1 w2 → Sent s s1 w w2 written
 sent_kept s s1 w w1 w2 written a k = record { writes = Appends-kept w w1 w2 written a.writes k; order = a.order; session = a.session }
 
-pub started : (s s1 : SessionState) (r w w1 : Option (List ℕ)) (written : List ℕ) → Sent s s1 w w1 written → HasRun s s1 r r w w1 [] [] written s
-started s s1 r w w1 written a = record {
-  feeds = refl;
+pub started : (d : Data) (s s1 : Session) (store : StoreState) (r w w1 : Option (List ℕ)) (written : List ℕ) → Sent s s1 w w1 written
+    → HasRun d s s1 store store r r w w1 [] [] written s
+started d s s1 store r w w1 written a = record {
+  feeds = (refl, refl);
   reads = Consumes-nil r;
   drops = λ some. absurd (some refl);
   writes = a.writes;
@@ -118,16 +155,20 @@ none_dropped : (dropped : List ℕ) (ended : Bool) → (dropped ≢ [] → ended
 none_dropped [] ended h running = refl
 none_dropped (x ∷ dropped) ended h running = absurd (let e : ended ≡ true = h (λ q. absurd (cc q)) in cc e)
 
-pub turned : (old s s2 s3 : SessionState) (r r1 r2 w w1 w2 : Option (List ℕ)) (answered answered' : List ByteAnswer)
-    (dropped dropped' written written' bytes : List ℕ) (all : SessionState)
-    → HasRun old s r r1 w w1 answered dropped written all → s.pending ≡ [] → s.editor.ended ≡ false → Consumes r1 r2 bytes
-    → FedUntilEnd s bytes s2 answered' dropped' → Sent s2 s3 w1 w2 written'
-    → HasRun old s3 r r2 w w2 (answered ++ answered') dropped' (written ++ written') (prefixed all.pending s2)
-turned old s s2 s3 r r1 r2 w w1 w2 answered answered' dropped dropped' written written' bytes all run empty running reads feeds sends =
+pub turned : {D : Type 0} (says : D → Data) (tables tables1 : D) (old s s2 s3 : Session) (store store1 store2 : StoreState) (r r1 r2 w w1 w2 : Option (List ℕ))
+    (answered answered' : List ByteAnswer) (dropped dropped' written written' bytes : List ℕ) (all : Session)
+    → HasRun (says tables) old s store store1 r r1 w w1 answered dropped written all → tables1 ≡ tables → s.pending ≡ []
+    → s.editor.ended ≡ false → Consumes r1 r2 bytes → FedUntilEnd (says tables1) s store1 bytes s2 store2 answered' dropped'
+    → Sent s2 s3 w1 w2 written'
+    → HasRun (says tables) old s3 store store2 r r2 w w2 (answered ++ answered') dropped' (written ++ written') (prefixed all.pending s2)
+turned {D} says tables tables1 old s s2 s3 store store1 store2 r r1 r2 w w1 w2 answered answered' dropped dropped' written written' bytes all run stay empty
+    running reads feeds sends =
+    let d = says tables in
+    let fed : FeedsAll d s store1 answered' s2 store2 = subst (λ (t : D). FeedsAll (says t) s store1 answered' s2 store2) stay feeds.feeds in
     let same : prefixed all.pending s ≡ all =
     ap (prefixed all.pending) run.session ∙ ap (λ (q : List ℕ). record all { pending = all.pending ++ q }) empty
     ∙ ap (λ (q : List ℕ). record all { pending = q }) (append-nil all.pending) in
-    let none : dropped ≡ [] = none_dropped dropped s.editor.ended (λ some. ap (λ (x : SessionState). x.editor.ended) run.session ∙ run.drops some) running in
+    let none : dropped ≡ [] = none_dropped dropped s.editor.ended (λ some. ap (λ (x : Session). x.editor.ended) run.session ∙ run.drops some) running in
     let read : (bytes_of answered ++ dropped) ++ bytes ≡ bytes_of (answered ++ answered') ++ dropped' =
     ap (λ xs. (bytes_of answered ++ xs) ++ bytes) none
     ∙ ap (λ xs. xs ++ bytes) (append-nil (bytes_of answered))
@@ -136,8 +177,9 @@ turned old s s2 s3 r r1 r2 w w1 w2 answered answered' dropped dropped' written w
     ∙ ap (λ xs. xs ++ dropped') (sym (map-append (λ (x : ByteAnswer). x.0) answered answered')) in
     let kept : all.pending ≡ written = run.order ∙ ap (λ xs. written ++ xs) empty ∙ append-nil written in
     record {
-      feeds = FeedsAll-append old answered answered' all (prefixed all.pending s2) run.feeds
-          (subst (λ (x : SessionState). FeedsAll x answered' (prefixed all.pending s2)) same (FeedsAll-prefixed all.pending s answered' s2 feeds.feeds));
+      feeds = FeedsAll-append d old store answered answered' all store1 (prefixed all.pending s2) store2 run.feeds
+          (subst (λ (x : Session). FeedsAll d x store1 answered' (prefixed all.pending s2) store2) same
+          (FeedsAll-prefixed d all.pending s store1 answered' s2 store2 fed));
       reads = subst (Consumes r r2) read (Consumes-trans r r1 r2 (bytes_of answered ++ dropped) bytes run.reads reads);
       drops = feeds.drops;
       writes = Appends-trans w w1 w2 written written' run.writes sends.writes;
@@ -145,29 +187,17 @@ turned old s s2 s3 r r1 r2 w w1 w2 answered answered' dropped dropped' written w
       session = sends.session;
     }
 
--- a reader that failed has given nothing
-pub run_kept : (old s : SessionState) (r r1 r2 w w1 : Option (List ℕ)) (answered : List ByteAnswer) (dropped written : List ℕ) (all : SessionState)
-    → HasRun old s r r1 w w1 answered dropped written all → Keeps r1 r2 → HasRun old s r r2 w w1 answered dropped written all
-run_kept old s r r1 r2 w w1 answered dropped written all run k = record {
-  feeds = run.feeds;
-  reads = Consumes-kept r r1 r2 (bytes_of answered ++ dropped) run.reads k;
-  drops = run.drops;
-  writes = run.writes;
-  order = run.order;
-  session = run.session;
-}
-
 -- one more read that gave a byte
 pub read_more : (n : ℕ) (r r1 r2 : Option (List ℕ)) (bytes : List ℕ) → HasRead n r r1 → Consumes r1 r2 bytes → 1 ≤ length bytes → HasRead (n + 1) r r2
 read_more n r r1 r2 bytes h more some =
     (h.0 ++ bytes, omega (arith, h.1, some, length-append h.0 bytes), Consumes-trans r r1 r2 h.0 bytes h.2 more)
 
-pub sent_none : (s s1 : SessionState) (w w1 w2 : Option (List ℕ)) (written buffer : List ℕ) (count : ℕ) → Sent s s1 w w1 written
+pub sent_none : (s s1 : Session) (w w1 w2 : Option (List ℕ)) (written buffer : List ℕ) (count : ℕ) → Sent s s1 w w1 written
     → count ≡ 0 → Appends w1 w2 (take count buffer) → Sent s s1 w w2 written
 sent_none s s1 w w1 w2 written buffer count a none h =
     sent_kept s s1 w w1 w2 written a (none_written w1 w2 (rw none at h))
 
-pub fewer : (s s1 : SessionState) (count : ℕ) → (count ≡ 0 → ⊥) → count ≤ length s.pending → s1 ≡ record s { pending = drop count s.pending }
+pub fewer : (s s1 : Session) (count : ℕ) → (count ≡ 0 → ⊥) → count ≤ length s.pending → s1 ≡ record s { pending = drop count s.pending }
     → length s1.pending < length s.pending
 fewer s s1 count some fits e =
-    omega (arith, ap (λ (x : SessionState). length x.pending) e, length-drop count s.pending)
+    omega (arith, ap (λ (x : Session). length x.pending) e, length-drop count s.pending)

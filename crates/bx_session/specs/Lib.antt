@@ -1,5 +1,5 @@
-pub mod Editor
-pub mod Rows
 pub mod Session
-pub mod Opening
+pub mod Saving
+pub mod Painting
 pub mod Running
+pub mod Laws

@@ -1,13 +1,15 @@
--- A session run over a reader and a writer.
+-- A session run over a reader, a writer and a store.
 use Rattle.std.specs.Prelude.{◌≡◌, ◌≢◌, ◌≤◌, length, ℕ, true, false, List, [], ◌∷◌, ◌++◌, map, Option, Result, Ok, Err}
 use Rattle.std.specs.Io.KnownBytes.{Appends, Consumes, IsAtEnd}
+use Rattle.bx_editor.specs.Data.{Data}
 use Rattle.bx_session.specs.declared.status.Status.{Status}
 use Rattle.bx_session.specs.declared.error.Refused.{Refused}
 use Rattle.bx_session.specs.declared.end.End.{End}
 use Rattle.bx_session.specs.declared.end.End.TheVariants.{Quit, InputEnded}
 use Rattle.bx_session.specs.declared.end.RunFault.{RunFault}
 use Rattle.bx_session.specs.declared.end.RunFault.TheVariants.{ReadFault, WriteFault, ReadLimit}
-use Rattle.bx_session.specs.Session.{SessionState, Feeds}
+use Rattle.bx_session.specs.Session.{Session}
+use Rattle.bx_session.specs.Saving.{StoreState, Feeds}
 
 -- a byte, and what it was answered
 abbrev pub ByteAnswer : Type 0
@@ -16,20 +18,22 @@ ByteAnswer = ℕ × Result Status Refused
 abbrev pub bytes_of : List ByteAnswer → List ℕ
 bytes_of answered = map (λ a. a.0) answered
 
--- the session after these bytes, all fed before its end; nothing of what is pending is taken
-abbrev pub FeedsAll : SessionState → List ByteAnswer → SessionState → Type 0
-FeedsAll old [] new = new ≡ old
-FeedsAll old (a ∷ answered) new =
-    (mid : SessionState) × (old.editor.ended ≡ false) × Feeds old a.0 a.1 mid × FeedsAll mid answered new
+-- session and store after these bytes, all fed before the session's end; nothing of what is pending is taken
+abbrev pub FeedsAll : Data → Session → StoreState → List ByteAnswer → Session → StoreState → Type 0
+FeedsAll d old store [] new store' = (new ≡ old) × (store' ≡ store)
+FeedsAll d old store (a ∷ answered) new store' =
+    (mid : Session) × (mid_store : StoreState) × (old.editor.ended ≡ false) × Feeds d old store a.0 a.1 mid mid_store
+    × FeedsAll d mid mid_store answered new store'
 
 -- bytes were fed up to the session's end, and the others dropped
-pub record FedUntilEnd (old : SessionState) (bytes : List ℕ) (new : SessionState) (answered : List ByteAnswer) (dropped : List ℕ) : Type 0 where
+pub record FedUntilEnd (d : Data) (old : Session) (store : StoreState) (bytes : List ℕ) (new : Session) (store' : StoreState)
+    (answered : List ByteAnswer) (dropped : List ℕ) : Type 0 where
   pub all : bytes ≡ bytes_of answered ++ dropped
-  pub feeds : FeedsAll old answered new
+  pub feeds : FeedsAll d old store answered new store'
   pub drops : dropped ≢ [] → new.editor.ended ≡ true
 
 -- a prefix of what is pending was written, and the rest is still pending
-pub record Sent (old new : SessionState) (writer writer' : Option (List ℕ)) (written : List ℕ) : Type 0 where
+pub record Sent (old new : Session) (writer writer' : Option (List ℕ)) (written : List ℕ) : Type 0 where
   pub writes : Appends writer writer' written
   pub order : old.pending ≡ written ++ new.pending
   pub session : new ≡ record old { pending = new.pending }
@@ -41,22 +45,22 @@ HasRead count reader reader' = (bytes : List ℕ) × (count ≤ length bytes) ×
 -- how far a run has come: `answered` are the bytes up to the session's end, `dropped` those read after it, `written` what
 -- was written; `all` is the session if nothing had been, so what was pending at the start and all that was appended since
 -- is what was written and what is pending, in order
-pub record HasRun (old new : SessionState) (reader reader' writer writer' : Option (List ℕ))
-    (answered : List ByteAnswer) (dropped written : List ℕ) (all : SessionState) : Type 0 where
-  pub feeds : FeedsAll old answered all
+pub record HasRun (d : Data) (old new : Session) (store store' : StoreState) (reader reader' writer writer' : Option (List ℕ))
+    (answered : List ByteAnswer) (dropped written : List ℕ) (all : Session) : Type 0 where
+  pub feeds : FeedsAll d old store answered all store'
   pub reads : Consumes reader reader' (bytes_of answered ++ dropped)
   pub drops : dropped ≢ [] → all.editor.ended ≡ true
   pub writes : Appends writer writer' written
   pub order : all.pending ≡ written ++ new.pending
   pub session : new ≡ record all { pending = new.pending }
 
-abbrev pub Runs : SessionState → SessionState → Option (List ℕ) → Option (List ℕ) → Option (List ℕ) → Option (List ℕ) → Type 0
-Runs old new reader reader' writer writer' =
-    (answered : List ByteAnswer) × (dropped : List ℕ) × (written : List ℕ) × (all : SessionState)
-    × HasRun old new reader reader' writer writer' answered dropped written all
+abbrev pub Runs : Data → Session → Session → StoreState → StoreState → Option (List ℕ) → Option (List ℕ) → Option (List ℕ) → Option (List ℕ) → Type 0
+Runs d old new store store' reader reader' writer writer' =
+    (answered : List ByteAnswer) × (dropped : List ℕ) × (written : List ℕ) × (all : Session)
+    × HasRun d old new store store' reader reader' writer writer' answered dropped written all
 
 -- what the answer of a run says of the session after it and of the bytes that the reader has left
-abbrev pub EndsWith : Result End RunFault → SessionState → Option (List ℕ) → Type 0
+abbrev pub EndsWith : Result End RunFault → Session → Option (List ℕ) → Type 0
 EndsWith (Ok Quit) s left = (s.editor.ended ≡ true) × (s.pending ≡ [])
 EndsWith (Ok (InputEnded changed)) s left = (s.editor.ended ≡ false) × (s.pending ≡ []) × (changed ≡ s.editor.changed) × IsAtEnd left
 EndsWith (Err ReadFault) s left = (s.editor.ended ≡ false) × (s.pending ≡ [])

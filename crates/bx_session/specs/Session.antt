@@ -1,77 +1,131 @@
--- The session's state, and what a byte makes of it.
-use Rattle.std.specs.Prelude.{◌≡◌, ℕ, Bool, true, false, not, ◌&&◌, is_some, List, ◌++◌, Option, Some, None, Result, Ok, Err, if◌then◌else◌}
-use Rattle.bx_grid.specs.Picture.{PictureState, IsIdle, Shows}
-use Rattle.bx_grid.specs.Terminal.{Terminal, reads}
-use Rattle.bx_paint.specs.Painting.{whole_bytes}
-use Rattle.bx_session.specs.declared.key.Key.{Key}
+-- The session's state, and what a byte and a told size make of it.
+use Rattle.std.specs.Prelude.{ℕ, Bool, true, false, not, ◌&&◌, ◌||◌, is_some, List, [], ◌++◌, drop, Option, Some, None, if◌then◌else◌}
+use Rattle.bx_explicit.specs.declared.base.Base.{Base}
+use Rattle.bx_keys.specs.declared.key.Key.{Key}
+use Rattle.bx_keys.specs.Keys.{key_after, rest_after}
+use Rattle.bx_keys.specs.Waiting.{head_of}
+use Rattle.bx_grid.specs.Picture.{PictureState}
+use Rattle.bx_paint.specs.Painting.{whole_bytes, changes_bytes}
+use Rattle.bx_editor.specs.Data.{Data}
+use Rattle.bx_editor.specs.Editor.{Editor, at_start, with_size}
+use Rattle.bx_editor.specs.Keys.{after_key, asks_for_whole}
+use Rattle.bx_editor.specs.Picture.{picture, next_top}
 use Rattle.bx_session.specs.declared.status.Status.{Status}
 use Rattle.bx_session.specs.declared.status.Status.TheVariants.{Running, Ended}
-use Rattle.bx_session.specs.declared.error.Refused.{Refused}
-use Rattle.bx_session.specs.declared.error.Refused.TheVariants.{Edit, Paint}
-use Rattle.bx_session.specs.Editor.{EditorState, key_of, after_key, is_insert}
-use Rattle.bx_session.specs.Rows.{top_row, picture}
 
-pub record SessionState : Type 0 where
-  pub editor : EditorState
-  -- the top row
+pub record Session : Type 0 where
+  pub editor : Editor
+  -- the offset that the top row was last shown from
   pub top : ℕ
+  -- input that waits for more, as far as a key can still come of it
+  pub rest : List ℕ
+  -- the picture last painted, which the screen is taken to show once all is read; none where nothing is known of the screen
+  pub painted : Option PictureState
   -- a painting was refused, and none was queued since
   pub painting_owed : Bool
   -- bytes for the terminal
   pub pending : List ℕ
 
-abbrev pub shown_picture : SessionState → PictureState
-shown_picture s = picture s.editor s.top
+-- a session with the tables that it edits by
+pub record SessionState (D : Type 0) : Type 0 where
+  pub tables : D
+  pub session : Session
 
--- the top follows the cursor, and the picture is painted whole
-abbrev pub with_painting : SessionState → SessionState
-with_painting s =
-    let top = top_row s.editor s.top in
-    record s { top = top; painting_owed = false; pending = s.pending ++ whole_bytes (picture s.editor top) }
+-- ---- painting
 
--- the key that a byte is; after the end it is none
-abbrev pub key_of_byte : SessionState → ℕ → Option Key
-key_of_byte s b = if s.editor.ended then None else key_of b
+-- the bytes that lead to a picture: what differs from the one that is shown, or the whole where none is known to be
+abbrev pub painting : Option PictureState → PictureState → List ℕ
+painting None new = whole_bytes new
+painting (Some old) new = changes_bytes old new
 
-abbrev pub session_after_key : SessionState → Option Key → SessionState
-session_after_key s None = s
-session_after_key s (Some key) = record s { editor = after_key s.editor key }
+abbrev pub with_picture : Session → ℕ → PictureState → Session
+with_picture s top new = record s {
+  top = top;
+  painted = Some new;
+  painting_owed = false;
+  pending = s.pending ++ painting s.painted new;
+}
+
+-- the top follows the cursor, and the picture is painted
+abbrev pub with_painting : Data → Session → Session
+with_painting d s = let top = next_top d s.editor s.top in with_picture s top (picture d s.editor top)
+
+-- the painting was refused
+abbrev pub with_painting_owed : Session → Session
+with_painting_owed s = record s { painting_owed = true }
+
+-- ---- opening
+
+abbrev pub before_painting : List ℕ → ℕ → ℕ → Base → Session
+before_painting text height width base = record {
+  editor = at_start text height width base;
+  top = 0;
+  rest = [];
+  painted = None;
+  painting_owed = false;
+  pending = [];
+}
+
+abbrev pub at_opening : Data → List ℕ → ℕ → ℕ → Base → Session
+at_opening d text height width base = with_painting d (before_painting text height width base)
+
+-- ---- a byte
+
+-- the key that a byte ends; after the end it ends none
+abbrev pub key_of_byte : Session → ℕ → Option Key
+key_of_byte s b = if s.editor.ended then None else key_after s.rest b
+
+-- the byte is spent
+abbrev pub after_spending : Session → ℕ → Session
+after_spending s b = if s.editor.ended then s else record s { rest = head_of (rest_after s.rest b) }
+
+-- what is known of the screen after a key that leaves the editor so: nothing where the key asks for that, or at the end
+abbrev pub painted_after : Option PictureState → Key → Editor → Option PictureState
+painted_after painted key e = if asks_for_whole key || e.ended then None else painted
+
+-- a key is applied, and not yet painted; `saved` tells how a Save ends
+abbrev pub session_after_key : Data → Bool → Session → Key → Session
+session_after_key d saved s key =
+    let e = after_key d saved s.editor key in
+    record s { editor = e; painted = painted_after s.painted key e }
+
+abbrev pub session_after_any : Data → Bool → Session → Option Key → Session
+session_after_any d saved s None = s
+session_after_any d saved s (Some key) = session_after_key d saved s key
 
 -- the byte's key is applied, and not yet painted
-abbrev pub unpainted_after_byte : SessionState → ℕ → SessionState
-unpainted_after_byte s b = session_after_key s (key_of_byte s b)
+abbrev pub unpainted_after_byte : Data → Bool → Session → ℕ → Session
+unpainted_after_byte d saved s b = session_after_any d saved (after_spending s b) (key_of_byte s b)
 
--- the byte is no key, and no painting is owed
-abbrev pub is_idle : SessionState → ℕ → Bool
+-- the byte ends no key, and no painting is owed
+abbrev pub is_idle : Session → ℕ → Bool
 is_idle s b = not (is_some (key_of_byte s b)) && not s.painting_owed
 
 -- after a byte that was not refused
-abbrev pub after_byte : SessionState → ℕ → SessionState
-after_byte s b = if is_idle s b then s else with_painting (unpainted_after_byte s b)
+abbrev pub after_byte : Data → Bool → Session → ℕ → Session
+after_byte d saved s b = if is_idle s b then after_spending s b else with_painting d (unpainted_after_byte d saved s b)
 
 -- after a byte whose painting was refused
-abbrev pub owing_after_byte : SessionState → ℕ → SessionState
-owing_after_byte s b = record (unpainted_after_byte s b) { painting_owed = true }
+abbrev pub owing_after_byte : Data → Bool → Session → ℕ → Session
+owing_after_byte d saved s b = with_painting_owed (unpainted_after_byte d saved s b)
 
-abbrev pub status_of : SessionState → Status
+abbrev pub status_of : Session → Status
 status_of s = if s.editor.ended then Ended else Running
 
-abbrev pub inserts : Option Key → Bool
-inserts None = false
-inserts (Some key) = is_insert key
+-- ---- a told size
 
--- what a byte may be answered, and what it then leaves
-abbrev pub Feeds : SessionState → ℕ → Result Status Refused → SessionState → Type 0
-Feeds old b (Ok status) new = (new ≡ after_byte old b) × (status ≡ status_of new)
-Feeds old b (Err Edit) new = (new ≡ old) × (inserts (key_of_byte old b) ≡ true)
-Feeds old b (Err Paint) new = (new ≡ owing_after_byte old b) × (is_idle old b ≡ false)
+-- nothing is known of a screen of another size
+abbrev pub unpainted_after_told : Session → ℕ → ℕ → Session
+unpainted_after_told s height width = record s { editor = with_size s.editor height width; painted = None }
 
--- a terminal of the editor's size with nothing half read that reads these bytes shows the editor's picture, whatever else
--- its state is
-abbrev pub Shown : List ℕ → EditorState → ℕ → Type 0
-Shown bytes e top =
-    (t : Terminal) → IsIdle t → t.height ≡ e.height → t.width ≡ e.width → Shows (reads t bytes) (picture e top)
+abbrev pub after_told : Data → Session → ℕ → ℕ → Session
+after_told d s height width = with_painting d (unpainted_after_told s height width)
 
--- what is pending has only grown, by bytes that show the session's picture
-abbrev pub PaintsWhole : List ℕ → SessionState → Type 0
-PaintsWhole before new = (appended : List ℕ) × (new.pending ≡ before ++ appended) × Shown appended new.editor new.top
+abbrev pub owing_after_told : Session → ℕ → ℕ → Session
+owing_after_told s height width = with_painting_owed (unpainted_after_told s height width)
+
+-- ---- sending
+
+-- so many bytes have gone
+abbrev pub after_sending : Session → ℕ → Session
+after_sending s count = record s { pending = drop count s.pending }

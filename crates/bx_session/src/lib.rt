@@ -1,20 +1,21 @@
-//! The editor's session: from input bytes to bytes for the terminal.
-//!
-//! For now a file is one line of characters from SPACE to TILDE, and every key paints whole.
+//! The editor's session: input bytes in, bytes for the terminal out, the text to a store, and a run over a reader and a writer.
 #![tactic(auto)]
 
-mod editor;
 mod end;
 mod error;
-mod key;
+mod feeding;
+mod laws;
 mod open;
-mod picture;
+mod painting;
 mod running;
+mod saving;
 mod session;
 mod status;
 
+pub use bx_editor::OpenError;
 pub use end::{End, RunFault};
-pub use error::{OpenError, Refused};
+pub use error::Refused;
+pub use laws::{keys_are_those_of_input, paintings_keep_up};
 pub use running::{run, run_within};
 pub use session::Session;
 pub use status::Status;

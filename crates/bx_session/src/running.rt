@@ -1,19 +1,27 @@
-//! A session run over a reader and a writer.
+//! A session run over a reader, a writer and a store.
 
 ghost use Rattle.std.specs.Prelude.{◌≡◌, ◌++◌, [], List, ℕ, OnOk, OnErr, IsErrOf};
 ghost use Rattle.bx_session.specs.Running.{ByteAnswer, FedUntilEnd, HasRead, Sent, Runs, EndsWith};
+ghost use Rattle.bx_session.specs.Saving.{store_state};
 
 use crate::end::{End, RunFault};
 use crate::session::Session;
+use bx_document::Answers;
+use bx_store::Store;
+use bx_ucd::BidiData;
 use std::io::{Read, Write};
 
 /// The most reads of a run.
 const READS: u64 = 1_000_000_000;
 
 /// Writes what is pending, and flushes. A write of no byte is a fault.
-fn send<W: Write>(writer: &mut W, session: &mut Session) -> Result<(), RunFault>
-    ensures sent { (written : List ℕ) × Sent session.old session.new (W.contents writer.old) (W.contents writer.new) written }
-    ensures all { OnOk result (session.new.pending ≡ []) }
+fn send<D: BidiData + Drop, W: Write>(
+    writer: &mut W,
+    session: &mut Session<D>,
+) -> Result<(), RunFault>
+    ensures sent { (written : List ℕ) × Sent session.old.session session.new.session (W.contents writer.old) (W.contents writer.new) written }
+    ensures tables { session.new.tables ≡ session.old.tables }
+    ensures all { OnOk result (session.new.session.pending ≡ []) }
     ensures fault { OnErr result (result ≡ Err RunFault.WriteFault) }
 {
     'writes: while !session.pending().is_empty() {
@@ -30,14 +38,17 @@ fn send<W: Write>(writer: &mut W, session: &mut Session) -> Result<(), RunFault>
 }
 
 /// Feeds bytes until the session ends. A refused byte is spent like any other.
-fn feed_all(session: &mut Session, bytes: &[u8])
-    ensures { (answered : List ByteAnswer) × (dropped : List ℕ) × FedUntilEnd session.old bytes.now session.new answered dropped }
+fn feed_all<D: BidiData + Drop, S: Store>(session: &mut Session<D>, bytes: &[u8], store: &mut S)
+    ensures bytes { (answered : List ByteAnswer) × (dropped : List ℕ)
+        × FedUntilEnd (⟦<D as Answers>⟧.data session.old.tables) session.old.session (store_state S.contents S.failure_count store.old) bytes.now
+        session.new.session (store_state S.contents S.failure_count store.new) answered dropped }
+    ensures tables { session.new.tables ≡ session.old.tables }
 {
     for byte in bytes {
         if session.ended() {
             return;
         }
-        let _ = session.feed(*byte);
+        let _ = session.feed(*byte, store);
     }
 }
 
@@ -47,27 +58,35 @@ fn feed_all(session: &mut Session, bytes: &[u8])
 ///
 /// Errors: `ReadFault`; `WriteFault`, where a prefix of the output went out and the rest is still
 /// pending; `ReadLimit` after 1,000,000,000 reads.
-pub fn run<R: Read, W: Write>(
+pub fn run<D: BidiData + Drop, R: Read, W: Write, S: Store>(
     reader: &mut R,
     writer: &mut W,
-    session: &mut Session,
+    store: &mut S,
+    session: &mut Session<D>,
 ) -> Result<End, RunFault>
-    ensures runs { Runs session.old session.new (R.remaining reader.old) (R.remaining reader.new) (W.contents writer.old) (W.contents writer.new) }
-    ensures ends { EndsWith result session.new (R.remaining reader.new) }
+    ensures runs { Runs (⟦<D as Answers>⟧.data session.old.tables) session.old.session session.new.session
+        (store_state S.contents S.failure_count store.old) (store_state S.contents S.failure_count store.new)
+        (R.remaining reader.old) (R.remaining reader.new) (W.contents writer.old) (W.contents writer.new) }
+    ensures tables { session.new.tables ≡ session.old.tables }
+    ensures ends { EndsWith result session.new.session (R.remaining reader.new) }
     ensures limit { IsErrOf result RunFault.ReadLimit → HasRead 1000000000 (R.remaining reader.old) (R.remaining reader.new) }
 {
-    run_within(READS, reader, writer, session)
+    run_within(READS, reader, writer, store, session)
 }
 
 /// Runs a session as [`run`] does, with so many reads at most. `ReadLimit` comes after as many, each of which gave a byte.
-pub fn run_within<R: Read, W: Write>(
+pub fn run_within<D: BidiData + Drop, R: Read, W: Write, S: Store>(
     limit: u64,
     reader: &mut R,
     writer: &mut W,
-    session: &mut Session,
+    store: &mut S,
+    session: &mut Session<D>,
 ) -> Result<End, RunFault>
-    ensures runs { Runs session.old session.new (R.remaining reader.old) (R.remaining reader.new) (W.contents writer.old) (W.contents writer.new) }
-    ensures ends { EndsWith result session.new (R.remaining reader.new) }
+    ensures runs { Runs (⟦<D as Answers>⟧.data session.old.tables) session.old.session session.new.session
+        (store_state S.contents S.failure_count store.old) (store_state S.contents S.failure_count store.new)
+        (R.remaining reader.old) (R.remaining reader.new) (W.contents writer.old) (W.contents writer.new) }
+    ensures tables { session.new.tables ≡ session.old.tables }
+    ensures ends { EndsWith result session.new.session (R.remaining reader.new) }
     ensures limit { IsErrOf result RunFault.ReadLimit → HasRead limit (R.remaining reader.old) (R.remaining reader.new) }
 {
     send(writer, session)?;
@@ -84,7 +103,7 @@ pub fn run_within<R: Read, W: Write>(
             let changed = session.changed();
             return Ok(End::InputEnded { changed });
         }
-        feed_all(session, &buffer[..count]);
+        feed_all(session, &buffer[..count], store);
         send(writer, session)?;
     }
     if session.ended() {

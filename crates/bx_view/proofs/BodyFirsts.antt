@@ -16,22 +16,22 @@ use Rattle.bx_rows.specs.Wrapping.{is_break, row_len, rows_from, rows_of}
 use Rattle.bx_paragraph.specs.BodyRows.{body_rows}
 use Rattle.bx_paragraph.proofs.Starts.{firsts}
 use Rattle.bx_view.proofs.Around.{BodyFirsts}
-use Rattle.bx_view.proofs.Rising.{Rises, rises-sooner}
+use Rattle.bx_view.proofs.Rising.{Rises, rises-further, rises-sooner}
 
 -- ---- where units begin
 
-abbrev starts_of : List Unit → List ℕ
+abbrev pub starts_of : List Unit → List ℕ
 starts_of us = map (λ u. u.start) us
 
 units-rise : (class : ℕ → Class) (w at : ℕ) (gs : List (List ℕ)) → AllPieces (λ g. 0 < length g) gs
-    → Rises at (starts_of (map (unit_at class w) (with_offsets at gs))) (at + length (concat gs) + 1)
+    → Rises at (starts_of (map (unit_at class w) (with_offsets at gs))) (at + length (concat gs))
 unfolding with_offsets
 units-rise class w at [] h = omega arith
 units-rise class w at (g ∷ gs) h =
     let more = starts_of (map (unit_at class w) (with_offsets (at + length g) gs)) in
-    let same : at + length g + length (concat gs) + 1 ≡ at + length (concat (g ∷ gs)) + 1 = omega (arith, length-append g (concat gs)) in (
+    let same : at + length g + length (concat gs) ≡ at + length (concat (g ∷ gs)) = omega (arith, length-append g (concat gs)) in (
       omega arith,
-      rises-sooner (at + 1) (at + length g) more (at + length (concat (g ∷ gs)) + 1) (omega (arith, h.0))
+      rises-sooner (at + 1) (at + length g) more (at + length (concat (g ∷ gs))) (omega (arith, h.0))
           (subst (Rises (at + length g) more) same (units-rise class w (at + length g) gs h.1)),
     )
 
@@ -40,7 +40,7 @@ units-rise class w at (g ∷ gs) h =
 abbrev offsets : List ℕ → List Unit → List Row → List ℕ
 offsets body all rs = map (λ s. s.offset) (map (start_of body all) rs)
 
-next-units : (i : ℕ) (u : Unit) (us all : List Unit) → drop i all ≡ u ∷ us → drop (suc i) all ≡ us
+pub next-units : (i : ℕ) (u : Unit) (us all : List Unit) → drop i all ≡ u ∷ us → drop (suc i) all ≡ us
 next-units i u us all e =
     let one : i + 1 ≡ suc i = omega arith in ap (λ n. drop n all) (sym one) ∙ sym (drop-drop 1 i all) ∙ ap (drop 1) e
 
@@ -72,12 +72,27 @@ unfolding with_offsets
 first-unit class w [] = refl
 first-unit class w (g ∷ gs) = refl
 
--- a body's units begin in it
+-- a body's units begin before its end
+pub units-before : (class : ℕ → Class) (w : ℕ) (body : List ℕ) → IsUtf8 body → Rises 0 (starts_of (units class w body)) (length body)
+units-before class w body utf8 =
+    let gs = graphemes true body in
+    let size : 0 + length (concat gs) ≡ length body = omega (arith, ap length (concat-segments (is_grapheme_break true) body utf8)) in
+    subst (Rises 0 (starts_of (units class w body))) size (units-rise class w 0 gs (segments_nonempty (is_grapheme_break true) body))
+
 pub units-in : (class : ℕ → Class) (w : ℕ) (body : List ℕ) → IsUtf8 body → Rises 0 (starts_of (units class w body)) (length body + 1)
 units-in class w body utf8 =
+    rises-further 0 (starts_of (units class w body)) (length body) (length body + 1) (omega arith) (units-before class w body utf8)
+
+-- a body of no units has no bytes
+units-none : (class : ℕ → Class) (w : ℕ) (gs : List (List ℕ)) → length (map (unit_at class w) (with_offsets 0 gs)) ≡ 0 → length (concat gs) ≡ 0
+unfolding with_offsets
+units-none class w [] e = refl
+units-none class w (g ∷ gs) e = absurd (omega (arith, e))
+
+pub none-in : (class : ℕ → Class) (w : ℕ) (body : List ℕ) → IsUtf8 body → length (units class w body) ≡ 0 → length body ≡ 0
+none-in class w body utf8 e =
     let gs = graphemes true body in
-    let size : 0 + length (concat gs) + 1 ≡ length body + 1 = omega (arith, ap length (concat-segments (is_grapheme_break true) body utf8)) in
-    subst (Rises 0 (starts_of (units class w body))) size (units-rise class w 0 gs (segments_nonempty (is_grapheme_break true) body))
+    omega (arith, ap length (concat-segments (is_grapheme_break true) body utf8), units-none class w gs e)
 
 pub body-firsts : (class : ℕ → Class) (bracket : ℕ → Option (Side × ℕ)) (base : Base) (w : ℕ) → 1 ≤ w → (body : List ℕ) → IsUtf8 body
     → BodyFirsts body (body_rows class bracket base w body)

@@ -1,5 +1,5 @@
 -- Where rows begin, told by later states of a layout.
-use Rattle.std.proofs.Common.{◌≡◌, ℕ, ◌<◌, List, length, Option, IsUtf8, sym, ap, ap₂, ◌∙◌, arith}
+use Rattle.std.proofs.Common.{◌≡◌, ℕ, ◌<◌, ◌≤◌, List, length, Option, IsUtf8, sym, ap, ap₂, ◌∙◌, arith}
 use Rattle.bx_terms.specs.Sizes.{is_side}
 use Rattle.bx_ucd.specs.declared.class.Class.{Class}
 use Rattle.bx_ucd.specs.declared.data.Side.{Side}
@@ -23,8 +23,11 @@ module _ (class : ℕ → Class) (bracket : ℕ → Option (Side × ℕ)) (old v
   abbrev rows : List TextRow
   rows = rows_by class bracket old text
 
+  pub side-kept : 1 ≤ old.w
+  side-kept = side-some old.w (sym (ap is_side keeps.w) ∙ on.side)
+
   pub rise-kept : (n m : ℕ) → n < m → m < length rows → first (row_at rows n) < first (row_at rows m)
-  rise-kept = firsts-rise class bracket old.base old.w (side-some old.w (sym (ap is_side keeps.w) ∙ on.side)) text utf8
+  rise-kept = firsts-rise class bracket old.base old.w side-kept text utf8
 
   pub own-within : row_of rows place < length rows
   own-within =

@@ -22,9 +22,22 @@ pub rises-append : (low : ℕ) (os : List ℕ) (mid : ℕ) (ps : List ℕ) (high
 rises-append low [] mid ps high r s = rises-sooner low mid ps high r s
 rises-append low (o ∷ os) mid ps high r s = (r.0, rises-append (o + 1) os mid ps high r.1 s)
 
+-- the parts of a list that rises
+pub rises-ahead : (low : ℕ) (os : List ℕ) (p : ℕ) (ps : List ℕ) (high : ℕ) → Rises low (os ++ p ∷ ps) high → Rises low os p
+rises-ahead low [] p ps high r = r.0
+rises-ahead low (o ∷ os) p ps high r = (r.0, rises-ahead (o + 1) os p ps high r.1)
+
+pub rises-behind : (low : ℕ) (os ps : List ℕ) (high : ℕ) → Rises low (os ++ ps) high → Rises low ps high
+rises-behind low [] ps high r = r
+rises-behind low (o ∷ os) ps high r = rises-sooner low (o + 1) ps high (omega (arith, r.0)) (rises-behind (o + 1) os ps high r.1)
+
 pub rises-within : (low : ℕ) (os : List ℕ) (high : ℕ) → Rises low os high → low ≤ high
 rises-within low [] high r = r
 rises-within low (o ∷ os) high r = omega (arith, r.0, rises-within (o + 1) os high r.1)
+
+pub rises-few : (low : ℕ) (os : List ℕ) (high : ℕ) → Rises low os high → low + length os ≤ high
+rises-few low [] high r = omega (arith, r)
+rises-few low (o ∷ os) high r = omega (arith, r.0, rises-few (o + 1) os high r.1)
 
 pub rises-moved : (at low : ℕ) (os : List ℕ) (high : ℕ) → Rises low os high → Rises (at + low) (map (λ o. at + o) os) (at + high)
 rises-moved at low [] high r = omega (arith, r)

@@ -1,5 +1,5 @@
 -- What the rows of a paragraph that is held tell of the rows of the text.
-use Rattle.std.proofs.Common.{◌≡◌, ℕ, ◌+◌, ◌-◌, ◌<◌, ◌≤◌, true, List, length, get_or, nat_le, Option, Some, None, option_map, IsUtf8, IsCharBoundary}
+use Rattle.std.proofs.Common.{◌≡◌, ℕ, ◌+◌, ◌-◌, ◌<◌, ◌≤◌, Bool, true, List, length, reverse, find, get_or, nat_le, Option, Some, None, option_map, IsUtf8, IsCharBoundary}
 use Rattle.std.proofs.Common.{refl, sym, ap, ap₂, subst, ◌∙◌, arith, leb-true}
 use Rattle.std.specs.Prelude.{All, IfSome, map}
 use Rattle.std.proofs.lemmas.Bool.{and_parts}
@@ -9,7 +9,7 @@ use Rattle.bx_ucd.specs.declared.data.Side.{Side}
 use Rattle.bx_text.specs.Edits.{IsRange}
 use Rattle.bx_paras.specs.Paragraphs.{lengths}
 use Rattle.bx_paras.specs.Positions.{paragraph_of}
-use Rattle.bx_paragraph.specs.BodyRows.{body_rows, first_of, last_of}
+use Rattle.bx_paragraph.specs.BodyRows.{body_rows, first_of, last_of, offsets_of}
 use Rattle.bx_paragraph.specs.BodyRows.{row_at as row_at_body, row_of as row_of_body}
 use Rattle.bx_paragraph.specs.Layout.{LayoutState, row_by, rows_by}
 use Rattle.bx_paragraph.specs.declared.moves.Visual.{Visual}
@@ -23,7 +23,7 @@ use Rattle.bx_view.specs.Moves.{row_end, row_home}
 use Rattle.bx_view.specs.Standing.{IsRow, body_at, count, rows_ahead, rows_in, start_at}
 use Rattle.bx_view.specs.TextRows.{TextRow, cell_of, first, row_at, row_of, text_row, text_rows}
 use Rattle.bx_view.proofs.Numbers.{body-range, body-utf8}
-use Rattle.bx_view.proofs.Within.{Lies, LiesIn, Within, slots-fit, beside-fits, body-row-lies, end-fits, entry-fits, last-fits, start-fits}
+use Rattle.bx_view.proofs.Within.{Lies, LiesIn, Within, slots-fit, beside-fits, body-row-lies, end-fits, entry-fits, find-lies, last-fits, start-fits, within-reverse}
 use Rattle.bx_view.proofs.Walking.{before-over, before-some, first-short, next-in, next-none, next-over, row-is, row-under}
 
 pub side-some : (w : ℕ) → is_side w ≡ true → 1 ≤ w
@@ -46,6 +46,7 @@ module _ (class : ℕ → Class) (bracket : ℕ → Option (Side × ℕ)) where
         side = side;
         by = is.rows;
         w_is = is.w_is;
+        body_is = body;
         rows_are = same;
         count_is = row_count l (ap is_side is.w_is ∙ side) class bracket is.rows ∙ ap length same;
       }
@@ -96,37 +97,53 @@ module _ (class : ℕ → Class) (bracket : ℕ → Option (Side × ℕ)) where
         omega (arith, inside, on.start_is)
 
     -- the offsets of its places lie in its body
-    lies-in : LiesIn high l.w (row_by class bracket l at.row)
-    lies-in =
-        subst (λ w. LiesIn high w (row_by class bracket l at.row)) (sym is.w_is) (subst (λ rs. LiesIn high v.w (row_at_body rs at.row)) (sym is.rows_are)
-        (body-row-lies class bracket v.base v.w (body_at class text at.paragraph) at.row (body-utf8 class text at.paragraph on.is.paragraph utf8) on.is.row))
+    abbrev Inside : ℕ → Type 0
+    Inside o = o ≤ high
 
-    fits-in : (most : ℕ) (o : Option ℕ) → length text ≤ most → Lies high o → IfSome o (λ p. at.start + p ≤ most)
+    lies-in : LiesIn Inside l.w (row_by class bracket l at.row)
+    lies-in =
+        subst (λ w. LiesIn Inside w (row_by class bracket l at.row)) (sym is.w_is) (subst (λ rs. LiesIn Inside v.w (row_at_body rs at.row)) (sym is.rows_are)
+        (body-row-lies Inside class bracket v.base v.w (body_at class text at.paragraph) at.row
+        (body-utf8 class text at.paragraph on.is.paragraph utf8) (λ o b. b.0) on.is.row))
+
+    fits-in : (most : ℕ) (o : Option ℕ) → length text ≤ most → Lies Inside o → IfSome o (λ p. at.start + p ≤ most)
     fits-in most None short h = tt
     fits-in most (Some p) short h = omega (arith, short, h, high-fits)
 
     module _ (most : ℕ) (short : length text ≤ most) where
       pub last-short : (o : ℕ) → o ≡ last_of (row_by class bracket l at.row) → at.start + o ≤ most
-      last-short o e = omega (arith, e, last-fits high l.w (row_by class bracket l at.row) lies-in, high-fits, short)
+      last-short o e = omega (arith, e, last-fits Inside l.w (row_by class bracket l at.row) lies-in, high-fits, short)
 
       pub slots-short : (ss : List Slot) → ss ≡ row_slots l.w (row_by class bracket l at.row) → All (λ s. at.start + s.offset ≤ most) ss
       slots-short ss e =
-          slots-fit at.start high most ss (omega (arith, short, high-fits)) (subst (λ xs. Within high (map (λ (s : Slot). s.offset) xs)) (sym e)
+          slots-fit Inside at.start most ss (λ o h. omega (arith, short, high-fits, h)) (subst (λ xs. Within Inside (map (λ (s : Slot). s.offset) xs)) (sym e)
           lies-in.slots)
+
+      pub found-short : (p : ℕ → Bool) (os : List ℕ) (o : Option ℕ) → os ≡ offsets_of (row_by class bracket l at.row) → o ≡ find p os
+          → IfSome o (λ k. at.start + k ≤ most)
+      found-short p os o e f =
+          fits-in most o short (subst (Lies Inside) (sym (f ∙ ap (find p) e)) (find-lies Inside p (offsets_of (row_by class bracket l at.row)) lies-in.places))
+
+      pub found-back-short : (p : ℕ → Bool) (os : List ℕ) (o : Option ℕ) → os ≡ offsets_of (row_by class bracket l at.row) → o ≡ find p (reverse os)
+          → IfSome o (λ k. at.start + k ≤ most)
+      found-back-short p os o e f =
+          let mine = offsets_of (row_by class bracket l at.row) in
+          fits-in most o short (subst (Lies Inside) (sym (f ∙ ap (λ qs. find p (reverse qs)) e))
+          (find-lies Inside p (reverse mine) (within-reverse Inside mine lies-in.places)))
 
       pub beside-short : (side : Visual) (offset : ℕ) (o : Option ℕ) → o ≡ beside l.w (row_by class bracket l at.row) side offset
           → IfSome o (λ p. at.start + p ≤ most)
       beside-short side offset o e =
-          fits-in most o short (subst (Lies high) (sym e) (beside-fits high l.w (row_by class bracket l at.row) lies-in side offset))
+          fits-in most o short (subst (Lies Inside) (sym e) (beside-fits Inside l.w (row_by class bracket l at.row) lies-in side offset))
 
       pub start-short : (o : Option ℕ) → o ≡ reading_start l.w (row_by class bracket l at.row) → IfSome o (λ p. at.start + p ≤ most)
-      start-short o e = fits-in most o short (subst (Lies high) (sym e) (start-fits high l.w (row_by class bracket l at.row) lies-in))
+      start-short o e = fits-in most o short (subst (Lies Inside) (sym e) (start-fits Inside l.w (row_by class bracket l at.row) lies-in))
 
       pub end-short : (o : Option ℕ) → o ≡ reading_end l.w (row_by class bracket l at.row) → IfSome o (λ p. at.start + p ≤ most)
-      end-short o e = fits-in most o short (subst (Lies high) (sym e) (end-fits high l.w (row_by class bracket l at.row) lies-in))
+      end-short o e = fits-in most o short (subst (Lies Inside) (sym e) (end-fits Inside l.w (row_by class bracket l at.row) lies-in))
 
       pub entry-short : (column : ℕ) (o : Option ℕ) → o ≡ entry l.w (row_by class bracket l at.row) column → IfSome o (λ p. at.start + p ≤ most)
-      entry-short column o e = fits-in most o short (subst (Lies high) (sym e) (entry-fits high l.w (row_by class bracket l at.row) lies-in column))
+      entry-short column o e = fits-in most o short (subst (Lies Inside) (sym e) (entry-fits Inside l.w (row_by class bracket l at.row) lies-in column))
 
     -- a place of it, if there is one, by the columns of the view
     pub place-told : (F : ℕ → TextRow → Option ℕ) (o p : Option ℕ) → p ≡ option_map (λ k. at.start + k) o

@@ -5,7 +5,7 @@ use Rattle.bx_ucd.specs.declared.class.Class.{Class}
 use Rattle.bx_ucd.specs.declared.data.Side.{Side}
 use Rattle.bx_explicit.specs.declared.base.Base.{Base}
 use Rattle.bx_paragraph.specs.Layout.{IsLayoutBy, LayoutState, rows_by}
-use Rattle.bx_view.specs.Standing.{rows_in}
+use Rattle.bx_view.specs.Standing.{body_at, rows_in}
 
 pub record ViewState : Type 0 where
   pub base : Base
@@ -38,5 +38,6 @@ pub record IsOfText (class : ℕ → Class) (bracket : ℕ → Option (Side × �
   pub side : is_side v.w ≡ true
   pub by : IsLayoutBy class bracket l
   pub w_is : l.w ≡ v.w
+  pub body_is : l.body ≡ body_at class text number
   pub rows_are : rows_by class bracket l ≡ rows_in class bracket v.base v.w text number
   pub count_is : length l.starts ≡ length (rows_in class bracket v.base v.w text number)

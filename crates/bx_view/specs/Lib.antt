@@ -4,3 +4,4 @@ pub mod Top
 pub mod Standing
 pub mod Holding
 pub mod Cursor
+pub mod Numbers

@@ -1,5 +1,6 @@
 //! The refusal of the calls that take memory.
 use bx_paragraph::ParagraphError;
+use bx_rows::RowError;
 use bx_text::TextError;
 use std::alloc::AllocError;
 use thiserror::Error;
@@ -26,6 +27,12 @@ impl From<ParagraphError> for ViewError {
 
 impl From<TextError> for ViewError {
     fn from(_error: TextError) -> Self {
+        ViewError::OutOfMemory
+    }
+}
+
+impl From<RowError> for ViewError {
+    fn from(_error: RowError) -> Self {
         ViewError::OutOfMemory
     }
 }

@@ -1,5 +1,6 @@
 //! Places of a row of the text.
 ghost use Rattle.std.specs.Prelude.{◌≡◌, ℕ, ◌+◌, ◌-◌, ◌≤◌, IfOk, IfSome, option_map};
+ghost use Rattle.std.specs.Str.{IsCharBoundary};
 ghost use Rattle.bx_text.specs.Edits.{largest_text};
 ghost use Rattle.bx_paras.specs.Paragraphs.{lengths};
 ghost use Rattle.bx_paragraph.specs.BodyRows.{last_of};
@@ -18,7 +19,7 @@ use bx_text::Text;
 use bx_ucd::BidiData;
 
 /// An offset of a body as one of the text, in which the body begins at the offset `start`.
-fn place_in(start: usize, offset: Option<usize>) -> Option<usize>
+pub(crate) fn place_in(start: usize, offset: Option<usize>) -> Option<usize>
     requires { IfSome offset (λ o. start + o ≤ largest_text) }
     ensures { result ≡ option_map (λ o. start + o) offset }
 {
@@ -29,8 +30,8 @@ fn place_in(start: usize, offset: Option<usize>) -> Option<usize>
 }
 
 impl Layout {
-    /// The offset at which a row begins. No memory.
-    pub(crate) fn first_in<D: BidiData>(&self, text: &Text, source: &D, at: RowAt) -> usize
+    /// The offset at which a row begins, in bytes of the text. No memory.
+    pub fn first_in<D: BidiData>(&self, text: &Text, source: &D, at: RowAt) -> usize
         requires data { IsViewBy (D.class_of source.now) (D.bracket_of source.now) self.now }
         requires row { (n : ℕ) × StandsOn (D.class_of source.now) (D.bracket_of source.now) self.now text.now.edited.text at n }
         ensures { OfRow (D.class_of source.now) (D.bracket_of source.now) self.now text.now.edited.text at (λ r. result ≡ first r) }
@@ -41,7 +42,12 @@ impl Layout {
     }
 
     /// The last place of a row.
-    fn last_in<D: BidiData>(&self, text: &Text, source: &D, at: RowAt) -> Result<usize, ViewError>
+    pub(crate) fn last_in<D: BidiData>(
+        &self,
+        text: &Text,
+        source: &D,
+        at: RowAt,
+    ) -> Result<usize, ViewError>
         requires data { IsViewBy (D.class_of source.now) (D.bracket_of source.now) self.now }
         requires row { (n : ℕ) × StandsOn (D.class_of source.now) (D.bracket_of source.now) self.now text.now.edited.text at n }
         ensures { OfRow (D.class_of source.now) (D.bracket_of source.now) self.now text.now.edited.text at
@@ -144,6 +150,7 @@ impl Layout {
         requires index { index.now.paragraphs ≡ lengths (D.class_of source.now) text.now.edited.text }
         ensures keeps { Keeps (D.class_of source.now) (D.bracket_of source.now) self.old self.new }
         ensures end { IfOk result (λ o. o ≡ row_end (rows_by (D.class_of source.now) (D.bracket_of source.now) self.old text.now.edited.text) place) }
+        ensures boundary { IfOk result (λ o. IsCharBoundary text.now.edited.text o) }
     {
         let at = self.row_at(text, index, source, place)?;
         let end = self.last_in(text, source, at)?;

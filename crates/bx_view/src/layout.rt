@@ -1,5 +1,6 @@
 //! The layout of a text.
 ghost use Rattle.std.specs.Prelude.{◌≡◌, ℕ, ◌<◌, ◌≤◌, [], true, length, IfOk, IsUtf8};
+ghost use Rattle.std.specs.Str.{IsCharBoundary};
 ghost use Rattle.bx_terms.specs.Sizes.{is_side};
 ghost use Rattle.bx_text.specs.Edits.{largest_text};
 ghost use Rattle.bx_paras.specs.Paragraphs.{lengths};
@@ -25,9 +26,9 @@ use std::marker::Model;
 /// once, and no rows of the whole text.
 #[derive(Drop)]
 pub struct Layout {
-    base: Base,
-    w: u16,
-    held: Vec<ParagraphLayout>,
+    pub(crate) base: Base,
+    pub(crate) w: u16,
+    pub(crate) held: Vec<ParagraphLayout>,
     // the number of the one that was found last
     recent: usize,
 }
@@ -59,10 +60,25 @@ impl Layout {
         }
     }
 
+    /// The base direction. No memory.
+    pub fn base(&self) -> Base
+        ensures { result ≡ self.now.base }
+    {
+        self.base
+    }
+
+    /// The window's columns. No memory.
+    pub fn width(&self) -> u16
+        ensures width { result ≡ self.now.w }
+        ensures side { is_side self.now.w ≡ true }
+    {
+        self.w
+    }
+
     /// The number among those held of a paragraph of the text, which is laid out if it is not held.
     ///
     /// Errors: `OutOfMemory`.
-    fn find<D: BidiData>(
+    pub(crate) fn find<D: BidiData>(
         &mut self,
         text: &Text,
         index: &Index,
@@ -261,6 +277,7 @@ impl Layout {
         ensures keeps { Keeps (D.class_of source.now) (D.bracket_of source.now) self.old self.new }
         ensures home { IfOk result (λ home. home
             ≡ row_home (text_rows (D.class_of source.now) (D.bracket_of source.now) self.old.base self.old.w text.now.edited.text) place) }
+        ensures boundary { IfOk result (λ o. IsCharBoundary text.now.edited.text o) }
     {
         let at = self.row_at(text, index, source, place)?;
         let paragraph = self.paragraph(text, source, at.paragraph, at.held);

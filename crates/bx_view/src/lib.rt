@@ -1,16 +1,19 @@
 //! The rows of a whole text, the places of its cursor in them, the moves, and the rows that are shown.
 #![tactic(auto)]
 
+mod counting;
 mod cursor;
 mod error;
 mod holder;
 mod in_row;
 mod in_text;
 mod layout;
+mod logical;
 mod moves;
 mod shown;
 mod span;
 mod top;
+mod unit_number;
 mod vertical;
 mod visual;
 

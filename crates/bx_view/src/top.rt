@@ -1,5 +1,6 @@
 //! The top of the rows that are shown.
 ghost use Rattle.std.specs.Prelude.{◌≡◌, ◌<◌, IfOk};
+ghost use Rattle.std.specs.Str.{IsCharBoundary};
 ghost use Rattle.bx_paras.specs.Paragraphs.{lengths};
 ghost use Rattle.bx_view.specs.Cursor.{rows_by};
 ghost use Rattle.bx_view.specs.Holding.{IsViewBy, Keeps};
@@ -30,6 +31,7 @@ impl Layout {
         requires some { 0 < t }
         ensures keeps { Keeps (D.class_of source.now) (D.bracket_of source.now) self.old self.new }
         ensures top { IfOk result (λ o. o ≡ follow (rows_by (D.class_of source.now) (D.bracket_of source.now) self.old text.now.edited.text) top place t) }
+        ensures boundary { IfOk result (λ o. IsCharBoundary text.now.edited.text o) }
     {
         let old = self.row_home(text, index, source, top)?;
         let at = self.row_at(text, index, source, place)?;

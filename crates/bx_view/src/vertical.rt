@@ -1,5 +1,6 @@
 //! The moves from row to row.
 ghost use Rattle.std.specs.Prelude.{◌≡◌, ℕ, ◌+◌, ◌-◌, IfOk, length, min};
+ghost use Rattle.std.specs.Str.{IsCharBoundary};
 ghost use Rattle.bx_paras.specs.Paragraphs.{lengths};
 ghost use Rattle.bx_view.specs.Cursor.{StandsOn, rows_by};
 ghost use Rattle.bx_view.specs.Holding.{IsViewBy, Keeps};
@@ -118,6 +119,7 @@ impl Layout {
         ensures keeps { Keeps (D.class_of source.now) (D.bracket_of source.now) self.old self.new }
         ensures place { IfOk result (λ o. o ≡ rows_away self.old.w
             (rows_by (D.class_of source.now) (D.bracket_of source.now) self.old text.now.edited.text) way count place) }
+        ensures boundary { IsCharBoundary text.now.edited.text place → IfOk result (λ o. IsCharBoundary text.now.edited.text o) }
     {
         let column = self.cell_of(text, index, source, place)?;
         let at = self.row_at(text, index, source, place)?;
@@ -148,6 +150,7 @@ impl Layout {
         ensures keeps { Keeps (D.class_of source.now) (D.bracket_of source.now) self.old self.new }
         ensures place { IfOk result (λ o. o ≡ vertical self.old.w
             (rows_by (D.class_of source.now) (D.bracket_of source.now) self.old text.now.edited.text) way place) }
+        ensures boundary { IsCharBoundary text.now.edited.text place → IfOk result (λ o. IsCharBoundary text.now.edited.text o) }
     {
         let place = self.rows_away(text, index, source, way, 1, place)?;
         Ok(place)
@@ -171,6 +174,7 @@ impl Layout {
         ensures keeps { Keeps (D.class_of source.now) (D.bracket_of source.now) self.old self.new }
         ensures place { IfOk result (λ o. o ≡ page self.old.w
             (rows_by (D.class_of source.now) (D.bracket_of source.now) self.old text.now.edited.text) way t place) }
+        ensures boundary { IsCharBoundary text.now.edited.text place → IfOk result (λ o. IsCharBoundary text.now.edited.text o) }
     {
         let place = self.rows_away(text, index, source, way, t, place)?;
         Ok(place)

@@ -1,5 +1,6 @@
 //! The moves to the left and to the right.
 ghost use Rattle.std.specs.Prelude.{◌≡◌, ℕ, [], true, IfOk};
+ghost use Rattle.std.specs.Str.{IsCharBoundary};
 ghost use Rattle.bx_paras.specs.Paragraphs.{lengths};
 ghost use Rattle.bx_paragraph.specs.Slots.{reads_on};
 ghost use Rattle.bx_view.specs.Cursor.{OfRow, StandsOn, rows_by};
@@ -125,6 +126,7 @@ impl Layout {
         ensures keeps { Keeps (D.class_of source.now) (D.bracket_of source.now) self.old self.new }
         ensures step { IfOk result (λ o. o ≡ step_visual self.old.w
             (rows_by (D.class_of source.now) (D.bracket_of source.now) self.old text.now.edited.text) side place) }
+        ensures boundary { IsCharBoundary text.now.edited.text place → IfOk result (λ o. IsCharBoundary text.now.edited.text o) }
     {
         let at = self.row_at(text, index, source, place)?;
         if let Some(next) = self.beside(text, source, at, side, place)? {

@@ -1,4 +1,4 @@
-//! Tests of the public calls of the grid, the painter and the session, a module a crate: worked rows, and each call once with
+//! Tests of the public calls of the grid and the painter, a module a crate: worked rows, and each call once with
 //! ample memory. They stand in a crate of their own since the tests of a crate prove all of it once more.
 #![tactic(auto)]
 
@@ -6,5 +6,3 @@
 mod grid;
 #[cfg(test)]
 mod painting;
-#[cfg(test)]
-mod session;

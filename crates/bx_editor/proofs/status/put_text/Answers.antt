@@ -1,5 +1,5 @@
 use Rattle.std.proofs.Common.{◌<◌, List, ℕ, length, subst}
-use Rattle.bx_editor.proofs.PutOn.{roomy}
+use Rattle.bx_document.proofs.PutOn.{roomy}
 use Rattle.bx_editor.proofs.RowText.{next, one_column, printable_at, room, spelled}
 use Rattle.bx_editor.proofs.status.put_text.Goals as goal
 

@@ -1,7 +1,10 @@
-use Rattle.std.proofs.Common.{sym, ap, ◌∙◌}
-use Rattle.bx_grid.specs.Columns.{paste}
-use Rattle.bx_grid.specs.Seen.{all_seen}
+use Rattle.std.proofs.Common.{sym, ap, ◌∙◌, arith}
+use Rattle.std.proofs.lemmas.List.{length-map}
+use Rattle.bx_grid.specs.Columns.{Glyph, paste}
+use Rattle.bx_grid.specs.Seen.{seen, all_seen}
 use Rattle.bx_grid.proofs.Halves.{on_ok}
+use Rattle.bx_grid.proofs.Grids.{set_seen}
+use Rattle.bx_grid.proofs.Puts.{narrow_columns}
 use Rattle.bx_grid.proofs.RunEnds.{glyphs_of}
 use Rattle.bx_grid.proofs.columns.put_glyphs.Goals as goal
 
@@ -11,3 +14,10 @@ returns-clause-ok c =
     (λ e. e ∙ ap (paste (all_seen c.args.columns.now) c.args.from)
     (glyphs_of c.args.negative c.args.run.now c.args.count (sym c.if-are_ascii_printable.ensures) c.requires.counted))
     c.put_glyph.ensures.ok
+
+pub returns-then-run-le-SHORT-clause-ok : goal.returns-then-run-le-SHORT-clause-ok
+returns-then-run-le-SHORT-clause-ok c =
+    let run = c.args.run.now in
+    set_seen c.args.columns.now c.args.from c.narrow.result (Glyph run 1 0 c.args.negative) c.narrow.ensures
+    (omega (arith, c.requires.inside, c.if-count-eq1.true, length-map c.args.columns.now seen))
+    ∙ ap (paste (all_seen c.args.columns.now) c.args.from) (sym (narrow_columns c.args.negative run (sym c.requires.counted ∙ c.if-count-eq1.true)))

@@ -3,8 +3,8 @@ use Rattle.bx_grid.proofs.Pushed.{stays, param_stays, ends_at_final, breaks_at}
 use Rattle.bx_grid.proofs.token.fate_in_sequence.Goals as goal
 use Rattle.bx_grid.proofs.token.fate_in_sequence.Goals.{else-param-via-then-param+else-are_params, else-param-via-else-param}
 
-pub returns-then-last : goal.returns-then-last
-returns-then-last c = ends_at_final c.args.body.now c.args.byte c.requires (sym c.last.ensures ∙ c.if-last.true)
+pub returns-then-is_last : goal.returns-then-is_last
+returns-then-is_last c = ends_at_final c.args.body.now c.args.byte c.requires (sym c.is_last.ensures ∙ c.if-is_last.true)
 
 pub returns-then-intermediate : goal.returns-then-intermediate
 returns-then-intermediate c = rw (stays c.args.body.now c.args.byte c.requires (sym c.intermediate.ensures ∙ c.if-intermediate.true)) refl
@@ -15,7 +15,7 @@ returns-then-are_params c = rw
 
 pub returns-else-param : goal.returns-else-param
 returns-else-param c =
-    let f = sym c.last.ensures ∙ c.if-last.false in
+    let f = sym c.is_last.ensures ∙ c.if-is_last.false in
     let i = sym c.intermediate.ensures ∙ c.if-intermediate.false in
     elim c.else-param.branch [
       | else-param-via-then-param+else-are_params w ↦ breaks_at c.args.body.now c.args.byte c.requires f i

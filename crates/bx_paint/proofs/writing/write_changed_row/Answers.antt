@@ -24,12 +24,13 @@ parts c =
 
 pub returns-clause-bytes : goal.returns-clause-bytes
 returns-clause-bytes c =
-    let out = c.args.out.now.items in
+    let out = c.args.out.now.painting in
     let f = c.front_len-front.result in
     let tail = all_seen c.columns-2.result.now in
-    on_ok c.write_tail.result (c.write_tail.new.out.items ≡ c.write_columns.new.out.items ++ (tail_sent c.args.row f c.in_ok-negative.negative tail).bytes) _
-    (λ sent. row_bytes c.args.row f c.args.negative c.in_ok-negative.negative c.front.result tail c.front-2.result out c.write_columns.new.out.items
-    c.write_tail.new.out.items
+    on_ok c.write_tail.result
+    (c.write_tail.new.out.painting ≡ c.write_columns.new.out.painting ++ (tail_sent c.args.row f c.in_ok-negative.negative tail).bytes) _
+    (λ sent. row_bytes c.args.row f c.args.negative c.in_ok-negative.negative c.front.result tail c.front-2.result out c.write_columns.new.out.painting
+    c.write_tail.new.out.painting
     c.in_ok-negative.ensures.bytes c.in_ok-negative.ensures.rendition sent ∙ ap (λ (s : Sent). out ++ s.bytes) (sym (parts c)))
     c.write_tail.ensures.bytes
 

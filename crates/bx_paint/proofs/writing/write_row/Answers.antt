@@ -11,7 +11,7 @@ same_rows c =
     ap (λ xs. row_sent c.args.row c.args.negative xs c.args.new.now) same ∙ row_same c.args.row c.args.negative c.args.new.now
 
 pub returns-then-is_same-clause-bytes : goal.returns-then-is_same-clause-bytes
-returns-then-is_same-clause-bytes c = sym (append-nil c.args.out.now.items) ∙ ap (λ (s : Sent). c.args.out.now.items ++ s.bytes) (sym (same_rows c))
+returns-then-is_same-clause-bytes c = sym (append-nil c.args.out.now.painting) ∙ ap (λ (s : Sent). c.args.out.now.painting ++ s.bytes) (sym (same_rows c))
 
 pub returns-then-is_same-clause-rendition : goal.returns-then-is_same-clause-rendition
 returns-then-is_same-clause-rendition c = ap (λ (s : Sent). s.negative) (sym (same_rows c))

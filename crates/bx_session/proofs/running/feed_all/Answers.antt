@@ -1,32 +1,32 @@
-use Rattle.std.proofs.Common.{[], drop, refl, sym, ◌∙◌, arith}
-use Rattle.std.proofs.lemmas.List.{drop_all, take_more}
+use Rattle.std.proofs.Common.{drop, sym, ◌∙◌}
+use Rattle.std.proofs.lemmas.List.{take_more}
+use Rattle.bx_editor.specs.Data.{Data}
 use Rattle.bx_session.proofs.Turns.{fed_more, fed_until}
 use Rattle.bx_session.proofs.running.feed_all.Goals as goal
 
-pub loop-byte-init : goal.loop-byte-init
-loop-byte-init c = ([], record { so_far = refl; feeds = refl })
-
-pub returns-then-ended : goal.returns-then-ended
-returns-then-ended c =
-    let h = c.loop-byte.invariant in (
+pub returns-then-ended-clause-bytes : goal.returns-then-ended-clause-bytes
+returns-then-ended-clause-bytes g c =
+    let h = c.loop-byte.invariant.0 in (
       h.0,
       drop c.loop-byte.byte-index c.args.bytes.now,
-      fed_until c.args.session.now c.loop-byte.session c.args.bytes.now c.loop-byte.byte-index h.0 h.1 (λ _. sym c.ended.ensures ∙ c.if-ended.true),
+      fed_until _ c.args.session.now.session c.loop-byte.session.session _ _ c.args.bytes.now c.loop-byte.byte-index h.0 h.1
+          (λ _. sym c.ended.ensures ∙ c.if-ended.true),
     )
 
 pub loop-byte-preserved : goal.loop-byte-preserved
-loop-byte-preserved c =
-    let h = c.loop-byte.invariant in (
-      _,
-      fed_more c.args.session.now c.loop-byte.session c.feed.new.self c.args.bytes.now c.loop-byte.byte-index _ c.feed.result h.0 h.1
-          (sym c.ended.ensures ∙ c.if-ended.false) c.feed.ensures.after_byte (take_more c.args.bytes.now c.loop-byte.byte-index 0 c.loop-byte-test.true),
-    )
-
-pub returns : goal.returns
-returns c =
-    let h = c.loop-byte.invariant in (
-      h.0,
-      drop c.loop-byte.byte-index c.args.bytes.now,
-      fed_until c.args.session.now c.loop-byte.session c.args.bytes.now c.loop-byte.byte-index h.0 h.1
-          (λ some. absurd (some (drop_all c.loop-byte.byte-index c.args.bytes.now (omega arith)))),
+loop-byte-preserved g c =
+    let says : g.row.D.Denot → Data = λ t. record {
+      class = g.D.BidiData.class_of t;
+      bracket = g.D.BidiData.bracket_of t;
+      mirror = g.D.BidiData.mirror_of t;
+    } in
+    let h = c.loop-byte.invariant.0 in
+    let stay = c.loop-byte.invariant.1 in (
+      (
+        _,
+        fed_more says c.args.session.now.tables c.loop-byte.session.tables c.args.session.now.session c.loop-byte.session.session c.feed.new.self.session
+            _ _ _ c.args.bytes.now c.loop-byte.byte-index _ c.feed.result h.0 h.1 stay (sym c.ended.ensures ∙ c.if-ended.false) c.feed.ensures.after_byte
+            (take_more c.args.bytes.now c.loop-byte.byte-index 0 c.loop-byte-test.true),
+      ),
+      c.feed.ensures.tables ∙ stay,
     )

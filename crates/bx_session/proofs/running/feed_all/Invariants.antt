@@ -1,7 +1,16 @@
-use Rattle.std.proofs.Common.{List}
+use Rattle.std.proofs.Common.{◌≡◌, List}
 use Rattle.bx_session.specs.Running.{ByteAnswer}
+use Rattle.bx_session.specs.Saving.{store_state}
 use Rattle.bx_session.proofs.Turns.{Fed}
 use Rattle.bx_session.proofs.running.feed_all.Given as goal
 
 abbrev pub invariant-loop-byte : goal.invariant-loop-byte
-invariant-loop-byte l = (answered : List ByteAnswer) × Fed l.initial.session l.bytes l.byte-index l.session answered
+invariant-loop-byte g l =
+    ((answered : List ByteAnswer)
+    × Fed (record {
+      class = g.D.BidiData.class_of l.initial.session.tables;
+      bracket = g.D.BidiData.bracket_of l.initial.session.tables;
+      mirror = g.D.BidiData.mirror_of l.initial.session.tables;
+    }) l.initial.session.session (store_state g.S.Store.contents g.S.Store.failure_count l.initial.store) l.bytes l.byte-index l.session.session
+    (store_state g.S.Store.contents g.S.Store.failure_count l.store) answered)
+    × (l.session.tables ≡ l.initial.session.tables)

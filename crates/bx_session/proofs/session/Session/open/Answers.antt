@@ -1,7 +1,13 @@
-use Rattle.std.proofs.Common.{sym, ◌∙◌}
-use Rattle.bx_session.proofs.Painted.{printable_opened}
+use Rattle.bx_editor.specs.Data.{Data}
+use Rattle.bx_session.proofs.Bytes.{opening_is}
 use Rattle.bx_session.proofs.session.Session.open.Goals as goal
 
-pub new-requires-clause-printable : goal.new-requires-clause-printable
-new-requires-clause-printable c =
-    rw c.in_ok-text.ensures.items (printable_opened c.args.bytes.now c.args.height c.args.width (sym c.refusal.ensures ∙ c.in-None.is))
+pub returns-in-Ok-clause-ok : goal.returns-in-Ok-clause-ok
+returns-in-Ok-clause-ok g c =
+    let says : g.row.D.Denot → Data = λ t. record {
+      class = g.D.BidiData.class_of t;
+      bracket = g.D.BidiData.bracket_of t;
+      mirror = g.D.BidiData.mirror_of t;
+    } in
+    opening_is says c.args.tables c.args.bytes.items c.args.height c.args.width c.args.base c.in_ok-editor.editor c.new.result c.new-2.result.items
+    c.paint.new.self c.in_ok-editor.ensures.ok c.new.ensures.is_head c.new-2.ensures.items c.in-Ok.ensures.tables c.in-Ok.ensures.ok

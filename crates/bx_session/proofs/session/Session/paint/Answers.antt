@@ -1,11 +1,71 @@
-use Rattle.std.proofs.Common.{sym, ap}
-use Rattle.bx_grid.proofs.Halves.{on_ok}
-use Rattle.bx_session.specs.Session.{SessionState, Shown}
-use Rattle.bx_session.proofs.Painted.{painted}
+use Rattle.std.proofs.Common.{◌≡◌, ◌∙◌, sym, ap, drop, length, arith}
+use Rattle.std.proofs.lemmas.List.{length-append}
+use Rattle.bx_grid.specs.Picture.{PictureState}
+use Rattle.bx_editor.specs.Data.{Data}
+use Rattle.bx_editor.specs.Editor.{Editor, EditorState}
+use Rattle.bx_session.proofs.Pictures.{picture_height, picture_width, longer_queue, painting_is, painting_queues}
+use Rattle.bx_session.specs.Session.{Session, painting}
 use Rattle.bx_session.proofs.session.Session.paint.Goals as goal
 
+pub invariant_of-self-2 : goal.invariant_of-self-2
+invariant_of-self-2 g c =
+    let d : Data = record {
+      class = g.D.BidiData.class_of c.self.inside.editor.tables;
+      bracket = g.D.BidiData.bracket_of c.self.inside.editor.tables;
+      mirror = g.D.BidiData.mirror_of c.self.inside.editor.tables;
+    } in
+    let e : Editor = c.self.inside.editor.editor in
+    let same : c.picture.new.self.editor ≡ e = ap (λ (x : EditorState g.row.D.Denot). x.editor) c.in-Ok.ensures.same in (
+      omega (
+        arith,
+        c.self.invariant.0,
+        ap length c.in-Ok-append.ensures.bytes,
+        length-append c.self.inside.queue.items (painting c.self.inside.painted c.in-Ok.picture),
+      ),
+      (
+        ap (λ (p : PictureState). p.height) c.in-Ok.ensures.picture ∙ picture_height d e c.in-Ok.top ∙ ap (λ (x : Editor). x.height) (sym same),
+        ap (λ (p : PictureState). p.width) c.in-Ok.ensures.picture ∙ picture_width d e c.in-Ok.top ∙ ap (λ (x : Editor). x.width) (sym same),
+      ),
+    )
+
+pub returns-clause-ok : goal.returns-clause-ok
+returns-clause-ok g c =
+    let d : Data = record {
+      class = g.D.BidiData.class_of c.self.inside.editor.tables;
+      bracket = g.D.BidiData.bracket_of c.self.inside.editor.tables;
+      mirror = g.D.BidiData.mirror_of c.self.inside.editor.tables;
+    } in
+    let s : Session = record {
+      editor = c.self.inside.editor.editor;
+      top = c.self.inside.top;
+      rest = c.self.inside.decoder;
+      painted = c.self.inside.painted;
+      painting_owed = c.self.inside.painting_owed;
+      pending = drop c.self.inside.taken c.self.inside.queue.items;
+    } in
+    rw (← c.self.view_is)
+    (painting_is d s c.picture.new.self.editor c.in-Ok.top c.in-Ok.picture (drop c.self.inside.taken c.append.new.queue.items)
+    (ap (λ (x : EditorState g.row.D.Denot). x.editor) c.in-Ok.ensures.same) c.in-Ok.ensures.top c.in-Ok.ensures.picture
+    (longer_queue c.self.inside.taken c.self.inside.queue.items (painting c.self.inside.painted c.in-Ok.picture) c.append.new.queue.items c.self.invariant.0
+    c.in-Ok-append.ensures.bytes))
+
 pub returns-clause-paints : goal.returns-clause-paints
-returns-clause-paints c =
-    let shows : Shown c.as_slice.result.now c.args.self.now.editor c.top_row-top.result =
-    rw (c.as_slice.ensures.value, sym (ap (λ (s : SessionState). s.editor) c.self.view_is)) c.in_ok-painting.ensures.shows in
-    on_ok c.append.result _ _ (painted c.args.self.now c.append.new.self c.top_row-top.result c.as_slice.result.now shows) c.append.ensures.ok
+returns-clause-paints g c =
+    let d : Data = record {
+      class = g.D.BidiData.class_of c.self.inside.editor.tables;
+      bracket = g.D.BidiData.bracket_of c.self.inside.editor.tables;
+      mirror = g.D.BidiData.mirror_of c.self.inside.editor.tables;
+    } in
+    let s : Session = record {
+      editor = c.self.inside.editor.editor;
+      top = c.self.inside.top;
+      rest = c.self.inside.decoder;
+      painted = c.self.inside.painted;
+      painting_owed = c.self.inside.painting_owed;
+      pending = drop c.self.inside.taken c.self.inside.queue.items;
+    } in
+    rw (← c.self.view_is)
+    (painting_queues d s c.picture.new.self.editor c.in-Ok.top c.in-Ok.picture (drop c.self.inside.taken c.append.new.queue.items)
+    (ap (λ (x : EditorState g.row.D.Denot). x.editor) c.in-Ok.ensures.same) c.in-Ok.ensures.picture
+    (longer_queue c.self.inside.taken c.self.inside.queue.items (painting c.self.inside.painted c.in-Ok.picture) c.append.new.queue.items c.self.invariant.0
+    c.in-Ok-append.ensures.bytes) c.append.ensures.leads c.append.ensures.is_picture)

@@ -1,9 +1,10 @@
-use Rattle.std.proofs.Common.{◌∙◌, ◌-◌, ◌<◌, arith}
+use Rattle.std.proofs.Common.{◌∙◌, ◌-◌, ◌<◌, arith, IsCharBoundary, subst, sym}
 use Rattle.bx_view.specs.Cursor.{rows_by}
 use Rattle.bx_view.specs.TextRows.{first, row_of}
 use Rattle.bx_view.proofs.Beyond.{keeps-then}
-use Rattle.bx_view.proofs.KeptRows.{far-told, own-told, own-within, rise-kept}
+use Rattle.bx_view.proofs.KeptRows.{far-told, own-told, own-within, rise-kept, side-kept}
 use Rattle.bx_view.proofs.Nearest.{follow-moves, follow-stays}
+use Rattle.bx_view.proofs.Boundaries.{boundary-follow}
 use Rattle.bx_view.proofs.layout.Layout.follow.Goals as goal
 
 pub returns-then-own-old-clause-top : goal.returns-then-own-old-clause-top
@@ -44,3 +45,23 @@ returns-clause-top g c =
     (c.first_in-furthest.ensures _ (c.in_ok-back.ensures.row _ on)
     ∙ far-told class bracket old v text c.args.place c.in_ok-at.at c.row_at.ensures.utf8 keeps on c.rows_up.new.self further first (λ rs. row_of rs
     c.args.place - (c.args.t - 1)))
+
+pub returns-then-own-old-clause-boundary : goal.returns-then-own-old-clause-boundary
+returns-then-own-old-clause-boundary g c =
+    let class = g.D.BidiData.class_of c.args.source.now in
+    let bracket = g.D.BidiData.bracket_of c.args.source.now in
+    let text = c.args.text.now.edited.text in
+    let old = c.args.self.now in
+    let utf8 = c.row_at.ensures.utf8 in
+    let some = side-kept class bracket old c.row_at.new.self text c.args.place c.in_ok-at.at utf8 (keeps-then class bracket old c.row_home.new.self c.row_at.new.self c.row_home.ensures.keeps c.row_at.ensures.keeps) c.in_ok-at.ensures.row in
+    subst (IsCharBoundary text) (sym (returns-then-own-old-clause-top g c)) (boundary-follow class bracket old.base old.w some text utf8 c.args.top c.args.place c.args.t c.requires.some)
+
+pub returns-clause-boundary : goal.returns-clause-boundary
+returns-clause-boundary g c =
+    let class = g.D.BidiData.class_of c.args.source.now in
+    let bracket = g.D.BidiData.bracket_of c.args.source.now in
+    let text = c.args.text.now.edited.text in
+    let old = c.args.self.now in
+    let utf8 = c.row_at.ensures.utf8 in
+    let some = side-kept class bracket old c.row_at.new.self text c.args.place c.in_ok-at.at utf8 (keeps-then class bracket old c.row_home.new.self c.row_at.new.self c.row_home.ensures.keeps c.row_at.ensures.keeps) c.in_ok-at.ensures.row in
+    subst (IsCharBoundary text) (sym (returns-clause-top g c)) (boundary-follow class bracket old.base old.w some text utf8 c.args.top c.args.place c.args.t c.requires.some)

@@ -1,8 +1,9 @@
-use Rattle.std.proofs.Common.{sym, ◌∙◌, length}
+use Rattle.std.proofs.Common.{sym, ◌∙◌, length, IsCharBoundary, subst}
 use Rattle.bx_view.specs.Cursor.{rows_by}
 use Rattle.bx_view.specs.Moves.{row_away}
 use Rattle.bx_view.specs.TextRows.{first, row_of}
 use Rattle.bx_view.proofs.Beyond.{keeps-then}
+use Rattle.bx_view.proofs.BoundTold.{entry-told}
 use Rattle.bx_view.proofs.KeptRows.{away-within, far-told, own-told, own-within, rise-kept}
 use Rattle.bx_view.proofs.Nearest.{to-own}
 use Rattle.bx_view.proofs.layout.Layout.rows_away.Goals as goal
@@ -34,3 +35,12 @@ returns-then-first-own-clause-place g c =
 
 pub entry-requires-clause-row : goal.entry-requires-clause-row
 entry-requires-clause-row g c = (_, c.in_ok-there.ensures.row _ c.in_ok-at.ensures.row)
+
+pub returns-clause-boundary : goal.returns-clause-boundary
+returns-clause-boundary g c = λ at-boundary.
+    let class = g.D.BidiData.class_of c.args.source.now in
+    let bracket = g.D.BidiData.bracket_of c.args.source.now in
+    let text = c.args.text.now.edited.text in
+    let there = c.in_ok-there.ensures.row _ c.in_ok-at.ensures.row in
+    subst (IsCharBoundary text) (sym c.unwrap_or.ensures) (entry-told class bracket c.row_away.new.self text c.in_ok-there.there _ c.row_at.ensures.utf8 there c.in_ok-column.column c.args.place
+    c.in_ok-entry.entry (c.in_ok-entry.ensures _ there) at-boundary)

@@ -1,0 +1,165 @@
+//! Runs over texts, tables and keys that are given as bytes, in a window of one row of five columns.
+
+use crate::edit::edit;
+use crate::fault::ProgramFault;
+use bx_explicit::Base;
+use bx_session::{OpenError, RunFault};
+use bx_store::MemoryStore;
+use bx_ucd::sample::{BRACKETS, CLASSES, MIRRORING};
+use std::alloc::Global;
+use std::io::{self, ErrorKind, Read, Write};
+use std::test::Fail;
+
+/// How a run over a reader and a writer ends, with the small tables.
+fn run_over<R: Read, W: Write>(
+    alloc: Global,
+    file: Option<Vec<u8>>,
+    reader: &mut R,
+    writer: &mut W,
+) -> Result<(), ProgramFault<'static>> {
+    edit(
+        alloc,
+        reader,
+        writer,
+        &mut MemoryStore::new(alloc, None),
+        file,
+        CLASSES.as_bytes(),
+        BRACKETS.as_bytes(),
+        MIRRORING.as_bytes(),
+        1,
+        5,
+        Base::Auto,
+    )
+}
+
+/// How a run over a file's bytes and the bytes of keys ends.
+fn outcome(alloc: Global, file: &[u8], mut keys: &[u8]) -> Result<(), ProgramFault<'static>> {
+    let file = Vec::from_slice(alloc, file)?;
+    run_over(alloc, Some(file), &mut keys, &mut Vec::new(alloc))
+}
+
+/// The line of the fault that a run over these tables ends with; empty where there is none.
+fn line_of(
+    alloc: Global,
+    file: Option<Vec<u8>>,
+    classes: &str,
+    brackets: &str,
+    mirroring: &str,
+) -> Result<String, Fail> {
+    let outcome = edit(
+        alloc,
+        &mut b"".as_slice(),
+        &mut Vec::new(alloc),
+        &mut MemoryStore::new(alloc, None),
+        file,
+        classes.as_bytes(),
+        brackets.as_bytes(),
+        mirroring.as_bytes(),
+        1,
+        5,
+        Base::Auto,
+    );
+    match outcome {
+        Ok(()) => Ok(String::new(alloc)),
+        Err(fault) => Ok(format!(in alloc; "{fault}")?),
+    }
+}
+
+#[test]
+fn ends_of_input(rt: HostRuntime) {
+    assert_eq!(rt;
+        outcome(rt.alloc(), b"ab", b"x"),
+        Err(ProgramFault::Unsaved)
+    );
+    assert_eq!(rt; outcome(rt.alloc(), b"ab", b""), Ok(()));
+    assert_eq!(rt; outcome(rt.alloc(), b"ab", b"\x11"), Ok(()));
+}
+
+#[test]
+fn a_file_that_is_not_utf8(rt: HostRuntime) -> Result<(), Fail> {
+    let outcome = outcome(rt.alloc(), b"a\xff", b"");
+    assert_eq!(rt; outcome, Err(ProgramFault::Open(OpenError::NotUtf8(1))));
+    Ok(())
+}
+
+#[test]
+fn a_file_that_is_not_there_is_an_empty_text(rt: HostRuntime) -> Result<(), Fail> {
+    let mut written = Vec::new(rt.alloc());
+    let outcome = run_over(rt.alloc(), None, &mut b"".as_slice(), &mut written);
+    assert_eq!(rt; outcome, Ok(()));
+    assert_eq!(rt; written.as_slice(), b"\x1b[0m\x1b[2J\x1b[1;1H".as_slice());
+    Ok(())
+}
+
+#[test]
+fn refused_lines(rt: HostRuntime) -> Result<(), Fail> {
+    for (classes, brackets, mirroring, line) in [
+        ("0041", "", "", "bidi_edit: classes line 1: bad line"),
+        (
+            "\n110000 ; L",
+            "",
+            "",
+            "bidi_edit: classes line 2: bad code",
+        ),
+        (
+            "0042..0041 ; L",
+            "?",
+            "?",
+            "bidi_edit: classes line 1: bad range",
+        ),
+        (
+            "",
+            "0028; 0029; x",
+            "?",
+            "bidi_edit: brackets line 1: unknown value",
+        ),
+        (
+            "",
+            "",
+            "# none\n0028; 001B",
+            "bidi_edit: mirroring line 2: control in mirror",
+        ),
+        ("", "", "", ""),
+    ] {
+        let found = line_of(rt.alloc(), None, classes, brackets, mirroring)?;
+        assert_eq!(rt; found.as_str(), line);
+    }
+    Ok(())
+}
+
+/// A reader and a writer that fail.
+#[derive(Drop)]
+struct Broken;
+
+impl Read for Broken {
+    fn read(&mut self, _buf: &mut [u8]) -> io::Result<usize> {
+        Err(ErrorKind::Other.into())
+    }
+}
+
+impl Write for Broken {
+    fn write(&mut self, _buf: &[u8]) -> io::Result<usize> {
+        Err(ErrorKind::Other.into())
+    }
+
+    fn flush(&mut self) -> io::Result<()> {
+        Ok(())
+    }
+}
+
+#[test]
+fn input_and_output_that_fail(rt: HostRuntime) {
+    let alloc = rt.alloc();
+    let outcome = run_over(alloc, None, &mut Broken, &mut Vec::new(alloc));
+    assert_eq!(rt; outcome, Err(ProgramFault::Run(RunFault::ReadFault)));
+    let outcome = run_over(alloc, None, &mut b"x".as_slice(), &mut Broken);
+    assert_eq!(rt; outcome, Err(ProgramFault::Run(RunFault::WriteFault)));
+}
+
+#[test]
+fn tables_are_refused_before_the_file(rt: HostRuntime) -> Result<(), Fail> {
+    let file = Vec::from_slice(rt.alloc(), b"\xff")?;
+    let found = line_of(rt.alloc(), Some(file), "", "", "0041")?;
+    assert_eq!(rt; found.as_str(), "bidi_edit: mirroring line 1: bad line");
+    Ok(())
+}

@@ -1,0 +1,55 @@
+//! The lines and the exit statuses of faults.
+
+use crate::exit::{finish, refuse, refuse_words};
+use crate::fault::ProgramFault;
+use crate::words::command_line;
+use bx_session::{OpenError, RunFault};
+use bx_store::StoreFault;
+use std::alloc::AllocError;
+use std::io::ErrorKind;
+use std::process::ExitCode;
+use std::test::Fail;
+
+#[test]
+fn faults_by_their_lines(rt: HostRuntime) -> Result<(), Fail> {
+    let mut text = String::new(rt.alloc());
+    for fault in [
+        ProgramFault::of_file("a path", ErrorKind::NotFound),
+        ProgramFault::of_file("a path", ErrorKind::OutOfMemory),
+        ProgramFault::from(OpenError::TooLong),
+        ProgramFault::from(OpenError::NotUtf8(1)),
+        ProgramFault::from(OpenError::OutOfMemory),
+        ProgramFault::from(RunFault::ReadFault),
+        ProgramFault::from(RunFault::WriteFault),
+        ProgramFault::from(RunFault::ReadLimit),
+        ProgramFault::from(StoreFault),
+        ProgramFault::Unsaved,
+    ] {
+        let line = format!(in rt.alloc(); "{fault}\n")?;
+        text.push_str(line.as_str())?;
+    }
+    assert_eq!(rt;
+        text.as_str(),
+        "bidi_edit: cannot read a path\nbidi_edit: out of memory\nbidi_edit: file too long\nbidi_edit: not UTF-8 at byte 1\nbidi_edit: out of memory\nbidi_edit: input failed\nbidi_edit: output failed\nbidi_edit: too many reads\nbidi_edit: out of memory\nbidi_edit: input ended before saving\n"
+    );
+    Ok(())
+}
+
+#[test]
+fn statuses(rt: HostRuntime) {
+    assert!(rt; finish(&rt, Ok(())) == ExitCode::from(0));
+    assert!(rt; finish(&rt, Err(ProgramFault::Unsaved)) == ExitCode::from(1));
+    let no_memory = clap::Error::from(AllocError);
+    assert!(rt; refuse(&rt, &no_memory) == ExitCode::from(1));
+    assert!(rt; refuse_words(&rt, ErrorKind::OutOfMemory) == ExitCode::from(1));
+    assert!(rt; refuse_words(&rt, ErrorKind::InvalidData) == ExitCode::from(2));
+}
+
+#[test]
+fn words_that_are_refused_end_with_status_2(rt: HostRuntime) {
+    let none: [&str; 0] = [];
+    match command_line(rt.alloc(), &none) {
+        Ok(_) => assert!(rt; false),
+        Err(error) => assert!(rt; refuse(&rt, &error) == ExitCode::from(2)),
+    }
+}

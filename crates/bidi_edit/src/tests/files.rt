@@ -1,0 +1,70 @@
+//! The files that the program reads, and in which order.
+
+use crate::fault::ProgramFault;
+use crate::files::text_of;
+use crate::program;
+use crate::words::Options;
+use bx_explicit::Base;
+use bx_session::OpenError;
+use std::test::Fail;
+use std::{env, fs, process};
+
+/// How a run over files of these paths ends, in a window of one row of five columns, where the input ends at once.
+fn outcome<'a>(
+    rt: &HostRuntime,
+    classes: &'a str,
+    brackets: &'a str,
+    mirroring: &'a str,
+    file: &'a str,
+) -> Result<(), ProgramFault<'a>> {
+    let options = Options {
+        rows: 1,
+        cols: 5,
+        classes,
+        brackets,
+        mirroring,
+        file,
+        direction: Base::Auto,
+    };
+    let mut written = Vec::new(rt.alloc());
+    program(rt, &options, &mut b"".as_slice(), &mut written)
+}
+
+#[test]
+fn the_first_file_that_cannot_be_read(rt: HostRuntime) {
+    let empty = "/dev/null";
+    for (classes, brackets, mirroring, file, path) in [
+        ("not here", "/", "/", "/", "not here"),
+        (empty, "not here", "/", "/", "not here"),
+        (empty, empty, "not here", "/", "not here"),
+        (empty, empty, empty, "/", "/"),
+    ] {
+        assert_eq!(rt;
+            outcome(&rt, classes, brackets, mirroring, file),
+            Err(ProgramFault::Unreadable(path))
+        );
+    }
+    assert_eq!(rt; outcome(&rt, empty, empty, empty, "not here"), Ok(()));
+}
+
+#[test]
+fn files_are_read_before_lines_are_refused(rt: HostRuntime) -> Result<(), Fail> {
+    let name = format!(in rt.alloc(); "bidi_edit-{}-classes", process::id(rt.process()))?;
+    let path = env::temp_dir(&rt)?.join(rt.alloc(), name.as_str())?;
+    fs::write(&rt, path.as_path(), b"0041")?;
+    let unreadable = outcome(&rt, path.as_str(), "/dev/null", "/dev/null", "/");
+    let refused = outcome(&rt, path.as_str(), "/dev/null", "/dev/null", "/dev/zero");
+    fs::remove_file(&rt, path.as_path())?;
+    assert_eq!(rt; unreadable, Err(ProgramFault::Unreadable("/")));
+    assert!(rt; matches!(&refused, Err(ProgramFault::Tables(_))));
+    Ok(())
+}
+
+#[test]
+fn a_file_without_end_is_too_long(rt: HostRuntime) -> Result<(), Fail> {
+    let text = text_of(&rt, "/dev/zero")?;
+    assert_eq!(rt; text.map(|bytes| bytes.len()), Some(16_777_217));
+    let outcome = outcome(&rt, "/dev/null", "/dev/null", "/dev/null", "/dev/zero");
+    assert_eq!(rt; outcome, Err(ProgramFault::Open(OpenError::TooLong)));
+    Ok(())
+}

@@ -1,0 +1,63 @@
+//! What a save leaves: the keys are `x`, Save and Quit, in a window of one row of five columns.
+
+use crate::edit::edit;
+use crate::fault::ProgramFault;
+use bx_explicit::Base;
+use bx_store::{FileStore, MemoryStore, Store};
+use bx_ucd::sample::{BRACKETS, CLASSES, MIRRORING};
+use std::alloc::Global;
+use std::test::Fail;
+use std::{env, fs, process};
+
+/// Saves a text that is opened from these bytes.
+fn save<S: Store>(
+    alloc: Global,
+    store: &mut S,
+    file: Option<Vec<u8>>,
+) -> Result<(), ProgramFault<'static>> {
+    edit(
+        alloc,
+        &mut b"x\x13\x11".as_slice(),
+        &mut Vec::new(alloc),
+        store,
+        file,
+        CLASSES.as_bytes(),
+        BRACKETS.as_bytes(),
+        MIRRORING.as_bytes(),
+        1,
+        5,
+        Base::Auto,
+    )
+}
+
+#[test]
+fn a_new_text_is_kept(rt: HostRuntime) {
+    let mut store = MemoryStore::new(rt.alloc(), None);
+    assert_eq!(rt; save(rt.alloc(), &mut store, None), Ok(()));
+    assert_eq!(rt; store.contents(), b"x".as_slice());
+}
+
+#[test]
+fn a_save_that_fails_leaves_the_text_changed(rt: HostRuntime) -> Result<(), Fail> {
+    let mut store = MemoryStore::new(rt.alloc(), Some(1));
+    let file = Vec::from_slice(rt.alloc(), b"ab")?;
+    let outcome = save(rt.alloc(), &mut store, Some(file));
+    assert_eq!(rt; outcome, Err(ProgramFault::Unsaved));
+    assert_eq!(rt; store.contents(), b"".as_slice());
+    Ok(())
+}
+
+#[test]
+fn a_new_file_is_made_and_nothing_is_left_beside_it(rt: HostRuntime) -> Result<(), Fail> {
+    let name = format!(in rt.alloc(); "bidi_edit-{}-saved", process::id(rt.process()))?;
+    let path = env::temp_dir(&rt)?.join(rt.alloc(), name.as_str())?;
+    let beside = format!(in rt.alloc(); "{}.bx", path.as_str())?;
+    let mut store = FileStore::new(&rt, rt.alloc(), path.as_str())?;
+    assert_eq!(rt; save(rt.alloc(), &mut store, None), Ok(()));
+    let text = fs::read(&rt, path.as_path())?;
+    let is_left = fs::metadata(&rt, beside.as_str()).is_ok();
+    fs::remove_file(&rt, path.as_path())?;
+    assert_eq!(rt; text.as_slice(), b"x".as_slice());
+    assert!(rt; !is_left);
+    Ok(())
+}

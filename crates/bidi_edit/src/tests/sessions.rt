@@ -1,0 +1,158 @@
+//! Recorded sessions, with the small tables.
+
+ghost use Rattle.std.specs.Prelude.{◌≡◌, ◌<◌, true, IfOk, IfSome};
+ghost use Rattle.bx_terms.specs.Sizes.{is_side};
+
+mod vectors;
+
+use crate::edit::edit;
+use bx_explicit::Base;
+use bx_store::MemoryStore;
+use bx_terms::is_side;
+use bx_ucd::sample::{BRACKETS, CLASSES, MIRRORING};
+use std::alloc::Global;
+use std::process::Abort;
+use std::test::Fail;
+use vectors::SESSIONS;
+
+fn hex_digit(byte: u8) -> Option<u8>
+    ensures { IfSome result (λ digit. digit < 16) }
+{
+    match byte {
+        b'0'..=b'9' => Some(byte - b'0'),
+        b'a'..=b'f' => Some(byte - b'a' + 10),
+        _ => None,
+    }
+}
+
+/// The bytes of a field in hexadecimal.
+fn from_hex(alloc: Global, hex: &str) -> Result<Vec<u8>, Fail> {
+    let mut bytes = Vec::new(alloc);
+    for pair in hex.as_bytes().chunks(2) {
+        let [high, low] = pair else {
+            return Err("an odd number of digits".into());
+        };
+        bytes.push(hex_digit(*high).ok_or("no digit")? * 16 + hex_digit(*low).ok_or("no digit")?)?;
+    }
+    Ok(bytes)
+}
+
+/// A side of the window.
+fn side_of(field: &str) -> Result<u16, Fail>
+    ensures { IfOk result (λ n. is_side n ≡ true) }
+{
+    let side: u16 = field.parse()?;
+    if !is_side(side) {
+        return Err("no side".into());
+    }
+    Ok(side)
+}
+
+fn base_of(field: &str) -> Base {
+    if field == "ltr" {
+        Base::Ltr
+    } else if field == "rtl" {
+        Base::Rtl
+    } else {
+        Base::Auto
+    }
+}
+
+/// What a session is given.
+#[derive(Drop)]
+struct Given {
+    rows: u16,
+    cols: u16,
+    direction: Base,
+    file: Option<Vec<u8>>,
+    keys: Vec<u8>,
+    ghost has_rows: { is_side rows ≡ true },
+    ghost has_cols: { is_side cols ≡ true },
+}
+
+impl Given {
+    fn of_fields(alloc: Global, text: &str) -> Result<Given, Fail> {
+        let mut fields = text.split('|');
+        let rows = side_of(fields.next().ok_or("no rows")?)?;
+        let cols = side_of(fields.next().ok_or("no columns")?)?;
+        let direction = base_of(fields.next().ok_or("no direction")?);
+        let file = file_of(alloc, fields.next().ok_or("no file")?)?;
+        let keys = from_hex(alloc, fields.next().ok_or("no keys")?)?;
+        Ok(Given {
+            rows,
+            cols,
+            direction,
+            file,
+            keys,
+        })
+    }
+
+    /// Runs the session, and answers the line of its fault; an empty one where it ended well.
+    fn run(
+        self,
+        alloc: Global,
+        written: &mut Vec<u8>,
+        store: &mut MemoryStore,
+    ) -> Result<String, Fail> {
+        let file = self.file;
+        let outcome = edit(
+            alloc,
+            &mut self.keys.as_slice(),
+            written,
+            store,
+            file,
+            CLASSES.as_bytes(),
+            BRACKETS.as_bytes(),
+            MIRRORING.as_bytes(),
+            self.rows,
+            self.cols,
+            self.direction,
+        );
+        match outcome {
+            Ok(()) => Ok(String::new(alloc)),
+            Err(fault) => Ok(format!(in alloc; "{fault}")?),
+        }
+    }
+}
+
+/// The file's bytes; none where there is no file.
+fn file_of(alloc: Global, field: &str) -> Result<Option<Vec<u8>>, Fail> {
+    if field == "none" {
+        return Ok(None);
+    }
+    Ok(Some(from_hex(alloc, field)?))
+}
+
+/// Whether these bytes are a field's.
+fn are_bytes(alloc: Global, bytes: &[u8], field: &str) -> Result<bool, Fail> {
+    Ok(bytes == from_hex(alloc, field)?.as_slice())
+}
+
+/// One recorded session.
+fn check_session(rt: &impl Abort, alloc: Global, session: &str) -> Result<(), Fail> {
+    let (given, wanted) = session.split_once('=').ok_or("no session")?;
+    let mut written = Vec::new(alloc);
+    let mut store = MemoryStore::new(alloc, None);
+    let line = Given::of_fields(alloc, given)?.run(alloc, &mut written, &mut store)?;
+    let (output, rest) = wanted.split_once('|').ok_or("no output")?;
+    let (fault, saved) = rest.split_once('|').ok_or("no fault")?;
+    assert!(rt;
+        are_bytes(alloc, written.as_slice(), output)?,
+        "the output of {session}"
+    );
+    assert!(rt; line.as_str() == fault, "the fault of {session}");
+    assert!(rt;
+        saved.is_empty() || are_bytes(alloc, store.contents(), saved)?,
+        "the bytes that {session} saves"
+    );
+    Ok(())
+}
+
+#[test]
+fn recorded_sessions(rt: HostRuntime) -> Result<(), Fail> {
+    assert_eq!(rt; SESSIONS.lines().count(), 24);
+    for session in SESSIONS.lines() {
+        check_session(&rt, rt.alloc(), session)?;
+    }
+    Ok(())
+}

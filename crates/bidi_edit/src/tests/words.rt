@@ -1,0 +1,129 @@
+//! What the words of the command line ask for, and which are refused.
+
+use crate::words::command_line;
+use bx_explicit::Base;
+use clap::error::ErrorKind;
+use std::alloc::Global;
+use std::test::Fail;
+
+/// The three tables and FILE.
+const WORDS: [&str; 7] = ["--classes", "c", "--brackets", "b", "--mirroring", "m", "f"];
+
+/// Why these words are refused; none where they are taken.
+fn refusal(alloc: Global, words: &[&str]) -> Option<ErrorKind> {
+    match command_line(alloc, words) {
+        Ok(_) => None,
+        Err(error) => Some(error.kind()),
+    }
+}
+
+/// Why these two words before the three tables and FILE are refused.
+fn refusal_of_option(alloc: Global, name: &str, value: &str) -> Option<ErrorKind> {
+    refusal(
+        alloc,
+        &[
+            name, value, WORDS[0], WORDS[1], WORDS[2], WORDS[3], WORDS[4], WORDS[5], WORDS[6],
+        ],
+    )
+}
+
+#[test]
+fn three_tables_and_file(rt: HostRuntime) -> Result<(), Fail> {
+    let options = command_line(rt.alloc(), &WORDS)?;
+    assert_eq!(rt; (options.rows, options.cols), (24, 80));
+    assert_eq!(rt; options.direction, Base::Auto);
+    assert_eq!(rt; (options.classes, options.brackets), ("c", "b"));
+    assert_eq!(rt; (options.mirroring, options.file), ("m", "f"));
+    Ok(())
+}
+
+#[test]
+fn all_options(rt: HostRuntime) -> Result<(), Fail> {
+    let words = [
+        "--rows=1",
+        "f",
+        "--cols",
+        "500",
+        "--direction",
+        "rtl",
+        "--mirroring",
+        "m",
+        "--brackets",
+        "b",
+        "--classes",
+        "c",
+    ];
+    let options = command_line(rt.alloc(), &words)?;
+    assert_eq!(rt; (options.rows, options.cols), (1, 500));
+    assert_eq!(rt; options.direction, Base::Rtl);
+    assert_eq!(rt; (options.classes, options.file), ("c", "f"));
+    Ok(())
+}
+
+#[test]
+fn directions(rt: HostRuntime) {
+    for name in ["auto", "ltr", "rtl"] {
+        assert_eq!(rt; refusal_of_option(rt.alloc(), "--direction", name), None);
+    }
+    for name in ["up", "", "LTR"] {
+        assert_eq!(rt;
+            refusal_of_option(rt.alloc(), "--direction", name),
+            Some(ErrorKind::InvalidValue)
+        );
+    }
+}
+
+#[test]
+fn sides(rt: HostRuntime) {
+    for option in ["--rows", "--cols"] {
+        for side in ["1", "500", "024"] {
+            assert_eq!(rt; refusal_of_option(rt.alloc(), option, side), None);
+        }
+        for side in ["0", "501", "65537", "18446744073709551617", "x", ""] {
+            assert_eq!(rt;
+                refusal_of_option(rt.alloc(), option, side),
+                Some(ErrorKind::ValueValidation)
+            );
+        }
+    }
+}
+
+#[test]
+fn words_that_lack(rt: HostRuntime) {
+    let refused = Some(ErrorKind::MissingRequiredArgument);
+    assert_eq!(rt; refusal(rt.alloc(), &[]), refused);
+    assert_eq!(rt; refusal(rt.alloc(), &["f"]), refused);
+    assert_eq!(rt; refusal(rt.alloc(), &WORDS[..6]), refused);
+    assert_eq!(rt; refusal(rt.alloc(), &WORDS[2..]), refused);
+}
+
+#[test]
+fn words_too_many(rt: HostRuntime) {
+    for name in ["--help", "-h", "--version", "-V", "--colour"] {
+        assert_eq!(rt;
+            refusal(rt.alloc(), &[name]),
+            Some(ErrorKind::UnknownArgument)
+        );
+    }
+    assert_eq!(rt;
+        refusal_of_option(rt.alloc(), "e", "g"),
+        Some(ErrorKind::UnknownArgument)
+    );
+    assert_eq!(rt;
+        refusal_of_option(rt.alloc(), "--classes", "d"),
+        Some(ErrorKind::ArgumentConflict)
+    );
+}
+
+#[test]
+fn text_of_a_refusal(rt: HostRuntime) -> Result<(), Fail> {
+    let words = ["--rows", "501"];
+    if let Err(error) = command_line(rt.alloc(), &words) {
+        let text = format!(in rt.alloc(); "{error}")?;
+        assert_eq!(rt;
+            text.as_str(),
+            "error: invalid value '501' for '--rows <N>': 501 is not in 1..=500\n"
+        );
+    }
+    Ok(())
+}

@@ -1,0 +1,110 @@
+-- Characters that are cut where a paragraph begins: each part has its own paragraphs.
+use Rattle.std.proofs.Common.{◌≡◌, ◌<◌, ◌∙◌, inl, inr, ℕ, Bool, true, false, List, [], ◌∷◌, ◌++◌, length, encode_utf8, refl, ap, sym, arith, append_assoc}
+use Rattle.std.proofs.Common.{append-nil, length-append}
+use Rattle.std.proofs.lemmas.Bool.Decides.{nat_tests}
+use Rattle.bx_ucd.specs.declared.class.Class.{Class}
+use Rattle.bx_paras.specs.declared.lengths.Lengths.{Lengths}
+use Rattle.bx_paras.specs.Paragraphs.{Paragraph, after_character, after_cr, bare, cut}
+use Rattle.bx_paras.specs.Positions.{bytes_of, total}
+use Rattle.bx_paras.proofs.Cuts.{Beginning, beginning, ends, is_paired, lens, parts, parts_append, parts_same, widths, widths_append}
+
+module _ (class : ℕ → Class) where
+  -- ---- where a paragraph begins
+
+  pub record IsSeam (cs x m : List ℕ) (front : List Lengths) : Type 0 where
+    pub whole : cs ≡ x ++ m
+    pub bytes : widths x ≡ total front
+    pub parts : parts class x m ≡ true
+
+  later : (w x m : List ℕ) → parts class w (x ++ m) ≡ true → parts class x m ≡ true → parts class (w ++ x) m ≡ true
+  later w [] m p q = ap (λ v. parts class v m) (append-nil w) ∙ p
+  later w (c ∷ x) m p q = parts_append class w c x m ∙ q
+
+  after_first : (cs : List ℕ) (k : Lengths) (front : List Lengths) (l : Lengths) (back : List Lengths) → lens class cs ≡ k ∷ (front ++ l ∷ back)
+      → Beginning class cs
+      → ((z : List ℕ) → lens class z ≡ front ++ l ∷ back → (x : List ℕ) × (m : List ℕ) × IsSeam z x m front)
+      → (x : List ℕ) × (m : List ℕ) × IsSeam cs x m (k ∷ front)
+  after_first cs k front l back e (inl one) more = absurd (omega (arith, ap length (sym one ∙ e), length-append front (l ∷ back)))
+  after_first cs k front l back e (inr (f, w, z, h)) more =
+      let both : f ∷ lens class z ≡ k ∷ (front ++ l ∷ back) = sym h.first ∙ e in
+      let same : f ≡ k = cc in
+      let rest : lens class z ≡ front ++ l ∷ back = cc in
+      let (x, m, s) = more z rest in (
+        w ++ x,
+        m,
+        record {
+          whole = h.whole ∙ ap (λ v. w ++ v) s.whole ∙ sym (append_assoc w x m);
+          bytes = omega (arith, widths_append w x, h.bytes, s.bytes, ap bytes_of same);
+          parts = later w x m (ap (parts class w) (sym s.whole) ∙ h.parts) s.parts;
+        },
+      )
+
+  pub seam : (cs : List ℕ) (front : List Lengths) (l : Lengths) (back : List Lengths) → lens class cs ≡ front ++ l ∷ back
+      → (x : List ℕ) × (m : List ℕ) × IsSeam cs x m front
+  seam cs [] l back e = ([], cs, record { whole = refl; bytes = refl; parts = refl })
+  seam cs (k ∷ front) l back e = after_first cs k front l back e (beginning class cs) (λ z f. seam z front l back f)
+
+  -- characters part as before where the same ones stand behind
+  pub parts_ahead : (x h r s : List ℕ) → 0 < length h → parts class x (h ++ r) ≡ true → parts class x (h ++ s) ≡ true
+  parts_ahead x [] r s some p = absurd (omega (arith, some))
+  parts_ahead x (c ∷ h) r s some p = parts_same class x (c ∷ h ++ s) (c ∷ h ++ r) refl ∙ p
+
+  -- and where the same ones stand in front
+  pub parts_behind : (g s t y : List ℕ) → 0 < length t → parts class (s ++ t) y ≡ true → parts class (g ++ t) y ≡ true
+  parts_behind g s [] y some p = absurd (omega (arith, some))
+  parts_behind g s (c ∷ t) y some p = parts_append class g c t y ∙ sym (parts_append class s c t y) ∙ p
+
+  -- ---- the paragraphs on both sides
+
+  cut_plain : (c : ℕ) (cs : List ℕ) → ends class c ≡ false → cut class (c ∷ cs) ≡ after_character c (cut class cs)
+  cut_plain c cs e = rw (e, cut) refl
+
+  cut_paired : (c : ℕ) (cs : List ℕ) → ends class c ≡ true → is_paired class c cs ≡ true → cut class (c ∷ cs) ≡ after_cr (cut class cs)
+  cut_paired c cs e p = rw (e, p, cut) refl
+
+  cut_ended : (c : ℕ) (cs : List ℕ) → ends class c ≡ true → is_paired class c cs ≡ false → cut class (c ∷ cs) ≡ bare (encode_utf8 c) ∷ cut class cs
+  cut_ended c cs e p = rw (e, p, cut) refl
+
+  record JoinsAt (c : ℕ) (w z : List ℕ) : Type 0 where
+    first : Paragraph
+    others : List Paragraph
+    alone : cut class (c ∷ w) ≡ first ∷ (others ++ bare [] ∷ [])
+    together : cut class (c ∷ w ++ z) ≡ first ∷ (others ++ cut class z)
+
+  joins_at : (c d : ℕ) (w z : List ℕ) (ended paired : Bool) → ends class c ≡ ended → is_paired class c (d ∷ w) ≡ paired → JoinsAt d w z → JoinsAt c (d ∷ w) z
+  joins_at c d w z false paired e p j = record {
+    first = record j.first { body = encode_utf8 c ++ j.first.body };
+    others = j.others;
+    alone = cut_plain c (d ∷ w) e ∙ ap (after_character c) j.alone;
+    together = cut_plain c (d ∷ w ++ z) e ∙ ap (after_character c) j.together;
+  }
+  joins_at c d w z true true e p j = record {
+    first = record j.first { separator = encode_utf8 13 ++ j.first.separator };
+    others = j.others;
+    alone = cut_paired c (d ∷ w) e p ∙ ap after_cr j.alone;
+    together = cut_paired c (d ∷ w ++ z) e p ∙ ap after_cr j.together;
+  }
+  joins_at c d w z true false e p j = record {
+    first = bare (encode_utf8 c);
+    others = j.first ∷ j.others;
+    alone = cut_ended c (d ∷ w) e p ∙ ap (λ ps. bare (encode_utf8 c) ∷ ps) j.alone;
+    together = cut_ended c (d ∷ w ++ z) e p ∙ ap (λ ps. bare (encode_utf8 c) ∷ ps) j.together;
+  }
+
+  joins_from : (c : ℕ) (w z : List ℕ) → parts class (c ∷ w) z ≡ true → JoinsAt c w z
+  joins_from c [] z p =
+      let e : ends class c ≡ true = grind (arith, nat_tests) in
+      let single : is_paired class c z ≡ false = grind (arith, nat_tests) in
+      let alone : is_paired class c [] ≡ false = grind (arith, nat_tests) in
+      record { first = bare (encode_utf8 c); others = []; alone = cut_ended c [] e alone; together = cut_ended c z e single }
+  joins_from c (d ∷ w) z p = joins_at c d w z (ends class c) (is_paired class c (d ∷ w)) refl refl (joins_from d w z p)
+
+  -- what characters before a seam have for paragraphs: those that end, and one of no bytes
+  pub record Joins (w z : List ℕ) : Type 0 where
+    pub front : List Paragraph
+    pub alone : cut class w ≡ front ++ bare [] ∷ []
+    pub together : cut class (w ++ z) ≡ front ++ cut class z
+
+  pub joins : (w z : List ℕ) → parts class w z ≡ true → Joins w z
+  joins [] z p = record { front = []; alone = refl; together = refl }
+  joins (c ∷ w) z p = let j = joins_from c w z p in record { front = j.first ∷ j.others; alone = j.alone; together = j.together }

@@ -1,0 +1,11 @@
+pub mod PutOn
+pub mod RowGlyphs
+pub mod RowsDrawn
+pub mod ShownRows
+pub mod CellColumns
+pub mod Cutting
+pub mod LeastPlace
+pub mod WindowPlace
+pub mod WindowTold
+pub mod PlaceBehind
+pub mod PlacesKept

@@ -1,0 +1,76 @@
+-- The place behind an edit, found in the window.
+use Rattle.std.proofs.Common.{◌≡◌, ℕ, ◌+◌, ◌-◌, ◌≤◌, true, List, ◌++◌, length, take, drop, Option, IsUtf8, IsCharBoundary, sym, ap, subst, ◌∙◌}
+use Rattle.std.proofs.Common.{arith, length-append, length-drop}
+use Rattle.std.proofs.lemmas.Bool.Decides.{nat_tests}
+use Rattle.std.proofs.lemmas.List.{length-take-le}
+use Rattle.bx_terms.specs.Sizes.{is_side}
+use Rattle.bx_ucd.specs.declared.class.Class.{Class}
+use Rattle.bx_ucd.specs.declared.data.Side.{Side}
+use Rattle.bx_explicit.specs.declared.base.Base.{Base}
+use Rattle.bx_text.specs.Edits.{IsRange, fits, largest_text, splice}
+use Rattle.bx_view.specs.Moves.{place_from}
+use Rattle.bx_view.specs.TextRows.{text_rows}
+use Rattle.bx_view.proofs.Boundaries.{boundary-place_from}
+use Rattle.bx_document.specs.Document.{DocumentState}
+use Rattle.bx_document.specs.Window.{window, window_start}
+use Rattle.bx_document.proofs.WindowPlace.{splice_utf8, window_place}
+
+splice_bytes : (text : List ℕ) (start stop : ℕ) (new : List ℕ) → IsRange text start stop → length (splice text start stop new)
+    ≡ length text - (stop - start) + length new
+splice_bytes text start stop new range =
+    let bounds : IsCharBoundary text stop = range.stop_bounds in
+    let inside : stop ≤ length text = bounds.0 in
+    omega (
+      arith,
+      length-append (take start text ++ new) (drop stop text),
+      length-append (take start text) new,
+      length-take-le start text (omega (arith, inside, range.in_order)),
+      length-drop stop text,
+      inside,
+      range.in_order,
+    )
+
+-- an edit that fits makes no text too long
+pub splice_short : (text : List ℕ) (start stop : ℕ) (new : List ℕ) → IsRange text start stop → fits text start stop new ≡ true
+    → length (splice text start stop new) ≤ largest_text
+splice_short text start stop new range e =
+    let most : length text - (stop - start) + length new ≤ largest_text = grind (arith, nat_tests) in
+    omega (arith, most, splice_bytes text start stop new range)
+
+-- what is found in the window
+pub record IsFound (class : ℕ → Class) (bracket : ℕ → Option (Side × ℕ)) (base : Base) (w : ℕ) (text : List ℕ) (start stop : ℕ) (new : List ℕ) (o : ℕ) : Type 0 where
+  pub place : o ≡ place_from (text_rows class bracket base w (splice text start stop new)) (start + length new)
+  pub boundary : IsCharBoundary (splice text start stop new) o
+
+pub found : (class : ℕ → Class) (bracket : ℕ → Option (Side × ℕ)) (base : Base) (w : ℕ) (text : List ℕ) (start stop : ℕ) (new bytes : List ℕ)
+    (first offset place : ℕ) → is_side w ≡ true → IsUtf8 text → IsRange text start stop → IsUtf8 new → first ≡ window_start class text start
+    → bytes ≡ window class text start stop new → offset ≡ start - first + length new → place ≡ place_from (text_rows class bracket base w bytes) offset
+    → IsFound class bracket base w text start stop new (first + place)
+found class bracket base w text start stop new bytes first offset place side utf8 range new_utf8 a b e f =
+    let some : 1 ≤ w = grind (arith, nat_tests) in
+    let same : offset ≡ start - window_start class text start + length new = omega (arith, e, a) in
+    let is : first + place ≡ place_from (text_rows class bracket base w (splice text start stop new)) (start + length new) =
+    ap (λ n. n + place) a ∙ ap (λ n. window_start class text start + n)
+    (f ∙ ap (λ bs. place_from (text_rows class bracket base w bs) offset) b
+    ∙ ap (place_from (text_rows class bracket base w (window class text start stop new))) same)
+    ∙ sym (window_place class text utf8 start stop new range new_utf8 bracket base w some) in
+    record {
+      place = is;
+      boundary = subst (IsCharBoundary (splice text start stop new)) (sym is)
+          (boundary-place_from class bracket base w some (splice text start stop new) (splice_utf8 class text utf8 start stop new range new_utf8)
+          (start + length new));
+    }
+
+-- and so for a document
+pub found_by : {D : Type 0} (class_of : D → ℕ → Class) (bracket_of : D → ℕ → Option (Side × ℕ)) (inner now : DocumentState D) (start stop : ℕ) (new bytes : List ℕ)
+    (first offset place : ℕ) → inner ≡ now → is_side inner.document.w ≡ true → IsUtf8 inner.document.content.text
+    → IsRange now.document.content.text start stop → IsUtf8 new
+    → first ≡ window_start (class_of inner.tables) inner.document.content.text start
+    → bytes ≡ window (class_of inner.tables) inner.document.content.text start stop new → offset ≡ start - first + length new
+    → place ≡ place_from (text_rows (class_of inner.tables) (bracket_of inner.tables) inner.document.base inner.document.w bytes) offset
+    → IsFound (class_of now.tables) (bracket_of now.tables) now.document.base now.document.w now.document.content.text start stop new (first + place)
+found_by {D} class_of bracket_of inner now start stop new bytes first offset place same side utf8 range new_utf8 a b e f =
+    subst (λ (s : DocumentState D).
+    IsFound (class_of s.tables) (bracket_of s.tables) s.document.base s.document.w s.document.content.text start stop new (first + place)) same
+    (found (class_of inner.tables) (bracket_of inner.tables) inner.document.base inner.document.w inner.document.content.text start stop new bytes first offset
+    place side utf8 (subst (λ (s : DocumentState D). IsRange s.document.content.text start stop) (sym same) range) new_utf8 a b e f)

@@ -1,0 +1,143 @@
+-- Rows by the offsets at which they begin: which one an offset falls in, and which begin at it or before it.
+use Rattle.std.proofs.Common.{◌≡◌, ℕ, ◌+◌, ◌-◌, ◌<◌, ◌≤◌, nat_le, Bool, true, false, List, [], length, map, min, max, get_or, Option, IsUtf8}
+use Rattle.std.proofs.Common.{refl, sym, ap, subst, ◌∙◌, ⊎_elim, arith}
+use Rattle.std.specs.Prelude.{if◌then◌else◌}
+use Rattle.std.proofs.lemmas.Bool.{cases_lt}
+use Rattle.std.proofs.lemmas.Bool.Decides.{nat_tests}
+use Rattle.std.proofs.lemmas.List.{get_or-map, length-map}
+use Rattle.bx_ucd.specs.declared.class.Class.{Class}
+use Rattle.bx_ucd.specs.declared.data.Side.{Side}
+use Rattle.bx_explicit.specs.declared.base.Base.{Base}
+use Rattle.bx_paras.specs.Paragraphs.{lengths, lengths_of, paragraphs}
+use Rattle.bx_paras.specs.Positions.{paragraph_of, total}
+use Rattle.bx_paragraph.specs.BodyRows.{row_of as row_of_body}
+use Rattle.bx_view.specs.Standing.{rows_in, start_at}
+use Rattle.bx_view.specs.TextRows.{TextRow, first, no_text_row, row_at, row_of, text_rows}
+use Rattle.bx_view.specs.Top.{follow, nearest_top}
+use Rattle.bx_view.proofs.Around.{all-rise}
+use Rattle.bx_view.proofs.BodyFirsts.{body-firsts}
+use Rattle.bx_view.proofs.Parts.{text-parts}
+use Rattle.bx_view.proofs.Rising.{Rises, begun, begun-few, begun-here, begun-not-here, rises-apart}
+use Rattle.bx_view.proofs.Walking.{row-under, row-within}
+use Rattle.bx_document.specs.Drawing.{IsAmong}
+
+-- ---- rows that rise
+
+module _ (rows : List TextRow) (high : ℕ) (rise : Rises 0 (map first rows) high) where
+  abbrev begins : ℕ → ℕ
+  begins n = first (row_at rows n)
+
+  abbrev os : List ℕ
+  os = map first rows
+
+  begins-at : (n : ℕ) → n < length rows → get_or os n 0 ≡ begins n
+  begins-at n h = get_or-map first rows n no_text_row 0 h
+
+  few : (offset : ℕ) → begun offset os ≤ length rows
+  few offset = let some = begun-few offset os in omega (arith, some, length-map rows first)
+
+  -- a row that begins at the offset or before it is that of the offset or before it
+  pub no-later : (offset m : ℕ) → m < length rows → begins m ≤ offset → 0 < m → m ≤ row_of rows offset
+  no-later offset m h b some = ⊎_elim
+      (λ less. omega (arith, less))
+      (λ not.
+      let past = begun-not-here offset 0 0 os high m rise (omega (arith, not)) (omega (arith, h, length-map rows first)) in
+      absurd (omega (arith, past, b, begins-at m h))) (cases_lt m (begun offset os))
+
+  pub later : (offset m : ℕ) → m < length rows → offset < begins m → 0 < m → row_of rows offset < m
+  later offset m h b some = ⊎_elim
+      (λ less.
+      let here = begun-here offset 0 0 os high m rise less in absurd (omega (arith, here, b, begins-at m h)))
+      (λ not. omega (arith, not, some)) (cases_lt m (begun offset os))
+
+  -- the offset at which a row begins falls in that row
+  pub falls-own : (k : ℕ) → k < length rows → row_of rows (begins k) ≡ k
+  falls-own k h =
+      let offset = begins k in
+      let count = length-map rows first in
+      ⊎_elim
+      (λ less. ⊎_elim
+      (λ more.
+      let next = begun-here offset 0 0 os high (k + 1) rise more in
+      let most = few offset in
+      let apart = rises-apart 0 os high k (k + 1) 0 rise (omega arith) (omega (arith, more, most, count)) in
+      absurd (omega (arith, next, apart, begins-at k h)))
+      (λ most. omega (arith, less, most)) (cases_lt (k + 1) (begun offset os)))
+      (λ not.
+      let past = begun-not-here offset 0 0 os high k rise (omega (arith, not)) (omega (arith, h, count)) in
+      absurd (omega (arith, past, begins-at k h))) (cases_lt k (begun offset os))
+
+  pub falls-within : (offset : ℕ) → 0 < length rows → row_of rows offset < length rows
+  falls-within offset some = let most = few offset in omega (arith, some, most)
+
+  -- the top that follows a place shows its row
+  pub follow-among : (top place t o : ℕ) → 0 < t → 0 < length rows → o ≡ follow rows top place t → IsAmong rows o place t
+  follow-among top place t o some any e =
+      let above = row_of rows top in
+      let cursor = row_of rows place in
+      let within = falls-within place any in
+      let k = nearest_top above cursor t in
+      let low : k ≤ cursor = omega (arith, some) in
+      let near : cursor < k + t = omega (arith, some) in
+      let own : row_of rows o ≡ k = ap (row_of rows) e ∙ falls-own k (omega (arith, low, within)) in
+      record { above = omega (arith, own, low); below = omega (arith, own, near) }
+
+  -- ---- how many of some rows, from one on, begin at the offset or before it
+
+  above-by : (offset k n above m : ℕ) (b : Bool) → nat_le (begins (k + (n + 1))) offset ≡ b → k + (n + 1) < length rows
+      → m ≡ (if b then n + 1 else above) → k ≤ row_of rows offset → above ≡ min n (row_of rows offset - k)
+      → m ≡ min (n + 1) (row_of rows offset - k)
+  above-by offset k n above m true t h e low is =
+      let here : begins (k + (n + 1)) ≤ offset = grind (arith, nat_tests) in
+      omega (arith, e, no-later offset (k + (n + 1)) h here (omega arith))
+  above-by offset k n above m false t h e low is =
+      let past : offset < begins (k + (n + 1)) = grind (arith, nat_tests) in
+      omega (arith, e, is, later offset (k + (n + 1)) h past (omega arith))
+
+  pub above-next : (offset k n above m begin : ℕ) → k + (n + 1) < length rows → begin ≡ begins (k + (n + 1))
+      → m ≡ (if nat_le begin offset then n + 1 else above) → k ≤ row_of rows offset → above ≡ min n (row_of rows offset - k)
+      → m ≡ min (n + 1) (row_of rows offset - k)
+  above-next offset k n above m begin h f e low is =
+      above-by offset k n above m (nat_le (begins (k + (n + 1))) offset) refl h
+      (e ∙ ap (λ x. if nat_le x offset then n + 1 else above) f) low is
+
+-- ---- the rows of a text
+
+pub rows-rise : (class : ℕ → Class) (bracket : ℕ → Option (Side × ℕ)) (base : Base) (w : ℕ) (text : List ℕ) → 1 ≤ w → IsUtf8 text
+    → Rises 0 (map first (text_rows class bracket base w text)) (0 + total (map lengths_of (paragraphs class text)) + 1)
+rows-rise class bracket base w text some utf8 =
+    let parts = text-parts class text utf8 in
+    all-rise class bracket base w (body-firsts class bracket base w some) 0 (paragraphs class text) parts.utf8 parts.ended
+
+pub rows-some : (class : ℕ → Class) (bracket : ℕ → Option (Side × ℕ)) (base : Base) (w : ℕ) (text : List ℕ) → 1 ≤ w → IsUtf8 text
+    → 0 < length (text_rows class bracket base w text)
+rows-some class bracket base w text some utf8 =
+    let number = paragraph_of (lengths class text) 0 in
+    let k = row_of_body (rows_in class bracket base w text number) (0 - start_at class text number) in
+    let is = row-under class bracket base w some text utf8 0 number k refl refl in
+    let within = row-within class bracket base w some text utf8 number k (row_of (text_rows class bracket base w text) 0) is in
+    omega (arith, within)
+
+pub text-among : (class : ℕ → Class) (bracket : ℕ → Option (Side × ℕ)) (base : Base) (w : ℕ) (text : List ℕ) (top place t o : ℕ) → 1 ≤ w → IsUtf8 text
+    → 0 < t → o ≡ follow (text_rows class bracket base w text) top place t → IsAmong (text_rows class bracket base w text) o place t
+text-among class bracket base w text top place t o some utf8 more e =
+    follow-among (text_rows class bracket base w text) _ (rows-rise class bracket base w text some utf8) top place t o more
+    (rows-some class bracket base w text some utf8) e
+
+-- ---- how many of those from row `k` on stand above the row of a place
+
+module _ (class : ℕ → Class) (bracket : ℕ → Option (Side × ℕ)) (base : Base) (w : ℕ) (text : List ℕ) (some : 1 ≤ w) (utf8 : IsUtf8 text)
+    (place k n above : ℕ) where
+  abbrev all : List TextRow
+  all = text_rows class bracket base w text
+
+  pub next-above : (m begin : ℕ) → k + (n + 1) < length all → begin ≡ first (row_at all (k + (n + 1)))
+      → m ≡ (if nat_le begin place then n + 1 else above) → k ≤ row_of all place → above ≡ min n (row_of all place - k)
+      → m ≡ min (n + 1) (row_of all place - k)
+  next-above m begin h f e low is =
+      above-next all _ (rows-rise class bracket base w text some utf8) place k n above m begin h f e low is
+
+  pub last-above : k + n + 1 ≡ length all → k ≤ row_of all place → above ≡ min n (row_of all place - k) → above ≡ row_of all place - k
+  last-above e low is =
+      let within = falls-within all _ (rows-rise class bracket base w text some utf8) place (rows-some class bracket base w text some utf8) in
+      omega (arith, e, low, is, within)

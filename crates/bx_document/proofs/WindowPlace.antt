@@ -1,0 +1,241 @@
+-- The place behind an edit is told by the paragraphs that the edit touches.
+use Rattle.std.proofs.Common.{◌≡◌, ℕ, ◌+◌, ◌-◌, ◌<◌, ◌≤◌, ◌⊎◌, inl, inr, true, List, [], ◌∷◌, ◌++◌, map, length, take, drop, chars, slice_range, Option}
+use Rattle.std.proofs.Common.{encode_utf8_all, IsUtf8, IsCharBoundary, refl, sym, ap, subst, ◌∙◌, arith, append_assoc, append-nil, length-append, length-drop}
+use Rattle.std.proofs.Common.{⊎_elim}
+use Rattle.std.proofs.lemmas.Bool.{cases_lt}
+use Rattle.std.proofs.lemmas.Bool.Decides.{nat_tests}
+use Rattle.std.proofs.lemmas.List.{append_cancel_right, drop-drop, drop-take, drop_all, drop_at, length-take-le, map-append, take-append-drop, take-take, take_all}
+use Rattle.std.proofs.lemmas.Str.{chars-append, chars-encodes, encodes-append, encodes-chars, scalars-chars, IsUtf8-append, IsUtf8-between, IsUtf8-drop}
+use Rattle.std.proofs.lemmas.Str.{IsUtf8-take, IsCharBoundary-end, IsCharBoundary-from_drop}
+use lib.Utf8.{scalars}
+use Rattle.bx_ucd.specs.declared.class.Class.{Class}
+use Rattle.bx_ucd.specs.declared.data.Side.{Side}
+use Rattle.bx_explicit.specs.declared.base.Base.{Base}
+use Rattle.bx_text.specs.Edits.{IsRange, splice}
+use Rattle.bx_paras.specs.Paragraphs.{lengths, lengths_of}
+use Rattle.bx_paras.specs.Positions.{paragraph_of, total}
+use Rattle.bx_paras.proofs.Cuts.{lens, parts, widths}
+use Rattle.bx_paras.proofs.Turns.{total_lengths}
+use Rattle.bx_view.specs.Moves.{place_from}
+use Rattle.bx_view.specs.Standing.{count, start_at}
+use Rattle.bx_view.specs.TextRows.{text_rows}
+use Rattle.bx_view.proofs.Numbers.{ahead, behind, falls-at, here, holds-of, lengths-count, parts-at, some-paragraph, start-is}
+use Rattle.bx_document.specs.Window.{window, window_start, window_stop}
+use Rattle.bx_document.proofs.Cutting.{parts_ahead, parts_behind, seam}
+use Rattle.bx_document.proofs.LeastPlace.{place_before_back, place_behind_front}
+
+-- ---- bytes
+
+scalars_back : (x m : List ℕ) → scalars (x ++ m) ≡ true → scalars m ≡ true
+scalars_back [] m e = e
+scalars_back (c ∷ x) m e = scalars_back x m (grind (arith, nat_tests))
+
+pub take_parts : (i j : ℕ) (xs : List ℕ) → i ≤ j → take j xs ≡ take i xs ++ take (j - i) (drop i xs)
+take_parts i j xs h =
+    let sum : j ≡ i + (j - i) = omega (arith, h) in
+    sym (take-append-drop i (take j xs)) ∙ ap (λ ys. ys ++ drop i (take j xs)) (take-take i j xs h)
+    ∙ ap (λ n. take i xs ++ drop i (take n xs)) sum ∙ ap (λ ys. take i xs ++ ys) (drop-take i (j - i) xs)
+
+drop_parts : (i j : ℕ) (xs : List ℕ) → i ≤ j → drop i xs ≡ take (j - i) (drop i xs) ++ drop j xs
+drop_parts i j xs h =
+    let sum : i + (j - i) ≡ j = omega (arith, h) in
+    sym (take-append-drop (j - i) (drop i xs)) ∙ ap (λ ys. take (j - i) (drop i xs) ++ ys) (drop-drop (j - i) i xs ∙ ap (λ n. drop n xs) sum)
+
+no_chars : chars [] ≡ []
+no_chars = chars-encodes [] refl
+
+some_chars : (bs cs : List ℕ) → IsUtf8 bs → 0 < length bs → chars bs ≡ cs → 0 < length cs
+some_chars bs [] u some e = absurd (omega (arith, some, ap length (sym (encodes-chars bs u) ∙ ap encode_utf8_all e)))
+some_chars bs (c ∷ cs) u some e = omega arith
+
+module _ (class : ℕ → Class) (text : List ℕ) (utf8 : IsUtf8 text) where
+  -- ---- where paragraphs begin
+
+  -- a paragraph begins at an offset
+  pub record IsBegin (at : ℕ) : Type 0 where
+    pub bounds : IsCharBoundary text at
+    pub parts : parts class (chars (take at text)) (chars (drop at text)) ≡ true
+
+  begin_at : (n : ℕ) → n < count class text → IsBegin (start_at class text n)
+  begin_at n within =
+      let told : lens class (chars text) ≡ map lengths_of (ahead class text n within)
+      ++ lengths_of (here class text n within) ∷ map lengths_of (behind class text n within) = ap (map lengths_of) (parts-at class text n within)
+      ∙ map-append lengths_of (ahead class text n within) (here class text n within ∷ behind class text n within) in
+      let (x, m, s) = seam class (chars text) (map lengths_of (ahead class text n within)) (lengths_of (here class text n within))
+      (map lengths_of (behind class text n within)) told in
+      let at = start_at class text n in
+      let size : widths x ≡ at = s.bytes ∙ sym (start-is class text n) in
+      let spelt : text ≡ encode_utf8_all x ++ encode_utf8_all m = sym (encodes-chars text utf8) ∙ ap encode_utf8_all s.whole ∙ encodes-append x m in
+      let sound : scalars m ≡ true = scalars_back x m (ap scalars (sym s.whole) ∙ scalars-chars text utf8) in
+      let rest : drop at text ≡ encode_utf8_all m = ap (drop at) spelt ∙ drop_at (encode_utf8_all x) (encode_utf8_all m) at size in
+      let inside : at ≤ length text = omega (arith, ap length spelt, length-append (encode_utf8_all x) (encode_utf8_all m), size) in
+      let bounds = IsCharBoundary-from_drop text at inside (subst IsUtf8 (sym rest) (m, (sound, refl))) in
+      let after : chars (drop at text) ≡ m = ap chars rest ∙ chars-encodes m sound in
+      let before : chars (take at text) ≡ x =
+      append_cancel_right (chars (take at text)) x m
+      (ap (λ r. chars (take at text) ++ r) (sym after) ∙ sym (chars-append (take at text) (drop at text) (IsUtf8-take text at utf8 bounds))
+      ∙ ap chars (take-append-drop at text) ∙ s.whole) in
+      record { bounds = bounds; parts = ap (λ v. parts class v (chars (drop at text))) before ∙ ap (parts class x) after ∙ s.parts }
+
+  -- ---- where a window begins and ends
+
+  pub record IsFront (start at : ℕ) : Type 0 where
+    pub bounds : IsCharBoundary text at
+    pub begun : at ≤ start
+    pub some : (at ≡ 0) ⊎ (at < start)
+    pub parts : parts class (chars (take at text)) (chars (drop at text)) ≡ true
+
+  pub front_is : (start : ℕ) → IsFront start (window_start class text start)
+  front_is start =
+      let falls = falls-at class text (start - 1) (paragraph_of (lengths class text) (start - 1)) utf8 refl in
+      let begin = begin_at (paragraph_of (lengths class text) (start - 1)) falls.within in
+      let at = window_start class text start in
+      record {
+        bounds = begin.bounds;
+        begun = omega (arith, falls.begun);
+        some = ⊎_elim (λ less. inr less) (λ more. inl (omega (arith, more, falls.begun))) (cases_lt at start);
+        parts = begin.parts;
+      }
+
+  pub record IsBack (stop at : ℕ) : Type 0 where
+    pub bounds : IsCharBoundary text at
+    pub reached : stop ≤ at
+    pub ends : (at ≡ length text) ⊎ ((stop < at) × (parts class (chars (take at text)) (chars (drop at text)) ≡ true))
+
+  back_at : (stop n : ℕ) → stop ≤ length text → n ≡ paragraph_of (lengths class text) stop → IsBack stop (start_at class text (n + 1))
+  back_at stop n inside e =
+      let ls = lengths class text in
+      let sized : length ls ≡ count class text = lengths-count class text in
+      let holds = holds-of stop ls n (omega (arith, sized, some-paragraph class text utf8)) e in
+      let at = start_at class text (n + 1) in
+      ⊎_elim (λ more.
+      let begin = begin_at (n + 1) more in
+      let past : stop < at = omega (arith, holds.ended (omega (arith, more, sized))) in
+      record { bounds = begin.bounds; reached = omega (arith, past); ends = inr (past, begin.parts) }) (λ none.
+      let all : at ≡ length text = ap total (take_all (n + 1) ls (omega (arith, none, sized))) ∙ total_lengths class text utf8 in
+      record { bounds = subst (IsCharBoundary text) (sym all) (IsCharBoundary-end text); reached = omega (arith, all, inside); ends = inl all })
+      (cases_lt (n + 1) (count class text))
+
+  pub back_is : (stop : ℕ) → stop ≤ length text → IsBack stop (window_stop class text stop)
+  back_is stop inside = back_at stop (paragraph_of (lengths class text) stop) inside refl
+
+  -- ---- the text after an edit
+
+  module _ (start stop : ℕ) (new : List ℕ) (range : IsRange text start stop) (new_utf8 : IsUtf8 new) where
+    abbrev a : ℕ
+    a = window_start class text start
+
+    abbrev b : ℕ
+    b = window_stop class text stop
+
+    abbrev before : List ℕ
+    before = take a text
+
+    abbrev head : List ℕ
+    head = slice_range text a start
+
+    abbrev tail : List ℕ
+    tail = slice_range text stop b
+
+    abbrev behind_all : List ℕ
+    behind_all = drop b text
+
+    abbrev mine : List ℕ
+    mine = window class text start stop new
+
+    stop_inside : stop ≤ length text
+    stop_inside = let bounds : IsCharBoundary text stop = range.stop_bounds in bounds.0
+
+    front : IsFront start a
+    front = front_is start
+
+    back : IsBack stop b
+    back = back_is stop stop_inside
+
+    pub whole : splice text start stop new ≡ before ++ (mine ++ behind_all)
+    whole =
+        ap (λ bs. bs ++ new ++ drop stop text) (take_parts a start text front.begun) ∙ ap (λ bs. (before ++ head) ++ new ++ bs) (drop_parts stop b text back.reached)
+        ∙ ap (λ bs. bs ++ (tail ++ behind_all)) (append_assoc before head new) ∙ append_assoc before (head ++ new) (tail ++ behind_all)
+        ∙ ap (λ bs. before ++ bs) (sym (append_assoc (head ++ new) tail behind_all))
+
+    before_utf8 : IsUtf8 before
+    before_utf8 = IsUtf8-take text a utf8 front.bounds
+
+    head_utf8 : IsUtf8 head
+    head_utf8 = IsUtf8-between text a start utf8 front.begun front.bounds range.start_bounds
+
+    tail_utf8 : IsUtf8 tail
+    tail_utf8 = IsUtf8-between text stop b utf8 back.reached range.stop_bounds back.bounds
+
+    behind_utf8 : IsUtf8 behind_all
+    behind_utf8 = IsUtf8-drop text b utf8 back.bounds
+
+    head_new_utf8 : IsUtf8 (head ++ new)
+    head_new_utf8 = IsUtf8-append head new head_utf8 new_utf8
+
+    pub mine_utf8 : IsUtf8 mine
+    mine_utf8 = IsUtf8-append (head ++ new) tail head_new_utf8 tail_utf8
+
+    before_bytes : length before ≡ a
+    before_bytes = let bounds : IsCharBoundary text a = front.bounds in length-take-le a text bounds.0
+
+    start_inside : start ≤ length text
+    start_inside = let bounds : IsCharBoundary text start = range.start_bounds in bounds.0
+
+    head_bytes : length head ≡ start - a
+    head_bytes = length-take-le (start - a) (drop a text) (omega (arith, length-drop a text, start_inside))
+
+    mine_bytes : length mine ≡ start - a + length new + length tail
+    mine_bytes = omega (arith, length-append (head ++ new) tail, length-append head new, head_bytes)
+
+    -- in front of the window the same paragraphs end as before the edit
+    front_at : (a ≡ 0) ⊎ (a < start) → parts class (chars before) (chars (mine ++ behind_all)) ≡ true
+    front_at (inl none) =
+        let bare : chars before ≡ [] = ap (λ n. chars (take n text)) none ∙ no_chars in
+        ap (λ cs. parts class cs (chars (mine ++ behind_all))) bare
+    front_at (inr less) =
+        let rest = new ++ (tail ++ behind_all) in
+        let now : mine ++ behind_all ≡ head ++ rest = append_assoc (head ++ new) tail behind_all ∙ append_assoc head new (tail ++ behind_all) in
+        let was : drop a text ≡ head ++ drop start text = drop_parts a start text front.begun in
+        let some : 0 < length (chars head) = some_chars head (chars head) head_utf8 (omega (arith, head_bytes, less)) refl in
+        ap (parts class (chars before)) (ap chars now ∙ chars-append head rest head_utf8)
+        ∙ parts_ahead class (chars before) (chars head) (chars (drop start text)) (chars rest) some
+        (ap (parts class (chars before)) (sym (ap chars was ∙ chars-append head (drop start text) head_utf8)) ∙ front.parts)
+
+    -- the place behind what stands in a window is that in front of what stands behind it
+    back_at_end : (offset : ℕ) (bracket : ℕ → Option (Side × ℕ)) (base : Base) (w : ℕ) → 1 ≤ w → offset ≤ length mine
+        → (b ≡ length text) ⊎ ((stop < b) × (parts class (chars (take b text)) (chars (drop b text)) ≡ true))
+        → place_from (text_rows class bracket base w (mine ++ behind_all)) offset ≡ place_from (text_rows class bracket base w mine) offset
+    back_at_end offset bracket base w h within (inl all) =
+        let none : behind_all ≡ [] = drop_all b text (omega (arith, all)) in
+        ap (λ bs. place_from (text_rows class bracket base w (mine ++ bs)) offset) none
+        ∙ ap (λ bs. place_from (text_rows class bracket base w bs) offset) (append-nil mine)
+    back_at_end offset bracket base w h within (inr (past, p)) =
+        let was : take b text ≡ take stop text ++ tail = take_parts stop b text back.reached in
+        let bounds : IsCharBoundary text b = back.bounds in
+        let size : length tail ≡ b - stop = length-take-le (b - stop) (drop stop text) (omega (arith, length-drop stop text, bounds.0)) in
+        let some : 0 < length (chars tail) = some_chars tail (chars tail) tail_utf8 (omega (arith, size, past)) refl in
+        let q : parts class (chars mine) (chars behind_all) ≡ true =
+        ap (λ cs. parts class cs (chars behind_all)) (chars-append (head ++ new) tail head_new_utf8)
+        ∙ parts_behind class (chars (head ++ new)) (chars (take stop text)) (chars tail) (chars behind_all) some
+        (ap (λ cs. parts class cs (chars behind_all))
+        (sym (ap chars was ∙ chars-append (take stop text) tail (IsUtf8-take text stop utf8 range.stop_bounds))) ∙ p) in
+        place_before_back class bracket base w h mine behind_all offset mine_utf8 behind_utf8 q within
+
+    -- the place behind an edit
+    pub window_place : (bracket : ℕ → Option (Side × ℕ)) (base : Base) (w : ℕ) → 1 ≤ w
+        → place_from (text_rows class bracket base w (splice text start stop new)) (start + length new)
+        ≡ a + place_from (text_rows class bracket base w mine) (start - a + length new)
+    window_place bracket base w h =
+        let offset = start + length new in
+        let inner : offset - length before ≡ start - a + length new = omega (arith, before_bytes, front.begun) in
+        ap (λ bs. place_from (text_rows class bracket base w bs) offset) whole
+        ∙ place_behind_front class bracket base w h before (mine ++ behind_all) offset before_utf8 (IsUtf8-append mine behind_all mine_utf8 behind_utf8)
+        (front_at front.some) (omega (arith, before_bytes, front.begun))
+        ∙ ap (λ n. length before + place_from (text_rows class bracket base w (mine ++ behind_all)) n) inner
+        ∙ ap (λ n. n + place_from (text_rows class bracket base w (mine ++ behind_all)) (start - a + length new)) before_bytes
+        ∙ ap (λ n. a + n) (back_at_end (start - a + length new) bracket base w h (omega (arith, mine_bytes)) back.ends)
+
+    pub splice_utf8 : IsUtf8 (splice text start stop new)
+    splice_utf8 =
+        subst IsUtf8 (sym whole) (IsUtf8-append before (mine ++ behind_all) before_utf8 (IsUtf8-append mine behind_all mine_utf8 behind_utf8))

@@ -1,0 +1,69 @@
+-- Where a window begins and ends, as an index of the text tells it.
+use Rattle.std.proofs.Common.{◌≡◌, ℕ, ◌+◌, ◌-◌, ◌<◌, ◌≤◌, List, ◌++◌, length, take, drop, get_or, slice_get, slice_range, Some, IsUtf8, IsCharBoundary}
+use Rattle.std.proofs.Common.{sym, ap, subst, ◌∙◌, arith, append_assoc}
+use Rattle.std.proofs.lemmas.List.{drop-drop}
+use Rattle.std.proofs.lemmas.Option.{same_Some, some_pair_parts}
+use Rattle.bx_ucd.specs.declared.class.Class.{Class}
+use Rattle.bx_text.specs.Edits.{IsRange}
+use Rattle.bx_paras.specs.declared.lengths.Lengths.{Lengths}
+use Rattle.bx_paras.specs.Paragraphs.{lengths}
+use Rattle.bx_paras.specs.Positions.{paragraph_of, separators, spans, total}
+use Rattle.bx_paras.proofs.Asked.{separator_at, span_at}
+use Rattle.bx_paras.proofs.Totals.{total_more}
+use Rattle.bx_view.proofs.Numbers.{falls-at, lengths-count}
+use Rattle.bx_document.specs.Window.{window_start, window_stop}
+use Rattle.bx_document.proofs.WindowPlace.{back_is, front_is, take_parts}
+
+-- one part more of what stands from one offset to another
+pub pushed_part : (text was part now all : List ℕ) (at stop : ℕ) → now ≡ was ++ part → take (length part) (drop at text) ≡ part → at + length part ≤ stop
+    → was ++ slice_range text at stop ≡ all → now ++ slice_range text (at + length part) stop ≡ all
+pushed_part text was part now all at stop e f inside g =
+    let size : stop - at - length part ≡ stop - (at + length part) = omega arith in
+    let parts : slice_range text at stop ≡ part ++ slice_range text (at + length part) stop =
+    take_parts (length part) (stop - at) (drop at text) (omega (arith, inside))
+    ∙ ap (λ bs. bs ++ take (stop - at - length part) (drop (length part) (drop at text))) f
+    ∙ ap (λ bs. part ++ take (stop - at - length part) bs) (drop-drop (length part) at text) ∙ ap (λ n. part ++ take n (drop (at + length part) text)) size in
+    ap (λ bs. bs ++ slice_range text (at + length part) stop) e ∙ append_assoc was part (slice_range text (at + length part) stop)
+    ∙ ap (λ bs. was ++ bs) (sym parts) ∙ g
+
+abbrev none : Lengths
+none = record { body = 0; separator = 0 }
+
+module _ (class : ℕ → Class) (text : List ℕ) (ls : List Lengths) (utf8 : IsUtf8 text) (same : ls ≡ lengths class text) where
+  -- there is a paragraph that an offset falls in
+  pub there : (offset n : ℕ) → n ≡ paragraph_of ls offset → n < length ls
+  there offset n e =
+      let falls = falls-at class text offset n utf8 (e ∙ ap (λ ks. paragraph_of ks offset) same) in
+      omega (arith, falls.within, lengths-count class text, ap length same)
+
+  pub start_told : (start n : ℕ) (s : ℕ × ℕ) → n ≡ paragraph_of ls (start - 1) → slice_get (spans ls) n ≡ Some s → s.0 ≡ window_start class text start
+  start_told start n (a, b) e f =
+      let told = span_at 0 n ls none (there (start - 1) n e) in
+      let both = some_pair_parts a (0 + total (take n ls)) b (0 + total (take n ls) + (get_or ls n none).body) (sym f ∙ told) in
+      omega (arith, both.0) ∙ ap (λ k. total (take k ls)) e ∙ ap (λ ks. total (take (paragraph_of ks (start - 1)) ks)) same
+
+  pub start_range : (start n : ℕ) (s : ℕ × ℕ) → n ≡ paragraph_of ls (start - 1) → slice_get (spans ls) n ≡ Some s → IsCharBoundary text start
+      → IsRange text (s.0) start
+  start_range start n s e f bounds =
+      let front = front_is class text utf8 start in
+      subst (λ a. IsRange text a start) (sym (start_told start n s e f))
+      (record { start_bounds = front.bounds; stop_bounds = bounds; in_order = front.begun })
+
+  pub stop_told : (stop n : ℕ) (s : ℕ × ℕ) (k : ℕ) → n ≡ paragraph_of ls stop → slice_get (spans ls) n ≡ Some s → slice_get (separators ls) n ≡ Some k
+      → s.1 + k ≡ window_stop class text stop
+  stop_told stop n (a, b) k e f g =
+      let within = there stop n e in
+      let told = span_at 0 n ls none within in
+      let both = some_pair_parts a (0 + total (take n ls)) b (0 + total (take n ls) + (get_or ls n none).body) (sym f ∙ told) in
+      let behind : k ≡ (get_or ls n none).separator = same_Some k (get_or ls n none).separator (sym g ∙ separator_at ls n none within) in
+      omega (arith, both.1, behind, total_more ls n none within) ∙ ap (λ m. total (take (m + 1) ls)) e
+      ∙ ap (λ ks. total (take (paragraph_of ks stop + 1) ks)) same
+
+  pub stop_range : (stop : ℕ) → IsCharBoundary text stop → IsRange text stop (window_stop class text stop)
+  stop_range stop bounds =
+      let back = back_is class text utf8 stop bounds.0 in record { start_bounds = bounds; stop_bounds = back.bounds; in_order = back.reached }
+
+  pub stop_inside : (stop : ℕ) → IsCharBoundary text stop → window_stop class text stop ≤ length text
+  stop_inside stop bounds =
+      let range : IsRange text stop (window_stop class text stop) = stop_range stop bounds in
+      let last : IsCharBoundary text (window_stop class text stop) = range.stop_bounds in last.0

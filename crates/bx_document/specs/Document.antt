@@ -1,0 +1,52 @@
+-- A text under edits, as it is laid out in a window by Unicode's tables. Offsets and places count bytes of the text.
+use Rattle.std.specs.Prelude.{ℕ, ◌+◌, List, [], length, All, IsCharBoundary}
+use Rattle.bx_explicit.specs.declared.base.Base.{Base}
+use Rattle.bx_text.specs.Edits.{Edit, Edited, inserted, opened, removed, splice}
+use Rattle.bx_view.specs.Moves.{place_from}
+use Rattle.bx_view.specs.TextRows.{TextRow, text_rows}
+use Rattle.bx_document.specs.Data.{Data}
+
+-- a text, how it is laid out, and its past and future
+pub record Document : Type 0 where
+  pub content : Edited
+  pub base : Base
+  -- the window's columns
+  pub w : ℕ
+
+-- a document with the tables that lay it out
+pub record DocumentState (D : Type 0) : Type 0 where
+  pub tables : D
+  pub document : Document
+
+abbrev pub at_opening : List ℕ → ℕ → Base → Document
+at_opening text w base = record { content = opened text; base = base; w = w }
+
+-- the rows of a text as the document would show it, and those of its own text
+abbrev pub rows_of : Data → Document → List ℕ → List TextRow
+rows_of d t text = text_rows d.class d.bracket t.base t.w text
+
+abbrev pub rows : Data → Document → List TextRow
+rows d t = rows_of d t t.content.text
+
+-- the place after an edit that puts bytes in the place of those from start to stop: the least place of the new text that is
+-- not before their end
+abbrev pub place_behind : Data → Document → ℕ → ℕ → List ℕ → ℕ
+place_behind d t start stop new = place_from (rows_of d t (splice t.content.text start stop new)) (start + length new)
+
+-- bytes go in at a place
+abbrev pub after_insertion : Data → Document → ℕ → List ℕ → Document
+after_insertion d t place new = record t { content = inserted t.content place new place (place_behind d t place place new) }
+
+-- what stands from start to stop goes; the cursor stood at `place`
+abbrev pub after_removal : Data → Document → ℕ → ℕ → ℕ → Document
+after_removal d t start stop place = record t { content = removed t.content start stop place (place_behind d t start stop []) }
+
+-- the places of an edit stand between characters
+pub record HasBoundaries (e : Edit) : Type 0 where
+  pub before : IsCharBoundary e.before.text e.before.place
+  pub after : IsCharBoundary e.after.text e.after.place
+
+-- those of all edits do
+pub record KeepsBoundaries (content : Edited) : Type 0 where
+  pub past : All HasBoundaries content.past
+  pub future : All HasBoundaries content.future

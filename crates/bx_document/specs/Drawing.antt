@@ -1,0 +1,40 @@
+-- Rows of a document that are put into a grid, one below another.
+use Rattle.std.specs.Prelude.{◌≡◌, ℕ, ◌+◌, ◌-◌, ◌*◌, ◌≤◌, ◌<◌, List, ◌++◌, flat_map, length, take, drop, replicate}
+use Rattle.bx_grid.specs.Columns.{Col, blank, glyph_columns}
+use Rattle.bx_grid.specs.Picture.{GridState}
+use Rattle.bx_rows.specs.RowPicture.{Glyph}
+use Rattle.bx_view.specs.TextRows.{TextRow, row_of, text_row_glyphs}
+use Rattle.bx_view.specs.Top.{shown_rows}
+use Rattle.bx_document.specs.Data.{Data}
+use Rattle.bx_document.specs.Document.{Document, rows}
+
+-- the columns of glyphs side by side
+abbrev pub side_by_side : List Glyph → List Col
+side_by_side glyphs = flat_map (λ g. glyph_columns g.text g.columns g.negative) glyphs
+
+-- the columns of a row of text
+abbrev pub row_columns : Data → ℕ → TextRow → List Col
+row_columns d width r = side_by_side (text_row_glyphs d.class d.mirror width r)
+
+-- those of the rows that are shown, and blank rows where the text ends
+abbrev pub rows_columns : Data → ℕ → ℕ → List TextRow → List Col
+rows_columns d width count shown = flat_map (row_columns d width) shown ++ replicate ((count - length shown) * width) blank
+
+-- those of `count` rows of a document, from the row on that the offset `top` falls in
+abbrev pub shown_columns : Data → Document → ℕ → ℕ → List Col
+shown_columns d t top count = rows_columns d t.w count (shown_rows (rows d t) top count)
+
+-- the row of a place is among `count` rows that are shown from the row on that the offset `top` falls in
+pub record IsAmong (rows : List TextRow) (top place count : ℕ) : Type 0 where
+  pub above : row_of rows top ≤ row_of rows place
+  pub below : row_of rows place < row_of rows top + count
+
+-- from row number `row` on, counted from 0, all is blank
+abbrev pub IsBlankFrom : GridState → ℕ → Type 0
+IsBlankFrom g row = drop (row * g.width) g.columns ≡ replicate (length g.columns - row * g.width) blank
+
+-- the grid with these columns in the place of the first ones of row number `row`, and blanks behind them
+abbrev pub with_row : GridState → ℕ → List Col → GridState
+with_row g row columns = record g {
+  columns = take (row * g.width) g.columns ++ (columns ++ replicate (length g.columns - row * g.width - length columns) blank);
+}

@@ -1,0 +1,5 @@
+pub mod Data
+pub mod Document
+pub mod Drawing
+pub mod Numbers
+pub mod Window

@@ -1,0 +1,126 @@
+//! The document.
+ghost use Rattle.std.specs.Borrow.{Bor};
+ghost use Rattle.std.specs.Iterator.{Drains};
+ghost use Rattle.bx_text.specs.Slices.{joined, lends};
+ghost use Rattle.std.specs.Prelude.{◌≡◌, ℕ, ◌≤◌, ◌<◌, ◌↔◌, List, true, IfOk, IsErrOf, IsUtf8, OnOk, length, string_bytes};
+ghost use Rattle.bx_terms.specs.Sizes.{is_side};
+ghost use Rattle.bx_text.specs.Edits.{largest_text};
+ghost use Rattle.bx_document.specs.Document.{at_opening};
+
+use crate::error::DocumentError;
+use bx_explicit::Base;
+use bx_paras::Index;
+use bx_text::{Slices, Text, TextError};
+use bx_ucd::BidiData;
+use bx_view::Layout;
+use std::alloc::Global;
+use std::marker::Model;
+
+/// A text under edits, its paragraphs, and its layout in a window's columns under a base direction, by Unicode's tables.
+#[derive(Drop)]
+pub struct Document<D: BidiData + Drop> {
+    pub(crate) text: Text,
+    pub(crate) index: Index,
+    pub(crate) layout: Layout,
+    pub(crate) tables: D,
+    pub(crate) alloc: Global,
+}
+
+impl<D: BidiData + Drop> Model for Document<D> {
+    ghost use Rattle.std.specs.Prelude.{◌≡◌};
+    ghost use Rattle.bx_paras.specs.Paragraphs.{lengths};
+    ghost use Rattle.bx_view.specs.Holding.{IsViewBy};
+    ghost use Rattle.bx_document.specs.Document.{DocumentState, KeepsBoundaries};
+
+    ghost Value = { DocumentState D };
+
+    ghost view = { λ d. record {
+      tables = d.tables;
+      document = record { content = d.text.edited; base = d.layout.base; w = d.layout.w };
+    } };
+
+    ghost invariant = { λ d. (d.index.paragraphs ≡ lengths (D.class_of d.tables) d.text.edited.text)
+        × IsViewBy (D.class_of d.tables) (D.bracket_of d.tables) d.layout
+        × KeepsBoundaries d.text.edited };
+}
+
+impl<D: BidiData + Drop> Document<D> {
+    /// A text that has no past and no future, in so many columns. A refusal drops the text and the tables.
+    ///
+    /// Errors: `TooLong` above 16,777,216 bytes; `OutOfMemory`.
+    pub fn open(
+        alloc: Global,
+        text: String,
+        tables: D,
+        w: u16,
+        base: Base,
+    ) -> Result<Document<D>, DocumentError>
+        requires side { is_side w ≡ true }
+        ensures ok { IfOk result (λ d. d ≡ record { tables = tables; document = at_opening (string_bytes text) w base }) }
+        ensures too_long { IsErrOf result DocumentError.TooLong ↔ (largest_text < length (string_bytes text)) }
+    {
+        let text = match Text::open(alloc, text) {
+            Ok(text) => text,
+            Err(TextError::TooLong) => return Err(DocumentError::TooLong),
+            Err(_) => return Err(DocumentError::OutOfMemory),
+        };
+        let index = Index::build(alloc, &text, &tables)?;
+        let layout = Layout::of(alloc, w, base);
+        Ok(Document {
+            text,
+            index,
+            layout,
+            tables,
+            alloc,
+        })
+    }
+
+    /// How many bytes the text has. No memory.
+    pub fn len(&self) -> usize
+        ensures len { result ≡ length self.now.document.content.text }
+        ensures short { length self.now.document.content.text ≤ largest_text }
+        ensures utf8 { IsUtf8 self.now.document.content.text }
+    {
+        self.text.len()
+    }
+
+    /// The text's pieces in order, which joined are the text. No memory.
+    pub fn pieces(&self) -> Slices<'_>
+        ensures text { result ≡ self.now.document.content.text }
+        ensures joined { (slices : List (Bor (List ℕ))) → Drains lends result slices → joined slices ≡ self.now.document.content.text }
+    {
+        self.text.pieces()
+    }
+
+    /// The base direction of the paragraphs. No memory.
+    pub fn base(&self) -> Base
+        ensures { result ≡ self.now.document.base }
+    {
+        self.layout.base()
+    }
+
+    /// The window's columns. No memory.
+    pub fn width(&self) -> u16
+        ensures width { result ≡ self.now.document.w }
+        ensures side { is_side self.now.document.w ≡ true }
+    {
+        self.layout.width()
+    }
+
+    /// Lays the text out anew under another base direction. No memory.
+    pub fn set_base(&mut self, base: Base)
+        ensures { self.new ≡ record self.old { document = record self.old.document { base = base } } }
+    {
+        self.layout = Layout::of(self.alloc, self.layout.width(), base);
+    }
+
+    /// Lays the text out anew in so many columns, where it has others. No memory.
+    pub fn set_width(&mut self, w: u16)
+        requires side { is_side w ≡ true }
+        ensures { self.new ≡ record self.old { document = record self.old.document { w = w } } }
+    {
+        if w != self.layout.width() {
+            self.layout = Layout::of(self.alloc, w, self.layout.base());
+        }
+    }
+}

@@ -1,0 +1,160 @@
+//! Edits, each with the place that it leads to. Each takes its memory first, and then changes the text.
+ghost use Rattle.std.specs.Prelude.{◌≡◌, ℕ, List, [], Some, true, false, IfOk, IfSome, IsCharBoundary, IsErrOf, IsUtf8, MatchOption, OnErr, OnOk, option_map};
+ghost use Rattle.bx_paras.specs.Paragraphs.{lengths};
+ghost use Rattle.bx_text.specs.Edits.{IsRange, Leads, fits, next_redo, next_undo, redone, splice, undone};
+ghost use Rattle.bx_document.specs.Document.{after_insertion, after_removal, place_behind};
+
+use crate::answers::Answers;
+use crate::document::Document;
+use crate::error::DocumentError;
+use crate::window::{place_in, window};
+use bx_paras::Index;
+use bx_terms::LARGEST_TEXT;
+use bx_text::{Change, Text};
+use bx_ucd::BidiData;
+
+/// Follows an edit, where room was made for as many separators as it adds bytes. No memory.
+fn follow<D: BidiData>(index: &mut Index, text: &Text, source: &D, change: &Change)
+    requires was { (old : List ℕ)
+        × IsUtf8 old
+        × (index.old.paragraphs ≡ lengths (D.class_of source.now) old)
+        × Leads old change.now text.now.edited.text }
+    requires room { index.old.room ≡ Some change.now.added }
+    ensures { index.new.paragraphs ≡ lengths (D.class_of source.now) text.now.edited.text }
+{
+    let _utf8 = text.len();
+    index.edited(text, source, change);
+}
+
+impl<D: BidiData + Drop> Document<D> {
+    /// The place behind an edit that puts characters in the place of those from start to stop, which is not made yet.
+    ///
+    /// Errors: `OutOfMemory`.
+    fn place_behind(&mut self, start: usize, stop: usize, new: &str) -> Result<usize, DocumentError>
+        requires range { IsRange self.old.document.content.text start stop }
+        requires fits { fits self.old.document.content.text start stop new.now ≡ true }
+        ensures same { self.new ≡ self.old }
+        ensures place { IfOk result (λ o. o ≡ place_behind (⟦<D as Answers>⟧.data self.old.tables) self.old.document start stop new.now) }
+        ensures boundary { IfOk result (λ o. IsCharBoundary (splice self.old.document.content.text start stop new.now) o) }
+        ensures memory { OnErr result (IsErrOf result DocumentError.OutOfMemory) }
+    {
+        let _utf8 = self.text.len();
+        let _side = self.layout.width();
+        let (first, characters) = window(
+            self.alloc,
+            &self.text,
+            &self.index,
+            &self.tables,
+            start,
+            stop,
+            new,
+        )?;
+        // They are no more bytes than the text has after the edit.
+        let offset = start - first + new.len();
+        let place = place_in(
+            self.alloc,
+            characters,
+            &self.tables,
+            &mut self.layout,
+            offset,
+        )?;
+        Ok(first + place)
+    }
+
+    /// Puts characters in at a place, and answers the new place; none where the text would pass 16,777,216 bytes, and then
+    /// nothing has changed.
+    ///
+    /// Errors: `OutOfMemory`, and nothing has changed.
+    pub fn insert(&mut self, place: usize, new: &str) -> Result<Option<usize>, DocumentError>
+        requires boundary { IsCharBoundary self.old.document.content.text place }
+        ensures ok { IfOk result (λ after. MatchOption after
+            ((fits self.old.document.content.text place place new.now ≡ false) × (self.new ≡ self.old))
+            (λ o. (fits self.old.document.content.text place place new.now ≡ true) × (self.new ≡ record self.old { document = after_insertion (⟦<D as Answers>⟧.data self.old.tables) self.old.document place new.now })
+            × (o ≡ place_behind (⟦<D as Answers>⟧.data self.old.tables) self.old.document place place new.now))) }
+        ensures boundary { IfOk result (λ after. IfSome after (λ o. IsCharBoundary self.new.document.content.text o)) }
+        ensures err { OnErr result (self.new ≡ self.old) }
+        ensures memory { OnErr result (IsErrOf result DocumentError.OutOfMemory) }
+    {
+        if new.len() > LARGEST_TEXT - self.text.len() {
+            return Ok(None);
+        }
+        let after = self.place_behind(place, place, new)?;
+        self.index.ready(new.len())?;
+        let Ok(change) = self.text.insert(place, new, place, after) else {
+            return Err(DocumentError::OutOfMemory);
+        };
+        follow(&mut self.index, &self.text, &self.tables, &change);
+        Ok(Some(after))
+    }
+
+    /// Takes out what stands from one offset to another, where the cursor stands at `place`, and answers the new place.
+    ///
+    /// Errors: `OutOfMemory`, and nothing has changed.
+    pub fn remove(
+        &mut self,
+        start: usize,
+        stop: usize,
+        place: usize,
+    ) -> Result<usize, DocumentError>
+        requires range { IsRange self.old.document.content.text start stop }
+        requires boundary { IsCharBoundary self.old.document.content.text place }
+        ensures ok { OnOk result (self.new ≡ record self.old { document = after_removal (⟦<D as Answers>⟧.data self.old.tables) self.old.document start stop place }) }
+        ensures place { IfOk result (λ o. o ≡ place_behind (⟦<D as Answers>⟧.data self.old.tables) self.old.document start stop []) }
+        ensures boundary { IfOk result (λ o. IsCharBoundary self.new.document.content.text o) }
+        ensures err { OnErr result (self.new ≡ self.old) }
+        ensures memory { OnErr result (IsErrOf result DocumentError.OutOfMemory) }
+    {
+        let _short = self.text.len();
+        let after = self.place_behind(start, stop, "")?;
+        self.index.ready(0)?;
+        let Ok(change) = self.text.remove(start, stop, place, after) else {
+            return Err(DocumentError::OutOfMemory);
+        };
+        follow(&mut self.index, &self.text, &self.tables, &change);
+        Ok(after)
+    }
+
+    /// Takes back the latest edit, and answers the place before it; none where there is nothing to take back.
+    ///
+    /// Errors: `OutOfMemory`, and nothing has changed.
+    pub fn undo(&mut self) -> Result<Option<usize>, DocumentError>
+        ensures ok { OnOk result (self.new ≡ record self.old { document = record self.old.document { content = undone self.old.document.content } }) }
+        ensures place { IfOk result (λ o. o ≡ option_map (λ c. c.place) (next_undo self.old.document.content)) }
+        ensures boundary { IfOk result (λ place. IfSome place (λ o. IsCharBoundary self.new.document.content.text o)) }
+        ensures err { OnErr result (self.new ≡ self.old) }
+        ensures memory { OnErr result (IsErrOf result DocumentError.OutOfMemory) }
+    {
+        let _utf8 = self.text.len();
+        let Some(next) = self.text.next_undo() else {
+            return Ok(None);
+        };
+        self.index.ready(next.added)?;
+        let Ok(Some(change)) = self.text.undo() else {
+            return Err(DocumentError::OutOfMemory);
+        };
+        follow(&mut self.index, &self.text, &self.tables, &change);
+        Ok(Some(change.place))
+    }
+
+    /// Makes the next edit again, and answers the place after it; none where there is nothing to make again.
+    ///
+    /// Errors: `OutOfMemory`, and nothing has changed.
+    pub fn redo(&mut self) -> Result<Option<usize>, DocumentError>
+        ensures ok { OnOk result (self.new ≡ record self.old { document = record self.old.document { content = redone self.old.document.content } }) }
+        ensures place { IfOk result (λ o. o ≡ option_map (λ c. c.place) (next_redo self.old.document.content)) }
+        ensures boundary { IfOk result (λ place. IfSome place (λ o. IsCharBoundary self.new.document.content.text o)) }
+        ensures err { OnErr result (self.new ≡ self.old) }
+        ensures memory { OnErr result (IsErrOf result DocumentError.OutOfMemory) }
+    {
+        let _utf8 = self.text.len();
+        let Some(next) = self.text.next_redo() else {
+            return Ok(None);
+        };
+        self.index.ready(next.added)?;
+        let Ok(Some(change)) = self.text.redo() else {
+            return Err(DocumentError::OutOfMemory);
+        };
+        follow(&mut self.index, &self.text, &self.tables, &change);
+        Ok(Some(change.place))
+    }
+}

@@ -1,0 +1,62 @@
+//! The refusals.
+use bx_grid::GridError;
+use bx_paras::ParasError;
+use bx_text::TextError;
+use bx_view::ViewError;
+use std::alloc::AllocError;
+use thiserror::Error;
+
+/// Why a text could not be opened, or a call had no effect.
+#[derive(Clone, Copy, PartialEq, Eq, Debug, Error)]
+pub enum DocumentError {
+    /// The text has more than 16,777,216 bytes.
+    #[error("file too long")]
+    TooLong,
+    /// Memory ran out.
+    #[error("out of memory")]
+    OutOfMemory,
+}
+
+impl From<AllocError> for DocumentError {
+    ghost use Rattle.std.specs.Prelude.{◌≡◌};
+    ghost use Rattle.bx_document.specs.declared.error.DocumentError.TheVariants.{OutOfMemory};
+
+    ghost from_gives = { λ e r. r ≡ OutOfMemory };
+
+    fn from(_error: AllocError) -> Self {
+        DocumentError::OutOfMemory
+    }
+}
+
+impl From<ViewError> for DocumentError {
+    ghost use Rattle.std.specs.Prelude.{◌≡◌};
+    ghost use Rattle.bx_document.specs.declared.error.DocumentError.TheVariants.{OutOfMemory};
+
+    ghost from_gives = { λ e r. r ≡ OutOfMemory };
+
+    fn from(_error: ViewError) -> Self {
+        DocumentError::OutOfMemory
+    }
+}
+
+impl From<ParasError> for DocumentError {
+    ghost use Rattle.std.specs.Prelude.{◌≡◌};
+    ghost use Rattle.bx_document.specs.declared.error.DocumentError.TheVariants.{OutOfMemory};
+
+    ghost from_gives = { λ e r. r ≡ OutOfMemory };
+
+    fn from(_error: ParasError) -> Self {
+        DocumentError::OutOfMemory
+    }
+}
+
+impl From<GridError> for DocumentError {
+    ghost use Rattle.std.specs.Prelude.{◌≡◌};
+    ghost use Rattle.bx_document.specs.declared.error.DocumentError.TheVariants.{OutOfMemory};
+
+    ghost from_gives = { λ e r. r ≡ OutOfMemory };
+
+    fn from(_error: GridError) -> Self {
+        DocumentError::OutOfMemory
+    }
+}

@@ -1,0 +1,18 @@
+//! A text under edits, as it is laid out in a window: the cursor's moves in it, the edits with the place that each leads to,
+//! and its rows in a grid.
+#![tactic(auto)]
+
+mod answers;
+mod document;
+mod drawing;
+mod drawn_rows;
+mod edits;
+mod error;
+mod moves;
+mod shown;
+mod window;
+
+pub use answers::Answers;
+pub use document::Document;
+pub use drawing::put_row;
+pub use error::DocumentError;

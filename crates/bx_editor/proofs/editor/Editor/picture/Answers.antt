@@ -1,0 +1,137 @@
+use Rattle.std.proofs.Common.{◌≡◌, ◌+◌, ◌-◌, ◌*◌, ◌≤◌, ◌∙◌, ◌++◌, List, ap, ap₂, arith, refl, replicate, subst, sym, take}
+use Rattle.std.specs.Prelude.{if◌then◌else◌}
+use Rattle.bx_grid.specs.Columns.{Col, blank}
+use Rattle.bx_view.specs.TextRows.{TextRow, cell_of, row_of}
+use Rattle.bx_view.specs.Top.{follow, shown_rows}
+use Rattle.bx_document.specs.Drawing.{IsBlankFrom, rows_columns, shown_columns}
+use Rattle.bx_document.specs.Document.{rows as document_rows}
+use Rattle.bx_editor.specs.Data.{Data}
+use Rattle.bx_editor.specs.Editor.{Editor, rows, text_height}
+use Rattle.bx_editor.specs.Picture.{blank_picture, next_top, picture, text_picture}
+use Rattle.bx_editor.specs.Status.{status_columns}
+use Rattle.bx_editor.proofs.Shown.{drawn-blank, drawn-front, picture-is}
+use Rattle.bx_editor.proofs.editor.Editor.picture.Goals as goal
+
+pub put_status-requires-clause-blank : goal.put_status-requires-clause-blank
+put_status-requires-clause-blank g c =
+    let i = c.self.inside in
+    let n = c.text_height-count.result in
+    let high = ap (λ x. x.height) c.in_ok-grid.ensures.ok in
+    subst (λ t. IsBlankFrom c.draw.new.grid t) c.text_height-count.ensures.rows
+    (drawn-blank c.in_ok-grid.grid c.draw.new.grid _ n (omega (arith, high, c.text_height-count.ensures.inside))
+    c.columns-columns.ensures.grid.sized.each c.in_ok-row.ensures.drawn)
+
+pub returns-clause-top : goal.returns-clause-top
+returns-clause-top g c =
+    let i = c.self.inside in
+    let d : Data = (record {
+      class = g.D.BidiData.class_of i.document.tables;
+      bracket = g.D.BidiData.bracket_of i.document.tables;
+      mirror = g.D.BidiData.mirror_of i.document.tables;
+    }) in
+    let e : Editor = (record {
+      content = i.document.document.content;
+      place = i.place;
+      changed = i.changed;
+      message = i.message;
+      quit_before = i.quit_before;
+      ended = i.ended;
+      base = i.document.document.base;
+      height = i.height;
+      width = i.document.document.w;
+    }) in
+    let count = c.from.ensures ∙ c.text_height-count.ensures.rows in
+    subst (λ s. c.in_ok-top.top ≡ next_top (record {
+      class = g.D.BidiData.class_of s.tables;
+      bracket = g.D.BidiData.bracket_of s.tables;
+      mirror = g.D.BidiData.mirror_of s.tables;
+    }) s.editor c.args.top) c.self.view_is
+    (c.in_ok-top.ensures.top ∙ ap (follow (rows d e) c.args.top i.place) count
+    ∙ sym (ap (λ b. if b then c.args.top else follow (rows d e) c.args.top i.place (text_height i.height)) c.if-self.false))
+
+pub returns-clause-picture : goal.returns-clause-picture
+returns-clause-picture g c =
+    let i = c.self.inside in
+    let d : Data = (record {
+      class = g.D.BidiData.class_of i.document.tables;
+      bracket = g.D.BidiData.bracket_of i.document.tables;
+      mirror = g.D.BidiData.mirror_of i.document.tables;
+    }) in
+    let e : Editor = (record {
+      content = i.document.document.content;
+      place = i.place;
+      changed = i.changed;
+      message = i.message;
+      quit_before = i.quit_before;
+      ended = i.ended;
+      base = i.document.document.base;
+      height = i.height;
+      width = i.document.document.w;
+    }) in
+    let all : List TextRow = rows d e in
+    let top = c.in_ok-top.top in
+    let n = c.text_height-count.result in
+    let was = c.in_ok-grid.grid in
+    let mid = c.draw.new.grid in
+    let new = c.put_status.new.grid in
+    let same1 = c.follow.ensures.same in
+    let same2 = c.draw.ensures.same ∙ same1 in
+    let same3 = c.cell_of.ensures.same ∙ same2 in
+    let drawn = subst (λ doc. mid ≡ record was {
+      columns = shown_columns (record {
+        class = g.D.BidiData.class_of doc.tables;
+        bracket = g.D.BidiData.bracket_of doc.tables;
+        mirror = g.D.BidiData.mirror_of doc.tables;
+      }) doc.document top n ++ replicate ((was.height - n) * was.width) blank;
+    }) same1 c.in_ok-row.ensures.drawn in
+    let row = subst (λ doc. c.in_ok-row.row ≡ row_of (document_rows (record {
+      class = g.D.BidiData.class_of doc.tables;
+      bracket = g.D.BidiData.bracket_of doc.tables;
+      mirror = g.D.BidiData.mirror_of doc.tables;
+    }) doc.document) i.place
+    - row_of (document_rows (record {
+      class = g.D.BidiData.class_of doc.tables;
+      bracket = g.D.BidiData.bracket_of doc.tables;
+      mirror = g.D.BidiData.mirror_of doc.tables;
+    }) doc.document) top) same1 c.in_ok-row.ensures.row in
+    let cell = subst (λ doc. c.in_ok-column.column ≡ cell_of doc.document.w (document_rows (record {
+      class = g.D.BidiData.class_of doc.tables;
+      bracket = g.D.BidiData.bracket_of doc.tables;
+      mirror = g.D.BidiData.mirror_of doc.tables;
+    }) doc.document) i.place) same2
+    c.in_ok-column.ensures.cell in
+    let status = subst (λ doc. new ≡ record mid {
+      columns = take (text_height i.height * doc.document.w) mid.columns ++ status_columns (record {
+        class = g.D.BidiData.class_of doc.tables;
+        bracket = g.D.BidiData.bracket_of doc.tables;
+        mirror = g.D.BidiData.mirror_of doc.tables;
+      }) (record {
+        content = doc.document.content;
+        place = i.place;
+        changed = i.changed;
+        message = i.message;
+        quit_before = i.quit_before;
+        ended = i.ended;
+        base = doc.document.base;
+        height = i.height;
+        width = doc.document.w;
+      });
+    }) same3 c.in_ok-put_status.ensures.status in
+    let high = ap (λ x. x.height) c.in_ok-grid.ensures.ok in
+    let wide = ap (λ x. x.width) drawn ∙ ap (λ x. x.width) c.in_ok-grid.ensures.ok ∙ c.width.ensures.width in
+    let front = drawn-front was mid (shown_columns d i.document.document top n) n (omega (arith, high, c.text_height-count.ensures.inside))
+    c.columns-columns.ensures.grid.sized.each drawn in
+    let shown : take (text_height i.height * i.document.document.w) mid.columns
+    ≡ rows_columns d e.width (text_height i.height) (shown_rows all top (text_height i.height)) =
+    ap₂ (λ t w. take (t * w) mid.columns) (sym c.text_height-count.ensures.rows) (sym wide) ∙ front
+    ∙ ap (λ t. rows_columns d e.width t (shown_rows all top t)) c.text_height-count.ensures.rows in
+    subst (λ s. c.new-2.result ≡ picture (record {
+      class = g.D.BidiData.class_of s.tables;
+      bracket = g.D.BidiData.bracket_of s.tables;
+      mirror = g.D.BidiData.mirror_of s.tables;
+    }) s.editor top) c.self.view_is
+    (picture-is new (rows_columns d e.width (text_height e.height) (shown_rows all top (text_height e.height)) ++ status_columns d e) e.height e.width
+    (row_of all e.place - row_of all top) (cell_of e.width all e.place) (c.in_ok-row.row + 1) c.in_ok-column.column c.new-2.result c.new-2.ensures
+    (ap (λ x. x.height) status ∙ ap (λ x. x.height) drawn ∙ high) (ap (λ x. x.width) status ∙ wide)
+    (ap (λ x. x.columns) status ∙ ap (λ cs. cs ++ status_columns d e) shown) (ap (λ k. k + 1) row) cell
+    ∙ sym (ap (λ b. if b then blank_picture e.height e.width else text_picture d e top all) c.if-self.false))

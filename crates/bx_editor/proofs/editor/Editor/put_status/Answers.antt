@@ -1,0 +1,41 @@
+use Rattle.std.proofs.Common.{◌≡◌, false, ◌+◌, ◌-◌, ◌*◌, ◌≤◌, ◌∙◌, ◌++◌, ap, ap₂, arith, refl, subst, sym, take}
+use Rattle.bx_grid.specs.Columns.{plain_columns}
+use Rattle.bx_document.specs.Drawing.{with_row}
+use Rattle.bx_editor.specs.Data.{Data}
+use Rattle.bx_editor.specs.Editor.{Editor, text_height}
+use Rattle.bx_editor.specs.Status.{status_columns, status_line}
+use Rattle.bx_editor.proofs.Shown.{some-status}
+use Rattle.bx_editor.proofs.editor.Editor.put_status.Goals as goal
+
+pub returns-clause-status : goal.returns-clause-status
+returns-clause-status g c =
+    let i = c.self.inside in
+    let tables = i.document.tables in
+    let was = c.args.grid.now in
+    let d : Data = record { class = g.D.BidiData.class_of tables; bracket = g.D.BidiData.bracket_of tables; mirror = g.D.BidiData.mirror_of tables } in
+    let e : Editor = record {
+      content = i.document.document.content;
+      place = i.place;
+      changed = i.changed;
+      message = i.message;
+      quit_before = i.quit_before;
+      ended = i.ended;
+      base = i.document.document.base;
+      height = i.height;
+      width = i.document.document.w;
+    } in
+    let text = c.as_str.ensures.value ∙ c.in_ok-line.ensures.line
+    ∙ ap₂ (λ p u. status_line i.changed p u i.message) c.paragraph_number-paragraph.ensures c.in_ok-unit.ensures.number in
+    let width = c.from-width.ensures ∙ c.width.ensures.width ∙ ap (λ x. x.document.w) c.unit_number.ensures.same in
+    let step = c.in_ok-put_text.ensures.ok ∙ ap (λ t. with_row was (i.height - 1) (plain_columns false t)) (c.cut.ensures.cut ∙ ap₂ take width text) in
+    subst (λ s. c.put_text.new.grid ≡ record was {
+      columns = take (text_height s.editor.height * s.editor.width) was.columns
+          ++ status_columns (record {
+            class = g.D.BidiData.class_of s.tables;
+            bracket = g.D.BidiData.bracket_of s.tables;
+            mirror = g.D.BidiData.mirror_of s.tables;
+          }) s.editor;
+    }) c.self.view_is
+    (some-status d e was (c.requires.height ∙ sym (ap (λ s. s.editor.height) c.self.view_is))
+    (c.requires.width ∙ sym (ap (λ s. s.editor.width) c.self.view_is)) c.columns-columns.ensures.grid.sized.each (i.height - 1) c.put_text.new.grid
+    (omega (arith, c.if-self-lt2.false)) refl step)

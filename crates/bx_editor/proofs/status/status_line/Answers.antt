@@ -1,0 +1,9 @@
+use Rattle.std.proofs.Common.{◌∙◌, ap}
+use Rattle.bx_terms.specs.Characters.{are_ascii_printable}
+use Rattle.bx_editor.proofs.StatusRow.{status-printable}
+use Rattle.bx_editor.proofs.status.status_line.Goals as goal
+
+pub returns-clause-printable : goal.returns-clause-printable
+returns-clause-printable c =
+    ap are_ascii_printable c.in_ok-line.ensures
+    ∙ status-printable c.args.changed c.args.paragraph c.args.unit c.args.message c.ranges.paragraph.fits c.ranges.unit.fits

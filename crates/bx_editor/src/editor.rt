@@ -1,0 +1,108 @@
+//! The editor.
+ghost use Rattle.std.specs.Prelude.{◌≡◌, ℕ, List, true};
+ghost use Rattle.std.specs.Borrow.{Bor};
+ghost use Rattle.std.specs.Iterator.{Drains};
+ghost use Rattle.bx_terms.specs.Sizes.{is_side};
+ghost use Rattle.bx_text.specs.Slices.{joined, lends};
+ghost use Rattle.bx_grid.specs.Picture.{is_size};
+ghost use Rattle.bx_editor.specs.Editor.{with_size};
+
+use crate::message::Message;
+use bx_document::Document;
+use bx_text::Slices;
+use bx_ucd::BidiData;
+use std::marker::Model;
+
+/// A text that is edited, the cursor's place in it, and what the last key had to say, in a window of so many rows and
+/// columns.
+#[derive(Drop)]
+pub struct Editor<D: BidiData + Drop> {
+    pub(crate) document: Document<D>,
+    pub(crate) place: usize,
+    pub(crate) changed: bool,
+    pub(crate) message: Option<Message>,
+    pub(crate) quit_before: bool,
+    pub(crate) ended: bool,
+    pub(crate) height: u16,
+}
+
+impl<D: BidiData + Drop> Model for Editor<D> {
+    ghost use Rattle.std.specs.Prelude.{◌≡◌, true, IsCharBoundary};
+    ghost use Rattle.bx_terms.specs.Sizes.{is_side};
+    ghost use Rattle.bx_editor.specs.Editor.{EditorState};
+
+    ghost Value = { EditorState D };
+
+    ghost view = { λ e. record {
+      tables = e.document.tables;
+      editor = record {
+        content = e.document.document.content;
+        place = e.place;
+        changed = e.changed;
+        message = e.message;
+        quit_before = e.quit_before;
+        ended = e.ended;
+        base = e.document.document.base;
+        height = e.height;
+        width = e.document.document.w;
+      };
+    } };
+
+    ghost invariant = { λ e. IsCharBoundary e.document.document.content.text e.place × (is_side e.height ≡ true) };
+}
+
+impl<D: BidiData + Drop> Editor<D> {
+    /// The window has so many rows and columns. No memory.
+    pub fn resize(&mut self, height: u16, width: u16)
+        requires sized { is_size height width ≡ true }
+        ensures { self.new ≡ record self.old { editor = with_size self.old.editor height width } }
+    {
+        self.document.set_width(width);
+        self.height = height;
+    }
+
+    /// The text's pieces in order, which joined are the text. No memory.
+    pub fn pieces(&self) -> Slices<'_>
+        ensures text { result ≡ self.now.editor.content.text }
+        ensures joined { (slices : List (Bor (List ℕ))) → Drains lends result slices → joined slices ≡ self.now.editor.content.text }
+    {
+        self.document.pieces()
+    }
+
+    /// Whether Quit has ended the editor. No memory.
+    pub fn ended(&self) -> bool
+        ensures { result ≡ self.now.editor.ended }
+    {
+        self.ended
+    }
+
+    /// Whether there was an edit since the opening or the last save. No memory.
+    pub fn changed(&self) -> bool
+        ensures { result ≡ self.now.editor.changed }
+    {
+        self.changed
+    }
+
+    /// The cursor's place, in bytes from 0. No memory.
+    pub fn place(&self) -> usize
+        ensures { result ≡ self.now.editor.place }
+    {
+        self.place
+    }
+
+    /// The window's rows. No memory.
+    pub fn height(&self) -> u16
+        ensures height { result ≡ self.now.editor.height }
+        ensures side { is_side self.now.editor.height ≡ true }
+    {
+        self.height
+    }
+
+    /// The window's columns. No memory.
+    pub fn width(&self) -> u16
+        ensures width { result ≡ self.now.editor.width }
+        ensures side { is_side self.now.editor.width ≡ true }
+    {
+        self.document.width()
+    }
+}

@@ -1,0 +1,48 @@
+//! The refusals.
+use bx_document::DocumentError;
+use bx_grid::GridError;
+use std::alloc::AllocError;
+use thiserror::Error;
+
+/// Why a file was not opened.
+#[derive(Clone, Copy, PartialEq, Eq, Debug, Error)]
+pub enum OpenError {
+    /// The file has more than 16,777,216 bytes.
+    #[error("file too long")]
+    TooLong,
+    /// So many first bytes of the file are UTF-8, and no more.
+    #[error("not UTF-8 at byte {0}")]
+    NotUtf8(usize),
+    /// A side of the window is not from 1 to 500.
+    #[error("a side is not from 1 to 500")]
+    SizeOutOfRange,
+    /// Memory ran out.
+    #[error("out of memory")]
+    OutOfMemory,
+}
+
+/// Why a key had no effect, or a picture could not be made.
+#[derive(Clone, Copy, PartialEq, Eq, Debug, Error)]
+pub enum EditorError {
+    /// Memory ran out.
+    #[error("out of memory")]
+    OutOfMemory,
+}
+
+impl From<DocumentError> for EditorError {
+    fn from(_error: DocumentError) -> Self {
+        EditorError::OutOfMemory
+    }
+}
+
+impl From<GridError> for EditorError {
+    fn from(_error: GridError) -> Self {
+        EditorError::OutOfMemory
+    }
+}
+
+impl From<AllocError> for EditorError {
+    fn from(_error: AllocError) -> Self {
+        EditorError::OutOfMemory
+    }
+}

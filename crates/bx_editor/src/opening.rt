@@ -1,0 +1,73 @@
+//! A file is opened.
+ghost use Rattle.std.specs.Prelude.{◌≡◌, ◌<◌, ◌≤◌, true, IfErr, IfOk, IsUtf8, OnOk, length, string_bytes};
+ghost use Rattle.bx_terms.specs.Sizes.{largest_text};
+ghost use Rattle.bx_grid.specs.Picture.{is_size};
+ghost use Rattle.bx_editor.specs.Editor.{at_start};
+ghost use Rattle.bx_editor.specs.Opening.{Causes, IsLongestUtf8};
+
+use crate::editor::Editor;
+use crate::error::OpenError;
+use bx_document::Document;
+use bx_explicit::Base;
+use bx_terms::{LARGEST_TEXT, is_side};
+use bx_ucd::BidiData;
+use simdutf8::compat::from_utf8;
+use std::alloc::Global;
+
+/// Bytes as a text, with no copy of them; else how many of the first ones are UTF-8.
+fn text_of(bytes: Vec<u8>) -> Result<String, usize>
+    ensures text { IfOk result (λ t. string_bytes t ≡ bytes.items) }
+    ensures utf8 { OnOk result (IsUtf8 bytes.items) }
+    ensures more { IfErr result (λ n. n < length bytes.items) }
+    ensures longest { IfErr result (IsLongestUtf8 bytes.items) }
+{
+    if let Err(error) = from_utf8(bytes.as_slice()) {
+        return Err(error.valid_up_to());
+    }
+    // The bytes are known to be UTF-8 here, and `String::from_utf8` would read them all again.
+    Ok(unsafe { String::from_utf8_unchecked(bytes) })
+}
+
+impl<D: BidiData + Drop> Editor<D> {
+    /// Opens a file's bytes, with the place at its start. A refusal drops the bytes and the tables.
+    ///
+    /// Errors, in this order: `TooLong` above 16,777,216 bytes; `NotUtf8` with the number of the first bytes that are UTF-8;
+    /// `SizeOutOfRange` where a side is not from 1 to 500; `OutOfMemory`.
+    pub fn open(
+        alloc: Global,
+        bytes: Vec<u8>,
+        tables: D,
+        height: u16,
+        width: u16,
+        base: Base,
+    ) -> Result<Editor<D>, OpenError>
+        ensures ok { IfOk result (λ e. e ≡ record { tables = tables; editor = at_start bytes.items height width base }) }
+        ensures short { OnOk result (length bytes.items ≤ largest_text) }
+        ensures utf8 { OnOk result (IsUtf8 bytes.items) }
+        ensures sized { OnOk result (is_size height width ≡ true) }
+        ensures refused { IfErr result (Causes bytes.items height width) }
+    {
+        if bytes.len() > LARGEST_TEXT {
+            return Err(OpenError::TooLong);
+        }
+        let text = match text_of(bytes) {
+            Ok(text) => text,
+            Err(count) => return Err(OpenError::NotUtf8(count)),
+        };
+        if !is_side(height) || !is_side(width) {
+            return Err(OpenError::SizeOutOfRange);
+        }
+        match Document::open(alloc, text, tables, width, base) {
+            Ok(document) => Ok(Editor {
+                document,
+                place: 0,
+                changed: false,
+                message: None,
+                quit_before: false,
+                ended: false,
+                height,
+            }),
+            Err(_) => Err(OpenError::OutOfMemory),
+        }
+    }
+}

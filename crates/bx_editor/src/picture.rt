@@ -1,0 +1,79 @@
+//! The picture of an editor.
+ghost use Rattle.std.specs.Prelude.{◌≡◌, ◌*◌, ◌≤◌, ◌++◌, true, IfOk, OnOk, take};
+ghost use Rattle.bx_terms.specs.Sizes.{is_side};
+ghost use Rattle.bx_document.specs.Drawing.{IsBlankFrom};
+ghost use Rattle.bx_editor.specs.Editor.{text_height};
+ghost use Rattle.bx_editor.specs.Picture.{next_top, picture};
+ghost use Rattle.bx_editor.specs.Status.{status_columns};
+
+use crate::editor::Editor;
+use crate::error::EditorError;
+use crate::status::{cut, put_text, status_line};
+use bx_document::Answers;
+use bx_grid::{Cell, Grid, Picture};
+use bx_ucd::BidiData;
+use std::alloc::Global;
+
+/// How many rows of text a window shows: its last row is for the status, unless it is the only one.
+pub(crate) fn text_height(height: u16) -> u16
+    requires { is_side height ≡ true }
+    ensures rows { result ≡ text_height height }
+    ensures some { 1 ≤ result }
+    ensures inside { result ≤ height }
+{
+    if height >= 2 { height - 1 } else { 1 }
+}
+
+impl<D: BidiData + Drop> Editor<D> {
+    /// Puts the status row into a grid that is blank behind the rows of text, where the window has a row for it.
+    ///
+    /// Errors: `OutOfMemory`.
+    fn put_status(&mut self, alloc: Global, grid: &mut Grid) -> Result<(), EditorError>
+        requires height { grid.old.height ≡ self.old.editor.height }
+        requires width { grid.old.width ≡ self.old.editor.width }
+        requires blank { IsBlankFrom grid.old (text_height self.old.editor.height) }
+        ensures same { self.new ≡ self.old }
+        ensures status { OnOk result (grid.new ≡ record grid.old {
+          columns = take (text_height self.old.editor.height * self.old.editor.width) grid.old.columns
+              ++ status_columns (⟦<D as Answers>⟧.data self.old.tables) self.old.editor;
+        }) }
+    {
+        let _columns = grid.columns();
+        if self.height < 2 {
+            return Ok(());
+        }
+        let paragraph = self.document.paragraph_number(self.place);
+        let unit = self.document.unit_number(self.place)?;
+        let line = status_line(alloc, self.changed, paragraph, unit, self.message)?;
+        let width = usize::from(self.document.width());
+        put_text(grid, self.height - 1, cut(line.as_str(), width))?;
+        Ok(())
+    }
+
+    /// What is shown of the editor where the rows were shown from the offset `top` on: the offset from which on they are
+    /// shown now, and the picture.
+    ///
+    /// Errors: `OutOfMemory`.
+    pub fn picture(&mut self, alloc: Global, top: usize) -> Result<(usize, Picture), EditorError>
+        ensures same { self.new ≡ self.old }
+        ensures top { IfOk result (λ shown. shown.0 ≡ next_top (⟦<D as Answers>⟧.data self.old.tables) self.old.editor top) }
+        ensures picture { IfOk result (λ shown. shown.1 ≡ picture (⟦<D as Answers>⟧.data self.old.tables) self.old.editor shown.0) }
+    {
+        let mut grid = Grid::blank(alloc, self.height, self.document.width())?;
+        if self.ended {
+            let cursor = Cell { line: 1, column: 1 };
+            return Ok((top, Picture::new(grid, cursor)));
+        }
+        let count = text_height(self.height);
+        let top = self.document.follow(top, self.place, usize::from(count))?;
+        let row = self.document.draw(&mut grid, top, self.place, count)?;
+        let _columns = grid.columns();
+        let column = self.document.cell_of(self.place)?;
+        self.put_status(alloc, &mut grid)?;
+        let cursor = Cell {
+            line: row + 1,
+            column,
+        };
+        Ok((top, Picture::new(grid, cursor)))
+    }
+}

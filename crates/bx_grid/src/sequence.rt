@@ -1,0 +1,61 @@
+//! Control sequences and texts that stand whole in what is read.
+
+ghost use Rattle.std.specs.Prelude.{◌≡◌, ◌∷◌, ◌≤◌, length, IfSome};
+ghost use Rattle.bx_bytes.specs.Utf8.{are_printable};
+ghost use Rattle.bx_grid.specs.Sequences.{BeginWithSequence};
+
+use crate::token::{Command, ESCAPE, command_of, is_last, params_len};
+use bx_terms::is_control;
+
+/// A control sequence of parameter bytes and a final byte: what it asks for, and how many bytes it has.
+#[derive(Clone, Copy)]
+pub struct Sequence {
+    pub command: Command,
+    pub len: usize,
+}
+
+/// The sequence whose bytes after its start are the first of these, if its final byte is among them.
+fn sequence_in(body: &[u8]) -> Option<Sequence>
+    ensures { IfSome result (λ s. BeginWithSequence (0x1B ∷ 0x5B ∷ body.now) s.command s.len) }
+{
+    let count = params_len(body);
+    let (params, rest) = body.split_at(count);
+    match rest {
+        [last, ..] if is_last(*last) => Some(Sequence {
+            command: command_of(params, *last),
+            len: count + 3,
+        }),
+        _ => None,
+    }
+}
+
+/// The sequence that the bytes begin with, if all of it is there.
+pub fn first_sequence(bytes: &[u8]) -> Option<Sequence>
+    ensures { IfSome result (λ s. BeginWithSequence bytes.now s.command s.len) }
+{
+    match bytes {
+        [ESCAPE, b'[', body @ ..] => sequence_in(body),
+        _ => None,
+    }
+}
+
+/// How many bytes stand before the first escape.
+pub fn text_len(bytes: &[u8]) -> usize
+    ensures { result ≤ length bytes.now }
+{
+    let mut len = 0;
+    for byte in bytes {
+        if *byte == ESCAPE {
+            return len;
+        }
+        len += 1;
+    }
+    len
+}
+
+/// Whether a text has no control.
+pub fn are_printable(text: &str) -> bool
+    ensures { result ≡ are_printable text.now }
+{
+    text.chars().all(|c| !is_control(c))
+}

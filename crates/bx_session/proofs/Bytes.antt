@@ -1,0 +1,130 @@
+-- What a byte and a told size leave, put together from what each call left.
+use Rattle.std.proofs.Common.{◌≡◌, ℕ, Bool, true, false, List, [], drop, Option, Some, None, Result, Ok, Err, refl, sym, ap, subst, ◌∙◌, if◌then◌else◌}
+use Rattle.std.specs.Prelude.{not, OnOk, OnErr}
+use Rattle.bx_explicit.specs.declared.base.Base.{Base}
+use Rattle.bx_grid.specs.Picture.{PictureState, is_size}
+use Rattle.bx_keys.specs.declared.key.Key.{Key}
+use Rattle.bx_keys.specs.declared.key.Key.TheVariants as keys
+use Rattle.bx_keys.specs.declared.key.Key.TheVariants.{Insert, Erase, Delete, Back, Forward, Up, Down, Right, Left, RowHome, RowEnd, PageUp, PageDown, Save}
+use Rattle.bx_keys.specs.declared.key.Key.TheVariants.{Quit, Undo, Redo, Repaint, Direction}
+use Rattle.bx_keys.specs.Keys.{rest_after}
+use Rattle.bx_keys.specs.Waiting.{head_of}
+use Rattle.bx_editor.specs.Data.{Data}
+use Rattle.bx_editor.specs.Editor.{EditorState, at_start}
+use Rattle.bx_session.specs.declared.error.Refused.{Refused}
+use Rattle.bx_session.specs.declared.error.Refused.TheVariants.{Edit, Paint, Size}
+use Rattle.bx_session.specs.Session.{Session, SessionState, with_painting, with_painting_owed, at_opening, key_of_byte, after_spending}
+use Rattle.bx_session.specs.Session.{session_after_any, unpainted_after_byte, is_idle, after_byte, unpainted_after_told}
+use Rattle.bx_session.specs.Painting.{QueuesPicture, FeedPaints}
+use Rattle.bx_session.specs.Saving.{ToldBy}
+
+-- ---- opening
+
+pub opening_is : {D : Type 0} (says : D → Data) (tables : D) (text : List ℕ) (height width : ℕ) (base : Base) (e : EditorState D) (rest queue : List ℕ)
+    (new : SessionState D) → e ≡ record { tables = tables; editor = at_start text height width base } → rest ≡ [] → queue ≡ []
+    → new.tables ≡ e.tables
+    → new.session ≡ with_painting (says e.tables) (record {
+      editor = e.editor;
+      top = 0;
+      rest = rest;
+      painted = None;
+      painting_owed = false;
+      pending = drop 0 queue;
+    })
+    → new ≡ record { tables = tables; session = at_opening (says tables) text height width base }
+opening_is {D} says tables text height width base e rest queue new is waits empty same painted =
+    let state : new.session ≡ at_opening (says tables) text height width base =
+    painted
+    ∙ ap (λ (x : EditorState D). with_painting (says x.tables) (record {
+      editor = x.editor;
+      top = 0;
+      rest = rest;
+      painted = None;
+      painting_owed = false;
+      pending = drop 0 queue;
+    })) is
+    ∙ rw (waits, empty) refl in
+    ap (λ (x : D). record { tables = x; session = new.session }) (same ∙ ap (λ (x : EditorState D). x.tables) is)
+    ∙ ap (λ (x : Session). record { tables = tables; session = x }) state
+
+-- ---- a byte
+
+not_idle : (idle : Bool) (spent painted new : Session) → idle ≡ false → new ≡ painted → new ≡ (if idle then spent else painted)
+not_idle true spent painted new is h = absurd (cc is)
+not_idle false spent painted new is h = h
+
+pub after_byte_is : {D : Type 0} (says : D → Data) (saved : Bool) (old mid new : SessionState D) (b : ℕ) → is_idle old.session b ≡ false
+    → mid ≡ record old { session = unpainted_after_byte (says old.tables) saved old.session b }
+    → new.session ≡ with_painting (says mid.tables) mid.session → new.session ≡ after_byte (says old.tables) saved old.session b
+after_byte_is {D} says saved old mid new b asks e painted =
+    not_idle (is_idle old.session b) (after_spending old.session b)
+    (with_painting (says old.tables) (unpainted_after_byte (says old.tables) saved old.session b)) new.session asks
+    (painted ∙ ap (λ (x : SessionState D). with_painting (says x.tables) x.session) e)
+
+asks_where_not_idle : (idle asks : Bool) → asks ≡ not idle → asks ≡ true → idle ≡ false
+asks_where_not_idle true asks e h = absurd (let g = sym e ∙ h in cc g)
+asks_where_not_idle false asks e h = refl
+
+pub is_not_idle : (s : Session) (b : ℕ) (asks : Bool) → asks ≡ not (is_idle s b) → asks ≡ true → is_idle s b ≡ false
+is_not_idle s b asks e h = asks_where_not_idle (is_idle s b) asks e h
+
+-- ---- what is known of the screen before the painting
+
+same_pending : (ended : Bool) (s : Session) (rest : List ℕ) → (if ended then s else record s { rest = rest }).pending ≡ s.pending
+same_pending true s rest = refl
+same_pending false s rest = refl
+
+same_pending_after : (d : Data) (saved : Bool) (s : Session) (key : Option Key) → (session_after_any d saved s key).pending ≡ s.pending
+same_pending_after d saved s None = refl
+same_pending_after d saved s (Some key) = refl
+
+-- it does not depend on how a Save ends
+same_screen_after : (d : Data) (saved : Bool) (s : Session) (key : Option Key)
+    → (session_after_any d saved s key).painted ≡ (session_after_any d true s key).painted
+same_screen_after d true s key = refl
+same_screen_after d false s None = refl
+same_screen_after d false s (Some (Insert c)) = refl
+same_screen_after d false s (Some Erase) = refl
+same_screen_after d false s (Some Delete) = refl
+same_screen_after d false s (Some Back) = refl
+same_screen_after d false s (Some Forward) = refl
+same_screen_after d false s (Some Up) = refl
+same_screen_after d false s (Some Down) = refl
+same_screen_after d false s (Some Right) = refl
+same_screen_after d false s (Some Left) = refl
+same_screen_after d false s (Some RowHome) = refl
+same_screen_after d false s (Some RowEnd) = refl
+same_screen_after d false s (Some PageUp) = refl
+same_screen_after d false s (Some PageDown) = refl
+same_screen_after d false s (Some Save) = refl
+same_screen_after d false s (Some Quit) = refl
+same_screen_after d false s (Some Undo) = refl
+same_screen_after d false s (Some Redo) = refl
+same_screen_after d false s (Some Repaint) = refl
+same_screen_after d false s (Some Direction) = refl
+same_screen_after d false s (Some (keys.Size height width)) = refl
+
+pub byte_paints : {D : Type 0} (says : D → Data) (saved : Bool) (old mid : SessionState D) (new : Session) (b : ℕ)
+    → mid ≡ record old { session = unpainted_after_byte (says old.tables) saved old.session b }
+    → QueuesPicture (says mid.tables) mid.session.pending mid.session.painted new → FeedPaints (says old.tables) old.session b new
+byte_paints {D} says saved old mid new b e h =
+    let d = says old.tables in
+    let s = after_spending old.session b in
+    let key = key_of_byte old.session b in
+    let pending : (session_after_any d saved s key).pending ≡ old.session.pending =
+    same_pending_after d saved s key ∙ same_pending old.session.editor.ended old.session (head_of (rest_after old.session.rest b)) in
+    subst (λ (q : List ℕ). QueuesPicture d q (session_after_any d true s key).painted new) pending
+    (subst (λ (p : Option PictureState). QueuesPicture d (session_after_any d saved s key).pending p new) (same_screen_after d saved s key)
+    (subst (λ (x : SessionState D). QueuesPicture (says x.tables) x.session.pending x.session.painted new) e h))
+
+-- ---- a told size
+
+pub told_is : {D : Type 0} (says : D → Data) (old mid new : SessionState D) (height width : ℕ) (result : Result (Unit {0}) Refused)
+    → is_size height width ≡ true → mid ≡ record old { session = unpainted_after_told old.session height width }
+    → OnOk result (new.session ≡ with_painting (says mid.tables) mid.session) → OnErr result (new.session ≡ with_painting_owed mid.session)
+    → OnErr result (result ≡ Err Paint) → ToldBy (says old.tables) old.session height width result new.session
+told_is {D} says old mid new height width (Ok done) sized e ok err memory =
+    (sized, ok ∙ ap (λ (x : SessionState D). with_painting (says x.tables) x.session) e)
+told_is {D} says old mid new height width (Err Edit) sized e ok err memory = absurd (cc memory)
+told_is {D} says old mid new height width (Err Paint) sized e ok err memory = (sized, err ∙ ap (λ (x : SessionState D). with_painting_owed x.session) e)
+told_is {D} says old mid new height width (Err Size) sized e ok err memory = absurd (cc memory)

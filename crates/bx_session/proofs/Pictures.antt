@@ -1,0 +1,46 @@
+-- Pictures have their editor's size, and what a painting leaves of a session.
+use Rattle.std.proofs.Common.{◌≡◌, ℕ, ◌≤◌, Bool, true, false, List, ◌++◌, length, drop, Some, refl, ap, ◌∙◌, if◌then◌else◌}
+use Rattle.std.proofs.lemmas.List.{drop-append-le}
+use Rattle.bx_grid.specs.Picture.{PictureState, IsPicture}
+use Rattle.bx_editor.specs.Data.{Data}
+use Rattle.bx_editor.specs.Editor.{Editor, rows}
+use Rattle.bx_editor.specs.Picture.{picture, next_top, blank_picture, text_picture}
+use Rattle.bx_session.specs.Session.{Session, painting, with_painting}
+use Rattle.bx_session.specs.Painting.{Leads, QueuesPicture}
+
+either_height : (ended : Bool) (p q : PictureState) (h : ℕ) → p.height ≡ h → q.height ≡ h → (if ended then p else q).height ≡ h
+either_height true p q h e f = e
+either_height false p q h e f = f
+
+either_width : (ended : Bool) (p q : PictureState) (w : ℕ) → p.width ≡ w → q.width ≡ w → (if ended then p else q).width ≡ w
+either_width true p q w e f = e
+either_width false p q w e f = f
+
+pub picture_height : (d : Data) (e : Editor) (top : ℕ) → (picture d e top).height ≡ e.height
+picture_height d e top = either_height e.ended (blank_picture e.height e.width) (text_picture d e top (rows d e)) e.height refl refl
+
+pub picture_width : (d : Data) (e : Editor) (top : ℕ) → (picture d e top).width ≡ e.width
+picture_width d e top = either_width e.ended (blank_picture e.height e.width) (text_picture d e top (rows d e)) e.width refl refl
+
+-- bytes behind a queue of which the first have gone
+pub longer_queue : (n : ℕ) (queue more new : List ℕ) → n ≤ length queue → new ≡ queue ++ more → drop n new ≡ drop n queue ++ more
+longer_queue n queue more new fits is = ap (drop n) is ∙ drop-append-le n queue more fits
+
+-- a session with this painting queued
+pub painting_is : (d : Data) (s : Session) (e : Editor) (top : ℕ) (p : PictureState) (pending : List ℕ) → e ≡ s.editor
+    → top ≡ next_top d s.editor s.top → p ≡ picture d s.editor top → pending ≡ s.pending ++ painting s.painted p
+    → record s { editor = e; top = top; painted = Some p; painting_owed = false; pending = pending } ≡ with_painting d s
+painting_is d s e top p pending same follows is appends = rw (appends, is, follows, same) refl
+
+pub painting_queues : (d : Data) (s : Session) (e : Editor) (top : ℕ) (p : PictureState) (pending : List ℕ) → e ≡ s.editor
+    → p ≡ picture d s.editor top → pending ≡ s.pending ++ painting s.painted p → Leads s.painted (painting s.painted p) p → IsPicture p
+    → QueuesPicture d s.pending s.painted (record s { editor = e; top = top; painted = Some p; painting_owed = false; pending = pending })
+painting_queues d s e top p pending same is appends leads sized = (
+  painting s.painted p,
+  record {
+    appends = appends;
+    leads = rw (same, ← is) leads;
+    painted = rw (same, ← is) refl;
+    is_picture = rw (same, ← is) sized;
+  },
+)

@@ -1,0 +1,31 @@
+use Rattle.bx_editor.specs.Data.{Data}
+use Rattle.bx_session.proofs.Bytes.{is_not_idle, after_byte_is, byte_paints}
+use Rattle.bx_session.proofs.session.Session.feed.Goals as goal
+
+pub returns-clause-after_byte : goal.returns-clause-after_byte
+returns-clause-after_byte g c =
+    let says : g.row.D.Denot → Data = λ t. record {
+      class = g.D.BidiData.class_of t;
+      bracket = g.D.BidiData.bracket_of t;
+      mirror = g.D.BidiData.mirror_of t;
+    } in
+    let h = c.in_ok-enter.ensures.after_byte in (
+      h.0,
+      h.1,
+      (
+        after_byte_is says h.0 c.args.self.now c.enter.new.self c.paint.new.self c.args.byte
+            (is_not_idle c.args.self.now.session c.args.byte c.in_ok-enter.field-0 c.in_ok-enter.ensures.asks c.if-not-branch.false) h.2
+            c.in_ok-paint.ensures.ok,
+        c.status-2.ensures,
+      ),
+    )
+
+pub returns-clause-paints : goal.returns-clause-paints
+returns-clause-paints g c asks =
+    let says : g.row.D.Denot → Data = λ t. record {
+      class = g.D.BidiData.class_of t;
+      bracket = g.D.BidiData.bracket_of t;
+      mirror = g.D.BidiData.mirror_of t;
+    } in
+    let h = c.in_ok-enter.ensures.after_byte in
+    byte_paints says h.0 c.args.self.now c.enter.new.self c.paint.new.self.session c.args.byte h.2 c.in_ok-paint.ensures.paints

@@ -1,0 +1,175 @@
+//! What a byte of input and a told size do.
+
+ghost use Rattle.std.specs.Prelude.{◌≡◌, Bool, true, false, not, IfOk, IfSome, IsOk, OnErr, OnOk};
+ghost use Rattle.bx_grid.specs.Picture.{is_size};
+ghost use Rattle.bx_keys.specs.Keys.{HasSides};
+ghost use Rattle.bx_editor.specs.Keys as keys;
+ghost use Rattle.bx_session.specs.Painting.{FeedPaints, ToldPaints};
+ghost use Rattle.bx_session.specs.Saving.{Feeds, StoreAfter, ToldBy, is_edit_or_move_key, is_save_byte, store_state};
+ghost use Rattle.bx_session.specs.Session.{after_spending, is_idle, key_of_byte, session_after_key, unpainted_after_byte, unpainted_after_told};
+
+use crate::error::Refused;
+use crate::saving::save_pieces;
+use crate::session::Session;
+use crate::status::Status;
+use bx_document::Answers;
+use bx_editor::Editor;
+use bx_keys::Key;
+use bx_store::Store;
+use bx_terms::is_side;
+use bx_ucd::BidiData;
+
+/// A key after which nothing is taken for known of the screen.
+fn asks_for_whole(key: Key) -> bool
+    ensures { result ≡ keys.asks_for_whole key }
+{
+    matches!(key, Key::Repaint | Key::Size(_, _))
+}
+
+/// Each side is from 1 to 500.
+fn is_size(height: u16, width: u16) -> bool
+    ensures { result ≡ is_size height width }
+{
+    is_side(height) && is_side(width)
+}
+
+/// Applies a key; a Save goes to the store.
+///
+/// Errors: `Edit` for want of memory, for a key that edits or moves: nothing has changed.
+fn apply<D: BidiData + Drop, S: Store>(
+    editor: &mut Editor<D>,
+    key: Key,
+    store: &mut S,
+) -> Result<(), Refused>
+    requires sides { HasSides key }
+    ensures after_key { (saved : Bool)
+        × StoreAfter (keys.is_save key) saved editor.old.editor.content.text (store_state S.contents S.failure_count store.old)
+        (store_state S.contents S.failure_count store.new)
+        × OnOk result (editor.new ≡ record editor.old { editor = keys.after_key (⟦<D as Answers>⟧.data editor.old.tables) saved editor.old.editor key }) }
+    ensures untouched { keys.is_save key ≡ false → store.new ≡ store.old }
+    ensures err { OnErr result (editor.new ≡ editor.old) }
+    ensures edits { OnErr result (keys.is_edit_or_move key ≡ true) }
+    ensures refused { OnErr result (result ≡ Err Refused.Edit) }
+{
+    match key {
+        Key::Save => {
+            let saved = save_pieces(editor.pieces(), store).is_ok();
+            editor.finish_save(saved);
+        }
+        Key::Size(height, width) => editor.resize(height, width),
+        _ => {
+            if editor.apply(key).is_err() {
+                return Err(Refused::Edit);
+            }
+        }
+    }
+    Ok(())
+}
+
+impl<D: BidiData + Drop> Session<D> {
+    /// Spends a byte, and gives the key that it ends; after the end it ends none.
+    fn decode(&mut self, byte: u8) -> Option<Key>
+        ensures key { result ≡ key_of_byte self.old.session byte }
+        ensures rest { self.new ≡ record self.old { session = after_spending self.old.session byte } }
+        ensures sides { IfSome result HasSides }
+    {
+        if self.editor.ended() {
+            return None;
+        }
+        self.decoder.feed(byte)
+    }
+
+    /// Applies a key, and paints nothing.
+    ///
+    /// Errors: `Edit` for want of memory, for a key that edits or moves: nothing has changed.
+    fn press<S: Store>(&mut self, key: Key, store: &mut S) -> Result<(), Refused>
+        requires sides { HasSides key }
+        ensures after_key { (saved : Bool)
+            × StoreAfter (keys.is_save key) saved self.old.session.editor.content.text (store_state S.contents S.failure_count store.old)
+            (store_state S.contents S.failure_count store.new)
+            × OnOk result (self.new ≡ record self.old { session = session_after_key (⟦<D as Answers>⟧.data self.old.tables) saved self.old.session key }) }
+        ensures untouched { keys.is_save key ≡ false → store.new ≡ store.old }
+        ensures err { OnErr result (self.new ≡ self.old) }
+        ensures edits { OnErr result (keys.is_edit_or_move key ≡ true) }
+        ensures refused { OnErr result (result ≡ Err Refused.Edit) }
+    {
+        apply(&mut self.editor, key, store)?;
+        if asks_for_whole(key) || self.editor.ended() {
+            self.painted = None;
+        }
+        Ok(())
+    }
+
+    /// Spends a byte and applies the key that it ends, and gives whether there is something to paint.
+    ///
+    /// Errors: `Edit` for want of memory, for a key that edits or moves: nothing else has changed.
+    fn enter<S: Store>(&mut self, byte: u8, store: &mut S) -> Result<bool, Refused>
+        ensures after_byte { (saved : Bool)
+            × StoreAfter (is_save_byte self.old.session byte) saved self.old.session.editor.content.text
+            (store_state S.contents S.failure_count store.old) (store_state S.contents S.failure_count store.new)
+            × OnOk result (self.new ≡ record self.old { session = unpainted_after_byte (⟦<D as Answers>⟧.data self.old.tables) saved self.old.session byte }) }
+        ensures asks { IfOk result (λ asks. asks ≡ not (is_idle self.old.session byte)) }
+        ensures untouched { is_save_byte self.old.session byte ≡ false → store.new ≡ store.old }
+        ensures err { OnErr result (self.new ≡ record self.old { session = after_spending self.old.session byte }) }
+        ensures edits { OnErr result (is_edit_or_move_key (key_of_byte self.old.session byte) ≡ true) }
+        ensures refused { OnErr result (result ≡ Err Refused.Edit) }
+    {
+        match self.decode(byte) {
+            Some(key) => {
+                self.press(key, store)?;
+                Ok(true)
+            }
+            None => Ok(self.painting_owed),
+        }
+    }
+
+    /// A byte of input. One that ends no key, where no painting is owed, takes no memory.
+    ///
+    /// Errors: `Edit` where there was no memory to apply the key: it is spent, and nothing else has changed. `Paint` where
+    /// there was none to paint: the key was applied, and the queue is as before.
+    pub fn feed<S: Store>(&mut self, byte: u8, store: &mut S) -> Result<Status, Refused>
+        ensures after_byte { Feeds (⟦<D as Answers>⟧.data self.old.tables) self.old.session (store_state S.contents S.failure_count store.old) byte result
+            self.new.session (store_state S.contents S.failure_count store.new) }
+        ensures tables { self.new.tables ≡ self.old.tables }
+        ensures paints { is_idle self.old.session byte ≡ false →
+            OnOk result (FeedPaints (⟦<D as Answers>⟧.data self.old.tables) self.old.session byte self.new.session) }
+        ensures refused { OnErr result (self.new.session.pending ≡ self.old.session.pending) }
+        ensures untouched { is_save_byte self.old.session byte ≡ false → store.new ≡ store.old }
+
+        // A byte that ends no key, where no painting is owed.
+        ensures idle { is_idle self.old.session byte ≡ true → IsOk result }
+        ensures unchanged { is_idle self.old.session byte ≡ true → self.new.session ≡ after_spending self.old.session byte }
+    {
+        if !self.enter(byte, store)? {
+            return Ok(self.status());
+        }
+        self.paint()?;
+        Ok(self.status())
+    }
+
+    /// The window has so many rows and columns: nothing is known of its screen.
+    ///
+    /// Errors: `Size` where a side is not from 1 to 500: nothing has changed. `Paint` where there was no memory to paint: the
+    /// size stands, and the queue is as before.
+    pub fn told(&mut self, height: u16, width: u16) -> Result<(), Refused>
+        ensures told { ToldBy (⟦<D as Answers>⟧.data self.old.tables) self.old.session height width result self.new.session }
+        ensures tables { self.new.tables ≡ self.old.tables }
+        ensures paints { OnOk result (ToldPaints (⟦<D as Answers>⟧.data self.old.tables) self.old.session self.new.session) }
+        ensures refused { OnErr result (self.new.session.pending ≡ self.old.session.pending) }
+    {
+        if !is_size(height, width) {
+            return Err(Refused::Size);
+        }
+        self.resize(height, width);
+        self.paint()
+    }
+
+    /// The window has another size, and nothing is painted yet.
+    fn resize(&mut self, height: u16, width: u16)
+        requires sized { is_size height width ≡ true }
+        ensures { self.new ≡ record self.old { session = unpainted_after_told self.old.session height width } }
+    {
+        self.editor.resize(height, width);
+        self.painted = None;
+    }
+}

@@ -1,0 +1,13 @@
+//! What holds of sessions, whatever their input. The functions do nothing: their contracts are the laws.
+
+ghost use Rattle.bx_session.specs.Laws.{AlwaysShowsState, HasKeysOfInput};
+
+/// Where no painting is owed, the picture last painted is that of the session's state.
+pub fn paintings_keep_up()
+    ensures { AlwaysShowsState }
+{}
+
+/// The keys of a session's input, byte by byte, are those of the input as a whole.
+pub fn keys_are_those_of_input()
+    ensures { HasKeysOfInput }
+{}

@@ -1,0 +1,62 @@
+//! The picture on its way to the terminal.
+
+ghost use Rattle.std.specs.Prelude.{◌≡◌, ◌++◌, IfSome, OnErr, OnOk};
+ghost use Rattle.bx_grid.specs.Picture.{IsPicture};
+ghost use Rattle.bx_session.specs.Painting.{Leads, QueuesPicture};
+ghost use Rattle.bx_session.specs.Session.{painting, with_painting, with_painting_owed};
+
+use crate::error::Refused;
+use crate::session::Session;
+use bx_document::Answers;
+use bx_grid::Picture;
+use bx_paint::{PaintError, changes_into, whole_into};
+use bx_ucd::BidiData;
+
+/// Appends the bytes that lead from one picture to another of its size, or that paint it whole where there is none.
+///
+/// Errors: `OutOfMemory`, and nothing is appended.
+fn append(
+    queue: &mut Vec<u8>,
+    painted: &Option<Picture>,
+    picture: &Picture,
+) -> Result<(), PaintError>
+    requires fits { IfSome painted.now (λ p. (p.height ≡ picture.now.height) × (p.width ≡ picture.now.width)) }
+    ensures bytes { OnOk result (queue.new.items ≡ queue.old.items ++ painting painted.now picture.now) }
+    ensures err { OnErr result (queue.new.items ≡ queue.old.items) }
+    ensures leads { Leads painted.now (painting painted.now picture.now) picture.now }
+    ensures is_picture { IsPicture picture.now }
+{
+    // whose contract says that it is a picture
+    let _grid = picture.grid();
+    match painted {
+        Some(old) => changes_into(queue, old, picture),
+        None => whole_into(queue, picture),
+    }
+}
+
+impl<D: BidiData + Drop> Session<D> {
+    /// The top follows the cursor, and what leads to the picture is queued.
+    ///
+    /// Errors: `Paint` for want of memory: top and queue are as before, and the painting is owed.
+    pub(crate) fn paint(&mut self) -> Result<(), Refused>
+        ensures tables { self.new.tables ≡ self.old.tables }
+        ensures ok { OnOk result (self.new.session ≡ with_painting (⟦<D as Answers>⟧.data self.old.tables) self.old.session) }
+        ensures paints { OnOk result (QueuesPicture (⟦<D as Answers>⟧.data self.old.tables) self.old.session.pending
+            self.old.session.painted self.new.session) }
+        ensures err { OnErr result (self.new.session ≡ with_painting_owed self.old.session) }
+        ensures memory { OnErr result (result ≡ Err Refused.Paint) }
+    {
+        let alloc = *self.queue.allocator();
+        self.painting_owed = true;
+        let Ok((top, picture)) = self.editor.picture(alloc, self.top) else {
+            return Err(Refused::Paint);
+        };
+        let Ok(()) = append(&mut self.queue, &self.painted, &picture) else {
+            return Err(Refused::Paint);
+        };
+        self.top = top;
+        self.painted = Some(picture);
+        self.painting_owed = false;
+        Ok(())
+    }
+}

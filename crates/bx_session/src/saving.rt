@@ -1,0 +1,37 @@
+//! A text on its way to a store.
+
+ghost use Rattle.std.specs.Prelude.{◌≡◌, true, OnErr, OnOk};
+ghost use Rattle.bx_store.specs.Stores.{HasRisen, with_bytes};
+ghost use Rattle.bx_session.specs.Saving.{store_state, with_text};
+
+use bx_store::{Store, StoreFault};
+use bx_text::Slices;
+
+/// Puts all pieces, in order.
+fn put_pieces<S: Store>(pieces: Slices<'_>, store: &mut S) -> Result<(), StoreFault>
+    requires begun { S.has_draft store.old ≡ true }
+    ensures begun { OnOk result (S.has_draft store.new ≡ true) }
+    ensures draft { OnOk result (S.draft store.new ≡ with_bytes pieces.entry (S.draft store.old)) }
+    ensures stored { S.contents store.new ≡ S.contents store.old }
+    ensures no_failure { OnOk result (S.failure_count store.new ≡ S.failure_count store.old) }
+    ensures failure { OnErr result (HasRisen (S.failure_count store.old) (S.failure_count store.new)) }
+{
+    for piece in pieces {
+        store.put(piece.as_bytes())?;
+    }
+    Ok(())
+}
+
+/// Saves the text whose pieces these are.
+///
+/// Errors: `StoreFault` where a call of the store failed: it keeps what it kept before.
+pub fn save_pieces<S: Store>(pieces: Slices<'_>, store: &mut S) -> Result<(), StoreFault>
+    ensures ok { OnOk result (store_state S.contents S.failure_count store.new ≡ with_text pieces.entry (store_state S.contents S.failure_count store.old)) }
+    ensures stored { OnErr result (S.contents store.new ≡ S.contents store.old) }
+    ensures failure { OnErr result (HasRisen (S.failure_count store.old) (S.failure_count store.new)) }
+{
+    store.begin()?;
+    put_pieces(pieces, store)?;
+    store.commit()?;
+    Ok(())
+}

@@ -1,0 +1,102 @@
+-- What is found in the row of an offset, and in the rows beside it, tells the place that a call is asked for.
+use Rattle.std.proofs.Common.{◌≡◌, ℕ, ◌+◌, ◌-◌, ◌<◌, ◌≤◌, nat_le, nat_lt, List, length, map, find, reverse, Option, Some, None, unwrap_or, IsUtf8}
+use Rattle.std.proofs.Common.{sym, ap, ◌∙◌, arith}
+use Rattle.bx_ucd.specs.declared.class.Class.{Class}
+use Rattle.bx_ucd.specs.declared.data.Side.{Side}
+use Rattle.bx_paragraph.specs.BodyRows.{last_of}
+use Rattle.bx_view.specs.declared.cursor.RowAt.{RowAt}
+use Rattle.bx_view.specs.Cursor.{StandsOn, rows_by}
+use Rattle.bx_view.specs.Holding.{Keeps, ViewState}
+use Rattle.bx_view.specs.Moves.{place_from}
+use Rattle.bx_view.specs.TextRows.{TextRow, first, places, places_of, row_at, row_of}
+use Rattle.bx_view.proofs.FindPlaces.{back-in-row, back-stays, back-to-row, forward-in-row, forward-stays, forward-to-next, from-here, from-last, from-next}
+use Rattle.bx_view.proofs.PlacesRise.{AllHeads, places-rise, rows-headed-in}
+use Rattle.bx_view.proofs.Rising.{Rises, begun}
+use Rattle.bx_view.proofs.Told.{rows-kept, side-some}
+use Rattle.bx_view.proofs.Walking.{row-within, text-begun}
+
+module _ (class : ℕ → Class) (bracket : ℕ → Option (Side × ℕ)) (old v : ViewState) (text : List ℕ) (offset : ℕ) (at : RowAt) (utf8 : IsUtf8 text)
+    (keeps : Keeps class bracket old v) (on : StandsOn class bracket v text at (row_of (rows_by class bracket v text) offset)) where
+  abbrev rows : List TextRow
+  rows = rows_by class bracket v text
+
+  abbrev n : ℕ
+  n = row_of rows offset
+
+  abbrev here : TextRow
+  here = row_at rows n
+
+  some : 1 ≤ v.w
+  some = side-some v.w on.side
+
+  rise : Rises 0 (places rows) (length text + 1)
+  rise = places-rise class bracket v.base v.w some text utf8
+
+  heads : AllHeads rows
+  heads = rows-headed-in class bracket v.base v.w some text utf8
+
+  begun-one : 1 ≤ begun offset (map first rows)
+  begun-one = text-begun class bracket v.base v.w some text utf8 offset
+
+  kept : {A : Type 0} (F : List TextRow → A) → F rows ≡ F (rows_by class bracket old text)
+  kept F = ap F (rows-kept class bracket old v text keeps)
+
+  -- the places that are asked for
+  abbrev least : List TextRow → ℕ
+  least rs = place_from rs offset
+
+  abbrev behind : List TextRow → ℕ
+  behind rs = unwrap_or (find (nat_lt offset) (places rs)) offset
+
+  abbrev before : List TextRow → ℕ
+  before rs = unwrap_or (find (λ p. nat_lt p offset) (reverse (places rs))) offset
+
+  module _ (x : Option ℕ) where
+    module _ (o : ℕ) (some-is : x ≡ Some o) where
+      pub least-here : x ≡ find (nat_le offset) (places_of here) → o ≡ least (rows_by class bracket old text)
+      least-here e = from-here rows (length text + 1) rise heads offset begun-one o (sym e ∙ some-is) ∙ kept least
+
+      pub behind-here : x ≡ find (nat_lt offset) (places_of here) → o ≡ behind (rows_by class bracket old text)
+      behind-here e = forward-in-row rows (length text + 1) rise heads offset begun-one o (sym e ∙ some-is) ∙ kept behind
+
+      pub before-here : x ≡ find (λ p. nat_lt p offset) (reverse (places_of here)) → o ≡ before (rows_by class bracket old text)
+      before-here e = back-in-row rows (length text + 1) rise heads offset begun-one o (sym e ∙ some-is) ∙ kept before
+
+    module _ (none : x ≡ None) (later : ViewState) (further : Keeps class bracket v later) where
+      same : rows_by class bracket later text ≡ rows
+      same = rows-kept class bracket v later text further
+
+      module _ (b : RowAt) (there : StandsOn class bracket later text b (n + 1)) (f : ℕ) (is : f ≡ first (row_at (rows_by class bracket later text) (n + 1))) where
+        more : n + 1 < length rows
+        more =
+            let within = row-within class bracket later.base later.w (side-some later.w there.side) text utf8 b.paragraph b.row (n + 1) there.is in
+            omega (arith, within, ap length same)
+
+        pub least-next : x ≡ find (nat_le offset) (places_of here) → f ≡ least (rows_by class bracket old text)
+        least-next e =
+            is ∙ ap (λ rs. first (row_at rs (n + 1))) same ∙ from-next rows (length text + 1) rise heads offset begun-one more (sym e ∙ none) ∙ kept least
+
+        pub behind-next : x ≡ find (nat_lt offset) (places_of here) → f ≡ behind (rows_by class bracket old text)
+        behind-next e =
+            is ∙ ap (λ rs. first (row_at rs (n + 1))) same ∙ forward-to-next rows (length text + 1) rise heads offset begun-one more (sym e ∙ none)
+            ∙ kept behind
+
+      module _ (last : n + 1 ≡ length (rows_by class bracket later text)) where
+        pub least-last : (f : ℕ) → f ≡ (row_at (rows_by class bracket later text) n).start + last_of (row_at (rows_by class bracket later text) n).row
+            → x ≡ find (nat_le offset) (places_of here) → f ≡ least (rows_by class bracket old text)
+        least-last f is e =
+            is ∙ ap (λ rs. (row_at rs n).start + last_of (row_at rs n).row) same
+            ∙ from-last rows (length text + 1) rise heads offset begun-one (last ∙ ap length same) (sym e ∙ none) ∙ kept least
+
+        pub behind-last : x ≡ find (nat_lt offset) (places_of here) → offset ≡ behind (rows_by class bracket old text)
+        behind-last e = forward-stays rows (length text + 1) rise heads offset begun-one (last ∙ ap length same) (sym e ∙ none) ∙ kept behind
+
+      pub before-there : 0 < n → (f : ℕ)
+          → f ≡ (row_at (rows_by class bracket later text) (n - 1)).start + last_of (row_at (rows_by class bracket later text) (n - 1)).row
+          → x ≡ find (λ p. nat_lt p offset) (reverse (places_of here)) → f ≡ before (rows_by class bracket old text)
+      before-there above f is e =
+          is ∙ ap (λ rs. (row_at rs (n - 1)).start + last_of (row_at rs (n - 1)).row) same
+          ∙ back-to-row rows (length text + 1) rise heads offset begun-one above (sym e ∙ none) ∙ kept before
+
+    pub before-first : n ≡ 0 → x ≡ None → x ≡ find (λ p. nat_lt p offset) (reverse (places_of here)) → offset ≡ before (rows_by class bracket old text)
+    before-first first-row none e = back-stays rows (length text + 1) rise heads offset begun-one first-row (sym e ∙ none) ∙ kept before

@@ -1,0 +1,78 @@
+#!/bin/sh
+# Compares what data/ answers with what Unicode's own three files answer, as Debian's package unicode-data installs them, or
+# those in the folder after it: for each of the 1,114,112 codes its class, its bracket and its mirror. The files are read by the
+# few lines below, and where crates/ucd_lookup is built also by the reader of the editor, for every character. Says so and ends
+# well where Unicode's files are not there.
+set -eu
+export LC_ALL=C
+
+folder=${1:-/usr/share/unicode}
+classes=$folder/extracted/DerivedBidiClass.txt
+[ -r "$classes" ] || classes=$folder/DerivedBidiClass.txt
+for file in "$classes" "$folder/BidiBrackets.txt" "$folder/BidiMirroring.txt"; do
+    if [ ! -r "$file" ]; then
+        echo "skipped: $file is not there (apt-get install unicode-data)"
+        exit 0
+    fi
+done
+top=$(dirname "$0")/..
+data=$top/data
+scratch=$(mktemp -d)
+trap 'rm -rf "$scratch"' EXIT
+
+# A line for each code: class, bracket, mirror. A line of data goes before one of @missing, of lines of one kind the later one
+# counts, and where there is none the class is L.
+answers() {
+    awk -F';' '
+        function number(code,  i, n) {
+            n = 0
+            for (i = 1; i <= length(code); i++) n = n * 16 + index("123456789ABCDEF", toupper(substr(code, i, 1)))
+            return n
+        }
+        FNR == 1 { file += 1 }
+        { sub(/\r$/, ""); missing = 0 }
+        file == 1 && sub(/^[ \t]*#[ \t]*@missing:/, "") { missing = 1 }
+        { sub(/#.*/, ""); gsub(/[ \t]/, "") }
+        $0 == "" { next }
+        { parts = split($1, ends, "[.][.]"); first = number(ends[1]); last = number(ends[parts]) }
+        file == 1 && missing { for (code = first; code <= last; code++) missed[code] = $2; next }
+        file == 1 { for (code = first; code <= last; code++) class[code] = $2; next }
+        file == 2 { bracket[first] = $3 number($2); next }
+        { mirror[first] = number($2) }
+        END {
+            short["Left_To_Right"] = "L"; short["Right_To_Left"] = "R"; short["Arabic_Letter"] = "AL"
+            short["European_Terminator"] = "ET"; short["Boundary_Neutral"] = "BN"; short["Other_Neutral"] = "ON"
+            for (code = 0; code <= 1114111; code++) {
+                found = code in class ? class[code] : code in missed ? missed[code] : "L"
+                print code, (found in short ? short[found] : found), bracket[code], mirror[code]
+            }
+        }
+    ' "$@"
+}
+
+answers "$classes" "$folder/BidiBrackets.txt" "$folder/BidiMirroring.txt" >"$scratch/unicode"
+answers "$data/DerivedBidiClass.txt" "$data/BidiBrackets.txt" "$data/BidiMirroring.txt" >"$scratch/data"
+[ "$(wc -l <"$scratch/unicode")" = 1114112 ]
+cmp "$scratch/unicode" "$scratch/data"
+echo "data: the answers agree for 1114112 codes: $(cut -d ' ' -f 2 "$scratch/data" | sort -u | wc -l) classes," \
+    "$(grep -c ' [oc][0-9]' "$scratch/data") brackets, $(grep -c ' [0-9][0-9]*$' "$scratch/data") mirrors"
+
+# No sentence stands there: a line that names the file, ranges and what they have.
+if grep -v -h -E -x -e '# [A-Za-z]+-[0-9.]+, its facts alone, by scripts/make-data.sh' -e '# @missing: [0-9A-F]+\.\.[0-9A-F]+; [A-Za-z_]+' \
+    -e '[0-9A-F]+(\.\.[0-9A-F]+)?;[A-Z]+' -e '[0-9A-F]+;[0-9A-F]+(;[oc])?' "$data"/*.txt; then
+    echo "data: these lines are more than facts"
+    exit 1
+fi
+
+lookup=$top/crates/ucd_lookup/out/ucd_lookup
+if [ ! -x "$lookup" ]; then
+    echo "skipped: the editor's reader, since crates/ucd_lookup is not built (cd crates/ucd_lookup && rt run)"
+    exit 0
+fi
+# The surrogates are codes of no character.
+awk 'BEGIN { for (code = 0; code <= 1114111; code++) if (code < 55296 || code > 57343) printf "%04X\n", code }' >"$scratch/codes"
+xargs "$lookup" "$classes" "$folder/BidiBrackets.txt" "$folder/BidiMirroring.txt" <"$scratch/codes" >"$scratch/unicode"
+xargs "$lookup" "$data/DerivedBidiClass.txt" "$data/BidiBrackets.txt" "$data/BidiMirroring.txt" <"$scratch/codes" >"$scratch/data"
+[ "$(wc -l <"$scratch/unicode")" = 1112064 ]
+cmp "$scratch/unicode" "$scratch/data"
+echo "data: the editor's reader agrees for 1112064 characters"

@@ -1,0 +1,47 @@
+#!/bin/sh
+# Writes data/ anew from Unicode's own three files, as Debian's package unicode-data installs them, or from those in the folder
+# after it: their facts alone, in their own form. These are the ranges with their classes, those that are said to be missing
+# too, the brackets and the mirrors. Ranges that follow one another with one class are joined, and no comment is kept.
+# scripts/check-data.sh compares the answers.
+set -eu
+export LC_ALL=C
+
+folder=${1:-/usr/share/unicode}
+classes=$folder/extracted/DerivedBidiClass.txt
+[ -r "$classes" ] || classes=$folder/DerivedBidiClass.txt
+data=$(dirname "$0")/../data
+mkdir -p "$data"
+
+# Names a file's version, and that the file is made.
+head_line() {
+    sed -n '1s/^# *\(.*\)\.txt.*$/# \1, its facts alone, by scripts\/make-data.sh/p' "$1"
+}
+
+# A file's lines of data, with no comment and no blank.
+facts() {
+    sed -e 's/#.*//' -e 's/[[:blank:]]//g' -e '/^$/d' "$1"
+}
+
+{
+    head_line "$classes"
+    sed -n 's/^[[:blank:]]*#[[:blank:]]*@missing:[[:blank:]]*\([0-9A-F.]*\)[[:blank:]]*;[[:blank:]]*\([A-Za-z_]*\)[[:blank:]]*$/# @missing: \1; \2/p' "$classes"
+    facts "$classes" | awk -F';' '
+        function number(code,  i, n) {
+            n = 0
+            for (i = 1; i <= length(code); i++) n = n * 16 + index("123456789ABCDEF", substr(code, i, 1))
+            return n
+        }
+        function tell() {
+            if (class != "") print (first == last ? first : first ".." last) ";" class
+        }
+        {
+            parts = split($1, ends, "[.][.]")
+            if ($2 != class || number(ends[1]) != number(last) + 1) { tell(); first = ends[1]; class = $2 }
+            last = ends[parts]
+        }
+        END { tell() }
+    '
+} >"$data/DerivedBidiClass.txt"
+for name in BidiBrackets BidiMirroring; do
+    { head_line "$folder/$name.txt" && facts "$folder/$name.txt"; } >"$data/$name.txt"
+done

@@ -1,0 +1,58 @@
+#!/bin/sh
+# show.sh FILE ROWS COLS [EDITOR WORD..]: prints what a person sees of FILE in a window of that size, from a real run in tmux, in a
+# frame. The editor is ./bidi-edit unless another is named, as in `show.sh note.txt 8 40 emacs -nw -Q`. A letter in negative image,
+# the look of a bidi control, is printed as that letter in a circle. Columns stand as on the screen, so what shows the picture must
+# not reorder it.
+set -eu
+
+if [ $# -lt 3 ] || ! [ -r "$1" ]; then
+    echo 'usage: show.sh FILE ROWS COLS [EDITOR WORD..]' >&2
+    exit 2
+fi
+command -v tmux >/dev/null || { echo 'show.sh: there is no tmux' >&2; exit 1; }
+top=$(cd "$(dirname "$0")/.." && pwd)
+file=$1 rows=$2 cols=$3
+shift 3
+[ $# -gt 0 ] || set -- "$top/bidi-edit"
+
+export LC_ALL=C.UTF-8
+folder=$(mktemp -d)
+socket="show$$"
+trap 'tmux -L "$socket" kill-server 2>/dev/null; rm -rf "$folder"' EXIT
+trap 'exit 1' HUP INT TERM
+# The editor gets a copy of the file, under its name.
+name=$(basename -- "$file")
+cp -- "$file" "$folder/$name"
+{
+    printf "cd '%s'; exec" "$folder"
+    for word in "$@" "$name"; do printf " '%s'" "$(printf '%s' "$word" | sed "s/'/'\\\\''/g")"; done
+    echo ' 2>.errors'
+} >"$folder/.run"
+
+tmux -u -L "$socket" -f /dev/null new-session -d -s seen -x "$cols" -y "$rows" "sh '$folder/.run'" \; set -g status off
+tmux -L "$socket" resize-window -t seen -x "$cols" -y "$rows" 2>/dev/null || :
+# The screen, once it has stayed the same for half a second.
+echo >"$folder/.before"
+: >"$folder/.now"
+while sleep 0.5 && ! cmp -s "$folder/.before" "$folder/.now"; do
+    mv "$folder/.now" "$folder/.before"
+    if ! tmux -u -L "$socket" capture-pane -p -e -t seen >"$folder/.now" 2>/dev/null; then
+        echo 'show.sh: the editor ended' >&2
+        cat "$folder/.errors" >&2
+        exit 1
+    fi
+done
+
+# Negative letters into circles, the rest as it is; then the frame.
+line=$(printf '%*s' "$cols" '' | tr ' ' '-')
+echo "+$line+"
+sed -e 's/\x1b\[27m/\x1b[0m/g' -e 's/\x1b\[m/\x1b[0m/g' -e ':more' \
+    -e 's/\x1b\[7m\x1b\[0m//; t more' \
+    -e 's/\x1b\[7me/ⓔ\x1b[7m/; t more' -e 's/\x1b\[7mE/Ⓔ\x1b[7m/; t more' -e 's/\x1b\[7mo/ⓞ\x1b[7m/; t more' \
+    -e 's/\x1b\[7mO/Ⓞ\x1b[7m/; t more' -e 's/\x1b\[7mp/ⓟ\x1b[7m/; t more' -e 's/\x1b\[7mi/ⓘ\x1b[7m/; t more' \
+    -e 's/\x1b\[7mI/Ⓘ\x1b[7m/; t more' -e 's/\x1b\[7mf/ⓕ\x1b[7m/; t more' -e 's/\x1b\[7mP/Ⓟ\x1b[7m/; t more' \
+    -e 's/\x1b\[7m?/⍰\x1b[7m/; t more' -e 's/\x1b\[7m~/⍨\x1b[7m/; t more' -e 's/\x1b\[7m#/⌗\x1b[7m/; t more' \
+    -e 's/\x1b\[[0-9;]*m//g' "$folder/.now" | while IFS= read -r row; do
+    printf '|%s%*s|\n' "$row" "$((cols - $(printf '%s' "$row" | wc -L)))" ''
+done
+echo "+$line+"
