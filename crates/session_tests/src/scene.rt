@@ -51,7 +51,7 @@ fn put_row(grid: &mut Grid, line: u16, row: &str) -> Result<(), Fail> {
         if c != '_' {
             put(grid, Cell { line, column }, text)?;
         }
-        column += columns;
+        column = column.saturating_add(columns);
     }
     Ok(())
 }
@@ -68,7 +68,7 @@ fn picture_of(
     let mut line = 1;
     for row in rows.split('|') {
         put_row(&mut grid, line, row)?;
-        line += 1;
+        line = line.saturating_add(1);
     }
     if cursor.line < 1 || cursor.line > height || cursor.column < 1 || cursor.column > width {
         return Err(Fail::new("no cell"));
