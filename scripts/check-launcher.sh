@@ -25,8 +25,8 @@ socket="bx$$"
 passed=0 failed=0 tables='' is_flooded=''
 trap 'tmux -L "$socket" kill-server 2>/dev/null; rm -rf "$folder"' EXIT
 trap 'exit 1' HUP INT TERM
-mkdir "$folder/private" "$folder/work"
-cd "$folder/work" || exit 1
+mkdir "$folder/private" "$folder/files"
+cd "$folder/files" || exit 1
 
 terminal() {
     tmux -u -L "$socket" "$@"
@@ -99,7 +99,7 @@ start() { # ROWS COLS LAUNCHER WORD..
     rm -f "$folder/line" "$folder/ended" "$folder/status" "$folder/before" "$folder/after" "$folder/record" "$folder/words"
     {
         echo "export BIDI_EDIT_DATA='$tables' TMPDIR='$folder/private' BX_RECORD='$folder/record' BX_WORDS='$folder/words'"
-        echo "cd '$folder/work'"
+        echo "cd '$folder/files'"
         echo "echo as before"
         echo "stty -g >'$folder/before'"
         printf "%s" "$shell"
@@ -219,11 +219,11 @@ check_recorder() {
         type_keys C-q
         finish tables 7 50
         same 'tables, where BIDI_EDIT_DATA says' "$(word_after --classes)" "$top/data/DerivedBidiClass.txt"
-        tables=$folder/work
+        tables=$folder/files
         start 24 80 "$recorder" f
         finish 'tables, none there' 1 50
         same 'tables, none there: the words' "$(cat "$folder/errors")" \
-            "bidi-edit: BIDI_EDIT_DATA names $folder/work, which lacks DerivedBidiClass.txt, BidiBrackets.txt or BidiMirroring.txt"
+            "bidi-edit: BIDI_EDIT_DATA names $folder/files, which lacks DerivedBidiClass.txt, BidiBrackets.txt or BidiMirroring.txt"
         tables=''
     fi
     if asked size; then
@@ -334,10 +334,10 @@ check_refusals() {
 
 # The screen that the program alone makes of a file and keys, in a window of this size.
 alone() { # ROWS COLS FILE KEYS
-    cp "$3" "$folder/work/alone" 2>/dev/null || rm -f "$folder/work/alone"
+    cp "$3" "$folder/files/alone" 2>/dev/null || rm -f "$folder/files/alone"
     # shellcheck disable=SC2059 # the keys have escapes
     printf "$4" | "$editor" --rows "$1" --cols "$2" --classes "$top/data/DerivedBidiClass.txt" --brackets "$top/data/BidiBrackets.txt" \
-        --mirroring "$top/data/BidiMirroring.txt" "$folder/work/alone" >"$folder/bytes" 2>/dev/null
+        --mirroring "$top/data/BidiMirroring.txt" "$folder/files/alone" >"$folder/bytes" 2>/dev/null
     printf 'stty raw -echo; cat "%s/bytes"; exec sleep 600\n' "$folder" >"$folder/show"
     terminal new-session -d -s alone -x "$2" -y "$1" "sh $folder/show" \; set -g status off
     terminal resize-window -t alone -x "$2" -y "$1" 2>/dev/null
@@ -346,7 +346,7 @@ alone() { # ROWS COLS FILE KEYS
 }
 
 check_editor() {
-    note=$folder/work/note
+    note=$folder/files/note
     text='שלום: this note wraps at blanks, (abc) אבג 123 דהו.\nעברית first, and then English words.\n'
     if asked edit; then
         # shellcheck disable=SC2059
@@ -370,7 +370,7 @@ check_editor() {
         printf "new א $text" >"$folder/expected"
         cmp "$note" "$folder/expected" >"$folder/differs" 2>&1
         report 'edit, the saved file' $? "$(cat "$folder/differs")"
-        same 'edit, files beside it' "$(ls "$folder/work")" "$(printf 'alone\nnote')"
+        same 'edit, files beside it' "$(ls "$folder/files")" "$(printf 'alone\nnote')"
     fi
     if asked quit; then
         # shellcheck disable=SC2059
@@ -390,17 +390,17 @@ check_editor() {
         report 'quit, the file is as before' $? 'it is not'
     fi
     if asked long; then
-        rm -f "$folder/work/new"
+        rm -f "$folder/files/new"
         start 24 80 "$top/bidi-edit" new
         terminal load-buffer -b text "$folder/paste"
         terminal paste-buffer -r -b text -t person
         type_keys C-s
-        wait_for 1200 test -s "$folder/work/new"
+        wait_for 1200 test -s "$folder/files/new"
         type_keys C-q
         finish 'long paste' 0 50
-        cmp "$folder/work/new" "$folder/paste" >"$folder/differs" 2>&1
+        cmp "$folder/files/new" "$folder/paste" >"$folder/differs" 2>&1
         report 'long paste, saved' $? "$(cat "$folder/differs")"
-        rm -f "$folder/work/new"
+        rm -f "$folder/files/new"
     fi
     if asked end; then
         printf 'some words' >"$note"
@@ -421,16 +421,16 @@ check_editor() {
         start 8 60 "$top/bidi-edit" missing
         type_keys C-q
         finish 'file, missing' 0 50
-        test ! -e "$folder/work/missing"
+        test ! -e "$folder/files/missing"
         report 'file, missing: none is made' $? 'there is one'
         start 8 60 "$top/bidi-edit" "$folder"
         finish 'file, a folder' 1 50
         same 'file, a folder: the words' "$(cat "$folder/errors")" "bidi_edit: cannot read $folder"
-        printf 'a\377' >"$folder/work/bytes"
+        printf 'a\377' >"$folder/files/bytes"
         start 8 60 "$top/bidi-edit" bytes
         finish 'file, not UTF-8' 1 50
         same 'file, not UTF-8: the words' "$(cat "$folder/errors")" 'bidi_edit: not UTF-8 at byte 1'
-        rm -f "$folder/work/bytes"
+        rm -f "$folder/files/bytes"
     fi
     if asked install; then
         sh "$top/scripts/install.sh" "$folder/prefix" >/dev/null
@@ -453,7 +453,7 @@ check_editor() {
 # The mean processor time of ten runs, in thousandths of a second, by the shell's own count of its children.
 times_of_ten() {
     {
-        echo "cd '$folder/work'"
+        echo "cd '$folder/files'"
         for _ in 1 2 3 4 5 6 7 8 9 10; do echo "$shell '$top/bidi-edit' note"; done
         echo "times >'$folder/counted'"
         echo "exec sleep 600"
