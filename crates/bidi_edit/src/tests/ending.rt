@@ -30,7 +30,16 @@ fn faults_by_their_lines(rt: HostRuntime) -> Result<(), Fail> {
     }
     assert_eq!(rt;
         text.as_str(),
-        "bidi_edit: cannot read a path\nbidi_edit: out of memory\nbidi_edit: file too long\nbidi_edit: not UTF-8 at byte 1\nbidi_edit: out of memory\nbidi_edit: input failed\nbidi_edit: output failed\nbidi_edit: too many reads\nbidi_edit: out of memory\nbidi_edit: input ended before saving\n"
+        "bidi_edit: cannot read a path\n\
+         bidi_edit: out of memory\n\
+         bidi_edit: file too long\n\
+         bidi_edit: not UTF-8 at byte 1\n\
+         bidi_edit: out of memory\n\
+         bidi_edit: input failed\n\
+         bidi_edit: output failed\n\
+         bidi_edit: too many reads\n\
+         bidi_edit: out of memory\n\
+         bidi_edit: input ended before saving\n"
     );
     Ok(())
 }
