@@ -163,7 +163,8 @@ module _ (class : ℕ → Class) (bracket : ℕ → Option (Side × ℕ)) (base 
   text_first start text utf8 = first_at start text (paragraphs class text) refl utf8
 
   -- the bytes of the paragraphs that end in a text which ends with a separator
-  front_bytes : (text : List ℕ) (front : List Paragraph) → IsUtf8 text → paragraphs class text ≡ front ++ bare [] ∷ [] → total (map lengths_of front) ≡ length text
+  front_bytes : (text : List ℕ) (front : List Paragraph) → IsUtf8 text → paragraphs class text ≡ front ++ bare [] ∷ [] → total (map lengths_of front)
+      ≡ length text
   front_bytes text front utf8 e =
       let all : total (map lengths_of (front ++ bare [] ∷ [])) ≡ length text = ap (λ ps. total (map lengths_of ps)) (sym e) ∙ total_lengths class text utf8 in
       omega (arith, ap total (map-append lengths_of front (bare [] ∷ [])), total_push (map lengths_of front) (lengths_of (bare [])), all)

@@ -38,7 +38,8 @@ splice_short text start stop new range e =
     omega (arith, most, splice_bytes text start stop new range)
 
 -- what is found in the window
-pub record IsFound (class : ℕ → Class) (bracket : ℕ → Option (Side × ℕ)) (base : Base) (w : ℕ) (text : List ℕ) (start stop : ℕ) (new : List ℕ) (o : ℕ) : Type 0 where
+pub record IsFound (class : ℕ → Class) (bracket : ℕ → Option (Side × ℕ)) (base : Base) (w : ℕ) (text : List ℕ) (start stop : ℕ) (new : List ℕ)
+    (o : ℕ) : Type 0 where
   pub place : o ≡ place_from (text_rows class bracket base w (splice text start stop new)) (start + length new)
   pub boundary : IsCharBoundary (splice text start stop new) o
 
@@ -62,7 +63,8 @@ found class bracket base w text start stop new bytes first offset place side utf
     }
 
 -- and so for a document
-pub found_by : {D : Type 0} (class_of : D → ℕ → Class) (bracket_of : D → ℕ → Option (Side × ℕ)) (inner now : DocumentState D) (start stop : ℕ) (new bytes : List ℕ)
+pub found_by : {D : Type 0} (class_of : D → ℕ → Class) (bracket_of : D → ℕ → Option (Side × ℕ)) (inner now : DocumentState D) (start stop : ℕ)
+    (new bytes : List ℕ)
     (first offset place : ℕ) → inner ≡ now → is_side inner.document.w ≡ true → IsUtf8 inner.document.content.text
     → IsRange now.document.content.text start stop → IsUtf8 new
     → first ≡ window_start (class_of inner.tables) inner.document.content.text start

@@ -83,7 +83,8 @@ length-glyphs (d ∷ ds) =
     ∙ omega (arith, len, length-glyphs ds, sum_by-cons (λ x. x.columns) d ds)
 
 pub glyphs-more : (ds : List Drawn) (i : ℕ) (d : Drawn) → i < length ds
-    → glyphs_columns (take (i + 1) ds) ≡ glyphs_columns (take i ds) ++ glyph_columns (cow_str_bytes (get_or ds i d).text) (get_or ds i d).columns (get_or ds i d).negative
+    → glyphs_columns (take (i + 1) ds) ≡ glyphs_columns (take i ds) ++ glyph_columns (cow_str_bytes (get_or ds i d).text) (get_or ds i d).columns
+    (get_or ds i d).negative
 glyphs-more ds i d inside =
     let each = λ (g : Glyph). glyph_columns g.text g.columns g.negative in
     ap (flat_map each) (map_more glyph_of ds i d inside)

@@ -75,7 +75,8 @@ module _ (old : GridState) (cols : TextRow → List Col) (rows : List TextRow) w
         let filled = is.filled in
         let more : front cols rows (n + 1) ≡ front cols rows n ++ cols r =
         ap (flat_map cols) (take_more rows n no_text_row within) ∙ flat_map-append cols (take n rows) (get_or rows n no_text_row ∷ [])
-        ∙ ap (λ cs. front cols rows n ++ cs) (flat_map-cons cols (get_or rows n no_text_row) [] ∙ append-nil (cols (get_or rows n no_text_row)) ∙ ap cols (sym e)) in
+        ∙ ap (λ cs. front cols rows n ++ cs) (flat_map-cons cols (get_or rows n no_text_row) [] ∙ append-nil (cols (get_or rows n no_text_row)) ∙ ap cols
+        (sym e)) in
         let high : old.height - n ≡ left + 1 = omega (arith, low) in
         let one : (left + 1) * w ≡ left * w + w = omega arith in
         let all : (old.height - n) * w ≡ left * w + w = ap (λ k. k * w) high ∙ one in

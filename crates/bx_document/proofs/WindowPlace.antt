@@ -4,7 +4,8 @@ use Rattle.std.proofs.Common.{encode_utf8_all, IsUtf8, IsCharBoundary, refl, sym
 use Rattle.std.proofs.Common.{⊎_elim}
 use Rattle.std.proofs.lemmas.Bool.{cases_lt}
 use Rattle.std.proofs.lemmas.Bool.Decides.{nat_tests}
-use Rattle.std.proofs.lemmas.List.{append_cancel_right, drop-drop, drop-take, drop_all, drop_at, length-take-le, map-append, take-append-drop, take-take, take_all}
+use Rattle.std.proofs.lemmas.List.{append_cancel_right, drop-drop, drop-take, drop_all, drop_at}
+use Rattle.std.proofs.lemmas.List.{length-take-le, map-append, take-append-drop, take-take, take_all}
 use Rattle.std.proofs.lemmas.Str.{chars-append, chars-encodes, encodes-append, encodes-chars, scalars-chars, IsUtf8-append, IsUtf8-between, IsUtf8-drop}
 use Rattle.std.proofs.lemmas.Str.{IsUtf8-take, IsCharBoundary-end, IsCharBoundary-from_drop}
 use lib.Utf8.{scalars}
@@ -154,7 +155,8 @@ module _ (class : ℕ → Class) (text : List ℕ) (utf8 : IsUtf8 text) where
 
     pub whole : splice text start stop new ≡ before ++ (mine ++ behind_all)
     whole =
-        ap (λ bs. bs ++ new ++ drop stop text) (take_parts a start text front.begun) ∙ ap (λ bs. (before ++ head) ++ new ++ bs) (drop_parts stop b text back.reached)
+        ap (λ bs. bs ++ new ++ drop stop text) (take_parts a start text front.begun) ∙ ap (λ bs. (before ++ head) ++ new ++ bs)
+        (drop_parts stop b text back.reached)
         ∙ ap (λ bs. bs ++ (tail ++ behind_all)) (append_assoc before head new) ∙ append_assoc before (head ++ new) (tail ++ behind_all)
         ∙ ap (λ bs. before ++ bs) (sym (append_assoc (head ++ new) tail behind_all))
 

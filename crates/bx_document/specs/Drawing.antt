@@ -29,6 +29,10 @@ pub record IsAmong (rows : List TextRow) (top place count : ℕ) : Type 0 where
   pub above : row_of rows top ≤ row_of rows place
   pub below : row_of rows place < row_of rows top + count
 
+-- how many rows stand above the one of a place, from the row on that the offset `top` falls in
+abbrev pub rows_above : Data → Document → ℕ → ℕ → ℕ
+rows_above d t top place = row_of (rows d t) place - row_of (rows d t) top
+
 -- from row number `row` on, counted from 0, all is blank
 abbrev pub IsBlankFrom : GridState → ℕ → Type 0
 IsBlankFrom g row = drop (row * g.width) g.columns ≡ replicate (length g.columns - row * g.width) blank

@@ -69,7 +69,10 @@ impl<D: BidiData + Drop> Document<D> {
         requires boundary { IsCharBoundary self.old.document.content.text place }
         ensures ok { IfOk result (λ after. MatchOption after
             ((fits self.old.document.content.text place place new.now ≡ false) × (self.new ≡ self.old))
-            (λ o. (fits self.old.document.content.text place place new.now ≡ true) × (self.new ≡ record self.old { document = after_insertion (⟦<D as Answers>⟧.data self.old.tables) self.old.document place new.now })
+            (λ o. (fits self.old.document.content.text place place new.now ≡ true)
+            × (self.new ≡ record self.old {
+              document = after_insertion (⟦<D as Answers>⟧.data self.old.tables) self.old.document place new.now;
+            })
             × (o ≡ place_behind (⟦<D as Answers>⟧.data self.old.tables) self.old.document place place new.now))) }
         ensures boundary { IfOk result (λ after. IfSome after (λ o. IsCharBoundary self.new.document.content.text o)) }
         ensures err { OnErr result (self.new ≡ self.old) }
@@ -98,7 +101,9 @@ impl<D: BidiData + Drop> Document<D> {
     ) -> Result<usize, DocumentError>
         requires range { IsRange self.old.document.content.text start stop }
         requires boundary { IsCharBoundary self.old.document.content.text place }
-        ensures ok { OnOk result (self.new ≡ record self.old { document = after_removal (⟦<D as Answers>⟧.data self.old.tables) self.old.document start stop place }) }
+        ensures ok { OnOk result (self.new ≡ record self.old {
+          document = after_removal (⟦<D as Answers>⟧.data self.old.tables) self.old.document start stop place;
+        }) }
         ensures place { IfOk result (λ o. o ≡ place_behind (⟦<D as Answers>⟧.data self.old.tables) self.old.document start stop []) }
         ensures boundary { IfOk result (λ o. IsCharBoundary self.new.document.content.text o) }
         ensures err { OnErr result (self.new ≡ self.old) }

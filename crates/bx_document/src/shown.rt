@@ -1,10 +1,10 @@
 //! The rows that are shown, and where the cursor stands among them.
 ghost use Rattle.std.specs.Prelude.{◌≡◌, ◌+◌, ◌-◌, ◌<◌, ◌≤◌, ◌++◌, ◌*◌, IfOk, OnOk, replicate};
 ghost use Rattle.bx_grid.specs.Columns.{blank};
-ghost use Rattle.bx_view.specs.TextRows.{cell_of, row_of};
+ghost use Rattle.bx_view.specs.TextRows.{cell_of};
 ghost use Rattle.bx_view.specs.Top.{follow};
 ghost use Rattle.bx_document.specs.Document.{rows};
-ghost use Rattle.bx_document.specs.Drawing.{IsAmong, IsBlankFrom, shown_columns};
+ghost use Rattle.bx_document.specs.Drawing.{IsAmong, IsBlankFrom, rows_above, shown_columns};
 ghost use Rattle.bx_document.specs.Numbers.{paragraph_number, unit_number};
 
 use crate::answers::Answers;
@@ -91,7 +91,7 @@ impl<D: BidiData + Drop> Document<D> {
           columns = shown_columns (⟦<D as Answers>⟧.data self.old.tables) self.old.document top count
               ++ replicate ((grid.old.height - count) * grid.old.width) blank;
         }) }
-        ensures row { IfOk result (λ n. n ≡ row_of (rows (⟦<D as Answers>⟧.data self.old.tables) self.old.document) place - row_of (rows (⟦<D as Answers>⟧.data self.old.tables) self.old.document) top) }
+        ensures row { IfOk result (λ n. n ≡ rows_above (⟦<D as Answers>⟧.data self.old.tables) self.old.document top place) }
         ensures among { IfOk result (λ n. n < count) }
     {
         let at = self

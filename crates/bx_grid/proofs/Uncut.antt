@@ -147,7 +147,15 @@ length-row row new k fits =
     let left = cut_before (take k row) in
     let rest = drop (k + length new) row in
     length-append (left ++ new) (cut_after 0 rest)
-    ∙ omega (arith, length-append left new, length-cut_before (take k row), length-take-le k row (omega arith), length-cut_after 0 rest, length-drop (k + length new) row, fits)
+    ∙ omega (
+      arith,
+      length-append left new,
+      length-cut_before (take k row),
+      length-take-le k row (omega arith),
+      length-cut_after 0 rest,
+      length-drop (k + length new) row,
+      fits,
+    )
 
 uncut_first : (h w : ℕ) (a b : List Col) → length a ≡ w → AreUncut a → AreUncutRows h w b → AreUncutRows (suc h) w (a ++ b)
 uncut_first h w a b len first rest = rw (take_at a b w len, drop_at a b w len) (first, rest)

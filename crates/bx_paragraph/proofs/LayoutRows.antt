@@ -30,7 +30,9 @@ last-at row [] k h = absurd (omega (arith, h))
 last-at row (us ∷ []) zero h = refl
 last-at row (us ∷ []) (suc k) h = absurd (omega (arith, h))
 last-at row (us ∷ vs ∷ rest) zero h = ap (λ b. row b us) (sym (ne_eqb 1 (suc (suc (length rest))) (λ e. omega (arith, e))))
-last-at row (us ∷ vs ∷ rest) (suc k) h = last-at row (vs ∷ rest) k (omega (arith, h)) ∙ ap (λ b. row b (get_or (vs ∷ rest) k [])) (sym (ap (λ n. n == suc (suc (length rest))) (one-more k) ∙ eqb-suc-suc (k + 1) (suc (length rest))))
+last-at row (us ∷ vs ∷ rest) (suc k) h =
+    last-at row (vs ∷ rest) k (omega (arith, h)) ∙ ap (λ b. row b (get_or (vs ∷ rest) k []))
+    (sym (ap (λ n. n == suc (suc (length rest))) (one-more k) ∙ eqb-suc-suc (k + 1) (suc (length rest))))
 
 -- as many rows as row starts
 pub rows-count : (l : LayoutState) (class : ℕ → Class) (bracket : ℕ → Option (Side × ℕ)) → IsLayoutBy class bracket l

@@ -1,5 +1,6 @@
 -- Each place of a row has one slot: the slots' offsets are those of its places in another order.
-use Rattle.std.proofs.Common.{◌≡◌, ℕ, zero, suc, ◌+◌, ◌%◌, ◌<◌, Bool, true, false, List, [], ◌∷◌, ◌++◌, length, map, get_or, sum_by, All, refl, sym, ap, ◌∙◌, arith}
+use Rattle.std.proofs.Common.{◌≡◌, ℕ, zero, suc, ◌+◌, ◌%◌, ◌<◌, Bool, true, false, List, []}
+use Rattle.std.proofs.Common.{◌∷◌, ◌++◌, length, map, get_or, sum_by, All, refl, sym, ap, ◌∙◌, arith}
 use Rattle.std.proofs.Common.{append-nil}
 use Rattle.std.specs.Prelude.{flat_map}
 use Rattle.std.proofs.lemmas.List.{get_or-map, length-map, map-append}
@@ -72,7 +73,8 @@ units-once : (f : ℕ → ℕ) (w : ℕ) (r : BodyRow) → length r.levels ≡ l
     → sum_by f (map (λ s. s.offset) (unit_slots w r)) ≡ sum_by f (map (λ u. u.start) r.units)
 units-once f w r e =
     let columns = unit_columns w 0 r.units in
-    let below : All (λ k. k < length r.units) (visual r.levels) = λ i d h. let k = below_if_visual r.levels (visual r.levels) refl i d h in omega (arith, k, e) in
+    let below : All (λ k. k < length r.units) (visual r.levels) = λ i d h. let k = below_if_visual r.levels (visual r.levels) refl i d h in
+    omega (arith, k, e) in
     ap (sum_by f) (offsets-beside (left_column w r) (map (extent_of r.units columns) (visual r.levels))
     ∙ starts-chosen r.units columns (visual r.levels) (columns-length w 0 r.units) below)
     ∙ in-order f (map (λ u. u.start) r.units) r.levels (e ∙ sym (length-map r.units (λ u. u.start)))

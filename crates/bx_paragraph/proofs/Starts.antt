@@ -116,7 +116,8 @@ pub firsts : (class : ℕ → Class) (bracket : ℕ → Option (Side × ℕ)) (b
     → map first_of (body_rows class bracket base w body) ≡ map (λ s. s.offset) (row_starts class w body)
 firsts class bracket base w body h =
     let us = units class w body in
-    firsts-last class body (paragraph_level_under class base (chars body)) (levels_under class bracket base (chars body)) (map (row_units us) (wrap class w body us))
+    firsts-last class body (paragraph_level_under class base (chars body)) (levels_under class bracket base (chars body)) (map (row_units us)
+    (wrap class w body us))
     ∙ firsts-of (is_break class body) w body us h (units-fit class w body h)
 
 -- ---- the same of a layout

@@ -34,7 +34,8 @@ module _ (class : ℕ → Class) (bracket : ℕ → Option (Side × ℕ)) (v : V
       let r = row_at rows n in
       subst Bound (sym e) (last-fits (λ k. Bound (r.start + k)) v.w r.row (row-bound class bracket v.base v.w some text utf8 n within))
 
-  pub beside-told : (side : Visual) (place : ℕ) (x : Option ℕ) → x ≡ place_in (row_at rows n) (beside v.w (row_at rows n).row side (place - (row_at rows n).start))
+  pub beside-told : (side : Visual) (place : ℕ) (x : Option ℕ) → x ≡ place_in (row_at rows n) (beside v.w (row_at rows n).row side (place -
+      (row_at rows n).start))
       → (o : ℕ) → x ≡ Some o → Bound o
   beside-told side place x e o is =
       subst (Lies Bound) is (subst (Lies Bound) (sym e) (beside-bound class bracket v.base v.w some text utf8 side n place within))

@@ -18,7 +18,8 @@ use Rattle.bx_paragraph.specs.declared.moves.Visual.{Visual}
 use Rattle.bx_view.specs.declared.moves.Logical.{Logical}
 use Rattle.bx_view.specs.declared.moves.Logical.TheVariants.{Back, Forward}
 use Rattle.bx_view.specs.declared.moves.Vertical.{Vertical}
-use Rattle.bx_view.specs.Moves.{end_of, entry_in, past, place_from, place_in, row_after, row_away, row_before, row_end, row_home, rows_away, start_of, step_logical, step_visual}
+use Rattle.bx_view.specs.Moves.{end_of, entry_in, past, place_from, place_in, row_after, row_away}
+use Rattle.bx_view.specs.Moves.{row_before, row_end, row_home, rows_away, start_of, step_logical, step_visual}
 use Rattle.bx_view.specs.TextRows.{TextRow, cell_of, first, places, places_of, row_at, row_of, text_row, text_rows}
 use Rattle.bx_view.specs.Top.{follow, nearest_top}
 use Rattle.bx_view.proofs.Around.{from, own}
@@ -28,7 +29,8 @@ use Rattle.bx_view.proofs.Numbers.{bytes-utf8}
 use Rattle.bx_view.proofs.Parts.{AreUtf8, bytes, text-bytes, text-parts}
 use Rattle.bx_view.proofs.Rising.{begun-few}
 use Rattle.bx_view.proofs.Walking.{text-begun}
-use Rattle.bx_view.proofs.Within.{Lies, LiesIn, Within, beside-fits, body-row-lies, either-lies, end-fits, entry-fits, find-lies, last-fits, last-lies, start-fits, within-append, within-reverse}
+use Rattle.bx_view.proofs.Within.{Lies, LiesIn, Within, beside-fits, body-row-lies, either-lies, end-fits}
+use Rattle.bx_view.proofs.Within.{entry-fits, find-lies, last-fits, last-lies, start-fits, within-append, within-reverse}
 
 -- ---- rows that are all such
 

@@ -1,5 +1,6 @@
 -- The rows of a text, counted paragraph by paragraph.
-use Rattle.std.proofs.Common.{◌≡◌, ℕ, ◌+◌, ◌<◌, ◌≤◌, nat_lt, if◌then◌else◌, Bool, true, false, List, map, length, take, drop, get_or, slice_get, Option, Some, None, option_map, IsUtf8}
+use Rattle.std.proofs.Common.{◌≡◌, ℕ, ◌+◌, ◌<◌, ◌≤◌, nat_lt, if◌then◌else◌, Bool, true, false, List}
+use Rattle.std.proofs.Common.{map, length, take, drop, get_or, slice_get, Option, Some, None, option_map, IsUtf8}
 use Rattle.std.proofs.Common.{sym, ap, ◌∙◌, arith, length-append}
 use Rattle.std.proofs.lemmas.Bool.Decides.{nat_tests}
 use Rattle.std.proofs.lemmas.List.{get_or-map, length-map, take_all, take-append-drop}
@@ -37,7 +38,8 @@ module _ (class : ℕ → Class) (bracket : ℕ → Option (Side × ℕ)) (base 
       → length starts ≡ length (rows_in class bracket base w text number)
   starts-counted number starts e =
       let body = body_at class text number in
-      sym (length-map starts (λ s. s.offset)) ∙ ap (λ ss. length (map (λ (s : RowStart). s.offset) ss)) e ∙ ap length (sym (firsts class bracket base w body some))
+      sym (length-map starts (λ s. s.offset)) ∙ ap (λ ss. length (map (λ (s : RowStart). s.offset) ss)) e ∙ ap length (sym
+      (firsts class bracket base w body some))
       ∙ length-map (rows_in class bracket base w text number) first_of
 
   -- one more paragraph

@@ -66,7 +66,8 @@ module _ (class : ℕ → Class) (bracket : ℕ → Option (Side × ℕ)) (old v
       same : rows_by class bracket later text ≡ rows
       same = rows-kept class bracket v later text further
 
-      module _ (b : RowAt) (there : StandsOn class bracket later text b (n + 1)) (f : ℕ) (is : f ≡ first (row_at (rows_by class bracket later text) (n + 1))) where
+      module _ (b : RowAt) (there : StandsOn class bracket later text b (n + 1)) (f : ℕ) (is : f ≡ first (row_at (rows_by class bracket later text)
+          (n + 1))) where
         more : n + 1 < length rows
         more =
             let within = row-within class bracket later.base later.w (side-some later.w there.side) text utf8 b.paragraph b.row (n + 1) there.is in

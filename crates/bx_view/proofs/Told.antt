@@ -1,5 +1,6 @@
 -- What the rows of a paragraph that is held tell of the rows of the text.
-use Rattle.std.proofs.Common.{◌≡◌, ℕ, ◌+◌, ◌-◌, ◌<◌, ◌≤◌, Bool, true, List, length, reverse, find, get_or, nat_le, Option, Some, None, option_map, IsUtf8, IsCharBoundary}
+use Rattle.std.proofs.Common.{◌≡◌, ℕ, ◌+◌, ◌-◌, ◌<◌, ◌≤◌, Bool, true, List, length}
+use Rattle.std.proofs.Common.{reverse, find, get_or, nat_le, Option, Some, None, option_map, IsUtf8, IsCharBoundary}
 use Rattle.std.proofs.Common.{refl, sym, ap, ap₂, subst, ◌∙◌, arith, leb-true}
 use Rattle.std.specs.Prelude.{All, IfSome, map}
 use Rattle.std.proofs.lemmas.Bool.{and_parts}
@@ -23,7 +24,8 @@ use Rattle.bx_view.specs.Moves.{row_end, row_home}
 use Rattle.bx_view.specs.Standing.{IsRow, body_at, count, rows_ahead, rows_in, start_at}
 use Rattle.bx_view.specs.TextRows.{TextRow, cell_of, first, row_at, row_of, text_row, text_rows}
 use Rattle.bx_view.proofs.Numbers.{body-range, body-utf8}
-use Rattle.bx_view.proofs.Within.{Lies, LiesIn, Within, slots-fit, beside-fits, body-row-lies, end-fits, entry-fits, find-lies, last-fits, start-fits, within-reverse}
+use Rattle.bx_view.proofs.Within.{Lies, LiesIn, Within, slots-fit, beside-fits, body-row-lies}
+use Rattle.bx_view.proofs.Within.{end-fits, entry-fits, find-lies, last-fits, start-fits, within-reverse}
 use Rattle.bx_view.proofs.Walking.{before-over, before-some, first-short, next-in, next-none, next-over, row-is, row-under}
 
 pub side-some : (w : ℕ) → is_side w ≡ true → 1 ≤ w

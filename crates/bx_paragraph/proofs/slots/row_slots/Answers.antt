@@ -15,14 +15,27 @@ push_units-requires-2-clause-room c =
 
 pub returns-then-paragraph-eq0 : goal.returns-then-paragraph-eq0
 returns-then-paragraph-eq0 c =
-    let r : BodyRow = record { body = c.args.body.now; paragraph = c.args.paragraph; units = c.args.units.now; levels = c.args.levels.now; is_last = c.args.is_last } in
+    let r : BodyRow = record {
+      body = c.args.body.now;
+      paragraph = c.args.paragraph;
+      units = c.args.units.now;
+      levels = c.args.levels.now;
+      is_last = c.args.is_last;
+    } in
     slots-even c.args.w r _ _ c.in_ok-columns.used c.min.result _ _ _ c.if-paragraph-eq0.true (c.deref.ensures.value ∙ c.in_ok-columns.ensures.columns)
     (c.deref-then-paragraph-eq0.ensures.value ∙ c.in_ok-order.ensures.order) c.in_ok-columns.ensures.used c.in_ok-slots.ensures.items
     c.in_ok-push_units.ensures c.in_ok-push_end.ensures c.min.ensures
 
 pub returns : goal.returns
 returns c =
-    let r : BodyRow = record { body = c.args.body.now; paragraph = c.args.paragraph; units = c.args.units.now; levels = c.args.levels.now; is_last = c.args.is_last } in
-    slots-odd c.args.w r _ _ c.in_ok-columns.used c.max.result _ _ _ (omega (arith, c.if-paragraph-eq0.false)) (c.deref-2.ensures.value ∙ c.in_ok-columns.ensures.columns)
+    let r : BodyRow = record {
+      body = c.args.body.now;
+      paragraph = c.args.paragraph;
+      units = c.args.units.now;
+      levels = c.args.levels.now;
+      is_last = c.args.is_last;
+    } in
+    slots-odd c.args.w r _ _ c.in_ok-columns.used c.max.result _ _ _ (omega (arith, c.if-paragraph-eq0.false)) (c.deref-2.ensures.value
+    ∙ c.in_ok-columns.ensures.columns)
     (c.deref-3.ensures.value ∙ c.in_ok-order.ensures.order) c.in_ok-columns.ensures.used c.in_ok-slots.ensures.items
     c.in_ok-push_end-2.ensures c.in_ok-push_units-2.ensures c.max.ensures

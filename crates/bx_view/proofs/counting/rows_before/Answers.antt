@@ -18,7 +18,13 @@ overflow_add-ahead g c =
     let starts = c.in_ok-starts.ensures ∙ ap (λ k. row_starts class w (body_at class text k)) (i.number within) in
     let more = ahead-more class bracket c.args.base w some text c.len-utf8.ensures.utf8 c.loop-done.done c.loop-done.ahead c.in_ok-starts.starts.items
     within starts i.ahead in
-    omega (arith, more, few-ahead class bracket c.args.base w some text c.len-utf8.ensures.utf8 (c.loop-done.done + 1), c.len-utf8.ensures.short, c.len-ahead.ensures)
+    omega (
+      arith,
+      more,
+      few-ahead class bracket c.args.base w some text c.len-utf8.ensures.utf8 (c.loop-done.done + 1),
+      c.len-utf8.ensures.short,
+      c.len-ahead.ensures,
+    )
 
 pub loop-done-preserved : goal.loop-done-preserved
 loop-done-preserved g c =

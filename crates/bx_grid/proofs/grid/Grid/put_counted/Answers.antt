@@ -25,7 +25,8 @@ invariant_of-self c =
     (sym c.requires.counted ∙ c.if-count-eq1.true) c.self.invariant.0 can in (
       subst (λ (cs : List Col). IsGrid g.height g.width cs) (sym new) (put_kept g cell.line cell.column text c.args.negative c.self.invariant.0 can),
       c.set_column.ensures.codes
-          ∙ code_set c.self.inside.columns.items c.self.inside.codes.items c.narrow-column.result (seen c.narrow-column.result) index _ refl refl c.self.invariant.1
+          ∙ code_set c.self.inside.columns.items c.self.inside.codes.items c.narrow-column.result
+          (seen c.narrow-column.result) index _ refl refl c.self.invariant.1
           ∙ ap (λ cs. codes_of (all_seen cs)) (sym c.set_column.ensures.columns),
     )
 

@@ -13,7 +13,8 @@ place_in-requires g c =
     let bracket = g.D.BidiData.bracket_of c.args.source.now in
     let row = c.requires.row in
     found-back-short class bracket c.args.self.now c.args.text.now.edited.text c.args.at row.0 c.paragraph-paragraph.result.now c.len-short.ensures.utf8 row.1
-    c.paragraph-paragraph.ensures largest_text c.len-short.ensures.short (λ k. nat_lt k (c.args.place - c.args.at.start)) c.deref.result.now c.last_before-found.result
+    c.paragraph-paragraph.ensures largest_text c.len-short.ensures.short (λ k. nat_lt k (c.args.place - c.args.at.start)) c.deref.result.now
+    c.last_before-found.result
     (c.deref.ensures.value ∙ c.in_ok-offsets.ensures) c.last_before-found.ensures
 
 pub returns : goal.returns
@@ -24,4 +25,5 @@ returns g c = λ n on.
     place-told class bracket c.args.self.now c.args.text.now.edited.text c.args.at n l c.len-short.ensures.utf8 on c.paragraph-paragraph.ensures
     (λ w r. find (λ k. nat_lt k c.args.place) (reverse (places_of r))) c.last_before-found.result c.place_in.result c.place_in.ensures
     (moved-before c.args.at.start c.args.place c.requires.begun (offsets_of (row_by class bracket l c.args.at.row)) c.last_before-found.result
-    (c.last_before-found.ensures ∙ ap (λ qs. find (λ k. nat_lt k (c.args.place - c.args.at.start)) (reverse qs)) (c.deref.ensures.value ∙ c.in_ok-offsets.ensures)))
+    (c.last_before-found.ensures ∙ ap (λ qs. find (λ k. nat_lt k (c.args.place - c.args.at.start)) (reverse qs)) (c.deref.ensures.value
+    ∙ c.in_ok-offsets.ensures)))

@@ -13,7 +13,8 @@ place_in-requires g c =
     let bracket = g.D.BidiData.bracket_of c.args.source.now in
     let row = c.requires.row in
     found-short class bracket c.args.self.now c.args.text.now.edited.text c.args.at row.0 c.paragraph-paragraph.result.now c.len-short.ensures.utf8 row.1
-    c.paragraph-paragraph.ensures largest_text c.len-short.ensures.short (nat_lt (c.args.place - c.args.at.start)) c.deref.result.now c.first_behind-found.result
+    c.paragraph-paragraph.ensures largest_text c.len-short.ensures.short (nat_lt (c.args.place - c.args.at.start)) c.deref.result.now
+    c.first_behind-found.result
     (c.deref.ensures.value ∙ c.in_ok-offsets.ensures) c.first_behind-found.ensures
 
 pub returns : goal.returns

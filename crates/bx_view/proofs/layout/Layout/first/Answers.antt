@@ -19,7 +19,13 @@ overflow_add-result g c =
     let utf8 = c.len-utf8.ensures.utf8 in
     let i = c.loop-done.invariant in
     let done = c.loop-done.done in
-    let within : done < count class text = omega (arith, c.loop-done-test.true, c.count-count.ensures.count, ap length c.requires.index, lengths-count class text) in
+    let within : done < count class text = omega (
+      arith,
+      c.loop-done-test.true,
+      c.count-count.ensures.count,
+      ap length c.requires.index,
+      lengths-count class text,
+    ) in
     let items = c.in_ok-starts.starts.items in
     let starts = c.in_ok-starts.ensures ∙ ap (λ k. row_starts class w (body_at class text k)) (i.number within) in
     let there : c.loop-done.left < length items = omega (arith, c.if-left-len.true, c.len.ensures) in
@@ -40,7 +46,13 @@ returns-then-left-len g c =
     let utf8 = c.len-utf8.ensures.utf8 in
     let i = c.loop-done.invariant in
     let done = c.loop-done.done in
-    let within : done < count class text = omega (arith, c.loop-done-test.true, c.count-count.ensures.count, ap length c.requires.index, lengths-count class text) in
+    let within : done < count class text = omega (
+      arith,
+      c.loop-done-test.true,
+      c.count-count.ensures.count,
+      ap length c.requires.index,
+      lengths-count class text,
+    ) in
     let items = c.in_ok-starts.starts.items in
     let starts = c.in_ok-starts.ensures ∙ ap (λ k. row_starts class w (body_at class text k)) (i.number within) in
     let there : c.loop-done.left < length items = omega (arith, c.if-left-len.true, c.len.ensures) in
@@ -62,7 +74,13 @@ loop-done-preserved g c =
     let utf8 = c.len-utf8.ensures.utf8 in
     let i = c.loop-done.invariant in
     let done = c.loop-done.done in
-    let within : done < count class text = omega (arith, c.loop-done-test.true, c.count-count.ensures.count, ap length c.requires.index, lengths-count class text) in
+    let within : done < count class text = omega (
+      arith,
+      c.loop-done-test.true,
+      c.count-count.ensures.count,
+      ap length c.requires.index,
+      lengths-count class text,
+    ) in
     let items = c.in_ok-starts.starts.items in
     let starts = c.in_ok-starts.ensures ∙ ap (λ k. row_starts class w (body_at class text k)) (i.number within) in
     let size : length c.loop-done.walk.paragraphs ≡ count class text = ap length i.paragraphs ∙ lengths-count class text in
@@ -87,6 +105,12 @@ returns g c =
     let utf8 = c.len-utf8.ensures.utf8 in
     let i = c.loop-done.invariant in
     let done = c.loop-done.done in
-    let past : count class text ≤ done = omega (arith, c.loop-done-test.false, c.count-count.ensures.count, ap length c.requires.index, lengths-count class text) in
+    let past : count class text ≤ done = omega (
+      arith,
+      c.loop-done-test.false,
+      c.count-count.ensures.count,
+      ap length c.requires.index,
+      lengths-count class text,
+    ) in
     none-told class bracket base w some text utf8 done c.loop-done.left c.args.row past i.ahead
     ∙ ap (λ w. option_map first (slice_get (text_rows class bracket base w text) c.args.row)) c.width-w.ensures.width

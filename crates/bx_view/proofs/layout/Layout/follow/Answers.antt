@@ -53,8 +53,10 @@ returns-then-own-old-clause-boundary g c =
     let text = c.args.text.now.edited.text in
     let old = c.args.self.now in
     let utf8 = c.row_at.ensures.utf8 in
-    let some = side-kept class bracket old c.row_at.new.self text c.args.place c.in_ok-at.at utf8 (keeps-then class bracket old c.row_home.new.self c.row_at.new.self c.row_home.ensures.keeps c.row_at.ensures.keeps) c.in_ok-at.ensures.row in
-    subst (IsCharBoundary text) (sym (returns-then-own-old-clause-top g c)) (boundary-follow class bracket old.base old.w some text utf8 c.args.top c.args.place c.args.t c.requires.some)
+    let kept = keeps-then class bracket old c.row_home.new.self c.row_at.new.self c.row_home.ensures.keeps c.row_at.ensures.keeps in
+    let some = side-kept class bracket old c.row_at.new.self text c.args.place c.in_ok-at.at utf8 kept c.in_ok-at.ensures.row in
+    let bound = boundary-follow class bracket old.base old.w some text utf8 c.args.top c.args.place c.args.t c.requires.some in
+    subst (IsCharBoundary text) (sym (returns-then-own-old-clause-top g c)) bound
 
 pub returns-clause-boundary : goal.returns-clause-boundary
 returns-clause-boundary g c =
@@ -63,5 +65,7 @@ returns-clause-boundary g c =
     let text = c.args.text.now.edited.text in
     let old = c.args.self.now in
     let utf8 = c.row_at.ensures.utf8 in
-    let some = side-kept class bracket old c.row_at.new.self text c.args.place c.in_ok-at.at utf8 (keeps-then class bracket old c.row_home.new.self c.row_at.new.self c.row_home.ensures.keeps c.row_at.ensures.keeps) c.in_ok-at.ensures.row in
-    subst (IsCharBoundary text) (sym (returns-clause-top g c)) (boundary-follow class bracket old.base old.w some text utf8 c.args.top c.args.place c.args.t c.requires.some)
+    let kept = keeps-then class bracket old c.row_home.new.self c.row_at.new.self c.row_home.ensures.keeps c.row_at.ensures.keeps in
+    let some = side-kept class bracket old c.row_at.new.self text c.args.place c.in_ok-at.at utf8 kept c.in_ok-at.ensures.row in
+    let bound = boundary-follow class bracket old.base old.w some text utf8 c.args.top c.args.place c.args.t c.requires.some in
+    subst (IsCharBoundary text) (sym (returns-clause-top g c)) bound

@@ -42,5 +42,6 @@ returns-clause-boundary g c = λ at-boundary.
     let bracket = g.D.BidiData.bracket_of c.args.source.now in
     let text = c.args.text.now.edited.text in
     let there = c.in_ok-there.ensures.row _ c.in_ok-at.ensures.row in
-    subst (IsCharBoundary text) (sym c.unwrap_or.ensures) (entry-told class bracket c.row_away.new.self text c.in_ok-there.there _ c.row_at.ensures.utf8 there c.in_ok-column.column c.args.place
+    subst (IsCharBoundary text) (sym c.unwrap_or.ensures) (entry-told class bracket c.row_away.new.self text c.in_ok-there.there _ c.row_at.ensures.utf8
+    there c.in_ok-column.column c.args.place
     c.in_ok-entry.entry (c.in_ok-entry.ensures _ there) at-boundary)

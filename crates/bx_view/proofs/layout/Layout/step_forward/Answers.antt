@@ -68,7 +68,8 @@ returns-in-Some-clause-boundary g c = λ at-boundary.
     let old = c.args.self.now in
     let utf8 = c.row_at.ensures.utf8 in
     let some = side-kept class bracket old c.row_at.new.self text c.args.place c.in_ok-at.at utf8 c.row_at.ensures.keeps c.in_ok-at.ensures.row in
-    subst (IsCharBoundary text) (sym (returns-in-Some-clause-place g c)) (boundary-step_logical class bracket old.base old.w some text utf8 Forward c.args.place at-boundary)
+    subst (IsCharBoundary text) (sym (returns-in-Some-clause-place g c)) (boundary-step_logical class bracket old.base old.w some text utf8 Forward
+    c.args.place at-boundary)
 
 pub returns-in_default-2-clause-boundary : goal.returns-in_default-2-clause-boundary
 returns-in_default-2-clause-boundary g c = λ at-boundary.
@@ -78,7 +79,8 @@ returns-in_default-2-clause-boundary g c = λ at-boundary.
     let old = c.args.self.now in
     let utf8 = c.row_at.ensures.utf8 in
     let some = side-kept class bracket old c.row_at.new.self text c.args.place c.in_ok-at.at utf8 c.row_at.ensures.keeps c.in_ok-at.ensures.row in
-    subst (IsCharBoundary text) (sym (returns-in_default-2-clause-place g c)) (boundary-step_logical class bracket old.base old.w some text utf8 Forward c.args.place at-boundary)
+    subst (IsCharBoundary text) (sym (returns-in_default-2-clause-place g c)) (boundary-step_logical class bracket old.base old.w some text utf8 Forward
+    c.args.place at-boundary)
 
 pub returns-clause-boundary : goal.returns-clause-boundary
 returns-clause-boundary g c = λ at-boundary.
@@ -88,4 +90,5 @@ returns-clause-boundary g c = λ at-boundary.
     let old = c.args.self.now in
     let utf8 = c.row_at.ensures.utf8 in
     let some = side-kept class bracket old c.row_at.new.self text c.args.place c.in_ok-at.at utf8 c.row_at.ensures.keeps c.in_ok-at.ensures.row in
-    subst (IsCharBoundary text) (sym (returns-clause-place g c)) (boundary-step_logical class bracket old.base old.w some text utf8 Forward c.args.place at-boundary)
+    subst (IsCharBoundary text) (sym (returns-clause-place g c)) (boundary-step_logical class bracket old.base old.w some text utf8 Forward c.args.place
+    at-boundary)

@@ -17,5 +17,6 @@ returns-clause-boundary g c = λ at-boundary.
     let bracket = g.D.BidiData.bracket_of c.args.source.now in
     let text = c.args.text.now.edited.text in
     let on = c.in_ok-at.ensures.row in
-    subst (IsCharBoundary text) (sym c.unwrap_or.ensures) (past-told class bracket c.row_at.new.self text c.in_ok-at.at _ c.row_at.ensures.utf8 on c.args.side c.args.place c.in_ok-past.past
+    subst (IsCharBoundary text) (sym c.unwrap_or.ensures) (past-told class bracket c.row_at.new.self text c.in_ok-at.at _ c.row_at.ensures.utf8 on
+    c.args.side c.args.place c.in_ok-past.past
     (c.in_ok-past.ensures.place _ on) at-boundary)
