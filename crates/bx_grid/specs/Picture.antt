@@ -3,7 +3,7 @@ use Rattle.std.specs.Prelude.{◌≡◌, ℕ, ◌+◌, ◌-◌, ◌*◌, ◌≤�
 use Rattle.bx_grid.specs.Columns.{Col, AreBlank}
 use Rattle.bx_grid.specs.Glyphs.{AreWholeRows}
 use Rattle.bx_terms.specs.Sizes.{is_side}
-use Rattle.bx_grid.specs.Terminal.{Terminal}
+use Rattle.bx_grid.specs.Terminal.{Terminal, reads}
 
 -- what a grid shows, row by row
 pub record GridState : Type 0 where
@@ -23,6 +23,10 @@ pub record PictureState : Type 0 where
 pub record IsIdle (t : Terminal) : Type 0 where
   pub no_run : t.run ≡ []
   pub no_token : t.half_read ≡ []
+
+-- after these bytes nothing is half read, if nothing was before
+abbrev pub AreWholeTokens : List ℕ → Type 0
+AreWholeTokens bytes = (t : Terminal) → IsIdle t → IsIdle (reads t bytes)
 
 -- the terminal shows the picture
 pub record Shows (t : Terminal) (p : PictureState) : Type 0 where

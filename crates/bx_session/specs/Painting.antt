@@ -1,6 +1,6 @@
 -- What queued bytes make of a terminal.
 use Rattle.std.specs.Prelude.{◌≡◌, ℕ, true, List, ◌++◌, Option, Some, None, IfSome}
-use Rattle.bx_grid.specs.Picture.{PictureState, IsIdle, IsPicture, Shows}
+use Rattle.bx_grid.specs.Picture.{PictureState, AreWholeTokens, IsIdle, IsPicture, Shows}
 use Rattle.bx_grid.specs.Terminal.{Terminal, reads}
 use Rattle.bx_editor.specs.Data.{Data}
 use Rattle.bx_editor.specs.Editor.{Editor}
@@ -13,9 +13,10 @@ abbrev pub Leads : Option PictureState → List ℕ → PictureState → Type 0
 Leads (Some old) bytes new = (t : Terminal) → Shows t old → Shows (reads t bytes) new
 Leads None bytes new = (t : Terminal) → IsIdle t → t.height ≡ new.height → t.width ≡ new.width → Shows (reads t bytes) new
 
--- of what was pending, and known of the screen, before: bytes were queued behind it that lead to the session's picture
+-- of what was pending, and known of the screen, before: whole tokens were queued behind it that lead to the session's picture
 pub record Paints (d : Data) (before : List ℕ) (known : Option PictureState) (new : Session) (bytes : List ℕ) : Type 0 where
   pub appends : new.pending ≡ before ++ bytes
+  pub tokens : AreWholeTokens bytes
   pub leads : Leads known bytes (picture d new.editor new.top)
   pub painted : new.painted ≡ Some (picture d new.editor new.top)
   pub is_picture : IsPicture (picture d new.editor new.top)
