@@ -13,7 +13,7 @@ use Rattle.bx_grid.proofs.Reading.{at, IsFinal, and_left, and_right}
 use Rattle.bx_paint.specs.Painting.{columns_changed, ended, is_none, is_at_cursor_of, changes_bytes, whole_bytes, move_bytes, render_bytes, render_change}
 use Rattle.bx_paint.specs.Changed.{changed, rows_changed}
 use Rattle.bx_grid.proofs.Whole.{rows-blank}
-use Rattle.bx_paint.proofs.Sequences.{screen, Leaves, plain_leaves, Fits, moves, renders, final_m}
+use Rattle.bx_paint.proofs.Sequences.{screen, Leaves, plain_leaves, Fits, moves, renders, final_m, final_J}
 use Rattle.bx_paint.proofs.Drawn.{Comes}
 use Rattle.bx_paint.proofs.Painted.{rows_do}
 
@@ -78,9 +78,6 @@ shown p = record {
 }
 
 -- ---- whole
-
-final_J : IsFinal 0x4A
-final_J = record { ends = refl; no_param = refl; no_intermediate = refl }
 
 opening : (p : PictureState) (t : Terminal) → IsIdle t → t.height ≡ p.height → t.width ≡ p.width
     → run (t, []) (0x1B ∷ 0x5B ∷ 0x30 ∷ 0x6D ∷ 0x1B ∷ 0x5B ∷ 0x32 ∷ 0x4A ∷ []) ≡ (screen p (replicate (p.height * p.width) blank) None false [], Clears ∷ [])

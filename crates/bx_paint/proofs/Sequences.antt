@@ -40,14 +40,17 @@ plain_leaves p columns q negative all = record { no_token = refl; effect = refl;
 
 -- ---- sequences
 
-final_H : IsFinal 0x48
+pub final_H : IsFinal 0x48
 final_H = record { ends = refl; no_param = refl; no_intermediate = refl }
 
 pub final_m : IsFinal 0x6D
 final_m = record { ends = refl; no_param = refl; no_intermediate = refl }
 
-final_K : IsFinal 0x4B
+pub final_K : IsFinal 0x4B
 final_K = record { ends = refl; no_param = refl; no_intermediate = refl }
+
+pub final_J : IsFinal 0x4A
+final_J = record { ends = refl; no_param = refl; no_intermediate = refl }
 
 abbrev pair : Terminal → List Effect → Terminal × List Effect
 pair t effects = (t, effects)

@@ -2,7 +2,7 @@
 
 ghost use Rattle.std.specs.Prelude.{◌≡◌, ◌+◌, ◌-◌, ◌≤◌, ◌<◌, ◌++◌, [], length, false, IfOk, OnOk, OnErr};
 ghost use Rattle.bx_grid.specs.Effects.{effects};
-ghost use Rattle.bx_grid.specs.Picture.{PictureState, IsGrid, IsIdle, IsPicture, Shows};
+ghost use Rattle.bx_grid.specs.Picture.{AreWholeTokens, PictureState, IsGrid, IsIdle, IsPicture, Shows};
 ghost use Rattle.bx_grid.specs.Terminal.{Terminal, reads};
 ghost use Rattle.bx_paint.specs.Changed.{changed, differing};
 ghost use Rattle.bx_paint.specs.Painting.{whole_bytes, changes_bytes, columns_changed, ended, render_change, move_bytes};
@@ -72,6 +72,7 @@ pub fn whole_into(out: &mut Vec<u8>, picture: &Picture) -> Result<(), PaintError
     ensures err { OnErr result (out.new.items ≡ out.old.items) }
     ensures shows { (t : Terminal) → IsIdle t → t.height ≡ picture.now.height → t.width ≡ picture.now.width
         → Shows (reads t (whole_bytes picture.now)) picture.now }
+    ensures tokens { AreWholeTokens (whole_bytes picture.now) }
 {
     let alloc = *out.allocator();
     let mut output = Output::behind(mem::replace(out, Vec::new(alloc)));
@@ -101,6 +102,7 @@ pub fn changes_into(out: &mut Vec<u8>, old: &Picture, new: &Picture) -> Result<(
     ensures bytes { OnOk result (out.new.items ≡ out.old.items ++ changes_bytes old.now new.now) }
     ensures err { OnErr result (out.new.items ≡ out.old.items) }
     ensures shows { (t : Terminal) → Shows t old.now → Shows (reads t (changes_bytes old.now new.now)) new.now }
+    ensures tokens { AreWholeTokens (changes_bytes old.now new.now) }
     ensures sends { (t : Terminal) → Shows t old.now → effects t (changes_bytes old.now new.now) ≡ changed old.now new.now }
     ensures few { length (changed old.now new.now) ≤ differing old.now.columns new.now.columns }
     ensures nothing { old.now ≡ new.now → changes_bytes old.now new.now ≡ [] }

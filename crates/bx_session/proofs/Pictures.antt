@@ -1,7 +1,7 @@
 -- Pictures have their editor's size, and what a painting leaves of a session.
 use Rattle.std.proofs.Common.{◌≡◌, ℕ, ◌≤◌, Bool, true, false, List, ◌++◌, length, drop, Some, refl, ap, ◌∙◌, if◌then◌else◌}
 use Rattle.std.proofs.lemmas.List.{drop-append-le}
-use Rattle.bx_grid.specs.Picture.{PictureState, IsPicture}
+use Rattle.bx_grid.specs.Picture.{PictureState, AreWholeTokens, IsPicture}
 use Rattle.bx_editor.specs.Data.{Data}
 use Rattle.bx_editor.specs.Editor.{Editor, rows}
 use Rattle.bx_editor.specs.Picture.{picture, next_top, blank_picture, text_picture}
@@ -33,12 +33,14 @@ pub painting_is : (d : Data) (s : Session) (e : Editor) (top : ℕ) (p : Picture
 painting_is d s e top p pending same follows is appends = rw (appends, is, follows, same) refl
 
 pub painting_queues : (d : Data) (s : Session) (e : Editor) (top : ℕ) (p : PictureState) (pending : List ℕ) → e ≡ s.editor
-    → p ≡ picture d s.editor top → pending ≡ s.pending ++ painting s.painted p → Leads s.painted (painting s.painted p) p → IsPicture p
+    → p ≡ picture d s.editor top → pending ≡ s.pending ++ painting s.painted p → AreWholeTokens (painting s.painted p) → Leads s.painted (painting s.painted p) p
+    → IsPicture p
     → QueuesPicture d s.pending s.painted (record s { editor = e; top = top; painted = Some p; painting_owed = false; pending = pending })
-painting_queues d s e top p pending same is appends leads sized = (
+painting_queues d s e top p pending same is appends tokens leads sized = (
   painting s.painted p,
   record {
     appends = appends;
+    tokens = tokens;
     leads = rw (same, ← is) leads;
     painted = rw (same, ← is) refl;
     is_picture = rw (same, ← is) sized;

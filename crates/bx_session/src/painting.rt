@@ -1,7 +1,7 @@
 //! The picture on its way to the terminal.
 
 ghost use Rattle.std.specs.Prelude.{◌≡◌, ◌++◌, IfSome, OnErr, OnOk};
-ghost use Rattle.bx_grid.specs.Picture.{IsPicture};
+ghost use Rattle.bx_grid.specs.Picture.{AreWholeTokens, IsPicture};
 ghost use Rattle.bx_session.specs.Painting.{Leads, QueuesPicture};
 ghost use Rattle.bx_session.specs.Session.{painting, with_painting, with_painting_owed};
 
@@ -24,6 +24,7 @@ fn append(
     ensures bytes { OnOk result (queue.new.items ≡ queue.old.items ++ painting painted.now picture.now) }
     ensures err { OnErr result (queue.new.items ≡ queue.old.items) }
     ensures leads { Leads painted.now (painting painted.now picture.now) picture.now }
+    ensures tokens { AreWholeTokens (painting painted.now picture.now) }
     ensures is_picture { IsPicture picture.now }
 {
     // whose contract says that it is a picture

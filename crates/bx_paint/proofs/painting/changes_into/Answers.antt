@@ -1,5 +1,6 @@
 use Rattle.bx_paint.proofs.Law.{changes_show}
 use Rattle.bx_paint.proofs.Few.{same_changes, few_changes}
+use Rattle.bx_paint.proofs.WholeTokens.{changes_tokens}
 use Rattle.bx_paint.proofs.painting.changes_into.Goals as goal
 
 pub returns-in-Ok-clause-shows : goal.returns-in-Ok-clause-shows
@@ -37,3 +38,9 @@ returns-in-Err-clause-few c =
 
 pub returns-in-Err-clause-nothing : goal.returns-in-Err-clause-nothing
 returns-in-Err-clause-nothing c = same_changes c.args.old.now c.args.new.now
+
+pub returns-in-Ok-clause-tokens : goal.returns-in-Ok-clause-tokens
+returns-in-Ok-clause-tokens c = changes_tokens c.args.old.now c.args.new.now c.write_changes.ensures.new
+
+pub returns-in-Err-clause-tokens : goal.returns-in-Err-clause-tokens
+returns-in-Err-clause-tokens c = changes_tokens c.args.old.now c.args.new.now c.write_changes.ensures.new
