@@ -172,7 +172,7 @@ module _ (class : ℕ → Class) (bracket : ℕ → Option (Side × ℕ)) (base 
   -- what stands in front of where a paragraph begins
   pub place_behind_front : (x v : List ℕ) (offset : ℕ) → IsUtf8 x → IsUtf8 v → parts class (chars x) (chars v) ≡ true → length x ≤ offset
       → place_from (rows (x ++ v)) offset ≡ length x + place_from (rows v) (offset - length x)
-  place_behind_front x v offset ux uv p begun =
+  place_behind_front x v offset ux uv p order =
       let j = joins class (chars x) (chars v) p in
       let a = length x in
       let bytes : 0 + total (map lengths_of j.front) ≡ a + 0 = omega (arith, front_bytes x j.front ux j.alone) in
@@ -187,9 +187,9 @@ module _ (class : ℕ → Class) (bracket : ℕ → Option (Side × ℕ)) (base 
       rises_ahead 0 before (a + 0) (map (λ o. a + o) os) (length (x ++ v) + 1)
       (subst (λ ns. Rises 0 ns (length (x ++ v) + 1)) whole (places-rise class bracket base w h (x ++ v) (IsUtf8-append x v ux uv))) in
       ap (least offset) is
-      ∙ least_behind offset 0 (a + 0) before (map (λ o. a + o) (places (rows v))) rise (omega (arith, begun))
+      ∙ least_behind offset 0 (a + 0) before (map (λ o. a + o) (places (rows v))) rise (omega (arith, order))
       (omega (arith, some, length-map (places (rows v)) (λ o. a + o)))
-      ∙ least_moved a offset (places (rows v)) begun some
+      ∙ least_moved a offset (places (rows v)) rank some
 
   -- and what stands behind where one ends
   pub place_before_back : (x y : List ℕ) (offset : ℕ) → IsUtf8 x → IsUtf8 y → parts class (chars x) (chars y) ≡ true → offset ≤ length x

@@ -17,7 +17,7 @@ use Rattle.bx_view.specs.Top.{follow, nearest_top}
 use Rattle.bx_view.proofs.Around.{all-rise}
 use Rattle.bx_view.proofs.BodyFirsts.{body-firsts}
 use Rattle.bx_view.proofs.Parts.{text-parts}
-use Rattle.bx_view.proofs.Rising.{Rises, begun, begun-few, begun-here, begun-not-here, rises-apart}
+use Rattle.bx_view.proofs.Rising.{Rises, rank, rank-few, rank-here, rank-not-here, rises-apart}
 use Rattle.bx_view.proofs.Walking.{row-under, row-within}
 use Rattle.bx_document.specs.Drawing.{IsAmong}
 
@@ -33,22 +33,22 @@ module _ (rows : List TextRow) (high : ℕ) (rise : Rises 0 (map first rows) hig
   begins-at : (n : ℕ) → n < length rows → get_or os n 0 ≡ begins n
   begins-at n h = get_or-map first rows n no_text_row 0 h
 
-  few : (offset : ℕ) → begun offset os ≤ length rows
-  few offset = let some = begun-few offset os in omega (arith, some, length-map rows first)
+  few : (offset : ℕ) → rank offset os ≤ length rows
+  few offset = let some = rank-few offset os in omega (arith, some, length-map rows first)
 
   -- a row that begins at the offset or before it is that of the offset or before it
   pub no-later : (offset m : ℕ) → m < length rows → begins m ≤ offset → 0 < m → m ≤ row_of rows offset
   no-later offset m h b some = ⊎_elim
       (λ less. omega (arith, less))
       (λ not.
-      let past = begun-not-here offset 0 0 os high m rise (omega (arith, not)) (omega (arith, h, length-map rows first)) in
-      absurd (omega (arith, past, b, begins-at m h))) (cases_lt m (begun offset os))
+      let past = rank-not-here offset 0 0 os high m rise (omega (arith, not)) (omega (arith, h, length-map rows first)) in
+      absurd (omega (arith, past, b, begins-at m h))) (cases_lt m (rank offset os))
 
   pub later : (offset m : ℕ) → m < length rows → offset < begins m → 0 < m → row_of rows offset < m
   later offset m h b some = ⊎_elim
       (λ less.
-      let here = begun-here offset 0 0 os high m rise less in absurd (omega (arith, here, b, begins-at m h)))
-      (λ not. omega (arith, not, some)) (cases_lt m (begun offset os))
+      let here = rank-here offset 0 0 os high m rise less in absurd (omega (arith, here, b, begins-at m h)))
+      (λ not. omega (arith, not, some)) (cases_lt m (rank offset os))
 
   -- the offset at which a row begins falls in that row
   pub falls-own : (k : ℕ) → k < length rows → row_of rows (begins k) ≡ k
@@ -58,14 +58,14 @@ module _ (rows : List TextRow) (high : ℕ) (rise : Rises 0 (map first rows) hig
       ⊎_elim
       (λ less. ⊎_elim
       (λ more.
-      let next = begun-here offset 0 0 os high (k + 1) rise more in
+      let next = rank-here offset 0 0 os high (k + 1) rise more in
       let most = few offset in
       let apart = rises-apart 0 os high k (k + 1) 0 rise (omega arith) (omega (arith, more, most, count)) in
       absurd (omega (arith, next, apart, begins-at k h)))
-      (λ most. omega (arith, less, most)) (cases_lt (k + 1) (begun offset os)))
+      (λ most. omega (arith, less, most)) (cases_lt (k + 1) (rank offset os)))
       (λ not.
-      let past = begun-not-here offset 0 0 os high k rise (omega (arith, not)) (omega (arith, h, count)) in
-      absurd (omega (arith, past, begins-at k h))) (cases_lt k (begun offset os))
+      let past = rank-not-here offset 0 0 os high k rise (omega (arith, not)) (omega (arith, h, count)) in
+      absurd (omega (arith, past, begins-at k h))) (cases_lt k (rank offset os))
 
   pub falls-within : (offset : ℕ) → 0 < length rows → row_of rows offset < length rows
   falls-within offset some = let most = few offset in omega (arith, some, most)

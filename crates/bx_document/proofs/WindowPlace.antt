@@ -82,7 +82,7 @@ module _ (class : ℕ → Class) (text : List ℕ) (utf8 : IsUtf8 text) where
 
   pub record IsFront (start at : ℕ) : Type 0 where
     pub bounds : IsCharBoundary text at
-    pub begun : at ≤ start
+    pub order : at ≤ start
     pub some : (at ≡ 0) ⊎ (at < start)
     pub parts : parts class (chars (take at text)) (chars (drop at text)) ≡ true
 
@@ -93,8 +93,8 @@ module _ (class : ℕ → Class) (text : List ℕ) (utf8 : IsUtf8 text) where
       let at = window_start class text start in
       record {
         bounds = begin.bounds;
-        begun = omega (arith, falls.begun);
-        some = ⊎_elim (λ less. inr less) (λ more. inl (omega (arith, more, falls.begun))) (cases_lt at start);
+        order = omega (arith, falls.order);
+        some = ⊎_elim (λ less. inr less) (λ more. inl (omega (arith, more, falls.order))) (cases_lt at start);
         parts = begin.parts;
       }
 
@@ -155,7 +155,7 @@ module _ (class : ℕ → Class) (text : List ℕ) (utf8 : IsUtf8 text) where
 
     pub whole : splice text start stop new ≡ before ++ (mine ++ behind_all)
     whole =
-        ap (λ bs. bs ++ new ++ drop stop text) (take_parts a start text front.begun) ∙ ap (λ bs. (before ++ head) ++ new ++ bs)
+        ap (λ bs. bs ++ new ++ drop stop text) (take_parts a start text front.order) ∙ ap (λ bs. (before ++ head) ++ new ++ bs)
         (drop_parts stop b text back.reached)
         ∙ ap (λ bs. bs ++ (tail ++ behind_all)) (append_assoc before head new) ∙ append_assoc before (head ++ new) (tail ++ behind_all)
         ∙ ap (λ bs. before ++ bs) (sym (append_assoc (head ++ new) tail behind_all))
@@ -164,7 +164,7 @@ module _ (class : ℕ → Class) (text : List ℕ) (utf8 : IsUtf8 text) where
     before_utf8 = IsUtf8-take text a utf8 front.bounds
 
     head_utf8 : IsUtf8 head
-    head_utf8 = IsUtf8-between text a start utf8 front.begun front.bounds range.start_bounds
+    head_utf8 = IsUtf8-between text a start utf8 front.order front.bounds range.start_bounds
 
     tail_utf8 : IsUtf8 tail
     tail_utf8 = IsUtf8-between text stop b utf8 back.reached range.stop_bounds back.bounds
@@ -198,7 +198,7 @@ module _ (class : ℕ → Class) (text : List ℕ) (utf8 : IsUtf8 text) where
     front_at (inr less) =
         let rest = new ++ (tail ++ behind_all) in
         let now : mine ++ behind_all ≡ head ++ rest = append_assoc (head ++ new) tail behind_all ∙ append_assoc head new (tail ++ behind_all) in
-        let was : drop a text ≡ head ++ drop start text = drop_parts a start text front.begun in
+        let was : drop a text ≡ head ++ drop start text = drop_parts a start text front.order in
         let some : 0 < length (chars head) = some_chars head (chars head) head_utf8 (omega (arith, head_bytes, less)) refl in
         ap (parts class (chars before)) (ap chars now ∙ chars-append head rest head_utf8)
         ∙ parts_ahead class (chars before) (chars head) (chars (drop start text)) (chars rest) some
@@ -230,10 +230,10 @@ module _ (class : ℕ → Class) (text : List ℕ) (utf8 : IsUtf8 text) where
         ≡ a + place_from (text_rows class bracket base w mine) (start - a + length new)
     window_place bracket base w h =
         let offset = start + length new in
-        let inner : offset - length before ≡ start - a + length new = omega (arith, before_bytes, front.begun) in
+        let inner : offset - length before ≡ start - a + length new = omega (arith, before_bytes, front.order) in
         ap (λ bs. place_from (text_rows class bracket base w bs) offset) whole
         ∙ place_behind_front class bracket base w h before (mine ++ behind_all) offset before_utf8 (IsUtf8-append mine behind_all mine_utf8 behind_utf8)
-        (front_at front.some) (omega (arith, before_bytes, front.begun))
+        (front_at front.some) (omega (arith, before_bytes, front.order))
         ∙ ap (λ n. length before + place_from (text_rows class bracket base w (mine ++ behind_all)) n) inner
         ∙ ap (λ n. n + place_from (text_rows class bracket base w (mine ++ behind_all)) (start - a + length new)) before_bytes
         ∙ ap (λ n. a + n) (back_at_end (start - a + length new) bracket base w h (omega (arith, mine_bytes)) back.ends)

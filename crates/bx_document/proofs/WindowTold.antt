@@ -47,7 +47,7 @@ module _ (class : ℕ → Class) (text : List ℕ) (ls : List Lengths) (utf8 : I
   start_range start n s e f bounds =
       let front = front_is class text utf8 start in
       subst (λ a. IsRange text a start) (sym (start_told start n s e f))
-      (record { start_bounds = front.bounds; stop_bounds = bounds; in_order = front.begun })
+      (record { start_bounds = front.bounds; stop_bounds = bounds; in_order = front.order })
 
   pub stop_told : (stop n : ℕ) (s : ℕ × ℕ) (k : ℕ) → n ≡ paragraph_of ls stop → slice_get (spans ls) n ≡ Some s → slice_get (separators ls) n ≡ Some k
       → s.1 + k ≡ window_stop class text stop

@@ -29,7 +29,8 @@ pub fn put_row(grid: &mut Grid, row: u16, picture: &RowPicture<'_>) -> Result<()
             line: row + 1,
             column,
         };
-        grid.put(cell, glyph.text.as_str(), glyph.negative)?;
+        let count = glyph.columns as usize;
+        grid.put_counted(cell, glyph.text.as_str(), count, glyph.negative)?;
         column += glyph.columns;
     }
     Ok(())

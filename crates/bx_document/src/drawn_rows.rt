@@ -43,7 +43,7 @@ fn draw_row<D: BidiData>(
 }
 
 /// The number of a row that begins at `first`, if that is at a place or before it, else the number of one before.
-fn last_begun(before: u16, row: u16, first: usize, place: usize) -> u16
+fn nearest_row(before: u16, row: u16, first: usize, place: usize) -> u16
     ensures { result ≡ (if nat_le first place then row else before) }
 {
     if first <= place { row } else { before }
@@ -94,7 +94,7 @@ pub(crate) fn draw_rows<D: BidiData>(
         };
         here = next;
         row += 1;
-        above = last_begun(above, row, layout.first_in(text, tables, here), place);
+        above = nearest_row(above, row, layout.first_in(text, tables, here), place);
         draw_row(layout, text, tables, here, grid, row)?;
     }
     Ok(above)

@@ -73,7 +73,7 @@ pub(crate) fn window<D: BidiData>(
     requires range { IsRange text.now.edited.text start stop }
     requires fits { fits text.now.edited.text start stop new.now ≡ true }
     ensures start { IfOk result (λ w. w.0 ≡ window_start (D.class_of source.now) text.now.edited.text start) }
-    ensures begun { IfOk result (λ w. w.0 ≤ start) }
+    ensures order { IfOk result (λ w. w.0 ≤ start) }
     ensures text { IfOk result (λ w. string_bytes w.1 ≡ window (D.class_of source.now) text.now.edited.text start stop new.now) }
 {
     let _short = text.len();

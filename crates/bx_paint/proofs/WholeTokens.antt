@@ -1,6 +1,6 @@
 -- What is painted are whole sequences and whole characters, and a sequence comes last: nothing stays half read.
-use Rattle.std.proofs.Common.{◌≡◌, ℕ, ◌+◌, ◌*◌, ◌<◌, ◌≤◌, ◌^◌, Bool, true, false, List, [], ◌∷◌, ◌++◌, length, take, drop, zero, suc, Option, Some, None, refl, ap, sym, ◌∙◌}
-use Rattle.std.proofs.Common.{◌&&◌, ◌-◌, nat_le, replicate, min, arith, if◌then◌else◌}
+use Rattle.std.proofs.Common.{◌≡◌, ℕ, ◌+◌, ◌*◌, ◌<◌, ◌≤◌, ◌^◌, Bool, true, false, List, [], ◌∷◌, ◌++◌, length, take}
+use Rattle.std.proofs.Common.{drop, zero, suc, Option, Some, None, refl, ap, sym, ◌∙◌, ◌&&◌, ◌-◌, nat_le, replicate, min, arith, if◌then◌else◌}
 use Rattle.std.specs.List.{list_all, All}
 use Rattle.std.proofs.lemmas.List.{length-take, length-drop}
 use Rattle.std.proofs.lemmas.List.Elements.{All-nil, All-cons, All-head, All-tail, All-append, All-take, All-drop}
@@ -16,8 +16,8 @@ use Rattle.bx_grid.proofs.Doing.{run_is, sequence_does}
 use Rattle.bx_grid.proofs.Reading.{at, IsFinal, move_params, move_params_fit, reads-append}
 use Rattle.bx_grid.proofs.Texts.{glyph_does}
 use Rattle.bx_grid.proofs.Whole.{columns_form, rows_whole}
-use Rattle.bx_paint.specs.Painting.{Step, Sent, nothing_sent, move_bytes, render_bytes, render_change, erase_bytes, before_tail, leading_blanks, is_sent, glyph_bytes}
-use Rattle.bx_paint.specs.Painting.{column_sent, columns_sent, tail_sent, row_sent, rows_sent, columns_changed, ended, is_none}
+use Rattle.bx_paint.specs.Painting.{Step, Sent, nothing_sent, move_bytes, render_bytes, render_change, erase_bytes, before_tail}
+use Rattle.bx_paint.specs.Painting.{leading_blanks, is_sent, glyph_bytes, column_sent, columns_sent, tail_sent, row_sent, rows_sent, columns_changed, ended, is_none}
 use Rattle.bx_paint.specs.Painting.{is_at_cursor_of, changes_bytes, whole_bytes}
 use Rattle.bx_paint.proofs.Sequences.{final_H, final_K, final_J, final_m}
 use Rattle.bx_paint.proofs.Tails.{front_le}

@@ -8,7 +8,7 @@ use bx_cells::Unit;
 use bx_ucd::BidiData;
 
 /// How many of some units begin before an offset.
-fn begun_before(units: &[Unit], offset: usize) -> usize
+fn count_before(units: &[Unit], offset: usize) -> usize
     ensures { result ≡ count_by (λ u. nat_lt u.start offset) units.now }
 {
     units.iter().filter(|u| u.start < offset).count()
@@ -30,6 +30,6 @@ impl ParagraphLayout {
             ≡ count_by (λ u. nat_lt u.start offset) (row_by (D.class_of source.now) (D.bracket_of source.now) self.now row).units) }
     {
         let parts = self.row(row, source)?;
-        Ok(begun_before(&parts.units, offset))
+        Ok(count_before(&parts.units, offset))
     }
 }

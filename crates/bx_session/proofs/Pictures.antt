@@ -33,8 +33,8 @@ pub painting_is : (d : Data) (s : Session) (e : Editor) (top : ℕ) (p : Picture
 painting_is d s e top p pending same follows is appends = rw (appends, is, follows, same) refl
 
 pub painting_queues : (d : Data) (s : Session) (e : Editor) (top : ℕ) (p : PictureState) (pending : List ℕ) → e ≡ s.editor
-    → p ≡ picture d s.editor top → pending ≡ s.pending ++ painting s.painted p → AreWholeTokens (painting s.painted p) → Leads s.painted (painting s.painted p) p
-    → IsPicture p
+    → p ≡ picture d s.editor top → pending ≡ s.pending ++ painting s.painted p → AreWholeTokens (painting s.painted p)
+    → Leads s.painted (painting s.painted p) p → IsPicture p
     → QueuesPicture d s.pending s.painted (record s { editor = e; top = top; painted = Some p; painting_owed = false; pending = pending })
 painting_queues d s e top p pending same is appends tokens leads sized = (
   painting s.painted p,

@@ -9,8 +9,8 @@ use bx_text::Slices;
 
 /// Puts all pieces, in order.
 fn put_pieces<S: Store>(pieces: Slices<'_>, store: &mut S) -> Result<(), StoreFault>
-    requires begun { S.has_draft store.old ≡ true }
-    ensures begun { OnOk result (S.has_draft store.new ≡ true) }
+    requires has_draft { S.has_draft store.old ≡ true }
+    ensures has_draft { OnOk result (S.has_draft store.new ≡ true) }
     ensures draft { OnOk result (S.draft store.new ≡ with_bytes pieces.entry (S.draft store.old)) }
     ensures stored { S.contents store.new ≡ S.contents store.old }
     ensures no_failure { OnOk result (S.failure_count store.new ≡ S.failure_count store.old) }

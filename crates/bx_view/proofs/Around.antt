@@ -13,7 +13,7 @@ use Rattle.bx_paragraph.specs.BodyRows.{BodyRow, body_rows, first_of, no_row}
 use Rattle.bx_paragraph.specs.BodyRows.{row_at as row_at_body, row_of as row_of_body}
 use Rattle.bx_view.specs.TextRows.{TextRow, first, no_text_row, row_at, row_of, rows_from, text_row, text_rows}
 use Rattle.bx_view.proofs.Parts.{AreEnded, AreUtf8}
-use Rattle.bx_view.proofs.Rising.{Rises, all-begun, begun, begun-append, begun-few, begun-first, none-begun, rises-append, rises-further, rises-moved}
+use Rattle.bx_view.proofs.Rising.{Rises, all-rank, rank, rank-append, rank-few, rank-first, none-rank, rises-append, rises-further, rises-moved}
 
 -- the rows of a body begin at its begin, and then further on in it
 pub record BodyFirsts (body : List ℕ) (rows : List BodyRow) : Type 0 where
@@ -60,14 +60,14 @@ pub firsts-moved : (start : ℕ) (rs : List BodyRow) → map first (map (text_ro
 firsts-moved start [] = refl
 firsts-moved start (r ∷ rs) = ap (λ os. (start + first_of r) ∷ os) (firsts-moved start rs)
 
--- as many are begun at an offset of the text as at the offset in the body
-pub begun-moved : (offset start : ℕ) (os : List ℕ) → start ≤ offset → begun offset (map (λ o. start + o) os) ≡ begun (offset - start) os
-begun-moved offset start [] h = refl
-begun-moved offset start (o ∷ os) h =
+-- as many begin at or before an offset of the text as at or before the offset in the body
+pub rank-moved : (offset start : ℕ) (os : List ℕ) → start ≤ offset → rank offset (map (λ o. start + o) os) ≡ rank (offset - start) os
+rank-moved offset start [] h = refl
+rank-moved offset start (o ∷ os) h =
     let same : nat_le (start + o) offset ≡ nat_le o (offset - start) = grind (arith, nat_tests) in
     sum_by-cons (λ b. cond (nat_le b offset) 1 0) (start + o) (map (λ o. start + o) os)
-    ∙ ap (λ b. cond b 1 0 + begun offset (map (λ o. start + o) os)) same
-    ∙ ap (λ n. cond (nat_le o (offset - start)) 1 0 + n) (begun-moved offset start os h)
+    ∙ ap (λ b. cond b 1 0 + rank offset (map (λ o. start + o) os)) same
+    ∙ ap (λ n. cond (nat_le o (offset - start)) 1 0 + n) (rank-moved offset start os h)
     ∙ sym (sum_by-cons (λ b. cond (nat_le b (offset - start)) 1 0) o os)
 
 module _ (class : ℕ → Class) (bracket : ℕ → Option (Side × ℕ)) (base : Base) (w : ℕ) where
@@ -131,23 +131,23 @@ module _ (class : ℕ → Class) (bracket : ℕ → Option (Side × ℕ)) (base 
         (rises-further start (map first (map (text_row start) (own p))) (start + length p.body + 1) next (omega (arith, e.0)) (own-rise start p u.0.body))
         (subst (λ h. Rises next (map first (from next (q ∷ ps))) h) same (all-rise next (q ∷ ps) u.1 e.1)))
 
-    -- none of the rows behind an offset is begun
-    none-behind : (offset stop : ℕ) (ps : List Paragraph) → AreUtf8 ps → AreEnded ps → EndsBefore ps offset stop → begun offset (map first (from stop ps)) ≡ 0
+    -- none of the rows behind an offset begins at it or before it
+    none-behind : (offset stop : ℕ) (ps : List Paragraph) → AreUtf8 ps → AreEnded ps → EndsBefore ps offset stop → rank offset (map first (from stop ps)) ≡ 0
     none-behind offset stop [] u e h = refl
     none-behind offset stop (p ∷ ps) u e h =
-        none-begun offset stop (map first (from stop (p ∷ ps))) (stop + total (map lengths_of (p ∷ ps)) + 1) (all-rise stop (p ∷ ps) u e) h
+        none-rank offset stop (map first (from stop (p ∷ ps))) (stop + total (map lengths_of (p ∷ ps)) + 1) (all-rise stop (p ∷ ps) u e) h
 
     -- the first row of a body begins at or before each offset in it
-    pub own-begun : (p : Paragraph) (n : ℕ) → IsUtf8 p.body → 1 ≤ begun n (map first_of (own p))
-    own-begun p n u =
+    pub own-rank : (p : Paragraph) (n : ℕ) → IsUtf8 p.body → 1 ≤ rank n (map first_of (own p))
+    own-rank p n u =
         let f = firsts p.body u in
-        omega (arith, ap (begun n) f.firsts, begun-first n 0 f.others (omega arith))
+        omega (arith, ap (rank n) f.firsts, rank-first n 0 f.others (omega arith))
 
     pub own-some : (p : Paragraph) → IsUtf8 p.body → 0 < length (own p)
-    own-some p u = omega (arith, own-begun p 0 u, begun-few 0 (map first_of (own p)), length-map (own p) first_of)
+    own-some p u = omega (arith, own-rank p 0 u, rank-few 0 (map first_of (own p)), length-map (own p) first_of)
 
     pub own-within : (p : Paragraph) (n : ℕ) → IsUtf8 p.body → row_of_body (own p) n < length (own p)
-    own-within p n u = omega (arith, own-begun p n u, begun-few n (map first_of (own p)), length-map (own p) first_of)
+    own-within p n u = omega (arith, own-rank p n u, rank-few n (map first_of (own p)), length-map (own p) first_of)
 
     module _ (text : List ℕ) (number start : ℕ) (p : Paragraph) (ahead behind : List Paragraph) (is : IsAmong class text number start p ahead behind) where
       -- the rows of the text are those ahead, its own, and those behind
@@ -161,29 +161,29 @@ module _ (class : ℕ → Class) (bracket : ℕ → Option (Side × ℕ)) (base 
       stop = start + bytes_of (lengths_of p)
 
       -- how many rows begin at or before an offset that falls in the paragraph
-      pub begun-around : (offset : ℕ) → AreUtf8 (ahead ++ p ∷ behind) → AreEnded (ahead ++ p ∷ behind) → start ≤ offset → EndsBefore behind offset stop
-          → begun offset (map first (text_rows class bracket base w text)) ≡ length (from 0 ahead) + begun (offset - start) (map first_of (own p))
-      begun-around offset u e low high =
+      pub rank-around : (offset : ℕ) → AreUtf8 (ahead ++ p ∷ behind) → AreEnded (ahead ++ p ∷ behind) → start ≤ offset → EndsBefore behind offset stop
+          → rank offset (map first (text_rows class bracket base w text)) ≡ length (from 0 ahead) + rank (offset - start) (map first_of (own p))
+      rank-around offset u e low high =
           let mine = map (text_row start) (own p) in
           let others = from stop behind in
           let u' = behind-utf8 ahead (p ∷ behind) u in
           let e' = behind-ended (p ∷ []) behind (behind-ended ahead (p ∷ behind) e) in
-          let first-part : begun offset (map first (from 0 ahead)) ≡ length (map first (from 0 ahead)) =
-          all-begun offset 0 (map first (from 0 ahead)) (0 + total (map lengths_of ahead))
+          let first-part : rank offset (map first (from 0 ahead)) ≡ length (map first (from 0 ahead)) =
+          all-rank offset 0 (map first (from 0 ahead)) (0 + total (map lengths_of ahead))
           (ended-rise 0 ahead (ahead-utf8 ahead (p ∷ behind) u) (ahead-ended ahead p behind e)) (omega (arith, is.start_is, low)) in
-          let own-part : begun offset (map first mine) ≡ begun (offset - start) (map first_of (own p)) =
-          ap (begun offset) (firsts-moved start (own p)) ∙ begun-moved offset start (map first_of (own p)) low in
-          let last-part : begun offset (map first others) ≡ 0 = none-behind offset stop behind u'.1 e' high in
+          let own-part : rank offset (map first mine) ≡ rank (offset - start) (map first_of (own p)) =
+          ap (rank offset) (firsts-moved start (own p)) ∙ rank-moved offset start (map first_of (own p)) low in
+          let last-part : rank offset (map first others) ≡ 0 = none-behind offset stop behind u'.1 e' high in
           let split : map first (text_rows class bracket base w text) ≡ map first (from 0 ahead) ++ (map first mine ++ map first others) =
           ap (map first) rows-around ∙ map-append first (from 0 ahead) (mine ++ others)
           ∙ ap (λ os. map first (from 0 ahead) ++ os) (map-append first mine others) in
-          ap (begun offset) split ∙ begun-append offset (map first (from 0 ahead)) (map first mine ++ map first others)
+          ap (rank offset) split ∙ rank-append offset (map first (from 0 ahead)) (map first mine ++ map first others)
           ∙ omega (
             arith,
             first-part,
             own-part,
             last-part,
-            begun-append offset (map first mine) (map first others),
+            rank-append offset (map first mine) (map first others),
             length-map (from 0 ahead) first,
           )
 
@@ -192,7 +192,7 @@ module _ (class : ℕ → Class) (bracket : ℕ → Option (Side × ℕ)) (base 
           → row_of (text_rows class bracket base w text) offset ≡ length (from 0 ahead) + row_of_body (own p) (offset - start)
       row-falls offset u e low high =
           let u' = behind-utf8 ahead (p ∷ behind) u in
-          omega (arith, begun-around offset u e low high, own-begun p (offset - start) u'.0.body)
+          omega (arith, rank-around offset u e low high, own-rank p (offset - start) u'.0.body)
 
       -- and a row of the paragraph by its number in the text
       pub row-there : (k : ℕ) → k < length (own p)

@@ -27,8 +27,8 @@ use Rattle.bx_view.proofs.KeptRows.{away-within}
 use Rattle.bx_view.proofs.Nearest.{falls-within}
 use Rattle.bx_view.proofs.Numbers.{bytes-utf8}
 use Rattle.bx_view.proofs.Parts.{AreUtf8, bytes, text-bytes, text-parts}
-use Rattle.bx_view.proofs.Rising.{begun-few}
-use Rattle.bx_view.proofs.Walking.{text-begun}
+use Rattle.bx_view.proofs.Rising.{rank-few}
+use Rattle.bx_view.proofs.Walking.{text-rank}
 use Rattle.bx_view.proofs.Within.{Lies, LiesIn, Within, beside-fits, body-row-lies, either-lies, end-fits}
 use Rattle.bx_view.proofs.Within.{entry-fits, find-lies, last-fits, last-lies, start-fits, within-append, within-reverse}
 
@@ -119,7 +119,7 @@ module _ (class : ℕ → Class) (bracket : ℕ → Option (Side × ℕ)) (base 
     row-bound n within = each-at (IsBound text w) rows n rows-bound within
 
     some-row : 0 < length rows
-    some-row = omega (arith, text-begun class bracket base w some text utf8 0, begun-few 0 (map first rows), length-map rows first)
+    some-row = omega (arith, text-rank class bracket base w some text utf8 0, rank-few 0 (map first rows), length-map rows first)
 
     own-row : (offset : ℕ) → row_of rows offset < length rows
     own-row offset = falls-within rows offset some-row

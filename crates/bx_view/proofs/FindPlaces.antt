@@ -13,7 +13,7 @@ use Rattle.bx_paragraph.specs.BodyRows.{last_of, last_offset, offsets_of}
 use Rattle.bx_view.specs.Moves.{place_from}
 use Rattle.bx_view.specs.TextRows.{TextRow, first, no_text_row, places, places_of, row_at, row_of}
 use Rattle.bx_view.proofs.PlacesRise.{AllHeads, IsHead, firsts-of}
-use Rattle.bx_view.proofs.Rising.{Rises, begun, begun-few, begun-here, begun-not-here, rises-ahead, rises-behind, rises-within}
+use Rattle.bx_view.proofs.Rising.{Rises, rank, rank-few, rank-here, rank-not-here, rises-ahead, rises-behind, rises-within}
 
 -- ---- what is found among offsets that rise
 
@@ -91,7 +91,7 @@ reverse-moved start (o ∷ os) =
     reverse-append ((start + o) ∷ []) (map (λ k. start + k) os) ∙ ap (λ ps. ps ++ (start + o) ∷ []) (reverse-moved start os)
     ∙ sym (map-append (λ k. start + k) (reverse os) (o ∷ [])) ∙ ap (map (λ k. start + k)) (sym (reverse-append (o ∷ []) os))
 
-module _ (start offset : ℕ) (begun : start ≤ offset) (os : List ℕ) (o : Option ℕ) where
+module _ (start offset : ℕ) (order : start ≤ offset) (os : List ℕ) (o : Option ℕ) where
   pub moved-from : o ≡ find (nat_le (offset - start)) os → option_map (λ k. start + k) o ≡ find (nat_le offset) (map (λ k. start + k) os)
   moved-from e =
       ap (option_map (λ k. start + k)) e
@@ -218,15 +218,15 @@ heads-at (r ∷ rs) zero a h = a.0
 heads-at (r ∷ rs) (suc n) a h = heads-at rs n a.1 (omega (arith, h))
 
 module _ (rows : List TextRow) (high : ℕ) (rise : Rises 0 (places rows) high) (heads : AllHeads rows) (offset : ℕ)
-    (some : 1 ≤ begun offset (map first rows)) where
+    (some : 1 ≤ rank offset (map first rows)) where
   abbrev n : ℕ
   n = row_of rows offset
 
   abbrev here : TextRow
   here = row_at rows n
 
-  few : begun offset (map first rows) ≤ length rows
-  few = omega (arith, begun-few offset (map first rows), length-map rows first)
+  few : rank offset (map first rows) ≤ length rows
+  few = omega (arith, rank-few offset (map first rows), length-map rows first)
 
   within : n < length rows
   within = omega (arith, some, few)
@@ -234,19 +234,19 @@ module _ (rows : List TextRow) (high : ℕ) (rise : Rises 0 (places rows) high) 
   firsts : Rises 0 (map first rows) high
   firsts = firsts-of 0 rows high heads rise
 
-  begun-in : first here ≤ offset
-  begun-in =
+  not-past : first here ≤ offset
+  not-past =
       omega (
         arith,
-        begun-here offset 0 0 (map first rows) high n firsts (omega (arith, some)),
+        rank-here offset 0 0 (map first rows) high n firsts (omega (arith, some)),
         get_or-map first rows n no_text_row 0 within,
       )
 
-  not-begun : n + 1 < length rows → offset < first (row_at rows (n + 1))
-  not-begun more =
+  past-offset : n + 1 < length rows → offset < first (row_at rows (n + 1))
+  past-offset more =
       omega (
         arith,
-        begun-not-here offset 0 0 (map first rows) high (n + 1) firsts (omega (arith, some)) (omega (arith, more, length-map rows first)),
+        rank-not-here offset 0 0 (map first rows) high (n + 1) firsts (omega (arith, some)) (omega (arith, more, length-map rows first)),
         get_or-map first rows (n + 1) no_text_row 0 more,
       )
 
@@ -291,14 +291,14 @@ module _ (rows : List TextRow) (high : ℕ) (rise : Rises 0 (places rows) high) 
   -- ---- as the calls ask
 
   before-fails : PassesFrom (nat_le offset)
-  before-fails = let here-begun = begun-in in λ o h. grind (arith, nat_tests)
+  before-fails = let below = not-past in λ o h. grind (arith, nat_tests)
 
   pub from-here : (o : ℕ) → find (nat_le offset) (places_of here) ≡ Some o → o ≡ place_from rows offset
   from-here o e = sym (ap (λ x. unwrap_or x (last_offset (places rows))) (found-here (nat_le offset) before-fails o e))
 
   pub from-next : n + 1 < length rows → find (nat_le offset) (places_of here) ≡ None → first (row_at rows (n + 1)) ≡ place_from rows offset
   from-next more none =
-      let past = not-begun more in
+      let past = past-offset more in
       let passes : nat_le offset (first (row_at rows (n + 1))) ≡ true = grind (arith, nat_tests) in
       sym (ap (λ x. unwrap_or x (last_offset (places rows))) (found-next (nat_le offset) before-fails more none passes))
 
@@ -309,7 +309,7 @@ module _ (rows : List TextRow) (high : ℕ) (rise : Rises 0 (places rows) high) 
       ∙ ap (λ rs. last_offset (places rs)) only ∙ last-of-rows ahead here head)
 
   behind-fails : PassesFrom (nat_lt offset)
-  behind-fails = let here-begun = begun-in in λ o h. grind (arith, nat_tests)
+  behind-fails = let below = not-past in λ o h. grind (arith, nat_tests)
 
   pub forward-in-row : (o : ℕ) → find (nat_lt offset) (places_of here) ≡ Some o → o ≡ unwrap_or (find (nat_lt offset) (places rows)) offset
   forward-in-row o e = sym (ap (λ x. unwrap_or x offset) (found-here (nat_lt offset) behind-fails o e))
@@ -317,7 +317,7 @@ module _ (rows : List TextRow) (high : ℕ) (rise : Rises 0 (places rows) high) 
   pub forward-to-next : n + 1 < length rows → find (nat_lt offset) (places_of here) ≡ None
       → first (row_at rows (n + 1)) ≡ unwrap_or (find (nat_lt offset) (places rows)) offset
   forward-to-next more none =
-      let past = not-begun more in
+      let past = past-offset more in
       let passes : nat_lt offset (first (row_at rows (n + 1))) ≡ true = grind (arith, nat_tests) in
       sym (ap (λ x. unwrap_or x offset) (found-next (nat_lt offset) behind-fails more none passes))
 
@@ -332,7 +332,7 @@ module _ (rows : List TextRow) (high : ℕ) (rise : Rises 0 (places rows) high) 
   fails-after : Fails earlier (places behind)
   fails-after = ⊎_elim
       (λ more.
-      let past = not-begun more in
+      let past = past-offset more in
       fails-behind ahead here behind high rise-split head earlier (row_at rows (n + 1)) (drop (n + 1 + 1) rows)
       (drop_more rows (n + 1) no_text_row more) (next-head more) (λ o h. grind (arith, nat_tests)))
       (λ last. subst (λ rs. Fails earlier (places rs)) (sym (drop_all (n + 1) rows last)) tt) (cases_lt (n + 1) (length rows))
@@ -345,7 +345,7 @@ module _ (rows : List TextRow) (high : ℕ) (rise : Rises 0 (places rows) high) 
   pub back-to-row : 0 < n → find earlier (reverse (places_of here)) ≡ None
       → (row_at rows (n - 1)).start + last_of (row_at rows (n - 1)).row ≡ unwrap_or (find earlier (reverse (places rows))) offset
   back-to-row above none =
-      let here-begun = begun-in in
+      let below = not-past in
       let within-before : n - 1 < length rows = omega (arith, within) in
       let same : n ≡ n - 1 + 1 = omega (arith, above) in
       let parts : ahead ≡ take (n - 1) rows ++ row_at rows (n - 1) ∷ [] = ap (λ k. take k rows) same ∙ take_more rows (n - 1) no_text_row within-before in

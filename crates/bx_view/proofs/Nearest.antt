@@ -6,10 +6,10 @@ use Rattle.std.proofs.lemmas.List.{length-map}
 use Rattle.bx_view.specs.Moves.{entry_in, row_home, to_row}
 use Rattle.bx_view.specs.TextRows.{TextRow, cell_of, first, row_at, row_of}
 use Rattle.bx_view.specs.Top.{follow, nearest_top}
-use Rattle.bx_view.proofs.Rising.{begun-few}
+use Rattle.bx_view.proofs.Rising.{rank-few}
 
 pub falls-within : (rows : List TextRow) (offset : ℕ) → 0 < length rows → row_of rows offset < length rows
-falls-within rows offset some = omega (arith, some, begun-few offset (map first rows), length-map rows first)
+falls-within rows offset some = omega (arith, some, rank-few offset (map first rows), length-map rows first)
 
 module _ (rows : List TextRow) (rise : (n m : ℕ) → n < m → m < length rows → first (row_at rows n) < first (row_at rows m)) where
   abbrev begins : ℕ → ℕ

@@ -35,33 +35,33 @@ bytes-utf8 (p ∷ ps) u = IsUtf8-append (p.body ++ p.separator) (bytes ps) (IsUt
 -- ---- the paragraphs that begin at an offset or before it
 
 module _ (offset : ℕ) where
-  abbrev begun-spans : ℕ → List Lengths → ℕ
-  begun-spans at ls = count_by (λ s. nat_le s.0 offset) (spans_from at ls)
+  abbrev rank-spans : ℕ → List Lengths → ℕ
+  rank-spans at ls = count_by (λ s. nat_le s.0 offset) (spans_from at ls)
 
-  spans-cons : (at : ℕ) (l : Lengths) (ls : List Lengths) → begun-spans at (l ∷ ls) ≡ cond (nat_le at offset) 1 0 + begun-spans (at + bytes_of l) ls
+  spans-cons : (at : ℕ) (l : Lengths) (ls : List Lengths) → rank-spans at (l ∷ ls) ≡ cond (nat_le at offset) 1 0 + rank-spans (at + bytes_of l) ls
   spans-cons at l ls = sum_by-cons (λ s. cond (nat_le s.0 offset) 1 0) (at, at + l.body) (spans_from (at + bytes_of l) ls)
 
-  span-begun : (at : ℕ) (l : Lengths) (ls : List Lengths) → at ≤ offset → begun-spans at (l ∷ ls) ≡ 1 + begun-spans (at + bytes_of l) ls
-  span-begun at l ls h =
-      let e : nat_le at offset ≡ true = grind (arith, nat_tests) in spans-cons at l ls ∙ ap (λ b. cond b 1 0 + begun-spans (at + bytes_of l) ls) e
+  span-rank : (at : ℕ) (l : Lengths) (ls : List Lengths) → at ≤ offset → rank-spans at (l ∷ ls) ≡ 1 + rank-spans (at + bytes_of l) ls
+  span-rank at l ls h =
+      let e : nat_le at offset ≡ true = grind (arith, nat_tests) in spans-cons at l ls ∙ ap (λ b. cond b 1 0 + rank-spans (at + bytes_of l) ls) e
 
-  no-span-begun : (at : ℕ) (ls : List Lengths) → offset < at → begun-spans at ls ≡ 0
-  no-span-begun at [] h = refl
-  no-span-begun at (l ∷ ls) h =
+  no-span-rank : (at : ℕ) (ls : List Lengths) → offset < at → rank-spans at ls ≡ 0
+  no-span-rank at [] h = refl
+  no-span-rank at (l ∷ ls) h =
       let e : nat_le at offset ≡ false = grind (arith, nat_tests) in
-      let more : begun-spans (at + bytes_of l) ls ≡ 0 = no-span-begun (at + bytes_of l) ls (omega arith) in
-      spans-cons at l ls ∙ ap (λ b. cond b 1 0 + begun-spans (at + bytes_of l) ls) e ∙ omega (arith, more)
+      let more : rank-spans (at + bytes_of l) ls ≡ 0 = no-span-rank (at + bytes_of l) ls (omega arith) in
+      spans-cons at l ls ∙ ap (λ b. cond b 1 0 + rank-spans (at + bytes_of l) ls) e ∙ omega (arith, more)
 
   -- the last of them holds the offset
   pub record Holds (at : ℕ) (ls : List Lengths) (n : ℕ) : Type 0 where
     pub within : n < length ls
-    pub begun : at + total (take n ls) ≤ offset
+    pub order : at + total (take n ls) ≤ offset
     pub ended : n + 1 < length ls → offset < at + total (take (n + 1) ls)
 
   holds-next : (at : ℕ) (l : Lengths) (ls : List Lengths) (n : ℕ) → Holds (at + bytes_of l) ls n → Holds at (l ∷ ls) (suc n)
   holds-next at l ls n h = record {
     within = omega (arith, h.within);
-    begun = omega (arith, h.begun);
+    order = omega (arith, h.order);
     ended = λ further.
         let same : suc n + 1 ≡ suc (n + 1) = omega arith in
         let sum : total (take (suc n + 1) (l ∷ ls)) ≡ bytes_of l + total (take (n + 1) ls) = ap (λ k. total (take k (l ∷ ls))) same in
@@ -69,24 +69,24 @@ module _ (offset : ℕ) where
   }
 
   holds-first : (at : ℕ) (l : Lengths) (ls : List Lengths) → at ≤ offset → (0 < length ls → offset < at + bytes_of l) → Holds at (l ∷ ls) 0
-  holds-first at l ls h past = record { within = omega arith; begun = omega arith; ended = λ further. omega (arith, past (omega (arith, further))) }
+  holds-first at l ls h past = record { within = omega arith; order = omega arith; ended = λ further. omega (arith, past (omega (arith, further))) }
 
-  holds : (at : ℕ) (l : Lengths) (ls : List Lengths) (n : ℕ) → at ≤ offset → begun-spans at (l ∷ ls) ≡ n + 1 → Holds at (l ∷ ls) n
+  holds : (at : ℕ) (l : Lengths) (ls : List Lengths) (n : ℕ) → at ≤ offset → rank-spans at (l ∷ ls) ≡ n + 1 → Holds at (l ∷ ls) n
   holds at l [] zero h e = holds-first at l [] h (λ none. absurd (omega (arith, none)))
-  holds at l [] (suc n) h e = absurd (omega (arith, e, span-begun at l [] h))
+  holds at l [] (suc n) h e = absurd (omega (arith, e, span-rank at l [] h))
   holds at l (m ∷ ls) zero h e =
       let next = at + bytes_of l in
       ⊎_elim (λ past. holds-first at l (m ∷ ls) h (λ some. past))
-      (λ here. absurd (omega (arith, e, span-begun at l (m ∷ ls) h, span-begun next m ls here))) (cases_lt offset next)
+      (λ here. absurd (omega (arith, e, span-rank at l (m ∷ ls) h, span-rank next m ls here))) (cases_lt offset next)
   holds at l (m ∷ ls) (suc n) h e =
       let next = at + bytes_of l in
-      ⊎_elim (λ past. absurd (omega (arith, e, span-begun at l (m ∷ ls) h, no-span-begun next (m ∷ ls) past)))
-      (λ here. holds-next at l (m ∷ ls) n (holds next m ls n here (omega (arith, e, span-begun at l (m ∷ ls) h)))) (cases_lt offset next)
+      ⊎_elim (λ past. absurd (omega (arith, e, span-rank at l (m ∷ ls) h, no-span-rank next (m ∷ ls) past)))
+      (λ here. holds-next at l (m ∷ ls) n (holds next m ls n here (omega (arith, e, span-rank at l (m ∷ ls) h)))) (cases_lt offset next)
 
   -- the paragraph that an index tells for the offset
   pub holds-of : (ls : List Lengths) (n : ℕ) → 0 < length ls → n ≡ paragraph_of ls offset → Holds 0 ls n
   holds-of [] n some e = absurd (omega (arith, some))
-  holds-of (l ∷ ls) n some e = holds 0 l ls n (omega arith) (omega (arith, e, span-begun 0 l ls (omega arith)))
+  holds-of (l ∷ ls) n some e = holds 0 l ls n (omega arith) (omega (arith, e, span-rank 0 l ls (omega arith)))
 
 pair-of : (a b c d : ℕ) → ◌≡◌ {A = Option (ℕ × ℕ)} (Some (a, b)) (Some (c, d)) → (a ≡ c) × (b ≡ d)
 pair-of a b c d e = let same : ◌≡◌ {A = ℕ × ℕ} (a, b) (c, d) = cc in (ap (λ (x : ℕ × ℕ). x.0) same, ap (λ (x : ℕ × ℕ). x.1) same)
@@ -197,7 +197,7 @@ module _ (class : ℕ → Class) (text : List ℕ) where
   -- what is true of the paragraph that an offset falls in
   pub record Falls (offset n : ℕ) : Type 0 where
     pub within : n < count class text
-    pub begun : start_at class text n ≤ offset
+    pub order : start_at class text n ≤ offset
     pub ended : EndsBefore (drop (n + 1) (paragraphs class text)) offset (start_at class text n + bytes_of (lengths_of (paragraph_at class text n)))
 
   pub falls-at : (offset n : ℕ) → IsUtf8 text → n ≡ paragraph_of (lengths class text) offset → Falls offset n
@@ -206,7 +206,7 @@ module _ (class : ℕ → Class) (text : List ℕ) where
       let within : n < count class text = omega (arith, h.within, lengths-count) in
       record {
         within = within;
-        begun = omega (arith, h.begun);
+        order = omega (arith, h.order);
         ended = ends-before offset (start_at class text n + bytes_of (lengths_of (paragraph_at class text n))) (drop (n + 1) all)
             (λ some. omega (arith, h.ended (omega (arith, some, length-drop (n + 1) all, lengths-count)), next-start n within));
       }

@@ -63,53 +63,53 @@ rises-apart low (o ∷ os) high (suc n) (suc m) d r h l = rises-apart (o + 1) os
 -- ---- how many are at an offset or before it
 
 module _ (offset : ℕ) where
-  abbrev pub begun : List ℕ → ℕ
-  begun os = count_by (λ b. nat_le b offset) os
+  abbrev pub rank : List ℕ → ℕ
+  rank os = count_by (λ b. nat_le b offset) os
 
-  pub begun-append : (os ps : List ℕ) → begun (os ++ ps) ≡ begun os + begun ps
-  begun-append os ps = sum_by-append (λ b. cond (nat_le b offset) 1 0) os ps
+  pub rank-append : (os ps : List ℕ) → rank (os ++ ps) ≡ rank os + rank ps
+  rank-append os ps = sum_by-append (λ b. cond (nat_le b offset) 1 0) os ps
 
-  begun-cons : (o : ℕ) (os : List ℕ) → begun (o ∷ os) ≡ cond (nat_le o offset) 1 0 + begun os
-  begun-cons o os = sum_by-cons (λ b. cond (nat_le b offset) 1 0) o os
+  rank-cons : (o : ℕ) (os : List ℕ) → rank (o ∷ os) ≡ cond (nat_le o offset) 1 0 + rank os
+  rank-cons o os = sum_by-cons (λ b. cond (nat_le b offset) 1 0) o os
 
-  pub begun-first : (o : ℕ) (os : List ℕ) → o ≤ offset → begun (o ∷ os) ≡ 1 + begun os
-  begun-first o os h = let e : nat_le o offset ≡ true = grind (arith, nat_tests) in begun-cons o os ∙ ap (λ b. cond b 1 0 + begun os) e
+  pub rank-first : (o : ℕ) (os : List ℕ) → o ≤ offset → rank (o ∷ os) ≡ 1 + rank os
+  rank-first o os h = let e : nat_le o offset ≡ true = grind (arith, nat_tests) in rank-cons o os ∙ ap (λ b. cond b 1 0 + rank os) e
 
-  begun-not : (o : ℕ) (os : List ℕ) → offset < o → begun (o ∷ os) ≡ begun os
-  begun-not o os h =
+  rank-not : (o : ℕ) (os : List ℕ) → offset < o → rank (o ∷ os) ≡ rank os
+  rank-not o os h =
       let e : nat_le o offset ≡ false = grind (arith, nat_tests) in
-      begun-cons o os ∙ ap (λ b. cond b 1 0 + begun os) e ∙ omega arith
+      rank-cons o os ∙ ap (λ b. cond b 1 0 + rank os) e ∙ omega arith
 
   -- none that lie past the offset
-  pub none-begun : (low : ℕ) (os : List ℕ) (high : ℕ) → Rises low os high → offset < low → begun os ≡ 0
-  none-begun low [] high r h = refl
-  none-begun low (o ∷ os) high r h = begun-not o os (omega (arith, r.0)) ∙ none-begun (o + 1) os high r.1 (omega (arith, r.0))
+  pub none-rank : (low : ℕ) (os : List ℕ) (high : ℕ) → Rises low os high → offset < low → rank os ≡ 0
+  none-rank low [] high r h = refl
+  none-rank low (o ∷ os) high r h = rank-not o os (omega (arith, r.0)) ∙ none-rank (o + 1) os high r.1 (omega (arith, r.0))
 
   -- all that end before it
-  pub all-begun : (low : ℕ) (os : List ℕ) (high : ℕ) → Rises low os high → high ≤ offset + 1 → begun os ≡ length os
-  all-begun low [] high r h = refl
-  all-begun low (o ∷ os) high r h =
+  pub all-rank : (low : ℕ) (os : List ℕ) (high : ℕ) → Rises low os high → high ≤ offset + 1 → rank os ≡ length os
+  all-rank low [] high r h = refl
+  all-rank low (o ∷ os) high r h =
       let near = rises-within (o + 1) os high r.1 in
-      let more = all-begun (o + 1) os high r.1 h in
-      begun-first o os (omega (arith, near)) ∙ omega (arith, more)
+      let more = all-rank (o + 1) os high r.1 h in
+      rank-first o os (omega (arith, near)) ∙ omega (arith, more)
 
-  pub begun-few : (os : List ℕ) → begun os ≤ length os
-  begun-few os = count_by-le-length (λ b. nat_le b offset) os
+  pub rank-few : (os : List ℕ) → rank os ≤ length os
+  rank-few os = count_by-le-length (λ b. nat_le b offset) os
 
 -- the number of the last that is at the offset or before it: those up to it are, those past it are not
 module _ (offset d : ℕ) where
-  pub begun-here : (low : ℕ) (os : List ℕ) (high k : ℕ) → Rises low os high → k < begun offset os → get_or os k d ≤ offset
-  begun-here low [] high k r h = absurd (omega (arith, h))
-  begun-here low (o ∷ os) high zero r h = ⊎_elim
-      (λ past. absurd (omega (arith, h, begun-not offset o os past, none-begun offset (o + 1) os high r.1 (omega (arith, past))))) (λ here. here)
+  pub rank-here : (low : ℕ) (os : List ℕ) (high k : ℕ) → Rises low os high → k < rank offset os → get_or os k d ≤ offset
+  rank-here low [] high k r h = absurd (omega (arith, h))
+  rank-here low (o ∷ os) high zero r h = ⊎_elim
+      (λ past. absurd (omega (arith, h, rank-not offset o os past, none-rank offset (o + 1) os high r.1 (omega (arith, past))))) (λ here. here)
       (cases_lt offset o)
-  begun-here low (o ∷ os) high (suc k) r h = ⊎_elim
-      (λ past. absurd (omega (arith, h, begun-not offset o os past, none-begun offset (o + 1) os high r.1 (omega (arith, past)))))
-      (λ here. begun-here (o + 1) os high k r.1 (omega (arith, h, begun-first offset o os here))) (cases_lt offset o)
+  rank-here low (o ∷ os) high (suc k) r h = ⊎_elim
+      (λ past. absurd (omega (arith, h, rank-not offset o os past, none-rank offset (o + 1) os high r.1 (omega (arith, past)))))
+      (λ here. rank-here (o + 1) os high k r.1 (omega (arith, h, rank-first offset o os here))) (cases_lt offset o)
 
-  pub begun-not-here : (low : ℕ) (os : List ℕ) (high k : ℕ) → Rises low os high → begun offset os ≤ k → k < length os → offset < get_or os k d
-  begun-not-here low [] high k r h l = absurd (omega (arith, l))
-  begun-not-here low (o ∷ os) high zero r h l = ⊎_elim (λ past. past) (λ here. absurd (omega (arith, h, begun-first offset o os here))) (cases_lt offset o)
-  begun-not-here low (o ∷ os) high (suc k) r h l = ⊎_elim
-      (λ past. begun-not-here (o + 1) os high k r.1 (omega (arith, none-begun offset (o + 1) os high r.1 (omega (arith, past)))) (omega (arith, l)))
-      (λ here. begun-not-here (o + 1) os high k r.1 (omega (arith, h, begun-first offset o os here)) (omega (arith, l))) (cases_lt offset o)
+  pub rank-not-here : (low : ℕ) (os : List ℕ) (high k : ℕ) → Rises low os high → rank offset os ≤ k → k < length os → offset < get_or os k d
+  rank-not-here low [] high k r h l = absurd (omega (arith, l))
+  rank-not-here low (o ∷ os) high zero r h l = ⊎_elim (λ past. past) (λ here. absurd (omega (arith, h, rank-first offset o os here))) (cases_lt offset o)
+  rank-not-here low (o ∷ os) high (suc k) r h l = ⊎_elim
+      (λ past. rank-not-here (o + 1) os high k r.1 (omega (arith, none-rank offset (o + 1) os high r.1 (omega (arith, past)))) (omega (arith, l)))
+      (λ here. rank-not-here (o + 1) os high k r.1 (omega (arith, h, rank-first offset o os here)) (omega (arith, l))) (cases_lt offset o)

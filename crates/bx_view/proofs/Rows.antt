@@ -224,7 +224,8 @@ unfolding unicode_segmentation unicode_width
 home_and_end = refl
 
 -- Left goes over the line's end to the row before
-up_and_down_and_aside : walk (vertical 6 two_letters Down ∷ step_visual 6 two_letters Left ∷ step_visual 6 two_letters Right ∷ step_visual 6 two_letters Left ∷ []) 0
+up_and_down_and_aside : walk
+    (vertical 6 two_letters Down ∷ step_visual 6 two_letters Left ∷ step_visual 6 two_letters Right ∷ step_visual 6 two_letters Left ∷ []) 0
     ≡ 2 ∷ 1 ∷ 2 ∷ 1 ∷ []
 unfolding unicode_segmentation unicode_width
 up_and_down_and_aside = refl

@@ -11,9 +11,9 @@ use Rattle.bx_view.specs.Moves.{place_from}
 use Rattle.bx_view.specs.TextRows.{TextRow, first, places, places_of, row_at, row_of}
 use Rattle.bx_view.proofs.FindPlaces.{back-in-row, back-stays, back-to-row, forward-in-row, forward-stays, forward-to-next, from-here, from-last, from-next}
 use Rattle.bx_view.proofs.PlacesRise.{AllHeads, places-rise, rows-headed-in}
-use Rattle.bx_view.proofs.Rising.{Rises, begun}
+use Rattle.bx_view.proofs.Rising.{Rises, rank}
 use Rattle.bx_view.proofs.Told.{rows-kept, side-some}
-use Rattle.bx_view.proofs.Walking.{row-within, text-begun}
+use Rattle.bx_view.proofs.Walking.{row-within, text-rank}
 
 module _ (class : ℕ → Class) (bracket : ℕ → Option (Side × ℕ)) (old v : ViewState) (text : List ℕ) (offset : ℕ) (at : RowAt) (utf8 : IsUtf8 text)
     (keeps : Keeps class bracket old v) (on : StandsOn class bracket v text at (row_of (rows_by class bracket v text) offset)) where
@@ -35,8 +35,8 @@ module _ (class : ℕ → Class) (bracket : ℕ → Option (Side × ℕ)) (old v
   heads : AllHeads rows
   heads = rows-headed-in class bracket v.base v.w some text utf8
 
-  begun-one : 1 ≤ begun offset (map first rows)
-  begun-one = text-begun class bracket v.base v.w some text utf8 offset
+  rank-one : 1 ≤ rank offset (map first rows)
+  rank-one = text-rank class bracket v.base v.w some text utf8 offset
 
   kept : {A : Type 0} (F : List TextRow → A) → F rows ≡ F (rows_by class bracket old text)
   kept F = ap F (rows-kept class bracket old v text keeps)
@@ -54,13 +54,13 @@ module _ (class : ℕ → Class) (bracket : ℕ → Option (Side × ℕ)) (old v
   module _ (x : Option ℕ) where
     module _ (o : ℕ) (some-is : x ≡ Some o) where
       pub least-here : x ≡ find (nat_le offset) (places_of here) → o ≡ least (rows_by class bracket old text)
-      least-here e = from-here rows (length text + 1) rise heads offset begun-one o (sym e ∙ some-is) ∙ kept least
+      least-here e = from-here rows (length text + 1) rise heads offset rank-one o (sym e ∙ some-is) ∙ kept least
 
       pub behind-here : x ≡ find (nat_lt offset) (places_of here) → o ≡ behind (rows_by class bracket old text)
-      behind-here e = forward-in-row rows (length text + 1) rise heads offset begun-one o (sym e ∙ some-is) ∙ kept behind
+      behind-here e = forward-in-row rows (length text + 1) rise heads offset rank-one o (sym e ∙ some-is) ∙ kept behind
 
       pub before-here : x ≡ find (λ p. nat_lt p offset) (reverse (places_of here)) → o ≡ before (rows_by class bracket old text)
-      before-here e = back-in-row rows (length text + 1) rise heads offset begun-one o (sym e ∙ some-is) ∙ kept before
+      before-here e = back-in-row rows (length text + 1) rise heads offset rank-one o (sym e ∙ some-is) ∙ kept before
 
     module _ (none : x ≡ None) (later : ViewState) (further : Keeps class bracket v later) where
       same : rows_by class bracket later text ≡ rows
@@ -75,11 +75,11 @@ module _ (class : ℕ → Class) (bracket : ℕ → Option (Side × ℕ)) (old v
 
         pub least-next : x ≡ find (nat_le offset) (places_of here) → f ≡ least (rows_by class bracket old text)
         least-next e =
-            is ∙ ap (λ rs. first (row_at rs (n + 1))) same ∙ from-next rows (length text + 1) rise heads offset begun-one more (sym e ∙ none) ∙ kept least
+            is ∙ ap (λ rs. first (row_at rs (n + 1))) same ∙ from-next rows (length text + 1) rise heads offset rank-one more (sym e ∙ none) ∙ kept least
 
         pub behind-next : x ≡ find (nat_lt offset) (places_of here) → f ≡ behind (rows_by class bracket old text)
         behind-next e =
-            is ∙ ap (λ rs. first (row_at rs (n + 1))) same ∙ forward-to-next rows (length text + 1) rise heads offset begun-one more (sym e ∙ none)
+            is ∙ ap (λ rs. first (row_at rs (n + 1))) same ∙ forward-to-next rows (length text + 1) rise heads offset rank-one more (sym e ∙ none)
             ∙ kept behind
 
       module _ (last : n + 1 ≡ length (rows_by class bracket later text)) where
@@ -87,17 +87,17 @@ module _ (class : ℕ → Class) (bracket : ℕ → Option (Side × ℕ)) (old v
             → x ≡ find (nat_le offset) (places_of here) → f ≡ least (rows_by class bracket old text)
         least-last f is e =
             is ∙ ap (λ rs. (row_at rs n).start + last_of (row_at rs n).row) same
-            ∙ from-last rows (length text + 1) rise heads offset begun-one (last ∙ ap length same) (sym e ∙ none) ∙ kept least
+            ∙ from-last rows (length text + 1) rise heads offset rank-one (last ∙ ap length same) (sym e ∙ none) ∙ kept least
 
         pub behind-last : x ≡ find (nat_lt offset) (places_of here) → offset ≡ behind (rows_by class bracket old text)
-        behind-last e = forward-stays rows (length text + 1) rise heads offset begun-one (last ∙ ap length same) (sym e ∙ none) ∙ kept behind
+        behind-last e = forward-stays rows (length text + 1) rise heads offset rank-one (last ∙ ap length same) (sym e ∙ none) ∙ kept behind
 
       pub before-there : 0 < n → (f : ℕ)
           → f ≡ (row_at (rows_by class bracket later text) (n - 1)).start + last_of (row_at (rows_by class bracket later text) (n - 1)).row
           → x ≡ find (λ p. nat_lt p offset) (reverse (places_of here)) → f ≡ before (rows_by class bracket old text)
       before-there above f is e =
           is ∙ ap (λ rs. (row_at rs (n - 1)).start + last_of (row_at rs (n - 1)).row) same
-          ∙ back-to-row rows (length text + 1) rise heads offset begun-one above (sym e ∙ none) ∙ kept before
+          ∙ back-to-row rows (length text + 1) rise heads offset rank-one above (sym e ∙ none) ∙ kept before
 
     pub before-first : n ≡ 0 → x ≡ None → x ≡ find (λ p. nat_lt p offset) (reverse (places_of here)) → offset ≡ before (rows_by class bracket old text)
-    before-first first-row none e = back-stays rows (length text + 1) rise heads offset begun-one first-row (sym e ∙ none) ∙ kept before
+    before-first first-row none e = back-stays rows (length text + 1) rise heads offset rank-one first-row (sym e ∙ none) ∙ kept before

@@ -33,7 +33,7 @@ use Rattle.bx_view.specs.Numbers.{unit_number}
 use Rattle.bx_view.specs.Standing.{body_at, count, start_at}
 use Rattle.bx_view.proofs.BodyFirsts.{body-firsts, units-in}
 use Rattle.bx_view.proofs.Numbers.{body-range, body-utf8, falls-at, lengths-count}
-use Rattle.bx_view.proofs.Rising.{Rises, begun, begun-few, begun-first, begun-here, begun-not-here, rises-sooner}
+use Rattle.bx_view.proofs.Rising.{Rises, rank, rank-few, rank-first, rank-here, rank-not-here, rises-sooner}
 use Rattle.bx_view.proofs.Told.{side-some}
 
 abbrev starts_of : List Unit → List ℕ
@@ -212,15 +212,15 @@ module _ (class : ℕ → Class) (bracket : ℕ → Option (Side × ℕ)) (base 
       let same : map first_of (body_rows class bracket base w body) ≡ os = firsts class bracket base w body some in
       let first : os ≡ 0 ∷ f.others = sym same ∙ f.firsts in
       let rise : Rises 0 os (length body + 1) = subst (λ xs. Rises 0 xs (length body + 1)) (sym first) (omega arith, f.rise) in
-      let one : begun offset os ≡ 1 + begun offset f.others = ap (begun offset) first ∙ begun-first offset 0 f.others (omega arith) in
-      let last : k ≡ begun offset os - 1 = e ∙ ap (λ xs. begun offset xs - 1) same in
-      let few = begun-few offset os in
+      let one : rank offset os ≡ 1 + rank offset f.others = ap (rank offset) first ∙ rank-first offset 0 f.others (omega arith) in
+      let last : k ≡ rank offset os - 1 = e ∙ ap (λ xs. rank offset xs - 1) same in
+      let few = rank-few offset os in
       record {
         within = omega (arith, last, one, few, offsets-count);
         sooner = λ j h. subst (λ o. o ≤ offset) (offset-at j (omega (arith, h, last, one, few, offsets-count)))
-            (begun-here offset 0 0 os (length body + 1) j rise (omega (arith, h, last, one)));
+            (rank-here offset 0 0 os (length body + 1) j rise (omega (arith, h, last, one)));
         later = λ h. subst (λ o. offset < o) (offset-at (k + 1) h)
-            (begun-not-here offset 0 0 os (length body + 1) (k + 1) rise (omega (arith, last, one)) (omega (arith, h, offsets-count)));
+            (rank-not-here offset 0 0 os (length body + 1) (k + 1) rise (omega (arith, last, one)) (omega (arith, h, offsets-count)));
       }
 
   -- the units before the row that an offset falls in, and those of it that begin before the offset, are all that begin before it
@@ -303,12 +303,12 @@ module _ (class : ℕ → Class) (bracket : ℕ → Option (Side × ℕ)) (v : V
 
   pub number-told : (k : ℕ) → k < length l.starts → k ≡ row_of (rows_by class bracket l) (place - start) → mine k + 1 ≡ unit_number class v.w text place
   number-told k h f =
-      let begun = (falls-at class text place number utf8 e).begun in
+      let order = (falls-at class text place number utf8 e).order in
       let body : get_or (map (λ p. p.body) (paragraphs class text)) number [] ≡ body_at class text number =
       get_or-map (λ p. p.body) (paragraphs class text) number (bare []) [] within in
       ap (λ n. n + 1) (counted-in k h f
       ∙ ap₂ (λ w b. before (place - start) (units class w b)) is.w_is (is.body_is ∙ sym body)
-      ∙ sym (before-moved start place (omega (arith, begun, s)) (units class v.w (get_or (map (λ p. p.body) (paragraphs class text)) number [])))
+      ∙ sym (before-moved start place (omega (arith, order, s)) (units class v.w (get_or (map (λ p. p.body) (paragraphs class text)) number [])))
       ∙ ap (λ a. count_by (λ u. nat_lt (a + u.start) place) (units class v.w (get_or (map (λ p. p.body) (paragraphs class text)) number [])))
       (sym start-told))
       ∙ ap (λ n. count_by (λ u. nat_lt ((get_or (spans (lengths class text)) n (0, 0)).0 + u.start) place)

@@ -14,12 +14,12 @@ use Rattle.bx_paragraph.specs.Slots.{column_of}
 use Rattle.bx_view.specs.Moves.{row_after, row_before, row_end, row_home}
 use Rattle.bx_view.specs.Standing.{IsRow, body_at, count, paragraph_at, rows_ahead, rows_in, start_at}
 use Rattle.bx_view.specs.TextRows.{TextRow, cell_of, first, no_text_row, row_at, row_of, text_row, text_rows}
-use Rattle.bx_view.proofs.Around.{BodyFirsts, all-rise, begun-around, count-around, from, from-append, own, own-begun, own-some, own-within, row-falls}
+use Rattle.bx_view.proofs.Around.{BodyFirsts, all-rise, rank-around, count-around, from, from-append, own, own-rank, own-some, own-within, row-falls}
 use Rattle.bx_view.proofs.Around.{row-there}
 use Rattle.bx_view.proofs.BodyFirsts.{body-firsts}
 use Rattle.bx_view.proofs.Numbers.{ahead, among, behind, body-range, body-utf8, falls-at, here, parts-at}
 use Rattle.bx_view.proofs.Parts.{AreEnded, AreUtf8, text-parts}
-use Rattle.bx_view.proofs.Rising.{Rises, begun, rises-apart, rises-below}
+use Rattle.bx_view.proofs.Rising.{Rises, rank, rises-apart, rises-below}
 
 pub slice-at : {X : Type 0} (xs : List X) (n : ℕ) (d : X) → n < length xs → slice_get xs n ≡ Some (get_or xs n d)
 slice-at [] n d h = absurd (omega (arith, h))
@@ -110,7 +110,7 @@ module _ (class : ℕ → Class) (bracket : ℕ → Option (Side × ℕ)) (base 
       let falls = falls-at class text offset number utf8 e in
       let u = body-utf8 class text number falls.within utf8 in
       let whole = row-falls class bracket base w bodies text number (begins number) (paragraph_at class text number) (take number all) (drop (number + 1) all)
-      (among class text number falls.within) offset (around-utf8 number falls.within) (around-ended number falls.within) falls.begun falls.ended in
+      (among class text number falls.within) offset (around-utf8 number falls.within) (around-ended number falls.within) falls.order falls.ended in
       record {
         paragraph = falls.within;
         row = omega (arith, f, own-within class bracket base w bodies (paragraph_at class text number) (offset - begins number) u);
@@ -118,14 +118,14 @@ module _ (class : ℕ → Class) (bracket : ℕ → Option (Side × ℕ)) (base 
       }
 
   -- a row of the text begins at or before each offset
-  pub text-begun : (offset : ℕ) → 1 ≤ begun offset (map first rows)
-  text-begun offset =
+  pub text-rank : (offset : ℕ) → 1 ≤ rank offset (map first rows)
+  text-rank offset =
       let number = paragraph_of (lengths class text) offset in
       let falls = falls-at class text offset number utf8 refl in
       let p = paragraph_at class text number in
-      let whole = begun-around class bracket base w bodies text number (begins number) p (take number all) (drop (number + 1) all)
-      (among class text number falls.within) offset (around-utf8 number falls.within) (around-ended number falls.within) falls.begun falls.ended in
-      let own = own-begun class bracket base w bodies p (offset - begins number) (body-utf8 class text number falls.within utf8) in
+      let whole = rank-around class bracket base w bodies text number (begins number) p (take number all) (drop (number + 1) all)
+      (among class text number falls.within) offset (around-utf8 number falls.within) (around-ended number falls.within) falls.order falls.ended in
+      let own = own-rank class bracket base w bodies p (offset - begins number) (body-utf8 class text number falls.within utf8) in
       omega (arith, whole, own)
 
   -- ---- the next row and the one before

@@ -29,8 +29,8 @@ fn is_held(held: &[ParagraphLayout], i: usize, text: &Text, start: usize, stop: 
     body.len() == stop - start && stands_at(text, start, body.as_bytes())
 }
 
-/// Which of those that are held has the bytes between two offsets as its body: that of the number `recent` is asked
-/// first. No memory.
+/// Which of those that are held has the bytes between two offsets as its body. That of the number `recent` is asked
+/// first, and then the one behind it: the paragraphs of a page were held one after another. No memory.
 pub(crate) fn position(
     held: &[ParagraphLayout],
     recent: usize,
@@ -44,6 +44,9 @@ pub(crate) fn position(
 {
     if is_held(held, recent, text, start, stop) {
         return Some(recent);
+    }
+    if recent < held.len() && is_held(held, recent + 1, text, start, stop) {
+        return Some(recent + 1);
     }
     for i in 0..held.len() {
         if is_held(held, i, text, start, stop) {

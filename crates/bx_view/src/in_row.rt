@@ -70,7 +70,7 @@ impl Layout {
     ) -> Result<Option<usize>, ViewError>
         requires data { IsViewBy (D.class_of source.now) (D.bracket_of source.now) self.now }
         requires row { (n : ℕ) × StandsOn (D.class_of source.now) (D.bracket_of source.now) self.now text.now.edited.text at n }
-        requires begun { at.start ≤ place }
+        requires order { at.start ≤ place }
         ensures { OfRow (D.class_of source.now) (D.bracket_of source.now) self.now text.now.edited.text at
             (λ r. IfOk result (λ o. o ≡ place_in r (beside self.now.w r.row side (place - r.start)))) }
     {

@@ -137,7 +137,7 @@ impl Layout {
         ensures keeps { Keeps (D.class_of source.now) (D.bracket_of source.now) self.old self.new }
         ensures row { IfOk result (λ at. StandsOn (D.class_of source.now) (D.bracket_of source.now) self.new text.now.edited.text at
             (row_of (text_rows (D.class_of source.now) (D.bracket_of source.now) self.new.base self.new.w text.now.edited.text) offset)) }
-        ensures begun { IfOk result (λ at. at.start ≤ offset) }
+        ensures order { IfOk result (λ at. at.start ≤ offset) }
         ensures utf8 { IsUtf8 text.now.edited.text }
         ensures short { length text.now.edited.text ≤ largest_text }
     {

@@ -48,7 +48,7 @@ impl Layout {
     ) -> Result<Option<usize>, ViewError>
         requires data { IsViewBy (D.class_of source.now) (D.bracket_of source.now) self.now }
         requires row { (n : ℕ) × StandsOn (D.class_of source.now) (D.bracket_of source.now) self.now text.now.edited.text at n }
-        requires begun { at.start ≤ offset }
+        requires order { at.start ≤ offset }
         ensures { OfRow (D.class_of source.now) (D.bracket_of source.now) self.now text.now.edited.text at
             (λ r. IfOk result (λ o. o ≡ find (nat_le offset) (places_of r))) }
     {
@@ -69,7 +69,7 @@ impl Layout {
     ) -> Result<Option<usize>, ViewError>
         requires data { IsViewBy (D.class_of source.now) (D.bracket_of source.now) self.now }
         requires row { (n : ℕ) × StandsOn (D.class_of source.now) (D.bracket_of source.now) self.now text.now.edited.text at n }
-        requires begun { at.start ≤ place }
+        requires order { at.start ≤ place }
         ensures { OfRow (D.class_of source.now) (D.bracket_of source.now) self.now text.now.edited.text at
             (λ r. IfOk result (λ o. o ≡ find (nat_lt place) (places_of r))) }
     {
@@ -90,7 +90,7 @@ impl Layout {
     ) -> Result<Option<usize>, ViewError>
         requires data { IsViewBy (D.class_of source.now) (D.bracket_of source.now) self.now }
         requires row { (n : ℕ) × StandsOn (D.class_of source.now) (D.bracket_of source.now) self.now text.now.edited.text at n }
-        requires begun { at.start ≤ place }
+        requires order { at.start ≤ place }
         ensures { OfRow (D.class_of source.now) (D.bracket_of source.now) self.now text.now.edited.text at
             (λ r. IfOk result (λ o. o ≡ find (λ p. nat_lt p place) (reverse (places_of r)))) }
     {

@@ -42,7 +42,7 @@ pub(crate) fn paragraph_under<D: BidiData>(
     ensures number { result.0 ≡ paragraph_of (lengths (D.class_of source.now) text.now.edited.text) offset }
     ensures there { result.0 < count (D.class_of source.now) text.now.edited.text }
     ensures start { result.1 ≡ start_at (D.class_of source.now) text.now.edited.text result.0 }
-    ensures begun { result.1 ≤ offset }
+    ensures order { result.1 ≤ offset }
     ensures short { length text.now.edited.text ≤ largest_text }
     ensures utf8 { IsUtf8 text.now.edited.text }
 {

@@ -162,9 +162,9 @@ loop-row-preserved g c =
       above = λ k on low.
           let there = stands k on in
           let same = kept class bracket d old text utf8 was c.requires.width k v keeps in
-          next-above class bracket old.base old.w text (side-some old.w on.side) utf8 c.args.place k row c.loop-row.above c.last_begun-above.result
+          next-above class bracket old.base old.w text (side-some old.w on.side) utf8 c.args.place k row c.loop-row.above c.nearest_row-above.result
           c.first_in.result (inside-kept class bracket d old text utf8 was c.requires.width k v keeps next (k + (row + 1)) there)
-          (c.first_in.ensures (k + (row + 1)) there ∙ ap (λ rs. first (row_at rs (k + (row + 1)))) same) c.last_begun-above.ensures low (i.above k on low);
+          (c.first_in.ensures (k + (row + 1)) there ∙ ap (λ rs. first (row_at rs (k + (row + 1)))) same) c.nearest_row-above.ensures low (i.above k on low);
     }
 
 pub returns-clause-drawn : goal.returns-clause-drawn

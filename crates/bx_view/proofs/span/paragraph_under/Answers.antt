@@ -13,8 +13,8 @@ returns-clause-there g c = (falls-at (g.D.BidiData.class_of c.args.source.now) c
     c.paragraph_of-number.result c.len-utf8.ensures.utf8
     (c.paragraph_of-number.ensures ∙ ap (λ ls. paragraph_of ls c.args.offset) c.requires.index)).within
 
-pub returns-clause-begun : goal.returns-clause-begun
-returns-clause-begun g c =
+pub returns-clause-order : goal.returns-clause-order
+returns-clause-order g c =
     let falls = falls-at (g.D.BidiData.class_of c.args.source.now) c.args.text.now.edited.text c.args.offset c.paragraph_of-number.result
     c.len-utf8.ensures.utf8 (c.paragraph_of-number.ensures ∙ ap (λ ls. paragraph_of ls c.args.offset) c.requires.index) in
-    omega (arith, falls.begun, c.body_span-start.ensures.start)
+    omega (arith, falls.order, c.body_span-start.ensures.start)

@@ -24,6 +24,6 @@ returns g c = λ n on.
     let l = c.paragraph-paragraph.result.now in
     place-told class bracket c.args.self.now c.args.text.now.edited.text c.args.at n l c.len-short.ensures.utf8 on c.paragraph-paragraph.ensures
     (λ w r. find (λ k. nat_lt k c.args.place) (reverse (places_of r))) c.last_before-found.result c.place_in.result c.place_in.ensures
-    (moved-before c.args.at.start c.args.place c.requires.begun (offsets_of (row_by class bracket l c.args.at.row)) c.last_before-found.result
+    (moved-before c.args.at.start c.args.place c.requires.order (offsets_of (row_by class bracket l c.args.at.row)) c.last_before-found.result
     (c.last_before-found.ensures ∙ ap (λ qs. find (λ k. nat_lt k (c.args.place - c.args.at.start)) (reverse qs)) (c.deref.ensures.value
     ∙ c.in_ok-offsets.ensures)))

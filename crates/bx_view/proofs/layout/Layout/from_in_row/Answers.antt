@@ -23,5 +23,5 @@ returns g c = λ n on.
     let l = c.paragraph-paragraph.result.now in
     place-told class bracket c.args.self.now c.args.text.now.edited.text c.args.at n l c.len-short.ensures.utf8 on c.paragraph-paragraph.ensures
     (λ w r. find (nat_le c.args.offset) (places_of r)) c.first_from-found.result c.place_in.result c.place_in.ensures
-    (moved-from c.args.at.start c.args.offset c.requires.begun (offsets_of (row_by class bracket l c.args.at.row)) c.first_from-found.result
+    (moved-from c.args.at.start c.args.offset c.requires.order (offsets_of (row_by class bracket l c.args.at.row)) c.first_from-found.result
     (c.first_from-found.ensures ∙ ap (λ qs. find (nat_le (c.args.offset - c.args.at.start)) qs) (c.deref.ensures.value ∙ c.in_ok-offsets.ensures)))
