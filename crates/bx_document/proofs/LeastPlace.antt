@@ -189,7 +189,7 @@ module _ (class : ℕ → Class) (bracket : ℕ → Option (Side × ℕ)) (base 
       ap (least offset) is
       ∙ least_behind offset 0 (a + 0) before (map (λ o. a + o) (places (rows v))) rise (omega (arith, order))
       (omega (arith, some, length-map (places (rows v)) (λ o. a + o)))
-      ∙ least_moved a offset (places (rows v)) rank some
+      ∙ least_moved a offset (places (rows v)) order some
 
   -- and what stands behind where one ends
   pub place_before_back : (x y : List ℕ) (offset : ℕ) → IsUtf8 x → IsUtf8 y → parts class (chars x) (chars y) ≡ true → offset ≤ length x
