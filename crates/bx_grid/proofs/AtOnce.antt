@@ -1,9 +1,11 @@
 -- A sequence that is read at once.
 use Rattle.std.proofs.Common.{◌≡◌, ℕ, ◌+◌, ◌≤◌, ◌<◌, Bool, true, false, nat_le, ◌&&◌, if◌then◌else◌, List, []}
 use Rattle.std.proofs.Common.{◌∷◌, ◌++◌, length, take, drop, get_or, Option, Some, None, refl, ap, sym, ◌∙◌}
-use Rattle.std.proofs.Common.{append_assoc, arith, suc}
-use Rattle.std.proofs.lemmas.List.{take-append-drop, drop_more, get_or-drop, length-drop}
+use Rattle.std.proofs.Common.{append_assoc, arith, suc, min}
+use Rattle.std.proofs.lemmas.List.{take-append-drop, drop_more, get_or-drop, length-drop, length-take-le, drop-drop}
 use Rattle.std.specs.List.{list_all}
+use Rattle.std.specs.Str.{all_ascii_digits}
+use Rattle.std.specs.Str.Parse.{digits_value}
 use Rattle.std.proofs.lemmas.Bool.Decides.{nat_tests}
 use Rattle.bx_grid.specs.Capped.{capped}
 use Rattle.bx_grid.specs.Columns.{run_columns}
@@ -12,9 +14,10 @@ use Rattle.bx_grid.specs.Sequences.{BeginWithSequence}
 use Rattle.bx_grid.specs.Tokens.{is_param, is_final, params, command_of}
 use Rattle.bx_grid.specs.Terminal.{Terminal, reads, run_ended, run_put, all_unknown, after_command}
 use Rattle.bx_grid.specs.declared.token.Command.{Command}
+use Rattle.bx_grid.specs.declared.token.Command.TheVariants.{Move}
 use Rattle.bx_grid.proofs.Doing.{run_is, sequence_does}
 use Rattle.bx_grid.proofs.Halves.{obeyed_capped}
-use Rattle.bx_grid.proofs.Reading.{at, reads-append, IsFinal}
+use Rattle.bx_grid.proofs.Reading.{at, reads-append, IsFinal, all-append, digits_are_params, no_semicolon, number_of_digits}
 use Rattle.bx_grid.proofs.RunEnds.{half_ended}
 use Rattle.bx_grid.proofs.Texts.{text_read}
 use Rattle.bx_bytes.specs.Utf8.{are_printable}
@@ -114,4 +117,47 @@ sequence_told body ps rest n f command le fit front back some first final asks =
           ap (λ xs. reads t (0x1B ∷ 0x5B ∷ xs)) split
           ∙ obeyed_by t ps f after command none all final asks high wide
           ∙ ap (reads (after_command (run_ended t) command)) left;
+    }
+
+-- ---- a move whose numbers are read once
+
+split_at : (xs : List ℕ) (n f : ℕ) → n < length xs → get_or xs n 0 ≡ f → xs ≡ take n xs ++ f ∷ drop (n + 1) xs
+split_at xs n f low is = sym (take-append-drop n xs) ∙ ap (λ ys. take n xs ++ ys) (drop_more xs n 0 low ∙ ap (λ b. b ∷ drop (n + 1) xs) is)
+
+move_asked : (ds es : List ℕ) (line column : ℕ) → 0 < length ds → 0 < length es → all_ascii_digits ds ≡ true → all_ascii_digits es ≡ true
+    → line ≡ min 1000 (digits_value 10 ds) → column ≡ min 1000 (digits_value 10 es)
+    → Move line column ≡ capped (command_of (ds ++ 0x3B ∷ es) 0x48)
+move_asked ds es line column some more all every el ec =
+    let parts = no_semicolon ds all es in
+    let is : command_of (ds ++ 0x3B ∷ es) 0x48 ≡ Move (digits_value 10 ds) (digits_value 10 es) =
+    rw (parts.0, parts.1, number_of_digits ds some all, number_of_digits es more every) refl in
+    ap (λ n. Move n column) el ∙ ap (λ n. Move (min 1000 (digits_value 10 ds)) n) ec ∙ sym (ap capped is)
+
+-- the numbers of so many digits each, a semicolon between them and an H after them
+pub move_told : (body rest : List ℕ) (m k line column : ℕ) → 0 < m → m < length body → get_or body m 0 ≡ 0x3B → all_ascii_digits (take m body) ≡ true
+    → line ≡ min 1000 (digits_value 10 (take m body)) → rest ≡ drop (m + 1) body → 0 < k → k < length rest → get_or rest k 0 ≡ 0x48
+    → all_ascii_digits (take k rest) ≡ true → column ≡ min 1000 (digits_value 10 (take k rest))
+    → BeginWithSequence (0x1B ∷ 0x5B ∷ body) (Move line column) (m + k + 4)
+move_told body rest m k line column some low semicolon all el back more few last every ec =
+    let ds = take m body in
+    let es = take k rest in
+    let ps = ds ++ 0x3B ∷ es in
+    let after = drop (k + 1) rest in
+    let split : body ≡ ps ++ 0x48 ∷ after =
+    split_at body m 0x3B low semicolon
+    ∙ ap (λ xs. ds ++ 0x3B ∷ xs) (sym back ∙ split_at rest k 0x48 few last)
+    ∙ sym (append_assoc ds (0x3B ∷ es) (0x48 ∷ after)) in
+    let fit : list_all is_param ps ≡ true = all-append is_param ds (0x3B ∷ es) (digits_are_params ds all) (digits_are_params es every) in
+    let asks = move_asked ds es line column (omega (arith, length-take-le m body (omega (arith, low)), some))
+    (omega (arith, length-take-le k rest (omega (arith, few)), more)) all every el ec in
+    let left : after ≡ drop (m + k + 4) (0x1B ∷ 0x5B ∷ body) =
+    ap (drop (k + 1)) back ∙ drop-drop (k + 1) (m + 1) body
+    ∙ ap (λ n. drop n (0x1B ∷ 0x5B ∷ body)) (let e : suc (suc ((m + 1) + (k + 1))) ≡ m + k + 4 = omega arith in e) in
+    record {
+      some = omega arith;
+      within = omega (arith, low, few, ap length back, length-drop (m + 1) body);
+      obeyed = λ t none high wide.
+          ap (λ xs. reads t (0x1B ∷ 0x5B ∷ xs)) split
+          ∙ obeyed_by t ps 0x48 after (Move line column) none fit refl asks high wide
+          ∙ ap (reads (after_command (run_ended t) (Move line column))) left;
     }

@@ -75,7 +75,7 @@ pub record IsFinal (f : ℕ) : Type 0 where
 own : IsNumeralModel (λ ds. all_ascii_digits ds ≡ true) (digits_value 10)
 own = numerals_by_value (λ ds. all_ascii_digits ds ≡ true) tells_all_ascii_digits
 
-number_of_digits : (ds : List ℕ) → 0 < length ds → all_ascii_digits ds ≡ true → number ds ≡ Some (digits_value 10 ds)
+pub number_of_digits : (ds : List ℕ) → 0 < length ds → all_ascii_digits ds ≡ true → number ds ≡ Some (digits_value 10 ds)
 number_of_digits [] pos h = absurd (omega arith)
 number_of_digits (d ∷ ds) pos h = rw h refl
 
@@ -86,7 +86,7 @@ number-decimal n h =
 
 -- ---- the bytes that the painter sends
 
-no_semicolon : (ds : List ℕ) → all_ascii_digits ds ≡ true → (rest : List ℕ)
+pub no_semicolon : (ds : List ℕ) → all_ascii_digits ds ≡ true → (rest : List ℕ)
     → (before_semicolon (ds ++ 0x3B ∷ rest) ≡ ds) × (after_semicolon (ds ++ 0x3B ∷ rest) ≡ rest)
 no_semicolon [] h rest = (refl, refl)
 no_semicolon (d ∷ ds) h rest =
@@ -94,13 +94,13 @@ no_semicolon (d ∷ ds) h rest =
     let more = no_semicolon ds (and_right (is_ascii_digit d) (all_ascii_digits ds) h) rest in
     (rw other (ap (λ r. d ∷ r) more.0), rw other more.1)
 
-digits_are_params : (ds : List ℕ) → all_ascii_digits ds ≡ true → list_all is_param ds ≡ true
+pub digits_are_params : (ds : List ℕ) → all_ascii_digits ds ≡ true → list_all is_param ds ≡ true
 digits_are_params [] h = refl
 digits_are_params (d ∷ ds) h =
     let here : is_param d ≡ true = grind (arith, nat_tests) in
     rw here (digits_are_params ds (and_right (is_ascii_digit d) (all_ascii_digits ds) h))
 
-all-append : (p : ℕ → Bool) (xs ys : List ℕ) → list_all p xs ≡ true → list_all p ys ≡ true → list_all p (xs ++ ys) ≡ true
+pub all-append : (p : ℕ → Bool) (xs ys : List ℕ) → list_all p xs ≡ true → list_all p ys ≡ true → list_all p (xs ++ ys) ≡ true
 all-append p [] ys h g = g
 all-append p (x ∷ xs) ys h g =
     rw (and_left (p x) (list_all p xs) h) (all-append p xs ys (and_right (p x) (list_all p xs) h) g)

@@ -4,7 +4,7 @@ ghost use Rattle.std.specs.Prelude.{◌≡◌, ◌∷◌, ◌≤◌, length, IfS
 ghost use Rattle.bx_bytes.specs.Utf8.{are_printable};
 ghost use Rattle.bx_grid.specs.Sequences.{BeginWithSequence};
 
-use crate::token::{Command, ESCAPE, command_of, is_last, params_len};
+use crate::token::{Command, ESCAPE, command_of, first_digits, is_last, params_len};
 use bx_terms::is_control;
 
 /// A control sequence of parameter bytes and a final byte: what it asks for, and how many bytes it has.
@@ -12,6 +12,25 @@ use bx_terms::is_control;
 pub struct Sequence {
     pub command: Command,
     pub len: usize,
+}
+
+/// A move whose bytes after its start are the first of these, with both its numbers, which are read once.
+fn move_in(body: &[u8]) -> Option<Sequence>
+    ensures { IfSome result (λ s. BeginWithSequence (0x1B ∷ 0x5B ∷ body.now) s.command s.len) }
+{
+    let line = first_digits(body);
+    if line.len == 0 || line.len == body.len() || body[line.len] != b';' {
+        return None;
+    }
+    let rest = &body[line.len + 1..];
+    let column = first_digits(rest);
+    if column.len == 0 || column.len == rest.len() || rest[column.len] != b'H' {
+        return None;
+    }
+    Some(Sequence {
+        command: Command::Move(line.number, column.number),
+        len: line.len + column.len + 4,
+    })
 }
 
 /// The sequence whose bytes after its start are the first of these, if its final byte is among them.
@@ -34,7 +53,10 @@ pub fn first_sequence(bytes: &[u8]) -> Option<Sequence>
     ensures { IfSome result (λ s. BeginWithSequence bytes.now s.command s.len) }
 {
     match bytes {
-        [ESCAPE, b'[', body @ ..] => sequence_in(body),
+        [ESCAPE, b'[', body @ ..] => match move_in(body) {
+            Some(sequence) => Some(sequence),
+            None => sequence_in(body),
+        },
         _ => None,
     }
 }

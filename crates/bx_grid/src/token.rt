@@ -1,7 +1,9 @@
 //! Tokens: what a byte makes of the bytes that are half read, and what a sequence asks for.
 
-ghost use Rattle.std.specs.Prelude.{◌≡◌, ℕ, ◌+◌, ◌*◌, ◌<◌, ◌≤◌, Bool, true, false, ◌&&◌, ◌∷◌, [], ◌++◌, length, min, nat_le, option_map, take, drop};
+ghost use Rattle.std.specs.Prelude.{◌≡◌, ℕ, ◌+◌, ◌*◌, ◌<◌, ◌≤◌, Bool, true, false, ◌&&◌, ◌∷◌, [], ◌++◌, length, min, nat_le, option_map, take, drop, None};
 ghost use Rattle.std.specs.List.{list_all};
+ghost use Rattle.std.specs.Str.{all_ascii_digits};
+ghost use Rattle.std.specs.Str.Parse.{digits_value};
 ghost use Rattle.bx_grid.specs.Tokens.{is_param, is_intermediate, is_final, fate, escape_fate, final_fate, after_params, after_intermediates, number, command};
 ghost use Rattle.bx_grid.specs.Tokens.{params, is_absent_or_zero, is_only, before_semicolon, after_semicolon, command_of};
 ghost use Rattle.bx_grid.specs.Capped.{capped};
@@ -135,21 +137,43 @@ fn semicolon(params: &[u8]) -> usize
     len
 }
 
-/// A number, 1 where it is absent; above 1000 it is 1000.
-fn number_of(digits: &[u8]) -> Option<u16>
-    ensures { result ≡ option_map (λ n. min 1000 n) (number digits.now) }
+/// The digits that bytes begin with: their number, which is 1000 where it is above that, and how many they are.
+#[derive(Clone, Copy)]
+pub struct Digits {
+    pub number: u16,
+    pub len: usize,
+}
+
+pub fn first_digits(bytes: &[u8]) -> Digits
+    ensures within { result.len ≤ length bytes.now }
+    ensures digits { all_ascii_digits (take result.len bytes.now) ≡ true }
+    ensures number { result.number ≡ min 1000 (digits_value 10 (take result.len bytes.now)) }
+    ensures end { result.len < length bytes.now → number bytes.now ≡ None }
 {
-    if digits.is_empty() {
+    let mut number = 0u16;
+    let mut len = 0;
+    for digit in bytes {
+        if !digit.is_ascii_digit() {
+            return Digits { number, len };
+        }
+        number = (number * 10 + u16::from(*digit - b'0')).min(1000);
+        len += 1;
+    }
+    Digits { number, len }
+}
+
+/// A number, 1 where it is absent; above 1000 it is 1000.
+fn number_of(bytes: &[u8]) -> Option<u16>
+    ensures { result ≡ option_map (λ n. min 1000 n) (number bytes.now) }
+{
+    if bytes.is_empty() {
         return Some(1);
     }
-    let mut n = 0u16;
-    for digit in digits {
-        if !digit.is_ascii_digit() {
-            return None;
-        }
-        n = (n * 10 + u16::from(*digit - b'0')).min(1000);
+    let digits = first_digits(bytes);
+    if digits.len < bytes.len() {
+        return None;
     }
-    Some(n)
+    Some(digits.number)
 }
 
 fn move_of(params: &[u8]) -> Command
