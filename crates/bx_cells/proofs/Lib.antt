@@ -5,6 +5,7 @@ pub mod SimpleUnits
 pub mod SimplePush
 pub mod RangeFacts
 pub mod Printable
+pub mod AsciiUnits
 pub mod Standing
 pub mod BreakTables
 pub mod Locality

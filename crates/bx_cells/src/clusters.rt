@@ -2,6 +2,7 @@
 ghost use Rattle.std.specs.Prelude.{◌≡◌, IfOk, All};
 ghost use Rattle.bx_cells.specs.Units.{units, HasFace, StandsIn};
 
+use crate::ascii_run::push_ascii;
 use crate::by_character::push_simple;
 use crate::by_rules::push_by_rules;
 use crate::error::CellError;
@@ -24,7 +25,8 @@ fn listed<D: BidiData>(
     let mut units = Vec::with_capacity(alloc, body.len().min(FIRST_ROOM))?;
     let mut at = 0;
     while at < body.len() {
-        let next = push_simple(&mut units, body, at, source, w)?;
+        let behind_ascii = push_ascii(&mut units, body, at, source, w)?;
+        let next = push_simple(&mut units, body, behind_ascii, source, w)?;
         at = push_by_rules(&mut units, body, next, source, w)?;
     }
     Ok(units)

@@ -1,6 +1,7 @@
 //! The units of a paragraph's body: its grapheme clusters, each with the face that it shows.
 #![tactic(auto)]
 
+mod ascii_run;
 mod by_character;
 mod by_rules;
 mod clusters;

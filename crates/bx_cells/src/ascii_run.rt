@@ -1,0 +1,66 @@
+//! Units of printable ASCII, a byte each.
+ghost use Rattle.std.specs.Prelude.{◌≡◌, ◌≤◌, ◌<◌, ◌++◌, ℕ, IfOk, get_or, length, true};
+ghost use Rattle.std.specs.Int.{is_in_range};
+ghost use Rattle.std.specs.Str.{IsCharBoundary};
+ghost use Rattle.bx_cells.specs.Units.{units_from};
+
+use crate::by_character::simple_face;
+use crate::unit::Unit;
+use bx_ucd::BidiData;
+use std::alloc::AllocError;
+
+/// Whether a byte is printable ASCII.
+#[inline(always)]
+fn is_printable_byte(byte: u8) -> bool
+    ensures { result ≡ is_in_range 0x20 0x7E byte }
+{
+    byte >= 0x20 && byte <= 0x7e
+}
+
+/// The offset behind the printable ASCII that stands from an offset on.
+fn printable_stop(bytes: &[u8], at: usize) -> usize
+    requires { at ≤ length bytes.now }
+    ensures order { at ≤ result }
+    ensures inside { result ≤ length bytes.now }
+    ensures printable { (i : ℕ) → at ≤ i → i < result → is_in_range 0x20 0x7E (get_or bytes.now i 0) ≡ true }
+{
+    let mut stop = at;
+    while stop < bytes.len() && is_printable_byte(bytes[stop]) {
+        stop += 1;
+    }
+    stop
+}
+
+/// Adds the units of the printable ASCII that stands from an offset on, but for the last byte, behind which a mark may
+/// stand; gives the offset of what is left.
+pub(crate) fn push_ascii<D: BidiData>(
+    units: &mut Vec<Unit>,
+    body: &str,
+    at: usize,
+    source: &D,
+    w: u16,
+) -> Result<usize, AllocError>
+    requires { IsCharBoundary body.now at }
+    ensures within { IfOk result (λ next. (at ≤ next) × IsCharBoundary body.now next) }
+    ensures units { IfOk result (λ next. units.new.items ++ units_from (D.class_of source.now) w body.now next
+        ≡ units.old.items ++ units_from (D.class_of source.now) w body.now at) }
+{
+    let bytes = body.as_bytes();
+    let stop = printable_stop(bytes, at);
+    if stop - at <= 1 {
+        return Ok(at);
+    }
+    let last = stop - 1;
+    units.reserve(last - at)?;
+    let mut start = at;
+    'bytes: while start < last {
+        let face = simple_face(char::from(bytes[start]), 1, false, source, w);
+        units.push_reserved(Unit {
+            start,
+            stop: start + 1,
+            face,
+        });
+        start += 1;
+    }
+    Ok(start)
+}
