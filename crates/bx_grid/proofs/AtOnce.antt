@@ -18,7 +18,7 @@ use Rattle.bx_grid.specs.declared.token.Command.TheVariants.{Move}
 use Rattle.bx_grid.proofs.Doing.{run_is, sequence_does}
 use Rattle.bx_grid.proofs.Halves.{obeyed_capped}
 use Rattle.bx_grid.proofs.Reading.{at, reads-append, IsFinal, all-append, digits_are_params, no_semicolon, number_of_digits}
-use Rattle.bx_grid.proofs.RunEnds.{half_ended}
+use Rattle.bx_grid.proofs.RunEnds.{half_ended, ended_early}
 use Rattle.bx_grid.proofs.Texts.{text_read}
 use Rattle.bx_bytes.specs.Utf8.{are_printable}
 use Rattle.std.specs.Str.{IsUtf8}
@@ -92,6 +92,24 @@ text_goes_on u t text bytes pending same idle is utf8 printed e =
 pub in_two : (t u : Terminal) (bytes : List ℕ) (n : ℕ) → u ≡ reads t (take n bytes) → reads u (drop n bytes) ≡ reads t bytes
 in_two t u bytes n e =
     ap (λ x. reads x (drop n bytes)) e ∙ sym (reads-append t (take n bytes) (drop n bytes)) ∙ ap (reads t) (take-append-drop n bytes)
+
+-- a text that is shown before the escape behind it is read
+pub shown_before : (t u : Terminal) (bytes text : List ℕ) (n : ℕ) → t.half_read ≡ [] → n < length bytes → get_or bytes n 0 ≡ 0x1B
+    → text ≡ take n bytes → IsUtf8 (take n bytes) → are_printable text ≡ true → u ≡ run_ended (record t { run = t.run ++ text })
+    → reads u (drop n bytes) ≡ reads t bytes
+shown_before t u bytes text n idle low escape is utf8 printed e =
+    let v : Terminal = record t { run = t.run ++ text; half_read = [] } in
+    let read : reads t (take n bytes) ≡ v =
+    text_read t (take n bytes) utf8 (ap are_printable (sym is) ∙ printed) idle
+    ∙ ap (λ bs. record t { run = t.run ++ bs; half_read = [] }) (sym is) in
+    let same : u ≡ run_ended v =
+    e ∙ ap (λ half_read. run_ended (record t { run = t.run ++ text; half_read = half_read })) idle in
+    let next : drop n bytes ≡ 0x1B ∷ drop (n + 1) bytes = drop_more bytes n 0 low ∙ ap (λ b. b ∷ drop (n + 1) bytes) escape in
+    ap (reads u) next
+    ∙ ap (λ x. reads x (0x1B ∷ drop (n + 1) bytes)) same
+    ∙ ended_early v (drop (n + 1) bytes) 0x1B refl refl
+    ∙ ap (reads v) (sym next)
+    ∙ in_two t v bytes n (sym read)
 
 -- the sequence of a body whose first bytes are its parameters
 pub sequence_told : (body ps rest : List ℕ) (n f : ℕ) (command : Command) → n ≤ length body → take n body ≡ params body → ps ≡ take n body

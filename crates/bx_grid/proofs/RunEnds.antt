@@ -8,7 +8,8 @@ use Rattle.std.proofs.lemmas.Bool.Decides.{nat_tests}
 use Rattle.unicode_width.specs.Width.{str_width}
 use Rattle.bx_bytes.specs.Utf8.{is_control, are_printable}
 use Rattle.bx_grid.specs.Columns.{Col, put, glyph_columns, run_columns, are_ascii_printable, run_width}
-use Rattle.bx_grid.specs.Terminal.{Terminal, all_unknown, within, glyphs_put, run_put, run_ended, character_read, after_first_byte}
+use Rattle.bx_grid.specs.Terminal.{Terminal, all_unknown, within, glyphs_put, run_put, run_ended, character_read, after_first_byte, read_after}
+use Rattle.bx_grid.specs.Terminal.{byte_read, reads}
 use Rattle.bx_grid.proofs.Puts.{run_length}
 
 -- ---- runs that are one glyph
@@ -39,15 +40,32 @@ within_at w r c h = let test : nat_lt c w ≡ true = grind (arith, nat_tests) in
 pub within_past : (w r c : ℕ) → w ≤ c → within w r c ≡ None
 within_past w r c h = let test : nat_lt c w ≡ false = grind (arith, nat_tests) in rw test refl
 
-pub put_is : (u : Terminal) (row column count : ℕ) (negative : Bool) (columns : List Col) (position : Option (ℕ × ℕ)) (run : List ℕ)
-    → count ≡ run_width u.run → 1 ≤ count → column + count ≤ u.width
-    → columns ≡ put u.width u.columns row column (run_columns negative u.run) → position ≡ within u.width row (column + count) → run ≡ []
-    → record u { columns = columns; position = position; run = run } ≡ glyphs_put u (row, column) (run_columns negative u.run)
-put_is u row column count negative columns position run counted some fits ec ep er =
-    let len : length (run_columns negative u.run) ≡ count = run_length negative u.run ∙ sym counted in
+pub put_is : (u : Terminal) (row column count : ℕ) (negative : Bool) (text : List ℕ) (columns : List Col) (position : Option (ℕ × ℕ)) (run : List ℕ)
+    → count ≡ run_width text → 1 ≤ count → column + count ≤ u.width
+    → columns ≡ put u.width u.columns row column (run_columns negative text) → position ≡ within u.width row (column + count) → run ≡ []
+    → record u { columns = columns; position = position; run = run } ≡ glyphs_put u (row, column) (run_columns negative text)
+put_is u row column count negative text columns position run counted some fits ec ep er =
+    let len : length (run_columns negative text) ≡ count = run_length negative text ∙ sym counted in
     let a : nat_le 1 count ≡ true = grind (arith, nat_tests) in
     let b : nat_le (column + count) u.width ≡ true = grind (arith, nat_tests) in
     rw (ec, ep, er, len, a, b) refl
+
+none_left : (t : Terminal) (p : ℕ × ℕ) (fits : Bool) (new : List Col) → nat_le 1 (length new) && nat_le (p.1 + length new) t.width ≡ fits
+    → record (glyphs_put t p new) { run = [] } ≡ glyphs_put t p new
+none_left t p true new e = rw e refl
+none_left t p false new e = rw e refl
+
+-- a run that was taken out of the terminal is put, and then there is none
+pub put_taken : (t u v : Terminal) (p : ℕ × ℕ) (negative : Bool) (text taken run : List ℕ) → u ≡ t → taken ≡ [] → text ≡ t.run → run ≡ []
+    → v ≡ glyphs_put (record u { run = taken }) p (run_columns negative text)
+    → record v { run = run } ≡ glyphs_put t p (run_columns negative t.run)
+put_taken t u v p negative text taken run same none is left put =
+    let new = run_columns negative t.run in
+    ap (λ r. record v { run = r }) left
+    ∙ ap (λ (x : Terminal). record x { run = [] })
+    (put ∙ ap (λ bs. glyphs_put (record u { run = taken }) p (run_columns negative bs)) is
+    ∙ ap (λ (x : Terminal). glyphs_put (record x { run = taken }) p new) same)
+    ∙ none_left t p (nat_le 1 (length new) && nat_le (p.1 + length new) t.width) new refl
 
 put_by : (t : Terminal) (p : ℕ × ℕ) (negative : Bool) (run : List ℕ) → 0 < length run
     → run_put t (Some p) (Some negative) run ≡ glyphs_put t p (run_columns negative run)
@@ -97,3 +115,43 @@ pub escape_begun : (u t : Terminal) (b : ℕ) (half_read : List ℕ) → u ≡ r
 escape_begun u t b half_read e is eh =
     let test : nat_eq b 0x1B ≡ true = grind (arith, nat_tests) in
     rw (e, eh, test) refl
+
+-- ---- a text that takes effect with no run before it
+
+pub shown : (t : Terminal) (p : ℕ × ℕ) (negative : Bool) (text : List ℕ) → t.position ≡ Some p → t.negative ≡ Some negative → t.run ≡ [] → 0 < length text
+    → glyphs_put t p (run_columns negative text) ≡ run_ended (record t { run = t.run ++ text })
+shown t p negative text ep en none some =
+    sym (ap (λ run. run_ended (record t { run = run ++ text })) none
+    ∙ ends_put (record t { run = text }) p negative ep en some)
+
+-- ---- an escape that comes sooner
+
+no_run_by : (t : Terminal) (p : ℕ × ℕ) (fits : Bool) (new : List Col) → nat_le 1 (length new) && nat_le (p.1 + length new) t.width ≡ fits
+    → (glyphs_put t p new).run ≡ []
+no_run_by t p true new e = rw e refl
+no_run_by t p false new e = rw e refl
+
+no_run : (t : Terminal) (q : Option (ℕ × ℕ)) (n : Option Bool) (run : List ℕ) → t.run ≡ run → (run_put t q n run).run ≡ []
+no_run t q n [] h = h
+no_run t (Some p) (Some negative) (b ∷ bs) h =
+    let new = run_columns negative (b ∷ bs) in no_run_by t p (nat_le 1 (length new) && nat_le (p.1 + length new) t.width) new refl
+no_run t (Some p) None (b ∷ bs) h = refl
+no_run t None n (b ∷ bs) h = refl
+
+ended_twice : (t : Terminal) → run_ended (run_ended t) ≡ run_ended t
+ended_twice t =
+    let u : Terminal = run_ended t in
+    ap (run_put u u.position u.negative) (no_run t t.position t.negative t.run refl)
+
+escape_after : (t : Terminal) (b : ℕ) → t.half_read ≡ [] → b ≡ 0x1B → byte_read t b ≡ record (run_ended t) { half_read = b ∷ [] }
+escape_after t b idle is =
+    let test : nat_eq b 0x1B ≡ true = grind (arith, nat_tests) in
+    ap (read_after t b) idle ∙ rw test refl
+
+-- where an escape comes next, it makes no difference that the run took effect before it
+pub ended_early : (t : Terminal) (rest : List ℕ) (b : ℕ) → t.half_read ≡ [] → b ≡ 0x1B → reads (run_ended t) (b ∷ rest) ≡ reads t (b ∷ rest)
+ended_early t rest b idle is =
+    ap (λ u. reads u rest)
+    (escape_after (run_ended t) b (half_ended t idle) is
+    ∙ ap (λ (u : Terminal). record u { half_read = b ∷ [] }) (ended_twice t)
+    ∙ sym (escape_after t b idle is))

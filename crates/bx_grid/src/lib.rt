@@ -21,6 +21,7 @@ mod row;
 mod screen;
 mod sequence;
 mod token;
+mod width;
 
 pub use cell::Cell;
 pub use column::{Column, all_same};

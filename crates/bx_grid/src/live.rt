@@ -13,12 +13,15 @@ ghost use Rattle.bx_grid.specs.Terminal.{character_read, token_read, after_first
 use crate::column::{Column, all_same};
 use crate::columns::{erase_at, fill_blank, fill_unknown, show_at, unknown_columns};
 use crate::picture::Picture;
-use crate::sequence::{are_printable, first_sequence, text_len};
 use crate::token::{Command, ESCAPE, command_in, fate_of};
+use crate::width::text_width;
 use bx_bytes::{Fate, character};
-use bx_terms::{is_control, run_width};
+use bx_terms::is_control;
 use std::alloc::{AllocError, Global};
 use std::marker::Model;
+use std::mem;
+
+mod reading;
 
 #[derive(Drop)]
 pub struct Live {
@@ -138,17 +141,23 @@ impl Live {
         }
     }
 
-    /// Puts the run's glyphs, in columns from an index on.
-    fn put_run(&mut self, row: u16, column: u16, negative: bool) -> Result<(), AllocError>
+    /// Puts a text's glyphs, in columns from an index on, and no run is left.
+    fn put_text(
+        &mut self,
+        row: u16,
+        column: u16,
+        negative: bool,
+        text: &str,
+    ) -> Result<(), AllocError>
         requires { (row < self.old.height) × (column < self.old.width) }
-        ensures { OnOk result (self.new ≡ glyphs_put self.old (row, column) (run_columns negative self.old.run)) }
+        ensures { OnOk result (self.new ≡ glyphs_put self.old (row, column) (run_columns negative text.now)) }
     {
-        let count = run_width(self.run.as_str());
+        let alloc = *self.columns.allocator();
+        let count = text_width(text);
         if count < 1 || count > (self.width - column) as usize {
             self.forget();
             return Ok(());
         }
-        let alloc = *self.columns.allocator();
         let width = self.width as usize;
         show_at(
             alloc,
@@ -156,7 +165,7 @@ impl Live {
             width,
             row as usize,
             column as usize,
-            self.run.as_str(),
+            text,
             count as u16,
             negative,
         )?;
@@ -167,6 +176,19 @@ impl Live {
             None
         };
         self.run.clear();
+        Ok(())
+    }
+
+    /// Puts the run's glyphs, in columns from an index on.
+    fn put_run(&mut self, row: u16, column: u16, negative: bool) -> Result<(), AllocError>
+        requires { (row < self.old.height) × (column < self.old.width) }
+        ensures { OnOk result (self.new ≡ glyphs_put self.old (row, column) (run_columns negative self.old.run)) }
+    {
+        let alloc = *self.columns.allocator();
+        let mut run = mem::replace(&mut self.run, String::new(alloc));
+        self.put_text(row, column, negative, run.as_str())?;
+        run.clear();
+        self.run = run;
         Ok(())
     }
 
@@ -190,6 +212,19 @@ impl Live {
                 Some(negative) => self.put_run(row, column, negative),
             },
         }
+    }
+
+    /// A text takes effect behind the run. Where there is no run it is not kept.
+    fn show(&mut self, text: &str) -> Result<(), AllocError>
+        ensures { OnOk result (self.new ≡ run_ended (record self.old { run = self.old.run ++ text.now })) }
+    {
+        if self.run.as_bytes().is_empty() && !text.as_bytes().is_empty() {
+            if let (Some((row, column)), Some(negative)) = (self.position, self.negative) {
+                return self.put_text(row, column, negative, text);
+            }
+        }
+        self.run.push_str(text)?;
+        self.end_run()
     }
 
     /// The last byte of a character.
@@ -267,70 +302,6 @@ impl Live {
         } else {
             self.go_on(byte)
         }
-    }
-
-    /// A whole sequence, where no token is half read.
-    fn obey_sequence(&mut self, command: Command) -> Result<(), AllocError>
-        ensures { OnOk result (self.new ≡ after_command (run_ended self.old) command) }
-    {
-        self.end_run()?;
-        self.obey(command);
-        Ok(())
-    }
-
-    /// Reads byte by byte.
-    fn read_bytes(&mut self, bytes: &[u8]) -> Result<(), AllocError>
-        ensures { OnOk result (self.new ≡ reads self.old bytes.now) }
-    {
-        for byte in bytes {
-            self.read_byte(*byte)?;
-        }
-        Ok(())
-    }
-
-    /// Reads bytes where no token is half read: at once where they are a text with no control.
-    fn read_text(&mut self, bytes: &[u8]) -> Result<(), AllocError>
-        requires { self.old.half_read ≡ [] }
-        ensures { OnOk result (self.new ≡ reads self.old bytes.now) }
-    {
-        match str::from_utf8(bytes) {
-            Ok(text) if are_printable(text) => {
-                self.run.push_str(text)?;
-                Ok(())
-            }
-            _ => self.read_bytes(bytes),
-        }
-    }
-
-    /// Reads a sequence or a text that stands at the front, or a byte: how many bytes that are.
-    fn read_front(&mut self, bytes: &[u8]) -> Result<usize, AllocError>
-        requires { 0 < length bytes.now }
-        ensures read { IfOk result (λ count. reads self.new (drop count bytes.now) ≡ reads self.old bytes.now) }
-        ensures some { IfOk result (λ count. (1 ≤ count) × (count ≤ length bytes.now)) }
-    {
-        if self.half_read.is_empty() {
-            if let Some(sequence) = first_sequence(bytes) {
-                self.obey_sequence(sequence.command)?;
-                return Ok(sequence.len);
-            }
-            let count = text_len(bytes);
-            if count > 0 {
-                self.read_text(&bytes[..count])?;
-                return Ok(count);
-            }
-        }
-        self.read_byte(bytes[0])?;
-        Ok(1)
-    }
-
-    pub fn read(&mut self, bytes: &[u8]) -> Result<(), AllocError>
-        ensures { OnOk result (self.new ≡ reads self.old bytes.now) }
-    {
-        let mut index = 0;
-        while index < bytes.len() {
-            index += self.read_front(&bytes[index..])?;
-        }
-        Ok(())
     }
 
     pub fn resize(&mut self, height: u16, width: u16) -> Result<(), AllocError>
