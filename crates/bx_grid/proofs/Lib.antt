@@ -19,4 +19,4 @@ pub mod Laid
 pub mod Blanks
 pub mod Shared
 mod AtOnce
-mod Widths
+mod Still

@@ -42,7 +42,8 @@ returns c =
       | else-end-self w ↦ w.self-is ∙ sym (within_past u.width c.args.row (c.args.column + count) w.if-end-self.false)
     ] in
     ap with_columns (take_at c.show_at.new.columns _ c.self.inside.columns.len (c.show_at.auto.columns ∙ c.as_mut_slice.ensures.len))
-    ∙ put_is u c.args.row c.args.column count c.args.negative c.args.text.now _ _ _ c.text_width-count.ensures c.if-count-lt1.false (omega (arith, c.if-count-self.false)) columns position
+    ∙ put_is u c.args.row c.args.column count c.args.negative c.args.text.now _ _ _ c.text_width-count.ensures
+    c.if-count-lt1.false (omega (arith, c.if-count-self.false)) columns position
     c.clear.ensures.bytes
     ∙ ap (λ (t : Terminal). glyphs_put t (c.args.row, c.args.column) (run_columns c.args.negative c.args.text.now)) c.self.view_is
 
