@@ -17,7 +17,8 @@ use Rattle.bx_grid.proofs.Reading.{at, IsFinal, move_params, move_params_fit, re
 use Rattle.bx_grid.proofs.Texts.{glyph_does}
 use Rattle.bx_grid.proofs.Whole.{columns_form, rows_whole}
 use Rattle.bx_paint.specs.Painting.{Step, Sent, nothing_sent, move_bytes, render_bytes, render_change, erase_bytes, before_tail}
-use Rattle.bx_paint.specs.Painting.{leading_blanks, is_sent, glyph_bytes, column_sent, columns_sent, tail_sent, row_sent, rows_sent, columns_changed, ended, is_none}
+use Rattle.bx_paint.specs.Painting.{leading_blanks, is_sent, glyph_bytes, column_sent, columns_sent}
+use Rattle.bx_paint.specs.Painting.{tail_sent, row_sent, rows_sent, columns_changed, ended, is_none}
 use Rattle.bx_paint.specs.Painting.{is_at_cursor_of, changes_bytes, whole_bytes}
 use Rattle.bx_paint.proofs.Sequences.{final_H, final_K, final_J, final_m}
 use Rattle.bx_paint.proofs.Tails.{front_le}
