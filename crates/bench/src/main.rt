@@ -4,6 +4,7 @@
 //!     bench [--time] paragraphs TASK BYTES LINE [EDITS]
 //!     bench [--time] levels PATTERN CHARACTERS TIMES
 //!     bench [--time] painting TASK TEXT TIMES
+//!     bench [--time] rows TASK TEXT LETTERS TIMES
 //!     bench each
 //!
 //! It prints a line that depends on all that was done, and with --time also the processor time of what is measured. `each`
@@ -17,6 +18,7 @@ mod levels;
 mod outcome;
 mod painting;
 mod paragraphs;
+mod rows;
 mod texts;
 
 use anyhow::{Result, bail};
@@ -32,16 +34,18 @@ fn measured<R: CpuClock + AllocGlobal>(rt: &R, words: &[String]) -> Result<Outco
         [layer, rest @ ..] if layer.as_str() == "paragraphs" => paragraphs::run(rt, rest),
         [layer, rest @ ..] if layer.as_str() == "levels" => levels::run(rt, rest),
         [layer, rest @ ..] if layer.as_str() == "painting" => painting::run(rt, rest),
-        _ => bail!("usage: bench [--time] text|paragraphs|levels|painting WORDS"),
+        [layer, rest @ ..] if layer.as_str() == "rows" => rows::run(rt, rest),
+        _ => bail!("usage: bench [--time] text|paragraphs|levels|painting|rows WORDS"),
     }
 }
 
 /// One run of each layer.
-const EACH: [&str; 4] = [
+const EACH: [&str; 5] = [
     "text scattered 100000 2000",
     "paragraphs edit 10000 50 20",
     "levels mixed 80 1",
     "painting changes ascii 1",
+    "rows page mixed 76 1",
 ];
 
 /// Takes every layer once.

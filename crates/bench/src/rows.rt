@@ -1,0 +1,99 @@
+//! The rows of a paragraph in a window of 80 columns: TASK TEXT LETTERS TIMES, where TASK is `resolved` (a paragraph is laid
+//! out), `page` (each row of one that is laid out already is drawn), `slots` (the slots of each row are told) or `parts`
+//! (each row's units are counted before its end), and TEXT is `ascii`, `hebrew` or `mixed`.
+
+use crate::outcome::{Outcome, number};
+use anyhow::{Result, bail};
+use bx_explicit::Base;
+use bx_paragraph::ParagraphLayout;
+use bx_ucd::{Tables, sample_tables};
+use std::alloc::{AllocError, Global};
+use std::time::CpuClock;
+
+/// What a text repeats.
+fn words_of(name: &str) -> &'static str {
+    if name == "hebrew" {
+        "\u{5e9}\u{5dc}\u{5d5}\u{5dd} \u{5e2}\u{5d5}\u{5dc}\u{5dd} "
+    } else if name == "mixed" {
+        "\u{5e9}\u{5dc}\u{5d5}\u{5dd} the old (\u{5e2}\u{5d5}\u{5dc}\u{5dd}) 12 "
+    } else {
+        "the old man and the sea "
+    }
+}
+
+/// A text of so many letters.
+fn letters(alloc: Global, words: &str, count: usize) -> Result<String, AllocError> {
+    let mut text = String::new(alloc);
+    let mut left = count;
+    while left > 0 {
+        for c in words.chars().take(left) {
+            text.push(c)?;
+        }
+        left = left.saturating_sub(words.chars().count().max(1));
+    }
+    Ok(text)
+}
+
+/// How many glyphs the rows show.
+fn page(layout: &ParagraphLayout, tables: &Tables) -> Result<usize> {
+    let mut count: usize = 0;
+    for row in 0..layout.row_count() {
+        count = count.wrapping_add(layout.picture(row, tables)?.glyphs.len());
+    }
+    Ok(count)
+}
+
+/// How many slots the rows have.
+fn slots(layout: &ParagraphLayout, tables: &Tables) -> Result<usize> {
+    let mut count: usize = 0;
+    for row in 0..layout.row_count() {
+        count = count.wrapping_add(layout.slots(row, tables)?.len());
+    }
+    Ok(count)
+}
+
+/// How many units the rows have.
+fn parts(layout: &ParagraphLayout, tables: &Tables) -> Result<usize> {
+    let mut count: usize = 0;
+    for row in 0..layout.row_count() {
+        count = count.wrapping_add(layout.units_before(row, usize::MAX, tables)?);
+    }
+    Ok(count)
+}
+
+/// Does a task once, and tells of its answer.
+fn once(alloc: Global, task: &str, layout: &ParagraphLayout, tables: &Tables) -> Result<usize> {
+    if task == "page" {
+        page(layout, tables)
+    } else if task == "slots" {
+        slots(layout, tables)
+    } else if task == "parts" {
+        parts(layout, tables)
+    } else {
+        let body = layout.body().to_owned(alloc)?;
+        let again = ParagraphLayout::of(alloc, body, tables, 80, layout.base())?;
+        Ok(again.row_count())
+    }
+}
+
+/// What the words ask for: a count of all that was shown, and the time that it took.
+pub(crate) fn run<R: CpuClock + AllocGlobal>(rt: &R, words: &[String]) -> Result<Outcome> {
+    let [task, text, count, times] = words else {
+        bail!("usage: bench rows TASK TEXT LETTERS TIMES");
+    };
+    let tables = sample_tables(rt.alloc())?;
+    let body = letters(rt.alloc(), words_of(text.as_str()), number(count)?)?;
+    let layout = ParagraphLayout::of(rt.alloc(), body, &tables, 80, Base::Auto)?;
+    let times = number(times)?;
+    let start = rt.thread_cpu_time()?;
+    let mut sum: usize = 0;
+    for _ in 0..times {
+        sum = sum.wrapping_add(once(rt.alloc(), task.as_str(), &layout, &tables)?);
+    }
+    let end = rt.thread_cpu_time()?;
+    let line = format!(in rt.alloc(); "{sum}")?;
+    Ok(Outcome {
+        line,
+        time: end.saturating_sub(start),
+    })
+}
