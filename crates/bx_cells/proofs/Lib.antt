@@ -12,3 +12,4 @@ pub mod Locality
 pub mod Rest
 pub mod OpenCluster
 mod Rows
+mod Blocks

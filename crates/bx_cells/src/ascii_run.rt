@@ -5,9 +5,13 @@ ghost use Rattle.std.specs.Str.{IsCharBoundary};
 ghost use Rattle.bx_cells.specs.Units.{units_from};
 
 use crate::by_character::simple_face;
+use crate::fitting::are_printable;
 use crate::unit::Unit;
 use bx_ucd::BidiData;
 use std::alloc::AllocError;
+
+/// How many bytes are tested at once.
+const BLOCK: usize = 16;
 
 /// Whether a byte is printable ASCII.
 #[inline(always)]
@@ -17,6 +21,26 @@ fn is_printable_byte(byte: u8) -> bool
     byte >= 0x20 && byte <= 0x7e
 }
 
+/// The offset behind the whole blocks of printable ASCII that stand from an offset on.
+#[inline(always)]
+#[tactic(auto, using(crate::proofs::Blocks::block_more))]
+fn blocks_stop(bytes: &[u8], at: usize) -> usize
+    requires { at ≤ length bytes.now }
+    ensures order { at ≤ result }
+    ensures inside { result ≤ length bytes.now }
+    ensures printable { (i : ℕ) → at ≤ i → i < result → is_in_range 0x20 0x7E (get_or bytes.now i 0) ≡ true }
+{
+    let mut stop = at;
+    'steps: while bytes.len() - stop >= BLOCK {
+        let block = &bytes[stop..stop + BLOCK];
+        if !are_printable(block) {
+            return stop;
+        }
+        stop += BLOCK;
+    }
+    stop
+}
+
 /// The offset behind the printable ASCII that stands from an offset on.
 fn printable_stop(bytes: &[u8], at: usize) -> usize
     requires { at ≤ length bytes.now }
@@ -24,7 +48,7 @@ fn printable_stop(bytes: &[u8], at: usize) -> usize
     ensures inside { result ≤ length bytes.now }
     ensures printable { (i : ℕ) → at ≤ i → i < result → is_in_range 0x20 0x7E (get_or bytes.now i 0) ≡ true }
 {
-    let mut stop = at;
+    let mut stop = blocks_stop(bytes, at);
     while stop < bytes.len() && is_printable_byte(bytes[stop]) {
         stop += 1;
     }
