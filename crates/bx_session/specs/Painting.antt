@@ -2,6 +2,7 @@
 use Rattle.std.specs.Prelude.{◌≡◌, ℕ, true, List, ◌++◌, Option, Some, None, IfSome}
 use Rattle.bx_grid.specs.Picture.{PictureState, AreWholeTokens, IsIdle, IsPicture, Shows}
 use Rattle.bx_grid.specs.Terminal.{Terminal, reads}
+use Rattle.bx_grid.specs.Screens.{IfShown}
 use Rattle.bx_editor.specs.Data.{Data}
 use Rattle.bx_editor.specs.Editor.{Editor}
 use Rattle.bx_editor.specs.Picture.{picture}
@@ -35,3 +36,8 @@ ToldPaints d old new = QueuesPicture d old.pending None new
 -- a picture of the editor's size, where there is one
 abbrev pub FitsEditor : Option PictureState → Editor → Type 0
 FitsEditor painted e = IfSome painted (λ p. (p.height ≡ e.height) × (p.width ≡ e.width))
+
+-- a terminal that has not failed shows this picture, where there is one
+abbrev pub IsShownOn : Option PictureState → Option Terminal → Type 0
+IsShownOn None screen = ⊥
+IsShownOn (Some p) screen = IfShown screen p

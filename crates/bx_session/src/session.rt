@@ -1,12 +1,13 @@
 //! The session's state.
 
-ghost use Rattle.std.specs.Prelude.{◌≡◌, ◌≤◌, length};
-ghost use Rattle.bx_session.specs.Session.{after_sending, status_of};
+ghost use Rattle.std.specs.Prelude.{◌≡◌, ◌≤◌, ◌↔◌, IsTrue, length};
+ghost use Rattle.bx_session.specs.Painting.{IsShownOn};
+ghost use Rattle.bx_session.specs.Session.{after_sending, key_of_byte, status_of};
 
 use crate::status::Status;
 use bx_editor::Editor;
-use bx_grid::Picture;
-use bx_keys::Decoder;
+use bx_grid::{Picture, Screen};
+use bx_keys::{Decoder, Key};
 use bx_ucd::BidiData;
 use std::marker::Model;
 
@@ -97,5 +98,25 @@ impl<D: BidiData + Drop> Session<D> {
         ensures { result ≡ self.now.session.editor.place }
     {
         self.editor.place()
+    }
+    /// The key that a byte would end now; after the end it ends none. No memory.
+    pub fn key_of(&self, byte: u8) -> Option<Key>
+        ensures { result ≡ key_of_byte self.now.session byte }
+    {
+        if self.editor.ended() {
+            return None;
+        }
+        let mut decoder = self.decoder;
+        decoder.feed(byte)
+    }
+
+    /// Whether a terminal shows the picture last painted; none is, where nothing is known of the screen. No memory.
+    pub fn is_shown_on(&self, screen: &Screen) -> bool
+        ensures { IsTrue result ↔ IsShownOn self.now.session.painted screen.now }
+    {
+        match &self.painted {
+            Some(picture) => screen.shows(picture),
+            None => false,
+        }
     }
 }

@@ -1,0 +1,204 @@
+-- What the calls of a world leave, put together from what each call below left.
+use Rattle.std.proofs.Common.{◌≡◌, ℕ, zero, suc, Bool, true, false, List, [], ◌∷◌, ◌++◌, take, drop, length, Option, Some, None, Result, Ok, Err}
+use Rattle.std.proofs.Common.{refl, sym, ap, subst, ◌∙◌, if◌then◌else◌}
+use Rattle.std.specs.Prelude.{IfSome, IsSome, OnOk, OnErr, is_some, not, ◌&&◌, ◌==◌, ◌≢◌, option_map}
+use Rattle.bx_explicit.specs.declared.base.Base.{Base}
+use Rattle.bx_keys.specs.declared.key.Key.{Key}
+use Rattle.bx_grid.specs.declared.error.GridError.TheVariants as grid
+use Rattle.bx_grid.specs.Picture.{PictureState}
+use Rattle.bx_grid.specs.Terminal.{Terminal, reads, after_resize}
+use Rattle.bx_editor.specs.Data.{Data}
+use Rattle.bx_session.specs.declared.error.Refused.{Refused}
+use Rattle.bx_session.specs.declared.error.Refused.TheVariants as refused
+use Rattle.bx_session.specs.declared.status.Status.{Status}
+use Rattle.bx_session.specs.Session.{Session, SessionState, at_opening, after_spending, after_byte, owing_after_byte, is_idle, unpainted_after_byte}
+use Rattle.bx_session.specs.Session.{with_painting, key_of_byte, owing_after_told, after_sending}
+use Rattle.bx_session.specs.Saving.{StoreState, StoreAfter, Feeds, ToldBy, is_save_byte}
+use Rattle.bx_session.specs.Painting.{QueuesPicture, FeedPaints, ToldPaints}
+use Rattle.bx_session.proofs.Shown.{always_shows}
+use Rattle.bx_world.specs.declared.step.StepFault.{StepFault}
+use Rattle.bx_world.specs.declared.step.StepFault.TheVariants as faults
+use Rattle.bx_world.specs.Answers.{answer_of, mark_after}
+use Rattle.bx_world.specs.Steps.{AfterByteStep, AfterToldStep, AfterReadStep}
+use Rattle.bx_world.specs.World.{World, unknown_terminal, with_byte, with_told_size, told_after, told_after_key, is_window, after_send}
+use Rattle.bx_world.specs.Showing.{IsInStep}
+use Rattle.bx_world.proofs.Keys.{spent, byte_keeps, byte_pending, both, same_number}
+use Rattle.bx_world.proofs.Steps.{opened, kept, painted, resized, sent, received, failed}
+
+-- ---- opening
+
+pub opened_is : {D : Type 0} (says : D → Data) (s : SessionState D) (tables : D) (text : List ℕ) (height width : ℕ) (base : Base) (line : List ℕ)
+    (screen : Option Terminal) → s ≡ record { tables = tables; session = at_opening (says tables) text height width base }
+    → QueuesPicture (says tables) [] None s.session → line ≡ [] → screen ≡ Some (unknown_terminal height width)
+    → IsInStep (says s.tables) (record {
+      session = s.session;
+      line = line;
+      height = height;
+      width = width;
+      screen = screen;
+      told = true;
+    })
+opened_is {D} says s tables text height width base line screen is queued empty shown =
+    let same : s.tables ≡ tables = ap (λ (x : SessionState D). x.tables) is in
+    rw (empty, shown) (opened (says s.tables) s.session height width (subst (λ t. QueuesPicture (says t) [] None s.session) (sym same) queued)
+    (ap (λ (x : SessionState D). x.session.editor.height) is, ap (λ (x : SessionState D). x.session.editor.width) is))
+
+-- ---- a byte
+
+-- a byte that was spent alone
+pub spent_in_step : (d : Data) (w : World) (b : ℕ) (told : Bool) → IsInStep d w → (told ≡ true → w.told ≡ true)
+    → IsInStep d (record w { session = after_spending w.session b; told = told })
+spent_in_step d w b told was stays =
+    let s = spent w.session b in
+    kept d w (after_spending w.session b) told was s.pending (always_shows.refused_key d w.session b was.state)
+    (λ on. known w.session.painted (after_spending w.session b).painted (sym s.painted) (stays on))
+    (λ on. rw s.editor (was.size (stays on))) where
+      known : (old new : Option PictureState) → old ≡ new → w.told ≡ true → IfSome new (λ p. (w.told ≡ true) × (old ≡ Some p))
+      known old None is on = tt
+      known old (Some p) is on = (on, is)
+
+-- its key was applied, and its painting is owed
+pub owing_in_step : (d : Data) (saved : Bool) (w : World) (b : ℕ) → IsInStep d w → IsInStep d (with_byte w b (owing_after_byte d saved w.session b))
+owing_in_step d saved w b was =
+    let keeps = byte_keeps d saved w b in
+    kept d w (owing_after_byte d saved w.session b) (told_after_key w (key_of_byte w.session b)) was (byte_pending d saved w.session b)
+    (always_shows.owing_byte d saved w.session b) keeps.known (λ on. keeps.size was.size on)
+
+-- its key was applied and painted
+pub fed_in_step : (d : Data) (saved : Bool) (w : World) (b : ℕ) (new : Session) → IsInStep d w → new ≡ with_painting d (unpainted_after_byte d saved w.session b)
+    → FeedPaints d w.session b new → IsInStep d (with_byte w b new)
+fed_in_step d saved w b new was is queued =
+    painted d w new (told_after_key w (key_of_byte w.session b)) (unpainted_after_byte d true w.session b).painted was queued
+    (byte_keeps d true w b).known
+    (λ on. rw is ((byte_keeps d saved w b).size was.size on))
+
+idle_told : (height width : ℕ) (told owed : Bool) (key : Option Key) → not (is_some key) && not owed ≡ true → told_after height width told key ≡ told
+idle_told height width told owed None idle = refl
+idle_told height width told owed (Some key) idle = absurd (cc idle)
+
+fed : (d : Data) (saved : Bool) (w : World) (b : ℕ) (new : Session) → IsInStep d w → new ≡ after_byte d saved w.session b
+    → (is_idle w.session b ≡ false → FeedPaints d w.session b new) → IsInStep d (with_byte w b new)
+fed d saved w b new was is paints = by_idle (is_idle w.session b) refl is where
+  by_idle : (idle : Bool) → is_idle w.session b ≡ idle
+      → new ≡ (if idle then after_spending w.session b else with_painting d (unpainted_after_byte d saved w.session b)) → IsInStep d (with_byte w b new)
+  by_idle true idle same =
+      rw same (spent_in_step d w b (told_after_key w (key_of_byte w.session b)) was
+      (λ on. sym (idle_told w.height w.width w.told w.session.painting_owed (key_of_byte w.session b) idle) ∙ on))
+  by_idle false other same = fed_in_step d saved w b new was same (paints other)
+
+byte_in_step : (d : Data) (w : World) (new : Session) (store store' : StoreState) (b : ℕ) (answer : Result Status Refused) → IsInStep d w
+    → Feeds d w.session store b answer new store' → (is_idle w.session b ≡ false → OnOk answer (FeedPaints d w.session b new))
+    → IsInStep d (record w { session = new; told = mark_after w.told (told_after_key w (key_of_byte w.session b)) answer })
+byte_in_step d w new store store' b (Ok status) was feeds paints = fed d feeds.0 w b new was feeds.2.0 paints
+byte_in_step d w new store store' b (Err refused.Edit) was feeds paints = rw feeds.2.0 (spent_in_step d w b w.told was (λ on. on))
+byte_in_step d w new store store' b (Err refused.Paint) was feeds paints = rw feeds.2.0 (owing_in_step d feeds.0 w b was)
+byte_in_step d w new store store' b (Err refused.Size) was feeds paints = absurd feeds.2
+
+pub byte_call : {D : Type 0} (says : D → Data) (tables tables' : D) (w : World) (new : Session) (store store' : StoreState) (b : ℕ)
+    (answer : Result Status Refused) (told : Bool) → tables' ≡ tables → told ≡ mark_after w.told (told_after_key w (key_of_byte w.session b)) answer
+    → IsInStep (says tables) w → Feeds (says tables) w.session store b answer new store'
+    → (is_idle w.session b ≡ false → OnOk answer (FeedPaints (says tables) w.session b new))
+    → IsInStep (says tables') (record w { session = new; told = told })
+byte_call says tables tables' w new store store' b answer told same is was feeds paints =
+    rw (same, is) (byte_in_step (says tables) w new store store' b answer was feeds paints)
+
+byte_answer : (d : Data) (w : World) (new : Session) (store store' : StoreState) (b : ℕ) (answer : Result Status Refused)
+    → Feeds d w.session store b answer new store'
+    → (saved : Bool) × StoreAfter (is_save_byte w.session b) saved w.session.editor.content.text store store'
+    × AfterByteStep d saved w b (answer_of answer) (record w { session = new; told = mark_after w.told (told_after_key w (key_of_byte w.session b)) answer })
+byte_answer d w new store store' b (Ok status) feeds = (feeds.0, feeds.1, ap (λ (s : Session). with_byte w b s) feeds.2.0)
+byte_answer d w new store store' b (Err refused.Edit) feeds = (feeds.0, feeds.1, (ap (λ (s : Session). record w { session = s }) feeds.2.0, feeds.2.1))
+byte_answer d w new store store' b (Err refused.Paint) feeds = (feeds.0, feeds.1, (ap (λ (s : Session). with_byte w b s) feeds.2.0, feeds.2.1))
+byte_answer d w new store store' b (Err refused.Size) feeds = absurd feeds.2
+
+pub byte_steps : (d : Data) (w : World) (new : Session) (store store' : StoreState) (b : ℕ) (answer : Result Status Refused)
+    (result : Result (Unit {0}) StepFault) (told : Bool) → result ≡ answer_of answer
+    → told ≡ mark_after w.told (told_after_key w (key_of_byte w.session b)) answer → Feeds d w.session store b answer new store'
+    → (saved : Bool) × StoreAfter (is_save_byte w.session b) saved w.session.editor.content.text store store'
+    × AfterByteStep d saved w b result (record w { session = new; told = told })
+byte_steps d w new store store' b answer result told same is feeds = rw (same, is) (byte_answer d w new store store' b answer feeds)
+
+-- ---- a told size
+
+window_fits : (w : World) (height width : ℕ) → is_window w height width ≡ true → (height ≡ w.height) × (width ≡ w.width)
+window_fits w height width on =
+    let each = both (w.height == height) (w.width == width) on in
+    (sym (same_number w.height height each.0), sym (same_number w.width width each.1))
+
+told_in_step : (d : Data) (w : World) (new : Session) (height width : ℕ) (answer : Result (Unit {0}) Refused) → IsInStep d w
+    → ToldBy d w.session height width answer new → OnOk answer (ToldPaints d w.session new)
+    → IsInStep d (record w { session = new; told = mark_after w.told (is_window w height width) answer })
+told_in_step d w new height width (Ok done) was told paints =
+    painted d w new (is_window w height width) None was paints (λ on. tt)
+    (λ on. (let fits = window_fits w height width on in
+    (ap (λ (s : Session). s.editor.height) told.1 ∙ fits.0, ap (λ (s : Session). s.editor.width) told.1 ∙ fits.1)))
+told_in_step d w new height width (Err refused.Edit) was told paints = absurd told
+told_in_step d w new height width (Err refused.Paint) was told paints =
+    rw told.1 (kept d w (owing_after_told w.session height width) (is_window w height width) was refl (always_shows.owing_told d w.session height width)
+    (λ on. tt) (λ on. window_fits w height width on))
+told_in_step d w new height width (Err refused.Size) was told paints = rw told.1 was
+
+pub told_call : {D : Type 0} (says : D → Data) (tables tables' : D) (w : World) (new : Session) (height width : ℕ) (answer : Result (Unit {0}) Refused)
+    (told : Bool) → tables' ≡ tables → told ≡ mark_after w.told (is_window w height width) answer → IsInStep (says tables) w
+    → ToldBy (says tables) w.session height width answer new → OnOk answer (ToldPaints (says tables) w.session new)
+    → IsInStep (says tables') (record w { session = new; told = told })
+told_call says tables tables' w new height width answer told same is was by paints =
+    rw (same, is) (told_in_step (says tables) w new height width answer was by paints)
+
+told_answer : (d : Data) (w : World) (new : Session) (height width : ℕ) (answer : Result (Unit {0}) Refused) → ToldBy d w.session height width answer new
+    → AfterToldStep d w height width (answer_of answer) (record w { session = new; told = mark_after w.told (is_window w height width) answer })
+told_answer d w new height width (Ok done) told = (told.0, ap (λ (s : Session). with_told_size w height width s) told.1)
+told_answer d w new height width (Err refused.Edit) told = absurd told
+told_answer d w new height width (Err refused.Paint) told = (told.0, ap (λ (s : Session). with_told_size w height width s) told.1)
+told_answer d w new height width (Err refused.Size) told = (told.0, ap (λ (s : Session). record w { session = s }) told.1)
+
+pub told_steps : (d : Data) (w : World) (new : Session) (height width : ℕ) (answer : Result (Unit {0}) Refused) (result : Result (Unit {0}) StepFault)
+    (told : Bool) → result ≡ answer_of answer → told ≡ mark_after w.told (is_window w height width) answer
+    → ToldBy d w.session height width answer new → AfterToldStep d w height width result (record w { session = new; told = told })
+told_steps d w new height width answer result told same is by = rw (same, is) (told_answer d w new height width answer by)
+
+-- ---- the window, the line and the terminal
+
+pub window_call : (d : Data) (w : World) (height width : ℕ) (screen : Option Terminal) → IsInStep d w
+    → screen ≡ option_map (λ t. after_resize t height width) w.screen
+    → IsInStep d (record w { height = height; width = width; screen = screen; told = false })
+window_call d w height width screen was is = rw is (resized d w height width was)
+
+pub read_call : (d : Data) (w : World) (count : ℕ) (line : List ℕ) (screen : Option Terminal) (result : Result (Unit {0}) StepFault) → IsInStep d w
+    → line ≡ drop count w.line → OnOk result (screen ≡ option_map (λ t. reads t (take count w.line)) w.screen) → OnErr result (screen ≡ None)
+    → IsInStep d (record w { line = line; screen = screen })
+read_call d w count line screen (Ok done) was off ok err = rw (off, ok) (received d w count was)
+read_call d w count line screen (Err fault) was off ok err = rw (off, err) (failed d w (drop count w.line) was)
+
+pub read_steps : (w : World) (count : ℕ) (line : List ℕ) (screen : Option Terminal) (result : Result (Unit {0}) StepFault)
+    → line ≡ drop count w.line → OnOk result (screen ≡ option_map (λ t. reads t (take count w.line)) w.screen)
+    → OnOk result (take count w.line ≢ [] → IsSome w.screen) → OnErr result (screen ≡ None) → OnErr result (take count w.line ≢ [])
+    → OnErr result (result ≡ Err (faults.Screen grid.OutOfMemory)) → AfterReadStep w count result (record w { line = line; screen = screen })
+read_steps w count line screen (Ok done) off ok live err some fault = (live, rw (off, ok) refl)
+read_steps w count line screen (Err (faults.Screen grid.OutOfMemory)) off ok live err some fault = (some, rw (off, err) refl)
+read_steps w count line screen (Err (faults.Screen grid.SizeOutOfRange)) off ok live err some fault = absurd (cc fault)
+read_steps w count line screen (Err (faults.Session why)) off ok live err some fault = absurd (cc fault)
+read_steps w count line screen (Err faults.Line) off ok live err some fault = absurd (cc fault)
+
+drop_taken : (count : ℕ) (xs : List ℕ) → drop (length (take count xs)) xs ≡ drop count xs
+drop_taken zero xs = refl
+drop_taken (suc count) [] = refl
+drop_taken (suc count) (x ∷ xs) = drop_taken count xs
+
+-- the session after bytes of its queue went, by their number
+pub is_sent : {D : Type 0} (tables : D) (s : Session) (new : SessionState D) (count : ℕ) (part pending : List ℕ) → pending ≡ s.pending
+    → part ≡ take count pending → new ≡ record { tables = tables; session = after_sending s (length part) }
+    → new ≡ record { tables = tables; session = after_sending s count }
+is_sent {D} tables s new count part pending same first is =
+    is ∙ ap (λ left. record { tables = tables; session = record s { pending = left } })
+    (rw (first, same) (drop_taken count s.pending))
+
+pub send_call : {D : Type 0} (says : D → Data) (tables : D) (w : World) (new : SessionState D) (count : ℕ) (line : List ℕ)
+    → new ≡ record { tables = tables; session = after_sending w.session count } → line ≡ w.line ++ take count w.session.pending
+    → IsInStep (says tables) w → IsInStep (says new.tables) (record w { session = new.session; line = line })
+send_call {D} says tables w new count line is behind was = rw (is, behind) (sent (says tables) w count was)
+
+pub send_steps : {D : Type 0} (tables : D) (w : World) (new : SessionState D) (count : ℕ) (line : List ℕ)
+    → new ≡ record { tables = tables; session = after_sending w.session count } → line ≡ w.line ++ take count w.session.pending
+    → record w { session = new.session; line = line } ≡ after_send w count
+send_steps {D} tables w new count line is behind = rw (is, behind) refl

@@ -1,0 +1,170 @@
+-- What a key leaves of the window's size, of the mark of the last telling, and of what is known of the screen.
+use Rattle.std.proofs.Common.{◌≡◌, ℕ, Bool, true, false, List, [], ◌∷◌, Option, Some, None, refl, sym, subst, ◌∙◌, arith, if◌then◌else◌}
+use Rattle.std.specs.Prelude.{IfSome, not, ◌||◌, ◌&&◌, ◌==◌, encode_utf8}
+use Rattle.std.proofs.lemmas.Bool.Decides.{nat_tests}
+use Rattle.bx_text.specs.Edits.{Edit, fits}
+use Rattle.bx_keys.specs.declared.key.Key.{Key}
+use Rattle.bx_keys.specs.declared.key.Key.TheVariants.{Insert, Erase, Delete, Back, Forward, Up, Down, Right, Left, RowHome, RowEnd, PageUp, PageDown}
+use Rattle.bx_keys.specs.declared.key.Key.TheVariants.{Save, Quit, Undo, Redo, Repaint, Direction, Size}
+use Rattle.bx_keys.specs.Keys.{rest_after}
+use Rattle.bx_keys.specs.Waiting.{head_of}
+use Rattle.bx_view.specs.declared.moves.Logical.TheVariants as logical
+use Rattle.bx_view.specs.Moves.{step_logical}
+use Rattle.bx_grid.specs.Picture.{PictureState}
+use Rattle.bx_editor.specs.Data.{Data}
+use Rattle.bx_editor.specs.Editor.{Editor, rows, after_insertion, after_removal, after_undo, after_redo, after_save, after_quit, without_message}
+use Rattle.bx_editor.specs.Keys.{after_key, after_pressing, asks_for_whole}
+use Rattle.bx_session.specs.Session.{Session, session_after_key, session_after_any, after_spending, key_of_byte, unpainted_after_byte}
+use Rattle.bx_world.specs.World.{World, told_after_key, is_window}
+use Rattle.bx_world.specs.Showing.{FitsWindow}
+
+-- ---- the editor's size
+
+abbrev SameSize : Editor → Editor → Type 0
+SameSize e f = FitsWindow e.height e.width f
+
+size_if : (g : Bool) (e a b : Editor) → SameSize e a → SameSize e b → SameSize e (if g then a else b)
+size_if true e a b x y = x
+size_if false e a b x y = y
+
+insertion_size : (d : Data) (e : Editor) (new : List ℕ) → SameSize e (after_insertion d e new)
+insertion_size d e new = size_if (fits e.content.text e.place e.place new) e _ _ (refl, refl) (refl, refl)
+
+removal_size : (d : Data) (e : Editor) (start stop : ℕ) → SameSize e (after_removal d e start stop)
+removal_size d e start stop = size_if (start == stop) e _ _ (refl, refl) (refl, refl)
+
+undo_size : (e : Editor) (past : List Edit) → SameSize e (after_undo e past)
+undo_size e [] = (refl, refl)
+undo_size e (edit ∷ past) = (refl, refl)
+
+redo_size : (e : Editor) (future : List Edit) → SameSize e (after_redo e future)
+redo_size e [] = (refl, refl)
+redo_size e (edit ∷ future) = (refl, refl)
+
+save_size : (e : Editor) (saved : Bool) → SameSize e (after_save e saved)
+save_size e true = (refl, refl)
+save_size e false = (refl, refl)
+
+quit_size : (e : Editor) (again : Bool) → SameSize e (after_quit e again)
+quit_size e again = size_if (not e.changed || again) e _ _ (refl, refl) (refl, refl)
+
+pressing_size : (d : Data) (saved again : Bool) (e : Editor) (key : Key) → SameSize e (after_pressing d saved again e key)
+pressing_size d saved again e (Insert ch) = insertion_size d e (encode_utf8 ch)
+pressing_size d saved again e Erase = removal_size d e (step_logical (rows d e) logical.Back e.place) e.place
+pressing_size d saved again e Delete = removal_size d e e.place (step_logical (rows d e) logical.Forward e.place)
+pressing_size d saved again e Back = (refl, refl)
+pressing_size d saved again e Forward = (refl, refl)
+pressing_size d saved again e Up = (refl, refl)
+pressing_size d saved again e Down = (refl, refl)
+pressing_size d saved again e Right = (refl, refl)
+pressing_size d saved again e Left = (refl, refl)
+pressing_size d saved again e RowHome = (refl, refl)
+pressing_size d saved again e RowEnd = (refl, refl)
+pressing_size d saved again e PageUp = (refl, refl)
+pressing_size d saved again e PageDown = (refl, refl)
+pressing_size d saved again e Save = save_size e saved
+pressing_size d saved again e Quit = quit_size e again
+pressing_size d saved again e Undo = undo_size e e.content.past
+pressing_size d saved again e Redo = redo_size e e.content.future
+pressing_size d saved again e Repaint = (refl, refl)
+pressing_size d saved again e Direction = (refl, refl)
+pressing_size d saved again e (Size height width) = (refl, refl)
+
+-- ---- what a key leaves of a world's marks
+
+-- of the session before the key's effect and the world before the byte: where the size still counts as told, the editor
+-- has the window's size, and what is known of the screen is what was known of it
+pub record Keeps (w : World) (s new : Session) (told : Bool) : Type 0 where
+  pub size : (w.told ≡ true → FitsWindow w.height w.width s.editor) → told ≡ true → FitsWindow w.height w.width new.editor
+  pub known : told ≡ true → IfSome new.painted (λ p. (w.told ≡ true) × (s.painted ≡ Some p))
+
+known_if : (g told : Bool) (painted : Option PictureState) → told ≡ true
+    → IfSome (if g then None else painted) (λ p. (told ≡ true) × (painted ≡ Some p))
+known_if true told painted on = tt
+known_if false told None on = tt
+known_if false told (Some p) on = (on, refl)
+
+-- a key that is no telling
+other_key : (d : Data) (saved : Bool) (w : World) (s : Session) (key : Key) → SameSize s.editor (after_key d saved s.editor key)
+    → told_after_key w (Some key) ≡ w.told → Keeps w s (session_after_key d saved s key) (told_after_key w (Some key))
+other_key d saved w s key size stays = record {
+  size = λ fits on. (let was = fits (sym stays ∙ on) in (size.0 ∙ was.0, size.1 ∙ was.1));
+  known = λ on. known_if (asks_for_whole key || (after_key d saved s.editor key).ended) w.told s.painted (sym stays ∙ on);
+}
+
+pub both : (a b : Bool) → a && b ≡ true → (a ≡ true) × (b ≡ true)
+both true b on = (refl, on)
+both false b on = absurd (cc on)
+
+pub same_number : (a b : ℕ) → a == b ≡ true → a ≡ b
+same_number a b on = grind (arith, nat_tests, on)
+
+size_key : (d : Data) (saved : Bool) (w : World) (s : Session) (height width : ℕ)
+    → Keeps w s (session_after_key d saved s (Size height width)) (is_window w height width)
+size_key d saved w s height width = record {
+  size = λ fits on. (let each = both (w.height == height) (w.width == width) on in
+      (sym (same_number w.height height each.0), sym (same_number w.width width each.1)));
+  known = λ on. tt;
+}
+
+pub key_keeps : (d : Data) (saved : Bool) (w : World) (s : Session) (key : Key)
+    → Keeps w s (session_after_key d saved s key) (told_after_key w (Some key))
+key_keeps d saved w s (Insert ch) = other_key d saved w s (Insert ch) (pressing_size d saved s.editor.quit_before (without_message s.editor) (Insert ch)) refl
+key_keeps d saved w s Erase = other_key d saved w s Erase (pressing_size d saved s.editor.quit_before (without_message s.editor) Erase) refl
+key_keeps d saved w s Delete = other_key d saved w s Delete (pressing_size d saved s.editor.quit_before (without_message s.editor) Delete) refl
+key_keeps d saved w s Back = other_key d saved w s Back (pressing_size d saved s.editor.quit_before (without_message s.editor) Back) refl
+key_keeps d saved w s Forward = other_key d saved w s Forward (pressing_size d saved s.editor.quit_before (without_message s.editor) Forward) refl
+key_keeps d saved w s Up = other_key d saved w s Up (pressing_size d saved s.editor.quit_before (without_message s.editor) Up) refl
+key_keeps d saved w s Down = other_key d saved w s Down (pressing_size d saved s.editor.quit_before (without_message s.editor) Down) refl
+key_keeps d saved w s Right = other_key d saved w s Right (pressing_size d saved s.editor.quit_before (without_message s.editor) Right) refl
+key_keeps d saved w s Left = other_key d saved w s Left (pressing_size d saved s.editor.quit_before (without_message s.editor) Left) refl
+key_keeps d saved w s RowHome = other_key d saved w s RowHome (pressing_size d saved s.editor.quit_before (without_message s.editor) RowHome) refl
+key_keeps d saved w s RowEnd = other_key d saved w s RowEnd (pressing_size d saved s.editor.quit_before (without_message s.editor) RowEnd) refl
+key_keeps d saved w s PageUp = other_key d saved w s PageUp (pressing_size d saved s.editor.quit_before (without_message s.editor) PageUp) refl
+key_keeps d saved w s PageDown = other_key d saved w s PageDown (pressing_size d saved s.editor.quit_before (without_message s.editor) PageDown) refl
+key_keeps d saved w s Save = other_key d saved w s Save (pressing_size d saved s.editor.quit_before (without_message s.editor) Save) refl
+key_keeps d saved w s Quit = other_key d saved w s Quit (pressing_size d saved s.editor.quit_before (without_message s.editor) Quit) refl
+key_keeps d saved w s Undo = other_key d saved w s Undo (pressing_size d saved s.editor.quit_before (without_message s.editor) Undo) refl
+key_keeps d saved w s Redo = other_key d saved w s Redo (pressing_size d saved s.editor.quit_before (without_message s.editor) Redo) refl
+key_keeps d saved w s Repaint = other_key d saved w s Repaint (pressing_size d saved s.editor.quit_before (without_message s.editor) Repaint) refl
+key_keeps d saved w s Direction = other_key d saved w s Direction (pressing_size d saved s.editor.quit_before (without_message s.editor) Direction) refl
+key_keeps d saved w s (Size height width) = size_key d saved w s height width
+
+any_keeps : (d : Data) (saved : Bool) (w : World) (s : Session) (key : Option Key) → Keeps w s (session_after_any d saved s key) (told_after_key w key)
+any_keeps d saved w s None = record { size = λ fits on. fits on; known = λ on. known_if false w.told s.painted on }
+any_keeps d saved w s (Some key) = key_keeps d saved w s key
+
+-- ---- what a byte leaves
+
+-- a byte that is spent leaves all but what waits
+pub record IsSpent (old new : Session) : Type 0 where
+  pub editor : new.editor ≡ old.editor
+  pub top : new.top ≡ old.top
+  pub painted : new.painted ≡ old.painted
+  pub owed : new.painting_owed ≡ old.painting_owed
+  pub pending : new.pending ≡ old.pending
+
+spent_if : (ended : Bool) (s : Session) (rest : List ℕ) → IsSpent s (if ended then s else record s { rest = rest })
+spent_if true s rest = record { editor = refl; top = refl; painted = refl; owed = refl; pending = refl }
+spent_if false s rest = record { editor = refl; top = refl; painted = refl; owed = refl; pending = refl }
+
+pub spent : (s : Session) (b : ℕ) → IsSpent s (after_spending s b)
+spent s b = spent_if s.editor.ended s (head_of (rest_after s.rest b))
+
+-- a byte that is applied, and not yet painted
+pub byte_keeps : (d : Data) (saved : Bool) (w : World) (b : ℕ)
+    → Keeps w w.session (unpainted_after_byte d saved w.session b) (told_after_key w (key_of_byte w.session b))
+byte_keeps d saved w b =
+    let first = spent w.session b in
+    let then_key = any_keeps d saved w (after_spending w.session b) (key_of_byte w.session b) in record {
+      size = λ fits on. then_key.size (λ told. rw first.editor (fits told)) on;
+      known = λ on. subst (λ painted. IfSome (unpainted_after_byte d saved w.session b).painted (λ p. (w.told ≡ true) × (painted ≡ Some p)))
+          first.painted (then_key.known on);
+    }
+
+any_pending : (d : Data) (saved : Bool) (s : Session) (key : Option Key) → (session_after_any d saved s key).pending ≡ s.pending
+any_pending d saved s None = refl
+any_pending d saved s (Some key) = refl
+
+pub byte_pending : (d : Data) (saved : Bool) (s : Session) (b : ℕ) → (unpainted_after_byte d saved s b).pending ≡ s.pending
+byte_pending d saved s b = any_pending d saved (after_spending s b) (key_of_byte s b) ∙ (spent s b).pending

@@ -1,0 +1,159 @@
+-- Steps one after another.
+use Rattle.std.proofs.Common.{◌≡◌, ℕ, Bool, true, false, List, [], ◌∷◌, ◌++◌, take, length, ◌+◌, Option, Some, None, Result, Ok, Err, refl, sym, ap, subst, ◌∙◌, arith}
+use Rattle.std.proofs.Common.{if◌then◌else◌}
+use Rattle.std.specs.Prelude.{IfSome, not, ◌&&◌, is_some}
+use Rattle.std.specs.List.{zip}
+use Rattle.std.proofs.lemmas.List.{length-append}
+use Rattle.bx_grid.specs.Picture.{Shows}
+use Rattle.bx_grid.specs.Terminal.{Terminal, reads}
+use Rattle.bx_grid.specs.declared.error.GridError.TheVariants as grid
+use Rattle.bx_editor.specs.Data.{Data}
+use Rattle.bx_editor.specs.Picture.{picture}
+use Rattle.bx_session.specs.Session.{Session, after_byte, after_spending, with_painting, unpainted_after_byte, is_idle, key_of_byte}
+use Rattle.bx_session.specs.Saving.{StoreState}
+use Rattle.bx_world.specs.declared.step.Step.{Step}
+use Rattle.bx_world.specs.declared.step.Step.TheVariants.{Byte, Window, Told, Send, Read}
+use Rattle.bx_world.specs.declared.step.StepFault.{StepFault}
+use Rattle.bx_world.specs.declared.step.StepFault.TheVariants as faults
+use Rattle.bx_world.specs.World.{World}
+use Rattle.bx_world.specs.Steps.{StepsTo, PlaysTo, AfterByteStep, AfterToldStep, AfterWindowStep, AfterSendStep, AfterReadStep, accepted_after, is_last_accepted}
+use Rattle.bx_world.specs.Showing.{AfterAll, IsInStep, WillShow, ShowsWhenRead}
+use Rattle.bx_world.proofs.Keys.{spent}
+
+pub will_show : (d : Data) (w : World) → IsInStep d w → WillShow d w
+will_show d w was told owed = subst (λ painted. IfSome painted (λ p. AfterAll w (λ t. Shows t p))) (was.state owed) (was.follows told)
+
+-- ---- one step more
+
+pub plays_more : (d : Data) (old mid new : World) (store mid_store store' : StoreState) (done : List (Step × Result (Unit {0}) StepFault)) (step : Step)
+    (answer : Result (Unit {0}) StepFault) → PlaysTo d old store done mid mid_store → StepsTo d mid mid_store step answer new store'
+    → PlaysTo d old store (done ++ (step, answer) ∷ []) new store'
+plays_more d old mid new store mid_store store' [] step answer played steps =
+    (new, store', subst (λ s. StepsTo d old s step answer new store') played.1 (subst (λ w. StepsTo d w mid_store step answer new store') played.0 steps), (refl, refl))
+plays_more d old mid new store mid_store store' (s ∷ done) step answer played steps =
+    (played.0, played.1, played.2, plays_more d played.0 mid new played.1 mid_store store' done step answer played.3 steps)
+
+pub zip_push : {A B : Type 0} (xs : List A) (ys : List B) (x : A) (y : B) → length xs ≡ length ys
+    → zip (xs ++ x ∷ []) (ys ++ y ∷ []) ≡ zip xs ys ++ (x, y) ∷ []
+zip_push [] [] x y same = refl
+zip_push [] (b ∷ ys) x y same = absurd (cc same)
+zip_push (a ∷ xs) [] x y same = absurd (cc same)
+zip_push (a ∷ xs) (b ∷ ys) x y same = ap (λ rest. (a, b) ∷ rest) (zip_push xs ys x y (omega (arith, same)))
+
+-- ---- what is owed
+
+abbrev pub OwesNot : Bool → World → Type 0
+OwesNot accepted w = accepted ≡ true → w.session.painting_owed ≡ false
+
+idle_owes : (key owed : Bool) → not key && not owed ≡ true → owed ≡ false
+idle_owes key false idle = refl
+idle_owes true true idle = absurd (cc idle)
+idle_owes false true idle = absurd (cc idle)
+
+byte_owes : (d : Data) (saved : Bool) (s : Session) (b : ℕ) → (after_byte d saved s b).painting_owed ≡ false
+byte_owes d saved s b = by_idle (is_idle s b) refl where
+  by_idle : (idle : Bool) → is_idle s b ≡ idle
+      → (if idle then after_spending s b else with_painting d (unpainted_after_byte d saved s b)).painting_owed ≡ false
+  by_idle true idle = (spent s b).owed ∙ idle_owes (is_some (key_of_byte s b)) s.painting_owed idle
+  by_idle false other = refl
+
+byte_accepted : (d : Data) (saved : Bool) (old new : World) (b : ℕ) (answer : Result (Unit {0}) StepFault) → AfterByteStep d saved old b answer new
+    → accepted_after true (Byte b) answer ≡ true → new.session.painting_owed ≡ false
+byte_accepted d saved old new b (Ok done) is on = ap (λ (w : World). w.session.painting_owed) is ∙ byte_owes d saved old.session b
+byte_accepted d saved old new b (Err fault) is on = absurd (cc on)
+
+told_accepted : (d : Data) (old new : World) (height width : ℕ) (answer : Result (Unit {0}) StepFault) → AfterToldStep d old height width answer new
+    → accepted_after true (Told height width) answer ≡ true → new.session.painting_owed ≡ false
+told_accepted d old new height width (Ok done) is on = ap (λ (w : World). w.session.painting_owed) is.1
+told_accepted d old new height width (Err fault) is on = absurd (cc on)
+
+window_owes : (old new : World) (height width : ℕ) (answer : Result (Unit {0}) StepFault) → AfterWindowStep old height width answer new
+    → new.session.painting_owed ≡ old.session.painting_owed
+window_owes old new height width (Ok done) is = ap (λ (w : World). w.session.painting_owed) is.2
+window_owes old new height width (Err (faults.Screen grid.SizeOutOfRange)) is = ap (λ (w : World). w.session.painting_owed) is.2
+window_owes old new height width (Err (faults.Screen grid.OutOfMemory)) is = ap (λ (w : World). w.session.painting_owed) is
+window_owes old new height width (Err (faults.Session fault)) is = absurd is
+window_owes old new height width (Err faults.Line) is = absurd is
+
+send_owes : (old new : World) (count : ℕ) (answer : Result (Unit {0}) StepFault) → AfterSendStep old count answer new
+    → new.session.painting_owed ≡ old.session.painting_owed
+send_owes old new count (Ok done) is = ap (λ (w : World). w.session.painting_owed) is
+send_owes old new count (Err faults.Line) is = ap (λ (w : World). w.session.painting_owed) is
+send_owes old new count (Err (faults.Session fault)) is = absurd is
+send_owes old new count (Err (faults.Screen fault)) is = absurd is
+
+read_owes : (old new : World) (count : ℕ) (answer : Result (Unit {0}) StepFault) → AfterReadStep old count answer new
+    → new.session.painting_owed ≡ old.session.painting_owed
+read_owes old new count (Ok done) is = ap (λ (w : World). w.session.painting_owed) is.1
+read_owes old new count (Err (faults.Screen grid.OutOfMemory)) is = ap (λ (w : World). w.session.painting_owed) is.1
+read_owes old new count (Err (faults.Screen grid.SizeOutOfRange)) is = absurd is
+read_owes old new count (Err (faults.Session fault)) is = absurd is
+read_owes old new count (Err faults.Line) is = absurd is
+
+step_owes : (d : Data) (before : Bool) (old new : World) (store store' : StoreState) (step : Step) (answer : Result (Unit {0}) StepFault)
+    → StepsTo d old store step answer new store' → OwesNot before old → OwesNot (accepted_after before step answer) new
+step_owes d before old new store store' (Byte b) answer is owes on = byte_accepted d is.0 old new b answer is.2 on
+step_owes d before old new store store' (Told height width) answer is owes on = told_accepted d old new height width answer is.0 on
+step_owes d before old new store store' (Window height width) answer is owes on = window_owes old new height width answer is.0 ∙ owes on
+step_owes d before old new store store' (Send count) answer is owes on = send_owes old new count answer is.0 ∙ owes on
+step_owes d before old new store store' (Read count) answer is owes on = read_owes old new count answer is.0 ∙ owes on
+
+pub accepted_owes_nothing : (d : Data) (before : Bool) (old new : World) (store store' : StoreState) (all : List (Step × Result (Unit {0}) StepFault))
+    → PlaysTo d old store all new store' → OwesNot before old → OwesNot (is_last_accepted before all) new
+accepted_owes_nothing d before old new store store' [] played owes on = ap (λ (w : World). w.session.painting_owed) played.0 ∙ owes on
+accepted_owes_nothing d before old new store store' (s ∷ more) played owes on =
+    accepted_owes_nothing d (accepted_after before s.0 s.1) played.0 new played.1 store' more played.3
+    (step_owes d before old played.0 store played.1 s.0 s.1 played.2 owes) on
+
+owed_not : (owed : Bool) → not owed ≡ true → owed ≡ false
+owed_not false h = refl
+owed_not true h = absurd (cc h)
+
+-- what a schedule shows, where the last call was not refused, the size was told and all is read
+pub shows_when_read : (d : Data) (old new : World) (store store' : StoreState) (all : List (Step × Result (Unit {0}) StepFault))
+    → PlaysTo d old store all new store' → IsInStep d new
+    → ShowsWhenRead (is_last_accepted (not old.session.painting_owed) all) d new
+shows_when_read d old new store store' all played was accepted told line pending =
+    let owes = accepted_owes_nothing d (not old.session.painting_owed) old new store store' all played (owed_not old.session.painting_owed) accepted in
+    now new.screen (subst (λ bytes. IfSome new.screen (λ t. Shows (reads t bytes) (picture d new.session.editor new.session.top))) nothing (will_show d new was told owes)) where
+      nothing : new.line ++ new.session.pending ≡ []
+      nothing = rw (line, pending) refl
+
+      now : (screen : Option Terminal) → IfSome screen (λ t. Shows (reads t []) (picture d new.session.editor new.session.top))
+          → IfSome screen (λ t. Shows t (picture d new.session.editor new.session.top))
+      now None h = h
+      now (Some t) h = h
+
+-- ---- a schedule as far as it is played
+
+pub record Played (d : Data) (old : World) (store : StoreState) (steps : List Step) (count : ℕ) (new : World) (store' : StoreState)
+    (answers : List (Result (Unit {0}) StepFault)) : Type 0 where
+  pub same_length : length (take count steps) ≡ length answers
+  pub plays : PlaysTo d old store (zip (take count steps) answers) new store'
+
+pub nothing_played : (d : Data) (w : World) (store : StoreState) (steps : List Step) (answers : List (Result (Unit {0}) StepFault)) → answers ≡ []
+    → Played d w store steps 0 w store answers
+nothing_played d w store steps answers empty = rw empty (record { same_length = refl; plays = (refl, refl) })
+
+pub one_played : {D : Type 0} (says : D → Data) (tables tables' : D) (old mid new : World) (store mid_store store' : StoreState) (steps : List Step) (count : ℕ)
+    (step : Step) (answers answers' : List (Result (Unit {0}) StepFault)) (answer : Result (Unit {0}) StepFault) → tables' ≡ tables
+    → Played (says tables) old store steps count mid mid_store answers → take (count + 1) steps ≡ take count steps ++ step ∷ []
+    → StepsTo (says tables') mid mid_store step answer new store' → answers' ≡ answers ++ answer ∷ []
+    → Played (says tables) old store steps (count + 1) new store' answers'
+one_played {D} says tables tables' old mid new store mid_store store' steps count step answers answers' answer same was more steps_to pushed =
+    let all : zip (take (count + 1) steps) answers' ≡ zip (take count steps) answers ++ (step, answer) ∷ [] =
+    ap (λ xs. zip xs answers') more ∙ ap (λ ys. zip (take count steps ++ step ∷ []) ys) pushed
+    ∙ zip_push (take count steps) answers step answer was.same_length in
+    let now : StepsTo (says tables) mid mid_store step answer new store' =
+    subst (λ (t : D). StepsTo (says t) mid mid_store step answer new store') same steps_to in record {
+      same_length = ap length more ∙ length-append (take count steps) (step ∷ []) ∙ ap (λ n. n + 1) was.same_length
+          ∙ sym (length-append answers (answer ∷ [])) ∙ sym (ap length pushed);
+      plays = subst (λ x. PlaysTo (says tables) old store x new store') (sym all)
+          (plays_more (says tables) old mid new store mid_store store' (zip (take count steps) answers) step answer was.plays now);
+    }
+
+pub schedule_shows : {D : Type 0} (says : D → Data) (tables tables' : D) (old new : World) (store store' : StoreState)
+    (all : List (Step × Result (Unit {0}) StepFault)) → tables' ≡ tables → PlaysTo (says tables) old store all new store' → IsInStep (says tables') new
+    → ShowsWhenRead (is_last_accepted (not old.session.painting_owed) all) (says tables') new
+schedule_shows {D} says tables tables' old new store store' all same played was =
+    shows_when_read (says tables') old new store store' all (subst (λ (t : D). PlaysTo (says t) old store all new store') (sym same) played) was

@@ -1,0 +1,16 @@
+use Rattle.std.proofs.Common.{◌≡◌}
+use Rattle.std.specs.Prelude.{vec_capacity}
+use Rattle.bx_session.specs.Saving.{store_state}
+use Rattle.bx_world.proofs.Schedules.{Played}
+use Rattle.bx_world.proofs.world.World.play_into.Given as goal
+
+abbrev pub invariant-loop-step : goal.invariant-loop-step
+invariant-loop-step g l =
+    Played (record {
+      class = g.D.BidiData.class_of l.initial.self.tables;
+      bracket = g.D.BidiData.bracket_of l.initial.self.tables;
+      mirror = g.D.BidiData.mirror_of l.initial.self.tables;
+    }) l.initial.self.world (store_state g.S.Store.contents g.S.Store.failure_count l.initial.store) l.steps l.step-index l.self.world
+    (store_state g.S.Store.contents g.S.Store.failure_count l.store) l.answers.items
+    × (l.self.tables ≡ l.initial.self.tables)
+    × (vec_capacity l.answers ≡ vec_capacity l.initial.answers)

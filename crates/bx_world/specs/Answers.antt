@@ -1,0 +1,17 @@
+-- What a session's answer makes of a step's, and of the mark of the last telling.
+use Rattle.std.specs.Prelude.{Bool, Result, Ok, Err}
+use Rattle.bx_session.specs.declared.error.Refused.{Refused}
+use Rattle.bx_session.specs.declared.error.Refused.TheVariants as refused
+use Rattle.bx_world.specs.declared.step.StepFault.{StepFault}
+use Rattle.bx_world.specs.declared.step.StepFault.TheVariants as faults
+
+abbrev pub answer_of : {A : Type 0} → Result A Refused → Result (Unit {0}) StepFault
+answer_of (Ok _) = Ok tt
+answer_of (Err fault) = Err (faults.Session fault)
+
+-- the mark after a call: one that is refused for more than its painting changes nothing
+abbrev pub mark_after : {A : Type 0} → Bool → Bool → Result A Refused → Bool
+mark_after before after (Ok _) = after
+mark_after before after (Err refused.Paint) = after
+mark_after before after (Err refused.Edit) = before
+mark_after before after (Err refused.Size) = before

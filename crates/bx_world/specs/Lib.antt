@@ -1,0 +1,4 @@
+pub mod World
+pub mod Steps
+pub mod Showing
+pub mod Answers

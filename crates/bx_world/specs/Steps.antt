@@ -1,0 +1,96 @@
+-- What each step leaves, by what it was answered, and what a list of steps leaves.
+use Rattle.std.specs.Prelude.{◌≡◌, ◌≢◌, ℕ, Bool, true, false, List, [], ◌∷◌, take, drop, Result, Ok, Err, IsSome}
+use Rattle.bx_grid.specs.Picture.{is_size}
+use Rattle.bx_grid.specs.declared.error.GridError.TheVariants as grid
+use Rattle.bx_editor.specs.Data.{Data}
+use Rattle.bx_session.specs.declared.error.Refused.TheVariants as refused
+use Rattle.bx_session.specs.Session.{key_of_byte, after_spending, after_byte, owing_after_byte, is_idle, after_told, owing_after_told}
+use Rattle.bx_session.specs.Saving.{StoreState, StoreAfter, is_save_byte, is_edit_or_move_key}
+use Rattle.bx_world.specs.declared.step.Step.{Step}
+use Rattle.bx_world.specs.declared.step.Step.TheVariants.{Byte, Window, Told, Send, Read}
+use Rattle.bx_world.specs.declared.step.StepFault.{StepFault}
+use Rattle.bx_world.specs.declared.step.StepFault.TheVariants as faults
+use Rattle.bx_world.specs.World.{World, with_byte, with_told_size, after_window, after_send, after_read, with_failed_screen}
+
+-- ---- one step
+
+-- a byte; `saved` tells how a Save ended
+abbrev pub AfterByteStep : {A : Type 0} → Data → Bool → World → ℕ → Result A StepFault → World → Type 0
+AfterByteStep d saved old b (Ok _) new = new ≡ with_byte old b (after_byte d saved old.session b)
+AfterByteStep d saved old b (Err (faults.Session refused.Paint)) new =
+    (new ≡ with_byte old b (owing_after_byte d saved old.session b)) × (is_idle old.session b ≡ false)
+AfterByteStep d saved old b (Err (faults.Session refused.Edit)) new =
+    (new ≡ record old { session = after_spending old.session b }) × (is_edit_or_move_key (key_of_byte old.session b) ≡ true)
+AfterByteStep d saved old b (Err (faults.Session refused.Size)) new = ⊥
+AfterByteStep d saved old b (Err (faults.Screen fault)) new = ⊥
+AfterByteStep d saved old b (Err faults.Line) new = ⊥
+
+abbrev pub AfterToldStep : {A : Type 0} → Data → World → ℕ → ℕ → Result A StepFault → World → Type 0
+AfterToldStep d old height width (Ok _) new =
+    (is_size height width ≡ true) × (new ≡ with_told_size old height width (after_told d old.session height width))
+AfterToldStep d old height width (Err (faults.Session refused.Paint)) new =
+    (is_size height width ≡ true) × (new ≡ with_told_size old height width (owing_after_told old.session height width))
+AfterToldStep d old height width (Err (faults.Session refused.Size)) new = (is_size height width ≡ false) × (new ≡ old)
+AfterToldStep d old height width (Err (faults.Session refused.Edit)) new = ⊥
+AfterToldStep d old height width (Err (faults.Screen fault)) new = ⊥
+AfterToldStep d old height width (Err faults.Line) new = ⊥
+
+-- a terminal that has failed answers want of memory, whatever the size
+abbrev pub AfterWindowStep : {A : Type 0} → World → ℕ → ℕ → Result A StepFault → World → Type 0
+AfterWindowStep old height width (Ok _) new = (is_size height width ≡ true) × IsSome old.screen × (new ≡ after_window old height width)
+AfterWindowStep old height width (Err (faults.Screen grid.SizeOutOfRange)) new =
+    (is_size height width ≡ false) × IsSome old.screen × (new ≡ old)
+AfterWindowStep old height width (Err (faults.Screen grid.OutOfMemory)) new = new ≡ with_failed_screen old
+AfterWindowStep old height width (Err (faults.Session fault)) new = ⊥
+AfterWindowStep old height width (Err faults.Line) new = ⊥
+
+-- a count above what is pending takes all
+abbrev pub AfterSendStep : {A : Type 0} → World → ℕ → Result A StepFault → World → Type 0
+AfterSendStep old count (Ok _) new = new ≡ after_send old count
+AfterSendStep old count (Err faults.Line) new = new ≡ old
+AfterSendStep old count (Err (faults.Session fault)) new = ⊥
+AfterSendStep old count (Err (faults.Screen fault)) new = ⊥
+
+-- a count above what is on the line takes all; one that takes no byte is answered Ok, also by a terminal that has failed;
+-- where memory runs out, the bytes are off the line
+abbrev pub AfterReadStep : {A : Type 0} → World → ℕ → Result A StepFault → World → Type 0
+AfterReadStep old count (Ok _) new = (take count old.line ≢ [] → IsSome old.screen) × (new ≡ after_read old count)
+AfterReadStep old count (Err (faults.Screen grid.OutOfMemory)) new =
+    (take count old.line ≢ []) × (new ≡ with_failed_screen (record old { line = drop count old.line }))
+AfterReadStep old count (Err (faults.Screen grid.SizeOutOfRange)) new = ⊥
+AfterReadStep old count (Err (faults.Session fault)) new = ⊥
+AfterReadStep old count (Err faults.Line) new = ⊥
+
+-- a step with its answer, world and store; no step but a byte touches the store
+abbrev pub StepsTo : {A : Type 0} → Data → World → StoreState → Step → Result A StepFault → World → StoreState → Type 0
+StepsTo d old store (Byte b) answer new store' =
+    (saved : Bool) × StoreAfter (is_save_byte old.session b) saved old.session.editor.content.text store store' × AfterByteStep d saved old b answer new
+StepsTo d old store (Told height width) answer new store' = AfterToldStep d old height width answer new × (store' ≡ store)
+StepsTo d old store (Window height width) answer new store' = AfterWindowStep old height width answer new × (store' ≡ store)
+StepsTo d old store (Send count) answer new store' = AfterSendStep old count answer new × (store' ≡ store)
+StepsTo d old store (Read count) answer new store' = AfterReadStep old count answer new × (store' ≡ store)
+
+-- ---- a schedule
+
+-- steps with their answers, one after another
+abbrev pub PlaysTo : {A : Type 0} → Data → World → StoreState → List (Step × Result A StepFault) → World → StoreState → Type 0
+PlaysTo d old store [] new store' = (new ≡ old) × (store' ≡ store)
+PlaysTo d old store (s ∷ more) new store' =
+    (mid : World) × (mid_store : StoreState) × StepsTo d old store s.0 s.1 mid mid_store × PlaysTo d mid mid_store more new store'
+
+abbrev pub is_ok : {A : Type 0} → Result A StepFault → Bool
+is_ok (Ok _) = true
+is_ok (Err fault) = false
+
+-- whether the last byte or told size was not refused, where `before` tells that of the one before this step
+abbrev pub accepted_after : {A : Type 0} → Bool → Step → Result A StepFault → Bool
+accepted_after before (Byte b) answer = is_ok answer
+accepted_after before (Told height width) answer = is_ok answer
+accepted_after before (Window height width) answer = before
+accepted_after before (Send count) answer = before
+accepted_after before (Read count) answer = before
+
+-- whether the last byte or told size of a schedule was not refused
+abbrev pub is_last_accepted : {A : Type 0} → Bool → List (Step × Result A StepFault) → Bool
+is_last_accepted before [] = before
+is_last_accepted before (s ∷ more) = is_last_accepted (accepted_after before s.0 s.1) more

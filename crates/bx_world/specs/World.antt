@@ -1,0 +1,94 @@
+-- The world: a session, what is on its way to the terminal, the window and the terminal, and what a step makes of them.
+use Rattle.std.specs.Prelude.{ℕ, ◌*◌, Bool, true, false, ◌&&◌, ◌==◌, List, [], ◌++◌, take, drop, replicate, Option, Some, None, option_map}
+use Rattle.bx_keys.specs.declared.key.Key.{Key}
+use Rattle.bx_keys.specs.declared.key.Key.TheVariants.{Size}
+use Rattle.bx_grid.specs.Columns.{Unknown}
+use Rattle.bx_grid.specs.Terminal.{Terminal, reads, after_resize}
+use Rattle.bx_session.specs.Session.{Session, key_of_byte, after_sending}
+
+pub record World : Type 0 where
+  pub session : Session
+  -- bytes that were sent, and not yet read
+  pub line : List ℕ
+  -- the window's rows and columns
+  pub height : ℕ
+  pub width : ℕ
+  -- the terminal, unless memory ran out in it
+  pub screen : Option Terminal
+  -- the window's last size was told since
+  pub told : Bool
+
+-- a world with the tables that its session edits by
+pub record WorldState (D : Type 0) : Type 0 where
+  pub tables : D
+  pub world : World
+
+-- a terminal of which nothing is known
+abbrev pub unknown_terminal : ℕ → ℕ → Terminal
+unknown_terminal height width = record {
+  height = height;
+  width = width;
+  columns = replicate (height * width) Unknown;
+  position = None;
+  negative = None;
+  run = [];
+  half_read = [];
+}
+
+-- a world round a session that was opened: opening counts as a telling
+abbrev pub around : Session → ℕ → ℕ → World
+around s height width = record {
+  session = s;
+  line = [];
+  height = height;
+  width = width;
+  screen = Some (unknown_terminal height width);
+  told = true;
+}
+
+-- what the terminal has still to read, if nothing more is queued
+abbrev pub unread : World → List ℕ
+unread w = w.line ++ w.session.pending
+
+-- ---- a telling
+
+abbrev pub is_window : World → ℕ → ℕ → Bool
+is_window w height width = (w.height == height) && (w.width == width)
+
+-- the mark after a key, in a window of this size: the key Size is a telling
+abbrev pub told_after : ℕ → ℕ → Bool → Option Key → Bool
+told_after height width told (Some (Size rows columns)) = (height == rows) && (width == columns)
+told_after height width told _ = told
+
+abbrev pub told_after_key : World → Option Key → Bool
+told_after_key w key = told_after w.height w.width w.told key
+
+-- a byte was applied, which left this session
+abbrev pub with_byte : World → ℕ → Session → World
+with_byte w b s = record w { session = s; told = told_after_key w (key_of_byte w.session b) }
+
+-- a size was told, which left this session
+abbrev pub with_told_size : World → ℕ → ℕ → Session → World
+with_told_size w height width s = record w { session = s; told = is_window w height width }
+
+-- ---- the window, the line and the terminal
+
+abbrev pub after_window : World → ℕ → ℕ → World
+after_window w height width = record w {
+  height = height;
+  width = width;
+  screen = option_map (λ t. after_resize t height width) w.screen;
+  told = false;
+}
+
+-- the first bytes that are pending go to the line
+abbrev pub after_send : World → ℕ → World
+after_send w count = record w { session = after_sending w.session count; line = w.line ++ take count w.session.pending }
+
+-- the terminal reads the first bytes of the line
+abbrev pub after_read : World → ℕ → World
+after_read w count = record w { line = drop count w.line; screen = option_map (λ t. reads t (take count w.line)) w.screen }
+
+-- memory ran out in the terminal
+abbrev pub with_failed_screen : World → World
+with_failed_screen w = record w { screen = None }

@@ -1,0 +1,10 @@
+//! The world of a session: what is on its way to the terminal, the window and the terminal, under any schedule of steps.
+#![tactic(auto)]
+
+mod playing;
+mod step;
+mod stepping;
+mod world;
+
+pub use step::{Step, StepFault};
+pub use world::World;

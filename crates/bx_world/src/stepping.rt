@@ -1,0 +1,212 @@
+//! One step of the world.
+
+ghost use Rattle.std.specs.Prelude.{◌≡◌, ◌≢◌, ◌≤◌, ◌++◌, ◌==◌, ◌&&◌, [], true, false, Bool, IsSome, OnErr, OnOk, drop, length, option_map, take};
+ghost use Rattle.bx_grid.specs.Terminal.{reads};
+ghost use Rattle.bx_session.specs.Saving.{StoreAfter, is_save_byte, store_state};
+ghost use Rattle.bx_session.specs.Session.{key_of_byte};
+ghost use Rattle.bx_world.specs.Answers as answers;
+ghost use Rattle.bx_world.specs.Showing.{StaysWhole, WillShow};
+ghost use Rattle.bx_world.specs.Steps.{AfterByteStep, AfterReadStep, AfterSendStep, AfterToldStep, AfterWindowStep, StepsTo};
+ghost use Rattle.bx_world.specs.World.{told_after};
+
+use crate::step::{Step, StepFault};
+use crate::world::World;
+use bx_document::Answers;
+use bx_grid::{GridError, Screen};
+use bx_keys::Key;
+use bx_session::{Refused, Session};
+use bx_store::Store;
+use bx_ucd::BidiData;
+
+/// Whether a window has so many rows and columns.
+fn is_window(height: u16, width: u16, rows: u16, columns: u16) -> bool
+    ensures { result ≡ (height == rows) && (width == columns) }
+{
+    height == rows && width == columns
+}
+
+/// Whether a window of this size counts as told after a byte, where `told` says so of before.
+fn is_told_after<D: BidiData + Drop>(
+    session: &Session<D>,
+    height: u16,
+    width: u16,
+    told: bool,
+    byte: u8,
+) -> bool
+    ensures { result ≡ told_after height width told (key_of_byte session.now.session byte) }
+{
+    match session.key_of(byte) {
+        Some(Key::Size(rows, columns)) => is_window(height, width, rows, columns),
+        _ => told,
+    }
+}
+
+/// Sets the mark of the last telling after a call, unless that was refused for more than its painting.
+fn mark_after<A>(told: &mut bool, after: bool, answer: &Result<A, Refused>)
+    ensures { told.new ≡ answers.mark_after told.old after answer.now }
+{
+    match answer {
+        Ok(_) | Err(Refused::Paint) => *told = after,
+        Err(Refused::Edit | Refused::Size) => {}
+    }
+}
+
+/// A session's answer as a step's.
+fn answer_of<A: Drop>(answer: Result<A, Refused>) -> Result<(), StepFault>
+    ensures { result ≡ answers.answer_of answer }
+{
+    match answer {
+        Ok(_) => Ok(()),
+        Err(fault) => Err(StepFault::Session(fault)),
+    }
+}
+
+/// The first bytes, at most so many.
+fn first_bytes(bytes: &[u8], count: usize) -> &[u8]
+    ensures { result.now ≡ take count bytes.now }
+{
+    if count < bytes.len() {
+        &bytes[..count]
+    } else {
+        bytes
+    }
+}
+
+/// Puts bytes behind a line.
+///
+/// Errors: `Line` for want of memory: the line is as before.
+fn append(line: &mut Vec<u8>, bytes: &[u8]) -> Result<(), StepFault>
+    ensures ok { OnOk result (line.new.items ≡ line.old.items ++ bytes.now) }
+    ensures err { OnErr result (line.new.items ≡ line.old.items) }
+    ensures fault { OnErr result (result ≡ Err StepFault.Line) }
+{
+    match line.extend_from_slice(bytes) {
+        Ok(()) => Ok(()),
+        Err(_) => Err(StepFault::Line),
+    }
+}
+
+/// Takes the first bytes off a line.
+fn take_off(line: &mut Vec<u8>, count: usize)
+    requires { count ≤ length line.old.items }
+    ensures { line.new.items ≡ drop count line.old.items }
+{
+    line.drain(..count);
+}
+
+/// A terminal reads the first bytes of a line, at most so many.
+///
+/// Errors: `Screen` for want of memory, now or at an earlier call, where there is a byte to read: it is off the line.
+fn read_some(screen: &mut Screen, line: &mut Vec<u8>, count: usize) -> Result<(), StepFault>
+    ensures line { line.new.items ≡ drop count line.old.items }
+    ensures ok { OnOk result (screen.new ≡ option_map (λ t. reads t (take count line.old.items)) screen.old) }
+    ensures live { OnOk result (take count line.old.items ≢ [] → IsSome screen.old) }
+    ensures err { OnErr result (screen.new ≡ None) }
+    ensures some { OnErr result (take count line.old.items ≢ []) }
+    ensures fault { OnErr result (result ≡ Err (StepFault.Screen GridError.OutOfMemory)) }
+{
+    let part = first_bytes(line, count);
+    if part.is_empty() {
+        return Ok(());
+    }
+    let answer = screen.read(part);
+    let taken = part.len();
+    take_off(line, taken);
+    match answer {
+        Ok(()) => Ok(()),
+        Err(_) => Err(StepFault::Screen(GridError::OutOfMemory)),
+    }
+}
+
+impl<D: BidiData + Drop> World<D> {
+    /// A byte of input.
+    fn type_byte<S: Store>(&mut self, byte: u8, store: &mut S) -> Result<(), StepFault>
+        ensures step { (saved : Bool)
+            × StoreAfter (is_save_byte self.old.world.session byte) saved self.old.world.session.editor.content.text
+            (store_state S.contents S.failure_count store.old) (store_state S.contents S.failure_count store.new)
+            × AfterByteStep (⟦<D as Answers>⟧.data self.old.tables) saved self.old.world byte result self.new.world }
+        ensures tables { self.new.tables ≡ self.old.tables }
+    {
+        let told = is_told_after(&self.session, self.height, self.width, self.told, byte);
+        let answer = self.session.feed(byte, store);
+        mark_after(&mut self.told, told, &answer);
+        answer_of(answer)
+    }
+
+    /// The session is told a size.
+    fn tell(&mut self, height: u16, width: u16) -> Result<(), StepFault>
+        ensures step { AfterToldStep (⟦<D as Answers>⟧.data self.old.tables) self.old.world height width result self.new.world }
+        ensures tables { self.new.tables ≡ self.old.tables }
+    {
+        let told = is_window(self.height, self.width, height, width);
+        let answer = self.session.told(height, width);
+        mark_after(&mut self.told, told, &answer);
+        answer_of(answer)
+    }
+
+    /// The window gets another size.
+    fn resize(&mut self, height: u16, width: u16) -> Result<(), StepFault>
+        ensures step { AfterWindowStep self.old.world height width result self.new.world }
+        ensures tables { self.new.tables ≡ self.old.tables }
+    {
+        match self.screen.window(height, width) {
+            Ok(()) => {
+                self.height = height;
+                self.width = width;
+                self.told = false;
+                Ok(())
+            }
+            Err(fault) => Err(StepFault::Screen(fault)),
+        }
+    }
+
+    /// Bytes go from the session's queue to the line.
+    fn send(&mut self, count: usize) -> Result<(), StepFault>
+        ensures step { AfterSendStep self.old.world count result self.new.world }
+        ensures tables { self.new.tables ≡ self.old.tables }
+    {
+        let part = first_bytes(self.session.pending(), count);
+        let sent = part.len();
+        append(&mut self.line, part)?;
+        self.session.taken(sent);
+        Ok(())
+    }
+
+    /// The terminal reads bytes of the line.
+    fn read(&mut self, count: usize) -> Result<(), StepFault>
+        ensures step { AfterReadStep self.old.world count result self.new.world }
+        ensures tables { self.new.tables ≡ self.old.tables }
+    {
+        read_some(&mut self.screen, &mut self.line, count)
+    }
+    /// Takes a step.
+    fn answer<S: Store>(&mut self, step: Step, store: &mut S) -> Result<(), StepFault>
+        ensures steps { StepsTo (⟦<D as Answers>⟧.data self.old.tables) self.old.world (store_state S.contents S.failure_count store.old) step result
+            self.new.world (store_state S.contents S.failure_count store.new) }
+        ensures tables { self.new.tables ≡ self.old.tables }
+    {
+        match step {
+            Step::Byte(byte) => self.type_byte(byte, store),
+            Step::Window(height, width) => self.resize(height, width),
+            Step::Told(height, width) => self.tell(height, width),
+            Step::Send(count) => self.send(count),
+            Step::Read(count) => self.read(count),
+        }
+    }
+
+    /// Takes a step, whatever those before answered. A count above what is there takes all.
+    ///
+    /// Errors: `Session` for what the session refuses of a byte or a told size; `Screen` for a window's side that is not from
+    /// 1 to 500, and where memory ran out in the terminal, now or before; `Line` for want of memory, and nothing was moved.
+    pub fn step<S: Store>(&mut self, step: Step, store: &mut S) -> Result<(), StepFault>
+        ensures steps { StepsTo (⟦<D as Answers>⟧.data self.old.tables) self.old.world (store_state S.contents S.failure_count store.old) step result
+            self.new.world (store_state S.contents S.failure_count store.new) }
+        ensures tables { self.new.tables ≡ self.old.tables }
+        ensures shows { WillShow (⟦<D as Answers>⟧.data self.new.tables) self.new.world }
+        ensures whole { StaysWhole self.new.world }
+    {
+        let answer = self.answer(step, store);
+        self.keep_up();
+        answer
+    }
+}

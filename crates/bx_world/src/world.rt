@@ -1,0 +1,137 @@
+//! The world's state.
+
+ghost use Rattle.std.specs.Prelude.{◌≡◌, ◌↔◌, true, IfErr, IfOk, IsTrue, IsUtf8, OnOk};
+ghost use Rattle.bx_grid.specs.Picture.{is_size};
+ghost use Rattle.bx_editor.specs.Opening.{Causes};
+ghost use Rattle.bx_session.specs.Painting.{IsShownOn};
+ghost use Rattle.bx_session.specs.Session.{at_opening};
+ghost use Rattle.bx_world.specs.Showing.{IsInStep, StaysWhole, WillShow};
+ghost use Rattle.bx_world.specs.World.{around};
+
+use bx_document::Answers;
+use bx_explicit::Base;
+use bx_grid::Screen;
+use bx_session::{OpenError, Session};
+use bx_ucd::BidiData;
+use std::alloc::Global;
+use std::marker::Model;
+
+/// A session, what is on its way from it to the terminal, the window's size, and the terminal. Whatever steps are taken, the
+/// terminal will show the picture last painted once it has read what is on its way, if the window's size was told.
+#[derive(Drop)]
+pub struct World<D: BidiData + Drop> {
+    pub(crate) session: Session<D>,
+    // bytes that were sent, and not yet read
+    pub(crate) line: Vec<u8>,
+    // the window's rows and columns
+    pub(crate) height: u16,
+    pub(crate) width: u16,
+    pub(crate) screen: Screen,
+    // the window's last size was told since
+    pub(crate) told: bool,
+}
+
+impl<D: BidiData + Drop> Model for World<D> {
+    ghost use Rattle.bx_world.specs.Showing.{IsInStep};
+    ghost use Rattle.bx_world.specs.World.{WorldState};
+
+    ghost Value = { WorldState D };
+
+    ghost view = { λ w. record {
+      tables = w.session.tables;
+      world = record {
+        session = w.session.session;
+        line = w.line.items;
+        height = w.height;
+        width = w.width;
+        screen = w.screen;
+        told = w.told;
+      };
+    } };
+
+    ghost invariant = { λ w. IsInStep (record {
+      class = D.class_of w.session.tables;
+      bracket = D.bracket_of w.session.tables;
+      mirror = D.mirror_of w.session.tables;
+    }) (record {
+      session = w.session.session;
+      line = w.line.items;
+      height = w.height;
+      width = w.width;
+      screen = w.screen;
+      told = w.told;
+    }) };
+}
+
+impl<D: BidiData + Drop> World<D> {
+    /// Opens a file's bytes in a window of so many rows and columns, round which nothing was sent yet. A refusal drops the
+    /// bytes and the tables.
+    ///
+    /// Errors, in this order: `TooLong` above 16,777,216 bytes; `NotUtf8` with the number of the first bytes that are UTF-8;
+    /// `SizeOutOfRange` where a side is not from 1 to 500; `OutOfMemory`.
+    pub fn open(
+        alloc: Global,
+        bytes: Vec<u8>,
+        tables: D,
+        height: u16,
+        width: u16,
+        base: Base,
+    ) -> Result<World<D>, OpenError>
+        ensures ok { IfOk result (λ w. w ≡ record {
+          tables = tables;
+          world = around (at_opening (⟦<D as Answers>⟧.data tables) bytes.items height width base) height width;
+        }) }
+        ensures utf8 { OnOk result (IsUtf8 bytes.items) }
+        ensures sized { OnOk result (is_size height width ≡ true) }
+        ensures refused { IfErr result (Causes bytes.items height width) }
+    {
+        let session = Session::open(alloc, bytes, tables, height, width, base)?;
+        let Ok(screen) = Screen::new(alloc, height, width) else {
+            return Err(OpenError::OutOfMemory);
+        };
+        Ok(World {
+            session,
+            line: Vec::new(alloc),
+            height,
+            width,
+            screen,
+            told: true,
+        })
+    }
+
+    /// The session.
+    pub fn session(&self) -> &Session<D>
+        ensures session { result.now.session ≡ self.now.world.session }
+        ensures tables { result.now.tables ≡ self.now.tables }
+    {
+        &self.session
+    }
+
+    /// The bytes that were sent, and not yet read.
+    pub fn line(&self) -> &[u8]
+        ensures { result.now ≡ self.now.world.line }
+    {
+        &self.line
+    }
+
+    /// Whether the window's last size was told since.
+    pub fn is_told(&self) -> bool
+        ensures { result ≡ self.now.world.told }
+    {
+        self.told
+    }
+
+    /// Whether the terminal shows the picture last painted. No memory.
+    pub fn shows(&self) -> bool
+        ensures { IsTrue result ↔ IsShownOn self.now.world.session.painted self.now.world.screen }
+    {
+        self.session.is_shown_on(&self.screen)
+    }
+
+    /// What every step keeps: the terminal will show the picture last painted.
+    pub(crate) fn keep_up(&self)
+        ensures in_step { IsInStep (⟦<D as Answers>⟧.data self.now.tables) self.now.world }
+    {
+        let _ = &self.session;
+    }
+}
