@@ -65,8 +65,8 @@ owing_in_step d saved w b was =
     (always_shows.owing_byte d saved w.session b) keeps.known (λ on. keeps.size was.size on)
 
 -- its key was applied and painted
-pub fed_in_step : (d : Data) (saved : Bool) (w : World) (b : ℕ) (new : Session) → IsInStep d w → new ≡ with_painting d (unpainted_after_byte d saved w.session b)
-    → FeedPaints d w.session b new → IsInStep d (with_byte w b new)
+pub fed_in_step : (d : Data) (saved : Bool) (w : World) (b : ℕ) (new : Session) → IsInStep d w
+    → new ≡ with_painting d (unpainted_after_byte d saved w.session b) → FeedPaints d w.session b new → IsInStep d (with_byte w b new)
 fed_in_step d saved w b new was is queued =
     painted d w new (told_after_key w (key_of_byte w.session b)) (unpainted_after_byte d true w.session b).painted was queued
     (byte_keeps d true w b).known

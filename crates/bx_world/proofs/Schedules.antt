@@ -1,5 +1,6 @@
 -- Steps one after another.
-use Rattle.std.proofs.Common.{◌≡◌, ℕ, Bool, true, false, List, [], ◌∷◌, ◌++◌, take, length, ◌+◌, Option, Some, None, Result, Ok, Err, refl, sym, ap, subst, ◌∙◌, arith}
+use Rattle.std.proofs.Common.{◌≡◌, ℕ, Bool, true, false, List, [], ◌∷◌, ◌++◌, take, length, ◌+◌, Option, Some, None}
+use Rattle.std.proofs.Common.{Result, Ok, Err, refl, sym, ap, subst, ◌∙◌, arith}
 use Rattle.std.proofs.Common.{if◌then◌else◌}
 use Rattle.std.specs.Prelude.{IfSome, not, ◌&&◌, is_some}
 use Rattle.std.specs.List.{zip}
@@ -16,7 +17,8 @@ use Rattle.bx_world.specs.declared.step.Step.TheVariants.{Byte, Window, Told, Se
 use Rattle.bx_world.specs.declared.step.StepFault.{StepFault}
 use Rattle.bx_world.specs.declared.step.StepFault.TheVariants as faults
 use Rattle.bx_world.specs.World.{World}
-use Rattle.bx_world.specs.Steps.{StepsTo, PlaysTo, AfterByteStep, AfterToldStep, AfterWindowStep, AfterSendStep, AfterReadStep, accepted_after, is_last_accepted}
+use Rattle.bx_world.specs.Steps.{StepsTo, PlaysTo, AfterByteStep, AfterToldStep}
+use Rattle.bx_world.specs.Steps.{AfterWindowStep, AfterSendStep, AfterReadStep, accepted_after, is_last_accepted}
 use Rattle.bx_world.specs.Showing.{AfterAll, IsInStep, WillShow, ShowsWhenRead}
 use Rattle.bx_world.proofs.Keys.{spent}
 
@@ -28,8 +30,13 @@ will_show d w was told owed = subst (λ painted. IfSome painted (λ p. AfterAll 
 pub plays_more : (d : Data) (old mid new : World) (store mid_store store' : StoreState) (done : List (Step × Result (Unit {0}) StepFault)) (step : Step)
     (answer : Result (Unit {0}) StepFault) → PlaysTo d old store done mid mid_store → StepsTo d mid mid_store step answer new store'
     → PlaysTo d old store (done ++ (step, answer) ∷ []) new store'
-plays_more d old mid new store mid_store store' [] step answer played steps =
-    (new, store', subst (λ s. StepsTo d old s step answer new store') played.1 (subst (λ w. StepsTo d w mid_store step answer new store') played.0 steps), (refl, refl))
+plays_more d old mid new store mid_store store' [] step answer played steps = (
+  new,
+  store',
+  subst (λ s. StepsTo d old s step answer new store') played.1
+      (subst (λ w. StepsTo d w mid_store step answer new store') played.0 steps),
+  (refl, refl),
+)
 plays_more d old mid new store mid_store store' (s ∷ done) step answer played steps =
     (played.0, played.1, played.2, plays_more d played.0 mid new played.1 mid_store store' done step answer played.3 steps)
 
@@ -115,7 +122,9 @@ pub shows_when_read : (d : Data) (old new : World) (store store' : StoreState) (
     → ShowsWhenRead (is_last_accepted (not old.session.painting_owed) all) d new
 shows_when_read d old new store store' all played was accepted told line pending =
     let owes = accepted_owes_nothing d (not old.session.painting_owed) old new store store' all played (owed_not old.session.painting_owed) accepted in
-    now new.screen (subst (λ bytes. IfSome new.screen (λ t. Shows (reads t bytes) (picture d new.session.editor new.session.top))) nothing (will_show d new was told owes)) where
+    now new.screen
+    (subst (λ bytes. IfSome new.screen (λ t. Shows (reads t bytes) (picture d new.session.editor new.session.top)))
+    nothing (will_show d new was told owes)) where
       nothing : new.line ++ new.session.pending ≡ []
       nothing = rw (line, pending) refl
 

@@ -226,7 +226,8 @@ first_no_run_if false t b is = first_as_no_run t b (fate (b ∷ [])) is
 first_no_run : (t : Terminal) (b : ℕ) → NoRunInSequence (after_first_byte t b)
 first_no_run t b = first_no_run_if (b == 0x1B) t b refl
 
-token_no_run : (t : Terminal) (bs : List ℕ) (b : ℕ) (rest : List ℕ) → bs ≡ b ∷ rest → (begins_sequence bs ≡ true → t.run ≡ []) → NoRunInSequence (token_read t bs)
+token_no_run : (t : Terminal) (bs : List ℕ) (b : ℕ) (rest : List ℕ) → bs ≡ b ∷ rest
+    → (begins_sequence bs ≡ true → t.run ≡ []) → NoRunInSequence (token_read t bs)
 token_no_run t bs b rest is no_run =
     rw is (no_sequence (token_read t (b ∷ rest)) (token_waits (b == 0x1B) t (command (drop 1 rest)) (b ∷ rest) (λ on. no_run (ap begins_sequence is ∙ on))))
 

@@ -22,7 +22,8 @@ invariant_of-self-2 g c =
     send_call says c.self.inside.session.tables w c.taken.new.self c.args.count c.append.new.line.items
     (is_sent c.self.inside.session.tables c.self.inside.session.session c.taken.new.self c.args.count c.first_bytes-part.result.now c.pending.result.now
     c.pending.ensures c.first_bytes-part.ensures c.taken.ensures)
-    (c.in_ok-append.ensures.ok ∙ ap (λ bytes. c.self.inside.line.items ++ bytes) (c.first_bytes-part.ensures ∙ ap (take c.args.count) c.pending.ensures)) c.self.invariant
+    (c.in_ok-append.ensures.ok
+    ∙ ap (λ bytes. c.self.inside.line.items ++ bytes) (c.first_bytes-part.ensures ∙ ap (take c.args.count) c.pending.ensures)) c.self.invariant
 
 pub returns-clause-step : goal.returns-clause-step
 returns-clause-step g c =
@@ -38,4 +39,5 @@ returns-clause-step g c =
     c.self.view_is (send_steps c.self.inside.session.tables w c.taken.new.self c.args.count c.append.new.line.items
     (is_sent c.self.inside.session.tables c.self.inside.session.session c.taken.new.self c.args.count c.first_bytes-part.result.now c.pending.result.now
     c.pending.ensures c.first_bytes-part.ensures c.taken.ensures)
-    (c.in_ok-append.ensures.ok ∙ ap (λ bytes. c.self.inside.line.items ++ bytes) (c.first_bytes-part.ensures ∙ ap (take c.args.count) c.pending.ensures)))
+    (c.in_ok-append.ensures.ok
+    ∙ ap (λ bytes. c.self.inside.line.items ++ bytes) (c.first_bytes-part.ensures ∙ ap (take c.args.count) c.pending.ensures)))

@@ -22,7 +22,8 @@ invariant_of-self g c =
       told = c.self.inside.told;
     } in
     told_call says c.self.inside.session.tables c.told-answer.new.self.tables w c.told-answer.new.self.session c.args.height c.args.width c.told-answer.result
-    c.mark_after.new.told c.told-answer.ensures.tables (c.mark_after.ensures ∙ ap (λ after. mark_after c.self.inside.told after c.told-answer.result) c.is_window-told.ensures)
+    c.mark_after.new.told c.told-answer.ensures.tables
+    (c.mark_after.ensures ∙ ap (λ after. mark_after c.self.inside.told after c.told-answer.result) c.is_window-told.ensures)
     c.self.invariant c.told-answer.ensures.told c.told-answer.ensures.paints
 
 pub returns-clause-step : goal.returns-clause-step
@@ -43,4 +44,5 @@ returns-clause-step g c =
     subst (λ (x : WorldState g.row.D.Denot). AfterToldStep (says x.tables) x.world c.args.height c.args.width c.answer_of.result
     (record w { session = c.told-answer.new.self.session; told = c.mark_after.new.told })) c.self.view_is
     (told_steps (says c.self.inside.session.tables) w c.told-answer.new.self.session c.args.height c.args.width c.told-answer.result c.answer_of.result
-    c.mark_after.new.told c.answer_of.ensures (c.mark_after.ensures ∙ ap (λ after. mark_after c.self.inside.told after c.told-answer.result) c.is_window-told.ensures) c.told-answer.ensures.told)
+    c.mark_after.new.told c.answer_of.ensures
+    (c.mark_after.ensures ∙ ap (λ after. mark_after c.self.inside.told after c.told-answer.result) c.is_window-told.ensures) c.told-answer.ensures.told)

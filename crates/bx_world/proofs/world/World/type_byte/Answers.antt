@@ -51,4 +51,5 @@ returns-clause-step g c =
     (byte_steps (says c.self.inside.session.tables) w c.feed-answer.new.self.session
     (store_state g.S.Store.contents g.S.Store.failure_count c.args.store.now) (store_state g.S.Store.contents g.S.Store.failure_count c.feed-answer.new.store)
     c.args.byte c.feed-answer.result c.answer_of.result c.mark_after.new.told c.answer_of.ensures
-    (c.mark_after.ensures ∙ ap (λ after. mark_after c.self.inside.told after c.feed-answer.result) c.is_told_after-told.ensures) c.feed-answer.ensures.after_byte)
+    (c.mark_after.ensures ∙ ap (λ after. mark_after c.self.inside.told after c.feed-answer.result) c.is_told_after-told.ensures)
+    c.feed-answer.ensures.after_byte)
