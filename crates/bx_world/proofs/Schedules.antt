@@ -78,7 +78,7 @@ window_owes : (old new : World) (height width : ℕ) (answer : Result (Unit {0})
     → new.session.painting_owed ≡ old.session.painting_owed
 window_owes old new height width (Ok done) is = ap (λ (w : World). w.session.painting_owed) is.2
 window_owes old new height width (Err (faults.Screen grid.SizeOutOfRange)) is = ap (λ (w : World). w.session.painting_owed) is.2
-window_owes old new height width (Err (faults.Screen grid.OutOfMemory)) is = ap (λ (w : World). w.session.painting_owed) is
+window_owes old new height width (Err (faults.Screen grid.OutOfMemory)) is = ap (λ (w : World). w.session.painting_owed) is.1
 window_owes old new height width (Err (faults.Session fault)) is = absurd is
 window_owes old new height width (Err faults.Line) is = absurd is
 

@@ -40,7 +40,8 @@ abbrev pub AfterWindowStep : {A : Type 0} → World → ℕ → ℕ → Result A
 AfterWindowStep old height width (Ok _) new = (is_size height width ≡ true) × IsSome old.screen × (new ≡ after_window old height width)
 AfterWindowStep old height width (Err (faults.Screen grid.SizeOutOfRange)) new =
     (is_size height width ≡ false) × IsSome old.screen × (new ≡ old)
-AfterWindowStep old height width (Err (faults.Screen grid.OutOfMemory)) new = new ≡ with_failed_screen old
+AfterWindowStep old height width (Err (faults.Screen grid.OutOfMemory)) new =
+    (IsSome old.screen → is_size height width ≡ true) × (new ≡ with_failed_screen old)
 AfterWindowStep old height width (Err (faults.Session fault)) new = ⊥
 AfterWindowStep old height width (Err faults.Line) new = ⊥
 
