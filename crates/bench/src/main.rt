@@ -4,6 +4,8 @@
 //!     bench [--time] paragraphs TASK BYTES LINE [EDITS]
 //!     bench [--time] levels PATTERN CHARACTERS TIMES
 //!     bench [--time] painting TASK TEXT TIMES
+//!     bench [--time] units TASK TEXT BYTES TIMES
+//!     bench [--time] rows TASK TEXT LETTERS TIMES
 //!     bench each
 //!
 //! It prints a line that depends on all that was done, and with --time also the processor time of what is measured. `each`
@@ -17,7 +19,9 @@ mod levels;
 mod outcome;
 mod painting;
 mod paragraphs;
+mod rows;
 mod texts;
+mod units;
 
 use anyhow::{Result, bail};
 use outcome::Outcome;
@@ -32,16 +36,20 @@ fn measured<R: CpuClock + AllocGlobal>(rt: &R, words: &[String]) -> Result<Outco
         [layer, rest @ ..] if layer.as_str() == "paragraphs" => paragraphs::run(rt, rest),
         [layer, rest @ ..] if layer.as_str() == "levels" => levels::run(rt, rest),
         [layer, rest @ ..] if layer.as_str() == "painting" => painting::run(rt, rest),
-        _ => bail!("usage: bench [--time] text|paragraphs|levels|painting WORDS"),
+        [layer, rest @ ..] if layer.as_str() == "units" => units::run(rt, rest),
+        [layer, rest @ ..] if layer.as_str() == "rows" => rows::run(rt, rest),
+        _ => bail!("usage: bench [--time] text|paragraphs|levels|painting|units|rows WORDS"),
     }
 }
 
 /// One run of each layer.
-const EACH: [&str; 4] = [
+const EACH: [&str; 6] = [
     "text scattered 100000 2000",
     "paragraphs edit 10000 50 20",
     "levels mixed 80 1",
     "painting changes ascii 1",
+    "units row_starts mixed 1000 1",
+    "rows page mixed 76 1",
 ];
 
 /// Takes every layer once.

@@ -1,0 +1,113 @@
+//! The rows of a paragraph in a window of 80 columns: TASK TEXT LETTERS TIMES, where TASK is `resolved` (a paragraph is laid
+//! out), `page` (each row of one that is laid out already is drawn), `slots` (the slots of each row are told) or `parts`
+//! (each row's units are counted before its end), and TEXT is `ascii`, `hebrew` or `mixed`.
+
+ghost use Rattle.bx_paragraph.specs.Layout.{IsLayoutBy};
+
+use crate::outcome::{Outcome, number};
+use anyhow::{Result, bail};
+use bx_explicit::Base;
+use bx_paragraph::ParagraphLayout;
+use bx_ucd::{BidiData, sample_tables};
+use std::alloc::{AllocError, Global};
+use std::time::CpuClock;
+
+/// What a text repeats.
+fn words_of(name: &str) -> &'static str {
+    if name == "hebrew" {
+        "\u{5e9}\u{5dc}\u{5d5}\u{5dd} \u{5e2}\u{5d5}\u{5dc}\u{5dd} "
+    } else if name == "mixed" {
+        "\u{5e9}\u{5dc}\u{5d5}\u{5dd} the old (\u{5e2}\u{5d5}\u{5dc}\u{5dd}) 12 "
+    } else {
+        "the old man and the sea "
+    }
+}
+
+/// A text of so many letters.
+fn letters(alloc: Global, words: &str, count: usize) -> Result<String, AllocError> {
+    let mut text = String::new(alloc);
+    let length = words.chars().count().max(1);
+    for i in 0..count {
+        if let Some(c) = words.chars().nth(i % length) {
+            text.push(c)?;
+        }
+    }
+    Ok(text)
+}
+
+/// How many glyphs the rows show.
+fn page<D: BidiData>(layout: &ParagraphLayout, source: &D) -> Result<usize>
+    requires { IsLayoutBy (D.class_of source.now) (D.bracket_of source.now) layout.now }
+{
+    let mut count: usize = 0;
+    for row in 0..layout.row_count() {
+        count = count.wrapping_add(layout.picture(row, source)?.glyphs.len());
+    }
+    Ok(count)
+}
+
+/// How many slots the rows have.
+fn slots<D: BidiData>(layout: &ParagraphLayout, source: &D) -> Result<usize>
+    requires { IsLayoutBy (D.class_of source.now) (D.bracket_of source.now) layout.now }
+{
+    let mut count: usize = 0;
+    for row in 0..layout.row_count() {
+        count = count.wrapping_add(layout.slots(row, source)?.len());
+    }
+    Ok(count)
+}
+
+/// How many units the rows have.
+fn parts<D: BidiData>(layout: &ParagraphLayout, source: &D) -> Result<usize>
+    requires { IsLayoutBy (D.class_of source.now) (D.bracket_of source.now) layout.now }
+{
+    let mut count: usize = 0;
+    for row in 0..layout.row_count() {
+        count = count.wrapping_add(layout.units_before(row, usize::MAX, source)?);
+    }
+    Ok(count)
+}
+
+/// Does a task once, and tells of its answer.
+fn once<D: BidiData>(
+    alloc: Global,
+    task: &str,
+    layout: &ParagraphLayout,
+    source: &D,
+) -> Result<usize>
+    requires { IsLayoutBy (D.class_of source.now) (D.bracket_of source.now) layout.now }
+{
+    if task == "page" {
+        page(layout, source)
+    } else if task == "slots" {
+        slots(layout, source)
+    } else if task == "parts" {
+        parts(layout, source)
+    } else {
+        let body = layout.body().to_owned(alloc)?;
+        let again = ParagraphLayout::of(alloc, body, source, 80, layout.base())?;
+        Ok(again.row_count())
+    }
+}
+
+/// What the words ask for: a count of all that was shown, and the time that it took.
+pub(crate) fn run<R: CpuClock + AllocGlobal>(rt: &R, words: &[String]) -> Result<Outcome> {
+    let [task, text, count, times] = words else {
+        bail!("usage: bench rows TASK TEXT LETTERS TIMES");
+    };
+    let tables = sample_tables(rt.alloc())?;
+    let body = letters(rt.alloc(), words_of(text.as_str()), number(count)?)?;
+    let layout = ParagraphLayout::of(rt.alloc(), body, &tables, 80, Base::Auto)?;
+    let times = number(times)?;
+    let start = rt.thread_cpu_time()?;
+    let mut sum: usize = 0;
+    for _ in 0..times {
+        sum = sum.wrapping_add(once(rt.alloc(), task.as_str(), &layout, &tables)?);
+    }
+    let end = rt.thread_cpu_time()?;
+    let line = format!(in rt.alloc(); "{sum}")?;
+    Ok(Outcome {
+        line,
+        time: end.saturating_sub(start),
+    })
+}

@@ -1,0 +1,172 @@
+//! Units and rows of a text in lines: TASK TEXT BYTES TIMES, in a window of 80 columns. Splitting into lines is in each task.
+
+use crate::outcome::{Outcome, number};
+use anyhow::{Context, Result, bail};
+use bx_cells::{face, units};
+use bx_rows::{has_one_row, row_starts, wrap};
+use bx_ucd::{Tables, sample_tables};
+use std::alloc::{AllocError, Global};
+use std::time::CpuClock;
+use unicode_segmentation::UnicodeSegmentation;
+
+/// The columns of the window.
+const WIDTH: u16 = 80;
+
+/// How much longer or shorter than usual a line is, in characters; one in eight is wider than the window.
+const TURNS: [usize; 8] = [0, 4, 1, 5, 3, 20, 2, 6];
+
+/// The words that a text repeats, and how many characters its lines have at least.
+fn words_of(name: &str) -> Option<(&'static str, usize)> {
+    if name == "ascii" {
+        Some((
+            "The old man, who had 12 books (and no more), went to the sea. ",
+            70,
+        ))
+    } else if name == "emoji" {
+        Some((
+            "The old man, who had 12 books (and no more), went to the sea, and came back in the evening \
+            of the third day, which was a Thursday; nobody asked him where he had been, nor did he \
+            tell anyone but us. \u{1f600} ",
+            70,
+        ))
+    } else if name == "mixed" {
+        Some((
+            "שלום לכל the readers, והנה עוד 12 ספרים (books) אשר with a word נקראו היום. ",
+            70,
+        ))
+    } else if name == "hebrew" {
+        Some(("שלום לכל הקוראים, והנה עוד מעט ספרים אשר נקראו היום. ", 70))
+    } else if name == "arabic" {
+        Some((
+            "السلام عليكم، هذا كتاب آخر من الكتب التي قرأناها اليوم. ",
+            70,
+        ))
+    } else if name == "points" {
+        Some((
+            "בְּרֵאשִׁית בָּרָא אֱלֹהִים אֵת הַשָּׁמַיִם וְאֵת הָאָרֶץ׃ ",
+            124,
+        ))
+    } else if name == "cjk" {
+        Some(("私は昨日友達と一緒に図書館へ行きました。天地玄黃宇宙洪荒、日月盈昃。", 35))
+    } else if name == "hindi" {
+        Some((
+            "सभी मनुष्यों को गौरव और अधिकारों के मामले में जन्मजात स्वतन्त्रता और समानता प्राप्त है। ",
+            100,
+        ))
+    } else if name == "hangul" {
+        Some(("모든 인간은 태어날 때부터 자유로우며 그 존엄과 권리에 있어 동등하다. ", 42))
+    } else if name == "tabs" {
+        Some(("name\tvalue\tand a third\t12\t", 40))
+    } else {
+        None
+    }
+}
+
+/// A text of lines, of at least so many bytes.
+fn text(alloc: Global, words: &str, least: usize, bytes: usize) -> Result<String, AllocError> {
+    let mut text = String::new(alloc);
+    let mut line: usize = 0;
+    let mut left = least;
+    for _ in 0..bytes {
+        if text.len() >= bytes {
+            break;
+        }
+        for c in words.chars() {
+            text.push(c)?;
+            if left == 0 {
+                text.push('\n')?;
+                line = line.wrapping_add(1);
+                left = least.saturating_add(TURNS[line % 8]);
+            } else {
+                left -= 1;
+            }
+        }
+    }
+    Ok(text)
+}
+
+/// What is done with each line.
+#[derive(Clone, Copy)]
+enum Task {
+    /// Nothing.
+    Split,
+    /// The clusters by the kit's iterator, each with its face.
+    Iterator,
+    Units,
+    Wrap,
+    RowStarts,
+    HasOneRow,
+}
+
+impl Task {
+    fn named(word: &str) -> Option<Task> {
+        if word == "split" {
+            Some(Task::Split)
+        } else if word == "iterator" {
+            Some(Task::Iterator)
+        } else if word == "units" {
+            Some(Task::Units)
+        } else if word == "wrap" {
+            Some(Task::Wrap)
+        } else if word == "row_starts" {
+            Some(Task::RowStarts)
+        } else if word == "has_one_row" {
+            Some(Task::HasOneRow)
+        } else {
+            None
+        }
+    }
+}
+
+/// Does a task with a line: how many bytes, units or rows that gives.
+fn once(alloc: Global, task: Task, line: &str, tables: &Tables) -> Result<usize> {
+    match task {
+        Task::Split => Ok(line.len()),
+        Task::Iterator => {
+            let mut count: usize = 0;
+            for cluster in line.graphemes(true) {
+                let shown = face(cluster, tables, WIDTH);
+                count = count.wrapping_add(if shown == bx_cells::Face::Tab { 2 } else { 1 });
+            }
+            Ok(count)
+        }
+        Task::Units => Ok(units(alloc, line, tables, WIDTH)?.len()),
+        Task::Wrap => {
+            let units = units(alloc, line, tables, WIDTH)?;
+            Ok(wrap(alloc, line, &units, tables, WIDTH)?.len())
+        }
+        Task::RowStarts => Ok(row_starts(alloc, line, tables, WIDTH)?.len()),
+        Task::HasOneRow => Ok(usize::from(has_one_row(line, WIDTH))),
+    }
+}
+
+/// Does a task with all lines of a text some times.
+fn sum(alloc: Global, task: Task, text: &str, tables: &Tables, times: usize) -> Result<u64> {
+    let mut sum: u64 = 0;
+    for _ in 0..times {
+        for line in text.split('\n') {
+            sum = sum.wrapping_add(once(alloc, task, line, tables)? as u64);
+        }
+    }
+    Ok(sum)
+}
+
+/// What the words ask for: how many bytes, units or rows there were in all, and the time of the task.
+pub(crate) fn run<R: CpuClock + AllocGlobal>(rt: &R, words: &[String]) -> Result<Outcome> {
+    let [task, text_name, bytes, times] = words else {
+        bail!("usage: bench units TASK TEXT BYTES TIMES");
+    };
+    let task = Task::named(task.as_str()).context("no such task")?;
+    let (words, least) = words_of(text_name.as_str()).context("no such text")?;
+    let tables = sample_tables(rt.alloc())?;
+    let text = text(rt.alloc(), words, least, number(bytes)?)?;
+    let times = number(times)?;
+    let start = rt.thread_cpu_time()?;
+    let sum = sum(rt.alloc(), task, text.as_str(), &tables, times)?;
+    let end = rt.thread_cpu_time()?;
+    let line = format!(in rt.alloc(); "{sum}")?;
+    Ok(Outcome {
+        line,
+        time: end.saturating_sub(start),
+    })
+}
