@@ -73,7 +73,7 @@ every_from n (l ∷ ls) = (
       (λ k h. either (λ o. IsOddFrom o k) l (lowest_odd ls) (λ e. h) (λ e. from_other (lowest_odd ls) l k h)) (every_from (n + 1) ls),
 )
 
-every_highest : (n : ℕ) (ls : List ℕ) → Every (λ l. l ≤ highest ls) (enumerate_from n ls)
+pub every_highest : (n : ℕ) (ls : List ℕ) → Every (λ l. l ≤ highest ls) (enumerate_from n ls)
 every_highest n [] = tt
 every_highest n (l ∷ ls) =
     let here : l ≤ max l (highest ls) = omega arith in

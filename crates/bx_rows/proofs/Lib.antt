@@ -6,6 +6,7 @@ pub mod Cancels
 pub mod Pivots
 pub mod Growth
 pub mod FromLevels
+pub mod FewLevels
 pub mod OneRow
 pub mod Computed
 pub mod GlyphTexts

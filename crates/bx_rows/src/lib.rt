@@ -3,6 +3,7 @@
 
 mod drawn;
 mod error;
+mod few_levels;
 mod glyphs;
 mod narrow_run;
 mod one_row;

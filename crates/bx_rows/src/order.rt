@@ -5,6 +5,7 @@ ghost use Rattle.bx_rows.specs.VisualOrder.{visual};
 ghost use Rattle.bx_rows.specs.Ordered.{BeginsBelow, IsRun, around, order_of};
 
 use crate::error::RowError;
+use crate::few_levels::{highest_level, order_few};
 use std::alloc::{AllocError, Global};
 use std::collections::VecDeque;
 
@@ -113,12 +114,37 @@ fn numbers(alloc: Global, units: &VecDeque<(usize, u8)>) -> Result<Vec<usize>, A
     units.iter().map(|u| u.0).collect(alloc)
 }
 
+/// The highest level up to which a pass for each level costs less than lists of runs.
+const FEW: u8 = 4;
+
+/// The numbers of units of a list.
+fn numbers_of(alloc: Global, units: &[(usize, u8)]) -> Result<Vec<usize>, AllocError>
+    ensures { IfOk result (λ v. v.items ≡ map (λ u. u.0) units.now) }
+{
+    units.iter().map(|u| u.0).collect(alloc)
+}
+
+/// The numbers of the units in their order. Where no level is high, a pass for each level orders them.
+fn order_numbers(alloc: Global, levels: &[u8]) -> Result<Vec<usize>, AllocError>
+    ensures { IfOk result (λ v. v.items ≡ map (λ u. u.0) (order_of (enumerate_from 0 levels.now))) }
+{
+    let top = highest_level(levels);
+    if top <= FEW {
+        let units = order_few(alloc, levels, top)?;
+        let found = numbers_of(alloc, &units)?;
+        return Ok(found);
+    }
+    let units = order_units(alloc, levels)?;
+    let found = numbers(alloc, &units)?;
+    Ok(found)
+}
+
 /// The numbers of a row's units in visual order.
 fn numbers_in_order(alloc: Global, levels: &[u8]) -> Result<Vec<usize>, AllocError>
     ensures { IfOk result (λ v. v.items ≡ visual levels.now) }
 {
-    let units = order_units(alloc, levels)?;
-    Ok(numbers(alloc, &units)?)
+    let found = order_numbers(alloc, levels)?;
+    Ok(found)
 }
 
 /// The numbers of a row's units from 0, from left to right: L2, by the units' levels.
