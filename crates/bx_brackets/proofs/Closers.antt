@@ -90,9 +90,9 @@ found_in : (c : ℕ) (cs : List ℕ) (os : List (ℕ × ℕ)) → AreUnclosed cs
 found_in c cs os a None e = tt
 found_in c cs os a (Some o) e = (found_unclosed (is_for c) cs os o a e).inside
 
-pub found_place : (count next c : ℕ) (cs : List ℕ) (os : List (ℕ × ℕ)) → IsSearched count next os cs
+pub found_pair : (count next c : ℕ) (cs : List ℕ) (os : List (ℕ × ℕ)) → IsSearched count next os cs
     → IfSome (index_of (find (is_for c) os)) (λ k. k < length cs)
-found_place count next c cs os s = found_in c cs os s.unclosed (find (is_for c) os) refl
+found_pair count next c cs os s = found_in c cs os s.unclosed (find (is_for c) os) refl
 
 unclosed_set : (i j n : ℕ) (cs : List ℕ) (os : List (ℕ × ℕ)) → n ≤ i → IsFalling n os → AreUnclosed cs os → AreUnclosed (set cs i j) os
 unclosed_set i j n cs [] h f a = tt
@@ -128,9 +128,9 @@ searched_later count i j os cs h s = record {
   met = λ k d l. let m : get_or cs k d ≤ i = s.met k d l in omega arith;
 }
 
-pub searched_places : (count j : ℕ) (os : List (ℕ × ℕ)) (cs : List ℕ) → j < count → length cs ≡ 0 → IsSearched count j os cs
+pub searched_entries : (count j : ℕ) (os : List (ℕ × ℕ)) (cs : List ℕ) → j < count → length cs ≡ 0 → IsSearched count j os cs
     → IsSearched count j os (replicate count 0)
-searched_places count j os cs h e s = record {
+searched_entries count j os cs h e s = record {
   falling = s.falling;
   unclosed = unclosed_none count cs os e s.unclosed;
   long = inr (length-replicate count 0);

@@ -13,37 +13,37 @@ use Rattle.std.proofs.lemmas.List.{at_drop_more}
 use Rattle.bx_ucd.specs.declared.data.Side.{Side}
 use Rattle.bx_ucd.specs.declared.data.Side.TheVariants.{Opener, Closer}
 
-abbrev pub Place : Type 0
-Place = ℕ × ℕ
+abbrev pub OpenEntry : Type 0
+OpenEntry = ℕ × ℕ
 
 -- each pair ends before `j`
-abbrev pub EndsBelow : ℕ → List Place → Type 0
+abbrev pub EndsBelow : ℕ → List OpenEntry → Type 0
 EndsBelow j [] = Unit {0}
 EndsBelow j (p ∷ ps) = (p.1 < j) × EndsBelow j ps
 
-pub falling_later : (i j : ℕ) (os : List Place) → i ≤ j → IsFalling i os → IsFalling j os
+pub falling_later : (i j : ℕ) (os : List OpenEntry) → i ≤ j → IsFalling i os → IsFalling j os
 falling_later i j [] h f = tt
 falling_later i j (o ∷ os) h f = (omega (arith, f.0), f.1)
 
-filter_step : (f : Place → Bool) (o : Place) (os : List Place) (b : Bool) → f o ≡ b
+filter_step : (f : OpenEntry → Bool) (o : OpenEntry) (os : List OpenEntry) (b : Bool) → f o ≡ b
     → filter f (o ∷ os) ≡ elim b [ true ↦ o ∷ filter f os | false ↦ filter f os ]
 filter_step f o os true e = rw e
 filter_step f o os false e = rw e
 
-pub falling_filter : (f : Place → Bool) (j : ℕ) (os : List Place) → IsFalling j os → IsFalling j (filter f os)
+pub falling_filter : (f : OpenEntry → Bool) (j : ℕ) (os : List OpenEntry) → IsFalling j os → IsFalling j (filter f os)
 falling_filter f j [] h = tt
 falling_filter f j (o ∷ os) h = let a : IsFalling o.0 (filter f os) = falling_filter f o.0 os h.1 in let lt : o.0 < j =
     h.0 in elim (f o) as (λ b. IsFalling j (cond b (o ∷ filter f os) (filter f os)))
     [ true ↦ (lt, a) | false ↦ falling_later o.0 j (filter f os) (omega arith) a ]
 
 -- a filter of a filter
-filter_both : (f g : Place → Bool) (os : List Place) → filter (λ x. f x && g x) os ≡ filter g (filter f os)
+filter_both : (f g : OpenEntry → Bool) (os : List OpenEntry) → filter (λ x. f x && g x) os ≡ filter g (filter f os)
 filter_both f g [] = refl
 filter_both f g (o ∷ os) = let ih : filter (λ x. f x && g x) os ≡ filter g (filter f os) = filter_both f g os in
     elim (f o) as (λ b. cond (b && g o) (o ∷ filter (λ x. f x && g x) os) (filter (λ x. f x && g x) os) ≡ filter g (cond b (o ∷ filter f os) (filter f os)))
     [ true ↦ ap (λ r. cond (g o) (o ∷ r) r) ih | false ↦ ih ]
 
-filter_same : (f g : Place → Bool) → ((x : Place) → f x ≡ g x) → (os : List Place) → filter f os ≡ filter g os
+filter_same : (f g : OpenEntry → Bool) → ((x : OpenEntry) → f x ≡ g x) → (os : List OpenEntry) → filter f os ≡ filter g os
 filter_same f g h [] = refl
 filter_same f g h (o ∷ os) = rw (h o) (ap (λ r. cond (g o) (o ∷ r) r) (filter_same f g h os))
 
@@ -70,56 +70,56 @@ or_turn true false = refl
 or_turn false b = sym (or_false b)
 
 -- an insertion changes the order alone
-any_insert : (f : Place → Bool) (p : Place) (ps : List Place) → list_any f (insert_pair p ps) ≡ (f p || list_any f ps)
+any_insert : (f : OpenEntry → Bool) (p : OpenEntry) (ps : List OpenEntry) → list_any f (insert_pair p ps) ≡ (f p || list_any f ps)
 any_insert f p [] = refl
 any_insert f p (q ∷ qs) = elim (nat_lt p.0 q.0) as
-    (λ b. list_any f (elim b as (λ x. List Place) [ true ↦ p ∷ q ∷ qs | false ↦ q ∷ insert_pair p qs ]) ≡ (f p || (f q || list_any f qs))) [
+    (λ b. list_any f (elim b as (λ x. List OpenEntry) [ true ↦ p ∷ q ∷ qs | false ↦ q ∷ insert_pair p qs ]) ≡ (f p || (f q || list_any f qs))) [
       | true ↦ refl
       | false ↦ ap (λ b. f q || b) (any_insert f p qs) ∙ or_swap (f q) (f p) (list_any f qs)
     ]
 
 -- one pair more
-open_more : (ps : List Place) (p x : Place) → is_open (insert_pair p ps) x ≡ (is_open ps x && not (nat_le p.0 x.0 && nat_lt x.0 p.1))
+open_more : (ps : List OpenEntry) (p x : OpenEntry) → is_open (insert_pair p ps) x ≡ (is_open ps x && not (nat_le p.0 x.0 && nat_lt x.0 p.1))
 open_more ps p x = ap not (any_insert (λ q. nat_le q.0 x.0 && nat_lt x.0 q.1) p ps
     ∙ or_turn (nat_le p.0 x.0 && nat_lt x.0 p.1) (list_any (λ q. nat_le q.0 x.0 && nat_lt x.0 q.1) ps))
     ∙ not_or (list_any (λ q. nat_le q.0 x.0 && nat_lt x.0 q.1) ps) (nat_le p.0 x.0 && nat_lt x.0 p.1)
 
 -- not from `a` on
-abbrev is_outside : ℕ → ℕ → Place → Bool
+abbrev is_outside : ℕ → ℕ → OpenEntry → Bool
 is_outside a j x = not (nat_le a x.0 && nat_lt x.0 j)
 
-outside_below : (a j : ℕ) (x : Place) → x.0 < a → is_outside a j x ≡ true
+outside_below : (a j : ℕ) (x : OpenEntry) → x.0 < a → is_outside a j x ≡ true
 outside_below a j x h = let e : nat_le a x.0 ≡ false = grind (arith, nat_tests) in rw e
 
-outside_from : (a j : ℕ) (x : Place) → a ≤ x.0 → x.0 < j → is_outside a j x ≡ false
+outside_from : (a j : ℕ) (x : OpenEntry) → a ≤ x.0 → x.0 < j → is_outside a j x ≡ false
 outside_from a j x h k = let e : nat_le a x.0 ≡ true = grind (arith, nat_tests) in let f : nat_lt x.0 j ≡ true = grind (arith, nat_tests) in rw (e, f)
 
-filter_all_below : (a j : ℕ) (os : List Place) → IsFalling a os → filter (is_outside a j) os ≡ os
+filter_all_below : (a j : ℕ) (os : List OpenEntry) → IsFalling a os → filter (is_outside a j) os ≡ os
 filter_all_below a j [] h = refl
 filter_all_below a j (o ∷ os) h = let lt : o.0 < a = h.0 in filter_step (is_outside a j) o os true (outside_below a j o lt)
     ∙ ap (λ r. o ∷ r) (filter_all_below a j os (falling_later o.0 a os (omega arith) h.1))
 
-pub found_below : (p : Place → Bool) (j : ℕ) (os : List Place) (o : Place) → IsFalling j os → find p os ≡ Some o → o.0 < j
+pub found_below : (p : OpenEntry → Bool) (j : ℕ) (os : List OpenEntry) (o : OpenEntry) → IsFalling j os → find p os ≡ Some o → o.0 < j
 found_below p j [] o h e = absurd (cc)
 found_below p j (x ∷ xs) o h e =
     let ih : find p xs ≡ Some o → o.0 < x.0 = found_below p x.0 xs o h.1 in
     let lt : x.0 < j = h.0 in
     (elim (p x) as (λ b. cond b (Some x) (find p xs) ≡ Some o → o.0 < j) [
-      | true ↦ λ k. let q : x ≡ o = cc in subst (λ (y : Place). y.0 < j) q lt
+      | true ↦ λ k. let q : x ≡ o = cc in subst (λ (y : OpenEntry). y.0 < j) q lt
       | false ↦ λ k. let z : o.0 < x.0 = ih k in omega arith
     ]) e
 
-pub falling_below : (p : Place → Bool) (j : ℕ) (os : List Place) (o : Place) → IsFalling j os → find p os ≡ Some o → IsFalling o.0 (below_first p os)
+pub falling_below : (p : OpenEntry → Bool) (j : ℕ) (os : List OpenEntry) (o : OpenEntry) → IsFalling j os → find p os ≡ Some o → IsFalling o.0 (below_first p os)
 falling_below p j [] o h e = absurd (cc)
 falling_below p j (x ∷ xs) o h e =
     let ih : find p xs ≡ Some o → IsFalling o.0 (below_first p xs) = falling_below p x.0 xs o h.1 in
-    (elim (p x) as (λ b. cond b (Some x) (find p xs) ≡ Some o → IsFalling o.0 (elim b as (λ v. List Place) [ true ↦ xs | false ↦ below_first p xs ])) [
-      | true ↦ λ k. let q : x ≡ o = cc in subst (λ (y : Place). IsFalling y.0 xs) q h.1
+    (elim (p x) as (λ b. cond b (Some x) (find p xs) ≡ Some o → IsFalling o.0 (elim b as (λ v. List OpenEntry) [ true ↦ xs | false ↦ below_first p xs ])) [
+      | true ↦ λ k. let q : x ≡ o = cc in subst (λ (y : OpenEntry). IsFalling y.0 xs) q h.1
       | false ↦ λ k. ih k
     ]) e
 
 -- to close an opener takes it off with what stands above it
-pub through : (p : Place → Bool) (j : ℕ) (os : List Place) (o : Place) → IsFalling j os → find p os ≡ Some o → filter (is_outside o.0 j) os ≡ below_first p os
+pub through : (p : OpenEntry → Bool) (j : ℕ) (os : List OpenEntry) (o : OpenEntry) → IsFalling j os → find p os ≡ Some o → filter (is_outside o.0 j) os ≡ below_first p os
 through p j [] o h e = refl
 through p j (x ∷ xs) o h e =
     let lt : x.0 < j = h.0 in
@@ -127,21 +127,21 @@ through p j (x ∷ xs) o h e =
     let ih : find p xs ≡ Some o → filter (is_outside o.0 j) xs ≡ below_first p xs = through p j xs o later in
     let fb : find p xs ≡ Some o → o.0 < x.0 = found_below p x.0 xs o h.1 in
     (elim (p x) as (λ b. cond b (Some x) (find p xs) ≡ Some o
-    → filter (is_outside o.0 j) (x ∷ xs) ≡ elim b as (λ v. List Place) [ true ↦ xs | false ↦ below_first p xs ]) [
+    → filter (is_outside o.0 j) (x ∷ xs) ≡ elim b as (λ v. List OpenEntry) [ true ↦ xs | false ↦ below_first p xs ]) [
       | true ↦ λ k. let q : x ≡ o = cc in let n : x.0 ≡ o.0 =
-          ap (λ (y : Place). y.0) q in filter_step (is_outside o.0 j) x xs false (outside_from o.0 j x (omega arith) lt)
+          ap (λ (y : OpenEntry). y.0) q in filter_step (is_outside o.0 j) x xs false (outside_from o.0 j x (omega arith) lt)
           ∙ filter_all_below o.0 j xs (falling_later x.0 o.0 xs (omega arith) h.1)
       | false ↦ λ k. let z : o.0 < x.0 = fb k in filter_step (is_outside o.0 j) x xs false (outside_from o.0 j x (omega arith) lt) ∙ ih k
     ]) e
 
 -- an opener is open while no pair reaches it
-open_new : (ps : List Place) (j c : ℕ) → EndsBelow j ps → is_open ps (j, c) ≡ true
+open_new : (ps : List OpenEntry) (j c : ℕ) → EndsBelow j ps → is_open ps (j, c) ≡ true
 open_new [] j c h = refl
 open_new (p ∷ ps) j c h = let lt : p.1 < j = h.0 in let e : nat_lt j p.1 ≡ false = grind (arith, nat_tests) in let z : (nat_le p.0 j && nat_lt j p.1) ≡ false =
     rw e (and_false (nat_le p.0 j)) in rw z (open_new ps j c h.1)
 
 -- what stands open after a closer at `j` that meets `o`
-pub open_after_pair : (s : Search) (j c : ℕ) (o : Place) → IsFalling j s.openers → find (λ (x : Place). x.1 == canonical c) (open_openers s) ≡ Some o
+pub open_after_pair : (s : Search) (j c : ℕ) (o : OpenEntry) → IsFalling j s.openers → find (λ (x : OpenEntry). x.1 == canonical c) (open_openers s) ≡ Some o
     → open_openers (meet_closer s j c) ≡ below_first (λ x. x.1 == canonical c) (open_openers s)
 open_after_pair s j c o h e = rw (e, meet_closer)
     (filter_same (is_open (insert_pair (o.0, j) s.pairs)) (λ x. is_open s.pairs x && is_outside o.0 j x) (open_more s.pairs (o.0, j)) s.openers
@@ -149,24 +149,24 @@ open_after_pair s j c o h e = rw (e, meet_closer)
     ∙ through (λ x. x.1 == canonical c) j (open_openers s) o (falling_filter (is_open s.pairs) j s.openers h) e)
 
 -- the search by a stack: a turn, and then the rest
-abbrev pub stack_turn : (List Place → List Place → List Place) → List Place → List Place → ℕ → ℕ → Option (Side × ℕ) → List Place
+abbrev pub stack_turn : (List OpenEntry → List OpenEntry → List OpenEntry) → List OpenEntry → List OpenEntry → ℕ → ℕ → Option (Side × ℕ) → List OpenEntry
 stack_turn k st ps j c None = k st ps
 stack_turn k st ps j c (Some (Opener, m)) = elim (nat_lt (length st) bracket_room) [ true ↦ k ((j, canonical m) ∷ st) ps | false ↦ ps ]
 stack_turn k st ps j c (Some (Closer, m)) = elim (find (is_for (canonical c)) st)
     [ None ↦ k st ps | Some o ↦ k (below_first (is_for (canonical c)) st) (insert_pair (o.0, j) ps) ]
 
-abbrev pub stack_run : (ℕ → Option (Side × ℕ)) → List Place → List Place → ℕ → List ℕ → List Class → List Place
+abbrev pub stack_run : (ℕ → Option (Side × ℕ)) → List OpenEntry → List OpenEntry → ℕ → List ℕ → List Class → List OpenEntry
 stack_run bracket st ps j [] ts = ps
 stack_run bracket st ps j (c ∷ cs) [] = ps
 stack_run bracket st ps j (c ∷ cs) (t ∷ ts) = stack_turn (λ a b. stack_run bracket a b (j + 1) cs ts) st ps j c (bracket_at bracket c t)
 
-ends_later : (i j : ℕ) (ps : List Place) → i ≤ j → EndsBelow i ps → EndsBelow j ps
+ends_later : (i j : ℕ) (ps : List OpenEntry) → i ≤ j → EndsBelow i ps → EndsBelow j ps
 ends_later i j [] h e = tt
 ends_later i j (p ∷ ps) h e = (omega (arith, e.0), ends_later i j ps h e.1)
 
-ends_push : (j : ℕ) (ps : List Place) (p : Place) → EndsBelow j ps → p.1 < j → EndsBelow j (insert_pair p ps)
+ends_push : (j : ℕ) (ps : List OpenEntry) (p : OpenEntry) → EndsBelow j ps → p.1 < j → EndsBelow j (insert_pair p ps)
 ends_push j [] p e h = (h, tt)
-ends_push j (q ∷ ps) p e h = elim (nat_lt p.0 q.0) as (λ b. EndsBelow j (elim b as (λ x. List Place) [ true ↦ p ∷ q ∷ ps | false ↦ q ∷ insert_pair p ps ])) [
+ends_push j (q ∷ ps) p e h = elim (nat_lt p.0 q.0) as (λ b. EndsBelow j (elim b as (λ x. List OpenEntry) [ true ↦ p ∷ q ∷ ps | false ↦ q ∷ insert_pair p ps ])) [
   | true ↦ (h, e)
   | false ↦ (e.0, ends_push j ps p e.1 h)
 ]
@@ -202,7 +202,7 @@ module _ (bracket : ℕ → Option (Side × ℕ)) (j : ℕ) (cs : List ℕ) (ts 
       let t1 : stack_turn (λ x y. stack_run bracket x y (j + 1) cs ts) (open_openers s) s.pairs j c (Some (Opener, m)) ≡ s.pairs = rw (q, stack_turn) in
       ap (λ (v : Search). (search_from bracket v (j + 1) cs ts).pairs) m1 ∙ search_over bracket u (j + 1) cs ts refl ∙ sym t1
 
-  closer_agrees : (m : ℕ) (b : Option Place) → find (λ (x : Place). x.1 == canonical c) (open_openers s) ≡ b
+  closer_agrees : (m : ℕ) (b : Option OpenEntry) → find (λ (x : OpenEntry). x.1 == canonical c) (open_openers s) ≡ b
       → (search_from bracket (meet_closer s j c) (j + 1) cs ts).pairs
       ≡ stack_turn (λ x y. stack_run bracket x y (j + 1) cs ts) (open_openers s) s.pairs j c (Some (Closer, m))
   closer_agrees m None q =
@@ -228,7 +228,7 @@ turn_agrees : (bracket : ℕ → Option (Side × ℕ)) (j : ℕ) (cs : List ℕ)
 turn_agrees bracket j cs ts c ih None s o f e = ih s o (falling_later j (j + 1) s.openers (omega arith) f) (ends_later j (j + 1) s.pairs (omega arith) e)
 turn_agrees bracket j cs ts c ih (Some (Opener, m)) s o f e = opener_agrees bracket j cs ts c ih s o f e m (nat_lt (length (open_openers s)) bracket_room) refl
 turn_agrees bracket j cs ts c ih (Some (Closer, m)) s o f e =
-    closer_agrees bracket j cs ts c ih s o f e m (find (λ (x : Place). x.1 == canonical c) (open_openers s)) refl
+    closer_agrees bracket j cs ts c ih s o f e m (find (λ (x : OpenEntry). x.1 == canonical c) (open_openers s)) refl
 
 search_is_stack : (bracket : ℕ → Option (Side × ℕ)) (j : ℕ) (cs : List ℕ) (ts : List Class) → Agrees bracket j cs ts
 search_is_stack bracket j [] ts s o f e = refl
@@ -251,7 +251,7 @@ AreOne bracket j cs ts = (p : Progress) → p.is_over ≡ false → pairs_after 
 
 module _ (bracket : ℕ → Option (Side × ℕ)) (j c : ℕ) (cs : List ℕ) (ts : List Class) (ih : AreOne bracket (j + 1) cs ts) (p : Progress)
     (e : p.is_over ≡ false) where
-  abbrev go : List Place → List Place → List Place
+  abbrev go : List OpenEntry → List OpenEntry → List OpenEntry
   go x y = stack_run bracket x y (j + 1) cs ts
 
   opener_is_turn : (m : ℕ) (b : Bool) → nat_lt (length p.openers) bracket_room ≡ b
@@ -259,23 +259,23 @@ module _ (bracket : ℕ → Option (Side × ℕ)) (j c : ℕ) (cs : List ℕ) (t
   opener_is_turn m true q =
       let u : Progress = record p { openers = (j, canonical m) ∷ p.openers; is_over = false } in
       let t : turn j c (Some (Opener, m)) p ≡ u =
-      ap (λ b. record p { openers = elim b as (λ v. List Place) [ true ↦ (j, canonical m) ∷ p.openers | false ↦ p.openers ]; is_over = not b }) q in
+      ap (λ b. record p { openers = elim b as (λ v. List OpenEntry) [ true ↦ (j, canonical m) ∷ p.openers | false ↦ p.openers ]; is_over = not b }) q in
       let s : stack_turn go p.openers p.pairs j c (Some (Opener, m)) ≡ go ((j, canonical m) ∷ p.openers) p.pairs = rw (q, stack_turn) in
       ap (λ v. pairs_after bracket v (j + 1) cs ts) t ∙ ih u refl ∙ sym s
   opener_is_turn m false q =
       let u : Progress = record p { is_over = true } in
       let t : turn j c (Some (Opener, m)) p ≡ u =
-      ap (λ b. record p { openers = elim b as (λ v. List Place) [ true ↦ (j, canonical m) ∷ p.openers | false ↦ p.openers ]; is_over = not b }) q in
+      ap (λ b. record p { openers = elim b as (λ v. List OpenEntry) [ true ↦ (j, canonical m) ∷ p.openers | false ↦ p.openers ]; is_over = not b }) q in
       let s : stack_turn go p.openers p.pairs j c (Some (Opener, m)) ≡ p.pairs = rw (q, stack_turn) in
       ap (λ v. pairs_after bracket v (j + 1) cs ts) t ∙ over_after bracket u (j + 1) cs ts refl ∙ sym s
 
-  closer_is_turn : (m : ℕ) (b : Option Place) → find (is_for (canonical c)) p.openers ≡ b
+  closer_is_turn : (m : ℕ) (b : Option OpenEntry) → find (is_for (canonical c)) p.openers ≡ b
       → pairs_after bracket (turn j c (Some (Closer, m)) p) (j + 1) cs ts ≡ stack_turn go p.openers p.pairs j c (Some (Closer, m))
   closer_is_turn m b q =
       let u : Progress = record p { openers = left_by b (canonical c) p.openers; pairs = found_by b j p.pairs } in
       let t : turn j c (Some (Closer, m)) p ≡ u = rw (q, turn) in
       let s : stack_turn go p.openers p.pairs j c (Some (Closer, m)) ≡ go (left_by b (canonical c) p.openers) (found_by b j p.pairs) =
-      rw (q, stack_turn) (elim b as (λ x. elim x as (λ v. List Place) [
+      rw (q, stack_turn) (elim b as (λ x. elim x as (λ v. List OpenEntry) [
         | None ↦ go p.openers p.pairs
         | Some o ↦ go (below_first (is_for (canonical c)) p.openers) (insert_pair (o.0, j) p.pairs)
       ] ≡ go (left_by x (canonical c) p.openers) (found_by x j p.pairs)) [ None ↦ refl | Some o ↦ refl ]) in
@@ -300,14 +300,14 @@ all_found bracket cs ts = turns_are_stack bracket 0 cs ts (progress [] [] false)
     ∙ sym (search_is_stack bracket 0 cs ts (record { openers = []; pairs = []; is_over = false }) refl tt tt)
 
 -- what the search finds from index `i` on, where the turn there leaves this
-pub turn_more : (bracket : ℕ → Option (Side × ℕ)) (os ps new_os new_ps : List Place) (over : Bool) (cs : List ℕ) (ts : List Class) (i x : ℕ)
+pub turn_more : (bracket : ℕ → Option (Side × ℕ)) (os ps new_os new_ps : List OpenEntry) (over : Bool) (cs : List ℕ) (ts : List Class) (i x : ℕ)
     (b : Option (Side × ℕ)) → i < length cs → i < length ts → x ≡ get_or cs i x → b ≡ bracket_at bracket x (get_or ts i L)
     → progress new_os new_ps over ≡ turn i x b (progress os ps false)
     → pairs_after bracket (progress os ps false) i (drop i cs) (drop i ts)
     ≡ pairs_after bracket (progress new_os new_ps over) (i + 1) (drop (i + 1) cs) (drop (i + 1) ts)
 turn_more bracket os ps new_os new_ps over cs ts i x b h l at is new =
     let p : Progress = progress os ps false in
-    let rest : Progress → List Place = λ q. pairs_after bracket q (i + 1) (drop (i + 1) cs) (drop (i + 1) ts) in
+    let rest : Progress → List OpenEntry = λ q. pairs_after bracket q (i + 1) (drop (i + 1) cs) (drop (i + 1) ts) in
     at_drop_more (λ xs. pairs_after bracket p i xs (drop i ts)) cs i x h
     ∙ at_drop_more (λ ys. pairs_after bracket p i (get_or cs i x ∷ drop (i + 1) cs) ys) ts i L l
     ∙ ap (λ y. rest (turn i y (bracket_at bracket y (get_or ts i L)) p)) (sym at) ∙ ap (λ y. rest (turn i x y p)) (sym is) ∙ ap rest (sym new)

@@ -19,7 +19,7 @@ use std::marker::Model;
 /// Makes an entry for the closer of each character, with none in it. The room grows to what is needed, and by a quarter at
 /// least.
 #[inline(never)]
-fn make_places(closers: &mut Vec<u32>, count: usize) -> Result<(), AllocError>
+fn make_entries(closers: &mut Vec<u32>, count: usize) -> Result<(), AllocError>
     requires none { length closers.old.items ≡ 0 }
     ensures ok { OnOk result (closers.new.items ≡ replicate count 0) }
     ensures err { OnErr result (closers.new.items ≡ closers.old.items) }
@@ -32,14 +32,14 @@ fn make_places(closers: &mut Vec<u32>, count: usize) -> Result<(), AllocError>
 }
 
 /// Makes the entries for closers, unless they are made.
-fn need_places(closers: &mut Vec<u32>, count: usize) -> Result<(), AllocError>
+fn need_entries(closers: &mut Vec<u32>, count: usize) -> Result<(), AllocError>
     requires long { (length closers.old.items ≡ 0) ⊎ (length closers.old.items ≡ count) }
     ensures long { OnOk result (length closers.new.items ≡ count) }
     ensures pairs { pairs_in 0 closers.new.items ≡ pairs_in 0 closers.old.items }
     ensures searched { (j : ℕ) (os : List (ℕ × ℕ)) → j < count → IsSearched count j os closers.old.items → IsSearched count j os closers.new.items }
 {
     if closers.is_empty() {
-        make_places(closers, count)?;
+        make_entries(closers, count)?;
     }
     Ok(())
 }
@@ -62,7 +62,7 @@ fn meet_opener(
     if open.is_full() {
         return Ok(true);
     }
-    need_places(closers, count)?;
+    need_entries(closers, count)?;
     open.push(index, canonical(closer));
     Ok(false)
 }
@@ -80,7 +80,7 @@ fn note_closer(closers: &mut Vec<u32>, opener: Option<usize>, closer: usize)
 
 /// Takes a closer at an index.
 #[inline(always)]
-#[tactic(auto, using(crate::proofs::Closers::found_place))]
+#[tactic(auto, using(crate::proofs::Closers::found_pair))]
 fn meet_closer(
     open: &mut OpenStack,
     closers: &mut Vec<u32>,
