@@ -1,6 +1,11 @@
-//! Tests of the public calls of a paragraph's layout and of the view: each call once with ample memory. They stand in a crate of
-//! their own since the tests of a crate prove all of it once more.
+//! Tests of a paragraph's layout and of the rows of a whole text: each call once with ample memory, rows of an independent model,
+//! and how often an edit asks for a class. They stand in a crate of their own since the tests of a crate prove all of it once
+//! more.
 #![tactic(auto)]
 
 #[cfg(test)]
+mod counting;
+#[cfg(test)]
 mod layout;
+#[cfg(test)]
+mod rows;

@@ -1,0 +1,93 @@
+//! An edit asks for the classes of what it touches, and not for those of the whole text.
+
+ghost use Rattle.std.specs.Prelude.{◌≡◌};
+
+use crate::rows::opened;
+use bx_document::Document;
+use bx_explicit::Base;
+use bx_ucd::{BidiData, Class, Side, Tables, sample_tables};
+use std::alloc::Global;
+use std::cell::Cell;
+use std::test::Fail;
+
+/// The small tables without mirrors, with a count of the questions for a class.
+#[derive(Drop)]
+struct Counting<'a> {
+    tables: Tables,
+    asked: &'a Cell<u32>,
+}
+
+impl BidiData for Counting<'_> {
+    ghost use Rattle.std.specs.Prelude.{None};
+
+    ghost class_of = { λ s c. ⟦<Tables as BidiData>⟧.class_of s.tables c };
+
+    ghost bracket_of = { λ s c. ⟦<Tables as BidiData>⟧.bracket_of s.tables c };
+
+    ghost mirror_of = { λ _ _. None };
+
+    ghost no_mirror_is_control = { λ _ _. tt };
+
+    fn class(&self, c: char) -> Class {
+        self.asked.set(self.asked.get().wrapping_add(1));
+        self.tables.class(c)
+    }
+
+    fn bracket(&self, c: char) -> Option<(Side, char)> {
+        self.tables.bracket(c)
+    }
+
+    fn mirror(&self, c: char) -> Option<char> {
+        let _ = c;
+        None
+    }
+}
+
+/// So many paragraphs of two letters.
+fn paragraphs(alloc: Global, count: usize) -> Result<String, Fail> {
+    let mut text = String::new(alloc);
+    for _ in 0..count {
+        text.push_str("ab\n")?;
+    }
+    Ok(text)
+}
+
+/// Puts a letter in, and asks for the column behind it.
+fn insert<D: BidiData + Drop>(
+    document: &mut Document<D>,
+    text: &str,
+    place: usize,
+) -> Result<u16, Fail>
+    requires { document.old.document.content.text ≡ text.now }
+{
+    if !text.is_char_boundary(place) {
+        return Err(Fail::new("no boundary"));
+    }
+    match document.insert(place, "x")? {
+        Some(after) => Ok(document.cell_of(after)?),
+        None => Err(Fail::new("no room")),
+    }
+}
+
+/// How many classes are asked for by an edit in a text of 1,000 paragraphs.
+fn asked_by_edit(alloc: Global, place: usize) -> Result<u32, Fail> {
+    let text = paragraphs(alloc, 1000)?;
+    let asked = Cell::new(0);
+    let tables = Counting {
+        tables: sample_tables(alloc)?,
+        asked: &asked,
+    };
+    let mut document = opened(alloc, text.as_str(), tables, 80, Base::Auto)?;
+    let at_opening = asked.get();
+    if insert(&mut document, text.as_str(), place)? != 2 {
+        return Err(Fail::new("another column"));
+    }
+    Ok(asked.get().saturating_sub(at_opening))
+}
+
+#[test]
+fn an_edit_asks_for_few_classes(rt: HostRuntime) -> Result<(), Fail> {
+    let asked = asked_by_edit(rt.alloc(), 1500)?;
+    assert!(rt; 0 < asked && asked < 100, "{asked} questions");
+    Ok(())
+}
