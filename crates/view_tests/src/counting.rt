@@ -2,7 +2,7 @@
 
 ghost use Rattle.std.specs.Prelude.{◌≡◌};
 
-use crate::rows::opened;
+use crate::scene::document_of;
 use bx_document::Document;
 use bx_explicit::Base;
 use bx_ucd::{BidiData, Class, Side, Tables, sample_tables};
@@ -14,7 +14,7 @@ use std::test::Fail;
 #[derive(Drop)]
 struct Counting<'a> {
     tables: Tables,
-    asked: &'a Cell<u32>,
+    questions: &'a Cell<u32>,
 }
 
 impl BidiData for Counting<'_> {
@@ -29,7 +29,7 @@ impl BidiData for Counting<'_> {
     ghost no_mirror_is_control = { λ _ _. tt };
 
     fn class(&self, c: char) -> Class {
-        self.asked.set(self.asked.get().wrapping_add(1));
+        self.questions.set(self.questions.get().wrapping_add(1));
         self.tables.class(c)
     }
 
@@ -70,24 +70,24 @@ fn insert<D: BidiData + Drop>(
 }
 
 /// How many classes are asked for by an edit in a text of 1,000 paragraphs.
-fn asked_by_edit(alloc: Global, place: usize) -> Result<u32, Fail> {
+fn questions_of_edit(alloc: Global, place: usize) -> Result<u32, Fail> {
     let text = paragraphs(alloc, 1000)?;
-    let asked = Cell::new(0);
+    let questions = Cell::new(0);
     let tables = Counting {
         tables: sample_tables(alloc)?,
-        asked: &asked,
+        questions: &questions,
     };
-    let mut document = opened(alloc, text.as_str(), tables, 80, Base::Auto)?;
-    let at_opening = asked.get();
+    let mut document = document_of(alloc, text.as_str(), tables, 80, Base::Auto)?;
+    let at_opening = questions.get();
     if insert(&mut document, text.as_str(), place)? != 2 {
         return Err(Fail::new("another column"));
     }
-    Ok(asked.get().saturating_sub(at_opening))
+    Ok(questions.get().saturating_sub(at_opening))
 }
 
 #[test]
 fn an_edit_asks_for_few_classes(rt: HostRuntime) -> Result<(), Fail> {
-    let asked = asked_by_edit(rt.alloc(), 1500)?;
-    assert!(rt; 0 < asked && asked < 100, "{asked} questions");
+    let questions = questions_of_edit(rt.alloc(), 1500)?;
+    assert!(rt; 0 < questions && questions < 100, "{questions} questions");
     Ok(())
 }

@@ -1,0 +1,113 @@
+//! A text in a window, and where the moves of its cursor lead.
+ghost use Rattle.std.specs.Prelude.{◌≡◌, IfOk};
+
+use bx_document::Document;
+use bx_explicit::Base;
+use bx_terms::is_side;
+use bx_ucd::{BidiData, Tables, sample_tables};
+use bx_view::{Logical, Vertical, Visual};
+use std::alloc::Global;
+use std::test::Fail;
+
+/// A text, laid out in so many columns. Whether a window has so many is asked when the test runs.
+pub(crate) fn document_of<D: BidiData + Drop>(
+    alloc: Global,
+    text: &str,
+    tables: D,
+    w: u16,
+    base: Base,
+) -> Result<Document<D>, Fail>
+    ensures { IfOk result (λ d. d.document.content.text ≡ text.now) }
+{
+    if !is_side(w) {
+        return Err(Fail::new("no width"));
+    }
+    let text = String::from_str(alloc, text)?;
+    Ok(Document::open(alloc, text, tables, w, base)?)
+}
+
+/// The base direction that a field names.
+pub(crate) fn base_of(field: &str) -> Result<Base, Fail> {
+    match field {
+        "auto" => Ok(Base::Auto),
+        "ltr" => Ok(Base::Ltr),
+        "rtl" => Ok(Base::Rtl),
+        _ => Err(Fail::new("no base")),
+    }
+}
+
+/// The text of a field, in which a slash stands for a line feed.
+pub(crate) fn text_of(alloc: Global, field: &str) -> Result<String, Fail> {
+    let mut text = String::new(alloc);
+    for c in field.chars() {
+        text.push(if c == '/' { '\n' } else { c })?;
+    }
+    Ok(text)
+}
+
+/// A text in a window. Its characters stand beside the document, so that a move asks, when the test runs, whether its place
+/// stands between two of them.
+#[derive(Drop)]
+pub(crate) struct Scene<'a> {
+    text: &'a str,
+    document: Document<Tables>,
+    ghost same: { document.document.content.text ≡ text.now },
+}
+
+impl<'a> Scene<'a> {
+    pub(crate) fn of(alloc: Global, text: &'a str, w: u16, base: Base) -> Result<Scene<'a>, Fail> {
+        let document = document_of(alloc, text, sample_tables(alloc)?, w, base)?;
+        Ok(Scene { text, document })
+    }
+}
+
+impl Scene<'_> {
+    pub(crate) fn column_of(&mut self, place: usize) -> Result<u16, Fail> {
+        Ok(self.document.cell_of(place)?)
+    }
+
+    pub(crate) fn step_visual(&mut self, side: Visual, place: usize) -> Result<usize, Fail> {
+        if !self.text.is_char_boundary(place) {
+            return Err(Fail::new("within a character"));
+        }
+        Ok(self.document.step_visual(side, place)?)
+    }
+
+    pub(crate) fn step_logical(&mut self, way: Logical, place: usize) -> Result<usize, Fail> {
+        if !self.text.is_char_boundary(place) {
+            return Err(Fail::new("within a character"));
+        }
+        Ok(self.document.step_logical(way, place)?)
+    }
+
+    pub(crate) fn vertical(&mut self, way: Vertical, place: usize) -> Result<usize, Fail> {
+        if !self.text.is_char_boundary(place) {
+            return Err(Fail::new("within a character"));
+        }
+        Ok(self.document.vertical(way, place)?)
+    }
+
+    /// The place `t` rows away.
+    pub(crate) fn page(&mut self, way: Vertical, t: usize, place: usize) -> Result<usize, Fail> {
+        if !self.text.is_char_boundary(place) {
+            return Err(Fail::new("within a character"));
+        }
+        Ok(self.document.page(way, t, place)?)
+    }
+
+    pub(crate) fn row_home(&mut self, place: usize) -> Result<usize, Fail> {
+        Ok(self.document.row_home(place)?)
+    }
+
+    pub(crate) fn row_end(&mut self, place: usize) -> Result<usize, Fail> {
+        Ok(self.document.row_end(place)?)
+    }
+
+    /// Where the first of the `t` rows begins that are shown, so that the row of the place is among them.
+    pub(crate) fn follow(&mut self, top: usize, place: usize, t: usize) -> Result<usize, Fail> {
+        if t == 0 {
+            return Err(Fail::new("no rows"));
+        }
+        Ok(self.document.follow(top, place, t)?)
+    }
+}
