@@ -6,23 +6,23 @@ use std::alloc::Global;
 use std::process::Abort;
 use std::test::Fail;
 
-/// A line each: what it shows, the text with a slash for a line feed, the base, the window's columns, where the cursor stands
+/// A line each: what it shows, the text as `text_of` reads it, the base, the window's columns, where the cursor stands
 /// and then its moves, and each of its places with its column.
 const MOVES: &str = "\
-to the right through two rows, and no further|a \u{5d0}\u{5d1} \u{5d2}|auto|5|0 right right right right right right right|0@1 1@2 4@3 2@4 6@5 7@1 9@2 9@2\n\
-from the end of a text from right to left onto its number|\u{5d0}\u{5d1} 12|auto|8|7 right|7@3 5@4\n\
-the end of a full row shares the column of its last unit|\u{5d0}\u{5d1} 12|auto|5|7|7@1\n\
+to the right through two rows, and no further|a AB G|auto|5|0 right right right right right right right|0@1 1@2 4@3 2@4 6@5 7@1 9@2 9@2\n\
+from the end of a text from right to left onto its number|AB 12|auto|8|7 right|7@3 5@4\n\
+the end of a full row from right to left has the first column|AB 12|auto|5|7|7@1\n\
 in the order of the text, and to both ends of a row|ab|auto|5|0 forward back end home|0@1 1@2 0@1 2@3 0@1\n\
 the end of a row stands before the blank that wraps it|ab cd|auto|4|0 end|0@1 2@3\n\
-a text from right to left begins in the last column|\u{5d0}\u{5d1} 12|auto|8|0|0@8\n\
-under a base from left to right it begins behind its number|\u{5d0}\u{5d1} 12|ltr|8|0|0@5\n\
-under a base from right to left a Latin text begins in the last column|a \u{5d0}\u{5d1} b|rtl|6|0|0@6\n\
+a text from right to left begins in the last column|AB 12|auto|8|0|0@8\n\
+under a base from left to right it begins behind its number|AB 12|ltr|8|0|0@5\n\
+under a base from right to left a Latin text begins in the last column|a AB b|rtl|6|0|0@6\n\
 down, and over the ends of two rows|a/b|auto|5|0 down left right left|0@1 2@1 1@2 2@1 1@2\n\
 down and up, and no further|a/b|auto|5|0 down down up up|0@1 2@1 2@1 0@1 0@1\n\
-the next row is entered at its reading start|a/\u{5d0}|auto|6|0 right right right right|0@1 1@2 2@6 1@2 2@6\n\
+the next row is entered at its reading start|a/A|auto|6|0 right right right right|0@1 1@2 2@6 1@2 2@6\n\
 down to the nearest column of a shorter row|abc/d|auto|6|0 end down|0@1 3@4 5@2\n\
-down to the nearest column of a row from right to left|abc/\u{5d0}|auto|6|0 end down|0@1 3@4 6@5\n\
-down into a wide character|ab/\u{4e16}|auto|5|0 right down|0@1 1@2 3@1\n";
+down to the nearest column of a row from right to left|abc/A|auto|6|0 end down|0@1 3@4 6@5\n\
+down into a wide character|ab/W|auto|5|0 right down|0@1 1@2 3@1\n";
 
 /// The place that a move leads to, or the place itself that a word tells.
 pub(crate) fn place_after(scene: &mut Scene, word: &str, place: usize) -> Result<usize, Fail> {

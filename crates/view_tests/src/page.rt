@@ -8,7 +8,7 @@ use std::alloc::Global;
 use std::process::Abort;
 use std::test::Fail;
 
-/// A line each: what it shows, the text with a slash for a line feed, how many rows are shown, where the cursor stands and
+/// A line each: what it shows, the text as `text_of` reads it, how many rows are shown, where the cursor stands and
 /// then its moves, and each of its places with the offset at which the rows that are shown begin.
 const PAGES: &str = "\
 a page down is so many rows|1/2/3|2|0 page-down|0 from 0, 4 from 2\n\

@@ -36,11 +36,19 @@ pub(crate) fn base_of(field: &str) -> Result<Base, Fail> {
     }
 }
 
-/// The text of a field, in which a slash stands for a line feed.
+/// The text of a field, which is plain ASCII: a slash stands for a line feed, `A`, `B` and `G` for the first letters of the
+/// Hebrew alphabet, and `W` for a wide character.
 pub(crate) fn text_of(alloc: Global, field: &str) -> Result<String, Fail> {
     let mut text = String::new(alloc);
     for c in field.chars() {
-        text.push(if c == '/' { '\n' } else { c })?;
+        text.push(match c {
+            '/' => '\n',
+            'A' => '\u{5d0}',
+            'B' => '\u{5d1}',
+            'G' => '\u{5d2}',
+            'W' => '\u{4e16}',
+            _ => c,
+        })?;
     }
     Ok(text)
 }
