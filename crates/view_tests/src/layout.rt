@@ -74,7 +74,7 @@ fn add_steps<D: BidiData>(
 }
 
 /// The rows of a text: slots, places and steps of each.
-fn told<D: BidiData>(
+fn account_of_rows<D: BidiData>(
     alloc: Global,
     text: &str,
     source: &D,
@@ -98,7 +98,7 @@ fn told<D: BidiData>(
 #[test]
 fn latin_and_hebrew_in_two_rows(rt: HostRuntime) -> Result<(), Fail> {
     let tables = sample_tables(rt.alloc())?;
-    let line = told(
+    let line = account_of_rows(
         rt.alloc(),
         "a \u{5d0}\u{5d1} \u{5d2}",
         &tables,
@@ -115,7 +115,7 @@ fn latin_and_hebrew_in_two_rows(rt: HostRuntime) -> Result<(), Fail> {
 #[test]
 fn hebrew_and_a_number(rt: HostRuntime) -> Result<(), Fail> {
     let tables = sample_tables(rt.alloc())?;
-    let line = told(rt.alloc(), "\u{5d0}\u{5d1} 12", &tables, 8, Base::Auto)?;
+    let line = account_of_rows(rt.alloc(), "\u{5d0}\u{5d1} 12", &tables, 8, Base::Auto)?;
     assert_eq!(rt;
         line.as_str(),
         " 7@3 5@4 6@5 4@6 2@7 0@8; 0 to 7, 6, 0 on to 7; 2 99 8 7|"
@@ -124,7 +124,7 @@ fn hebrew_and_a_number(rt: HostRuntime) -> Result<(), Fail> {
 }
 
 /// What is told of a layout as a whole, and what its row of an offset shows.
-fn shown<D: BidiData>(alloc: Global, source: &D, offset: usize) -> Result<String, Fail> {
+fn account_of_picture<D: BidiData>(alloc: Global, source: &D, offset: usize) -> Result<String, Fail> {
     let body = String::from_str(alloc, "\u{5d0} (b")?;
     let layout = ParagraphLayout::of(alloc, body, source, 9, Base::Rtl)?;
     let (w, level, len) = (layout.width(), layout.level(), layout.body().len());
@@ -140,7 +140,7 @@ fn shown<D: BidiData>(alloc: Global, source: &D, offset: usize) -> Result<String
 #[test]
 fn a_picture_of_a_row(rt: HostRuntime) -> Result<(), Fail> {
     let tables = sample_tables(rt.alloc())?;
-    let line = shown(rt.alloc(), &tables, 99)?;
+    let line = account_of_picture(rt.alloc(), &tables, 99)?;
     assert_eq!(rt; line.as_str(), "9 1 5 true:     b) \u{5d0}");
     Ok(())
 }

@@ -40,18 +40,18 @@ pub(crate) fn place_after(scene: &mut Scene, word: &str, place: usize) -> Result
 }
 
 /// The places that the words lead to, each with its column.
-fn places(scene: &mut Scene, alloc: Global, words: &str) -> Result<String, Fail> {
-    let mut told = String::new(alloc);
+fn places_of_moves(scene: &mut Scene, alloc: Global, words: &str) -> Result<String, Fail> {
+    let mut line = String::new(alloc);
     let mut place = 0;
     for word in words.split(' ') {
         place = place_after(scene, word, place)?;
         let column = scene.column_of(place)?;
-        if !told.is_empty() {
-            told.push(' ')?;
+        if !line.is_empty() {
+            line.push(' ')?;
         }
-        told.push_str(format!(in alloc; "{place}@{column}")?.as_str())?;
+        line.push_str(format!(in alloc; "{place}@{column}")?.as_str())?;
     }
-    Ok(told)
+    Ok(line)
 }
 
 /// One line: its moves lead to its places.
@@ -64,8 +64,8 @@ fn check_line(rt: &impl Abort, alloc: Global, line: &str) -> Result<(), Fail> {
     let words = fields.next().ok_or("no moves")?;
     let wanted = fields.next().ok_or("no places")?;
     let mut scene = Scene::of(alloc, text.as_str(), w, base)?;
-    let found = places(&mut scene, alloc, words)?;
-    assert_eq!(rt; found.as_str(), wanted, "{shows}");
+    let places = places_of_moves(&mut scene, alloc, words)?;
+    assert_eq!(rt; places.as_str(), wanted, "{shows}");
     Ok(())
 }
 

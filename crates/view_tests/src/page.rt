@@ -25,19 +25,19 @@ fn page_after(scene: &mut Scene, word: &str, t: usize, place: usize) -> Result<u
 }
 
 /// The places that the words lead to, each with where the rows that are shown begin.
-fn pages(scene: &mut Scene, alloc: Global, t: usize, words: &str) -> Result<String, Fail> {
-    let mut told = String::new(alloc);
+fn places_of_pages(scene: &mut Scene, alloc: Global, t: usize, words: &str) -> Result<String, Fail> {
+    let mut line = String::new(alloc);
     let mut place = 0;
     let mut top = 0;
     for word in words.split(' ') {
         place = page_after(scene, word, t, place)?;
         top = scene.follow(top, place, t)?;
-        if !told.is_empty() {
-            told.push_str(", ")?;
+        if !line.is_empty() {
+            line.push_str(", ")?;
         }
-        told.push_str(format!(in alloc; "{place} from {top}")?.as_str())?;
+        line.push_str(format!(in alloc; "{place} from {top}")?.as_str())?;
     }
-    Ok(told)
+    Ok(line)
 }
 
 /// One line: its moves lead to its places.
@@ -49,8 +49,8 @@ fn check_line(rt: &impl Abort, alloc: Global, line: &str) -> Result<(), Fail> {
     let words = fields.next().ok_or("no moves")?;
     let wanted = fields.next().ok_or("no places")?;
     let mut scene = Scene::of(alloc, text.as_str(), 5, Base::Auto)?;
-    let found = pages(&mut scene, alloc, t, words)?;
-    assert_eq!(rt; found.as_str(), wanted, "{shows}");
+    let places = places_of_pages(&mut scene, alloc, t, words)?;
+    assert_eq!(rt; places.as_str(), wanted, "{shows}");
     Ok(())
 }
 
