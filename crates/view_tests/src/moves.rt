@@ -25,7 +25,7 @@ down to the nearest column of a row from right to left|abc/A|auto|6|0 end down|0
 down into a wide character|ab/W|auto|5|0 right down|0@1 1@2 3@1\n";
 
 /// The place that a move leads to, or the place itself that a word tells.
-pub(crate) fn place_after(scene: &mut Scene, word: &str, place: usize) -> Result<usize, Fail> {
+pub(crate) fn place_after(scene: &mut Scene<'_>, word: &str, place: usize) -> Result<usize, Fail> {
     match word {
         "right" => scene.step_visual(Visual::Right, place),
         "left" => scene.step_visual(Visual::Left, place),
@@ -40,7 +40,7 @@ pub(crate) fn place_after(scene: &mut Scene, word: &str, place: usize) -> Result
 }
 
 /// The places that the words lead to, each with its column.
-fn places_of_moves(scene: &mut Scene, alloc: Global, words: &str) -> Result<String, Fail> {
+fn places_of_moves(scene: &mut Scene<'_>, alloc: Global, words: &str) -> Result<String, Fail> {
     let mut line = String::new(alloc);
     let mut place = 0;
     for word in words.split(' ') {

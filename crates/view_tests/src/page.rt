@@ -16,7 +16,7 @@ the rows that are shown follow by as few rows as they can|1/2/3|2|0 down down|0 
 pages down to the last row, and a page up|1/2/3/4/5|2|0 page-down page-down page-down page-up|0 from 0, 4 from 2, 8 from 6, 8 from 6, 4 from 4\n";
 
 /// The place that a move leads to.
-fn page_after(scene: &mut Scene, word: &str, t: usize, place: usize) -> Result<usize, Fail> {
+fn page_after(scene: &mut Scene<'_>, word: &str, t: usize, place: usize) -> Result<usize, Fail> {
     match word {
         "page-down" => scene.page(Vertical::Down, t, place),
         "page-up" => scene.page(Vertical::Up, t, place),
@@ -25,7 +25,7 @@ fn page_after(scene: &mut Scene, word: &str, t: usize, place: usize) -> Result<u
 }
 
 /// The places that the words lead to, each with where the rows that are shown begin.
-fn places_of_pages(scene: &mut Scene, alloc: Global, t: usize, words: &str) -> Result<String, Fail> {
+fn places_of_pages(scene: &mut Scene<'_>, alloc: Global, t: usize, words: &str) -> Result<String, Fail> {
     let mut line = String::new(alloc);
     let mut place = 0;
     let mut top = 0;

@@ -9,7 +9,7 @@ use std::test::Fail;
 use vectors::VECTORS;
 
 /// Whether a step to the right leads from a place to the next one, and a step to the left leads back.
-fn are_beside(scene: &mut Scene, place: usize, next: usize) -> Result<bool, Fail> {
+fn are_beside(scene: &mut Scene<'_>, place: usize, next: usize) -> Result<bool, Fail> {
     let right = scene.step_visual(Visual::Right, place)?;
     let left = scene.step_visual(Visual::Left, next)?;
     Ok(right == next && left == place)
@@ -22,7 +22,7 @@ fn slot_of(word: &str) -> Result<(usize, u16), Fail> {
 }
 
 /// Whether the slots of a row, from left to right, are these.
-fn has_slots(scene: &mut Scene, slots: &str) -> Result<bool, Fail> {
+fn has_slots(scene: &mut Scene<'_>, slots: &str) -> Result<bool, Fail> {
     let mut last = None;
     for word in slots.split(' ') {
         let (place, column) = slot_of(word)?;
@@ -40,7 +40,7 @@ fn has_slots(scene: &mut Scene, slots: &str) -> Result<bool, Fail> {
 }
 
 /// Whether the slots of all rows are these, with a slash between rows.
-fn has_rows(scene: &mut Scene, rows: &str) -> Result<bool, Fail> {
+fn has_rows(scene: &mut Scene<'_>, rows: &str) -> Result<bool, Fail> {
     for slots in rows.split('/') {
         if !has_slots(scene, slots)? {
             return Ok(false);
