@@ -124,7 +124,11 @@ fn hebrew_and_a_number(rt: HostRuntime) -> Result<(), Fail> {
 }
 
 /// What is told of a layout as a whole, and what its row of an offset shows.
-fn account_of_picture<D: BidiData>(alloc: Global, source: &D, offset: usize) -> Result<String, Fail> {
+fn account_of_picture<D: BidiData>(
+    alloc: Global,
+    source: &D,
+    offset: usize,
+) -> Result<String, Fail> {
     let body = String::from_str(alloc, "\u{5d0} (b")?;
     let layout = ParagraphLayout::of(alloc, body, source, 9, Base::Rtl)?;
     let (w, level, len) = (layout.width(), layout.level(), layout.body().len());

@@ -25,7 +25,12 @@ fn page_after(scene: &mut Scene<'_>, word: &str, t: usize, place: usize) -> Resu
 }
 
 /// The places that the words lead to, each with where the rows that are shown begin.
-fn places_of_pages(scene: &mut Scene<'_>, alloc: Global, t: usize, words: &str) -> Result<String, Fail> {
+fn places_of_pages(
+    scene: &mut Scene<'_>,
+    alloc: Global,
+    t: usize,
+    words: &str,
+) -> Result<String, Fail> {
     let mut line = String::new(alloc);
     let mut place = 0;
     let mut top = 0;
