@@ -15,7 +15,7 @@ the end of a full row from right to left has the first column|AB 12|auto|5|7|7@1
 in the order of the text, and to both ends of a row|ab|auto|5|0 forward back end home|0@1 1@2 0@1 2@3 0@1\n\
 the end of a row stands before the blank that wraps it|ab cd|auto|4|0 end|0@1 2@3\n\
 a text from right to left begins in the last column|AB 12|auto|8|0|0@8\n\
-under a base from left to right it begins behind its number|AB 12|ltr|8|0|0@5\n\
+under a base from left to right it begins behind its number, and ends in the column after|AB 12|ltr|8|0 end|0@5 7@6\n\
 under a base from right to left a Latin text begins in the last column|a AB b|rtl|6|0|0@6\n\
 down, and over the ends of two rows|a/b|auto|5|0 down left right left|0@1 2@1 1@2 2@1 1@2\n\
 down and up, and no further|a/b|auto|5|0 down down up up|0@1 2@1 2@1 0@1 0@1\n\
