@@ -42,7 +42,9 @@ fn measured<R: CpuClock + AllocGlobal>(
         bail!("{USAGE}");
     };
     let wanted = Measurement {
-        script: Script::named(script.as_str()).context(USAGE)?,
+        script: Script::named(script.as_str())
+            .context("TEXT is ascii, hebrew, mixed or paragraph")
+            .context(USAGE)?,
         bytes: number(bytes)?,
         times: number(times)?,
     };
@@ -50,7 +52,9 @@ fn measured<R: CpuClock + AllocGlobal>(
     if task.as_str() == "opening" {
         return openings::run(rt, files, wanted, name.as_str());
     }
-    let task = Task::named(task.as_str()).context(USAGE)?;
+    let task = Task::named(task.as_str())
+        .context("TASK is opening, letter, erasure, move, page, save or repaint")
+        .context(USAGE)?;
     rounds::run(rt, files, task, wanted, name.as_str())
 }
 

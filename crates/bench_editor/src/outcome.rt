@@ -5,9 +5,9 @@ use anyhow::{Context, Result};
 use std::alloc::{AllocError, Global};
 use std::time::Duration;
 
-/// The words that the program takes.
-pub(crate) const USAGE: &str = "usage: bench_editor [--time] [--tables CLASSES BRACKETS MIRRORING] \
-    opening|letter|erasure|move|page|save|repaint ascii|hebrew|mixed|paragraph BYTES TIMES";
+/// The words that the program takes. An error's text has room for no more of them.
+pub(crate) const USAGE: &str =
+    "usage: bench_editor [--time] [--tables CLASSES BRACKETS MIRRORING] TASK TEXT BYTES TIMES";
 
 /// The text, how many bytes it has at least, and how many rounds are measured.
 #[derive(Clone, Copy)]
@@ -44,7 +44,9 @@ impl Outcome {
     ) -> Result<Outcome, AllocError> {
         let sent = traffic.sent / rounds.max(1);
         let stored = traffic.stored / rounds.max(1);
-        let line = format!(in alloc; "{name}: {length} bytes, {rounds} rounds, {sent} bytes sent and {stored} stored a round")?;
+        let line = format!(in alloc;
+            "{name}: {length} bytes, {rounds} rounds, {sent} bytes sent and {stored} stored a round"
+        )?;
         Ok(Outcome { line, time, rounds })
     }
 
