@@ -1,0 +1,49 @@
+//! A store that keeps nothing.
+
+use bx_store::{Store, StoreFault};
+
+/// A store that throws the bytes away and counts them, so that a save's cost is the editor's alone. No call of it fails.
+#[derive(Drop)]
+pub(crate) struct CountingStore {
+    count: usize,
+}
+
+impl CountingStore {
+    pub(crate) fn new() -> CountingStore {
+        CountingStore { count: 0 }
+    }
+
+    /// How many bytes were put in all.
+    pub(crate) fn count(&self) -> usize {
+        self.count
+    }
+}
+
+impl Store for CountingStore {
+    ghost use Rattle.std.specs.Prelude.{None, true};
+
+    ghost contents = { λ _. None };
+
+    ghost draft = { λ _. None };
+
+    ghost has_draft = { λ _. true };
+
+    ghost failure_count = { λ _. 0 };
+
+    fn begin(&mut self) -> Result<(), StoreFault> {
+        Ok(())
+    }
+
+    fn put(&mut self, bytes: &[u8]) -> Result<(), StoreFault> {
+        self.count = self.count.wrapping_add(bytes.len());
+        Ok(())
+    }
+
+    fn commit(&mut self) -> Result<(), StoreFault> {
+        Ok(())
+    }
+
+    fn failures(&self) -> u64 {
+        0
+    }
+}

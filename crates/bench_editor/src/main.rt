@@ -1,0 +1,135 @@
+//! Measures the whole editor: from the bytes of keys to the bytes for the terminal, in a window of 24 rows and 80 columns.
+//!
+//!     bench_editor [--time] [--tables CLASSES BRACKETS MIRRORING] TASK TEXT BYTES TIMES
+//!     bench_editor each
+//!
+//! TASK is `opening`, `letter`, `erasure` (a letter and Backspace), `move` (Right and Left), `page` (PageDown and PageUp),
+//! `save` or `repaint`, and TEXT is `ascii`, `hebrew`, `mixed` or `paragraph`. The text has at least BYTES bytes, and each task
+//! but the first begins in its middle. It prints what was done and how many bytes were sent and stored in a round, and with
+//! --time also a round's processor time. Without --tables the small tables are taken. `each` takes every task once with
+//! small numbers.
+//!
+//! With TIMES 0 nothing but the preparation is done. Where instructions are wanted, they are the difference of two runs under
+//! `valgrind --tool=callgrind` that differ in TIMES alone; those of `opening` have the reading of the tables and a copy of the
+//! text in them, which its time has not.
+#![tactic(auto)]
+
+mod counting_store;
+mod openings;
+mod outcome;
+mod rounds;
+mod table_files;
+mod task;
+mod texts;
+mod typist;
+
+use anyhow::{Context, Result, bail};
+use outcome::{Measurement, Outcome, USAGE, number};
+use std::env;
+use std::rt::{Env, Files};
+use std::time::CpuClock;
+use table_files::TableFiles;
+use task::Task;
+use texts::Script;
+
+/// What the last four words ask for.
+fn measured<R: CpuClock + AllocGlobal>(
+    rt: &R,
+    files: &TableFiles,
+    words: &[String],
+) -> Result<Outcome> {
+    let [task, script, bytes, times] = words else {
+        bail!("{USAGE}");
+    };
+    let wanted = Measurement {
+        script: Script::named(script.as_str())
+            .context("TEXT is ascii, hebrew, mixed or paragraph")
+            .context(USAGE)?,
+        bytes: number(bytes)?,
+        times: number(times)?,
+    };
+    let name = format!(in rt.alloc(); "{task} {script}")?;
+    if task.as_str() == "opening" {
+        return openings::run(rt, files, wanted, name.as_str());
+    }
+    let task = Task::named(task.as_str())
+        .context("TASK is opening, letter, erasure, move, page, save or repaint")
+        .context(USAGE)?;
+    rounds::run(rt, files, task, wanted, name.as_str())
+}
+
+/// What the words ask for, after --time.
+fn asked<R: Files + CpuClock + AllocGlobal>(rt: &R, words: &[String]) -> Result<Outcome> {
+    match words {
+        [option, classes, brackets, mirroring, rest @ ..] if option.as_str() == "--tables" => {
+            let files = TableFiles::read(
+                rt,
+                classes.as_str(),
+                brackets.as_str(),
+                mirroring.as_str(),
+            )?;
+            measured(rt, &files, rest)
+        }
+        all => measured(rt, &TableFiles::small(rt.alloc())?, all),
+    }
+}
+
+/// One run of each task.
+const EACH: [&str; 9] = [
+    "opening hebrew 20000 2",
+    "letter hebrew 20000 7",
+    "letter paragraph 5000 3",
+    "erasure mixed 20000 3",
+    "move mixed 20000 5",
+    "page ascii 20000 2",
+    "save ascii 20000 2",
+    "save hebrew 20000 0",
+    "repaint paragraph 5000 1",
+];
+
+/// Takes every task once.
+fn each<R: Print + CpuClock + AllocGlobal>(rt: &R) -> Result<()> {
+    let files = TableFiles::small(rt.alloc())?;
+    for line in EACH {
+        let mut words = Vec::new(rt.alloc());
+        for word in line.split(' ') {
+            words.push(String::from_str(rt.alloc(), word)?)?;
+        }
+        let outcome = measured(rt, &files, &words)?;
+        let line = outcome.line.as_str();
+        println!(rt; "{line}")?;
+    }
+    Ok(())
+}
+
+/// Takes the task that the words name.
+fn one<R: Print + Files + CpuClock + AllocGlobal>(
+    rt: &R,
+    words: &[String],
+    is_timed: bool,
+) -> Result<()> {
+    let outcome = asked(rt, words)?;
+    let line = outcome.line.as_str();
+    println!(rt; "{line}")?;
+    if is_timed {
+        let nanos = outcome.nanos_a_round();
+        println!(rt; "{nanos} nanoseconds a round")?;
+    }
+    Ok(())
+}
+
+fn run<R: Print + Env + Files + CpuClock + AllocGlobal>(rt: &R) -> Result<()> {
+    let mut words = Vec::new(rt.alloc());
+    for word in env::args(rt)?.skip(1) {
+        words.push(word)?;
+    }
+    match words.as_slice() {
+        [first] if first.as_str() == "each" => each(rt),
+        [first, rest @ ..] if first.as_str() == "--time" => one(rt, rest, true),
+        all => one(rt, all, false),
+    }
+}
+
+fn main(rt: HostRuntime) -> Result<()> {
+    run(&rt)
+}

@@ -1,0 +1,40 @@
+//! Opening a text, with its first picture.
+
+use crate::outcome::{Measurement, Outcome, Traffic};
+use crate::table_files::TableFiles;
+use crate::typist::Typist;
+use anyhow::Result;
+use std::time::{CpuClock, Duration};
+
+/// Opens a copy of a text: what was sent, and the time without that of the copy, of the tables and of the closing.
+fn once<R: CpuClock + AllocGlobal>(
+    rt: &R,
+    files: &TableFiles,
+    text: &str,
+) -> Result<(usize, Duration)> {
+    let copy = String::from_str(rt.alloc(), text)?.into_bytes();
+    let tables = files.tables(rt.alloc())?;
+    let start = rt.thread_cpu_time()?;
+    let typist = Typist::open(rt.alloc(), copy, tables)?;
+    let end = rt.thread_cpu_time()?;
+    Ok((typist.traffic().sent, end.saturating_sub(start)))
+}
+
+/// What opening a text some times gives, and the time that this took.
+pub(crate) fn run<R: CpuClock + AllocGlobal>(
+    rt: &R,
+    files: &TableFiles,
+    wanted: Measurement,
+    name: &str,
+) -> Result<Outcome> {
+    let text = wanted.script.text(rt.alloc(), wanted.bytes)?;
+    let mut traffic = Traffic { sent: 0, stored: 0 };
+    let mut time = Duration::ZERO;
+    for _ in 0..wanted.times {
+        let (sent, taken) = once(rt, files, text.as_str())?;
+        traffic.sent = traffic.sent.wrapping_add(sent);
+        time = time.saturating_add(taken);
+    }
+    let outcome = Outcome::new(rt.alloc(), name, text.len(), traffic, time, wanted.times)?;
+    Ok(outcome)
+}

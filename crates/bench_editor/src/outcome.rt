@@ -1,0 +1,62 @@
+//! What a measurement is given, and what it gives.
+
+use crate::texts::Script;
+use anyhow::{Context, Result};
+use std::alloc::{AllocError, Global};
+use std::time::Duration;
+
+/// The words that the program takes. An error's text has room for no more of them.
+pub(crate) const USAGE: &str =
+    "usage: bench_editor [--time] [--tables CLASSES BRACKETS MIRRORING] TASK TEXT BYTES TIMES";
+
+/// The text, how many bytes it has at least, and how many rounds are measured.
+#[derive(Clone, Copy)]
+pub(crate) struct Measurement {
+    pub(crate) script: Script,
+    pub(crate) bytes: usize,
+    pub(crate) times: usize,
+}
+
+/// What all rounds together sent to the terminal and to the store.
+#[derive(Clone, Copy)]
+pub(crate) struct Traffic {
+    pub(crate) sent: usize,
+    pub(crate) stored: usize,
+}
+
+/// A line that depends on all that was done, the processor time of all rounds, and how many there were.
+#[derive(Drop)]
+pub(crate) struct Outcome {
+    pub(crate) line: String,
+    time: Duration,
+    rounds: usize,
+}
+
+impl Outcome {
+    /// What a task with a text of so many bytes gives.
+    pub(crate) fn new(
+        alloc: Global,
+        name: &str,
+        length: usize,
+        traffic: Traffic,
+        time: Duration,
+        rounds: usize,
+    ) -> Result<Outcome, AllocError> {
+        let sent = traffic.sent / rounds.max(1);
+        let stored = traffic.stored / rounds.max(1);
+        let line = format!(in alloc;
+            "{name}: {length} bytes, {rounds} rounds, {sent} bytes sent and {stored} stored a round"
+        )?;
+        Ok(Outcome { line, time, rounds })
+    }
+
+    /// The processor time of a round, in nanoseconds.
+    pub(crate) fn nanos_a_round(&self) -> u128 {
+        self.time.as_nanos() / u128::from(self.rounds.max(1) as u64)
+    }
+}
+
+/// The number that a word is.
+pub(crate) fn number(word: &String) -> Result<usize> {
+    word.as_str().parse::<usize>().context(USAGE)
+}

@@ -1,0 +1,47 @@
+//! The files that a session's tables are made of.
+
+use anyhow::{Context, Result};
+use bx_ucd::Tables;
+use bx_ucd::sample::{BRACKETS, CLASSES, MIRRORING};
+use std::alloc::{AllocError, Global};
+use std::fs;
+use std::rt::Files;
+
+/// The bytes of Unicode's three files. A session takes its tables, so each has to have its own.
+#[derive(Drop)]
+pub(crate) struct TableFiles {
+    classes: Vec<u8>,
+    brackets: Vec<u8>,
+    mirroring: Vec<u8>,
+}
+
+impl TableFiles {
+    /// The files of these paths.
+    pub(crate) fn read<R: Files + AllocGlobal>(
+        rt: &R,
+        classes: &str,
+        brackets: &str,
+        mirroring: &str,
+    ) -> Result<TableFiles> {
+        Ok(TableFiles {
+            classes: fs::read(rt, classes).context("classes")?,
+            brackets: fs::read(rt, brackets).context("brackets")?,
+            mirroring: fs::read(rt, mirroring).context("mirroring")?,
+        })
+    }
+
+    /// The small files.
+    pub(crate) fn small(alloc: Global) -> Result<TableFiles, AllocError> {
+        Ok(TableFiles {
+            classes: String::from_str(alloc, CLASSES)?.into_bytes(),
+            brackets: String::from_str(alloc, BRACKETS)?.into_bytes(),
+            mirroring: String::from_str(alloc, MIRRORING)?.into_bytes(),
+        })
+    }
+
+    /// The tables that they make.
+    pub(crate) fn tables(&self, alloc: Global) -> Result<Tables> {
+        let tables = Tables::read(alloc, &self.classes, &self.brackets, &self.mirroring)?;
+        Ok(tables)
+    }
+}
