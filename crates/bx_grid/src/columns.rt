@@ -98,6 +98,7 @@ fn put_glyph(
 }
 
 /// Puts a run, whose columns are counted. Where memory runs out some of it is written, and nothing else.
+#[inline(always)]
 fn put_glyphs(
     alloc: Global,
     columns: &mut [Column],

@@ -89,6 +89,7 @@ impl Live {
         self.negative = Some(negative);
     }
 
+    #[inline(always)]
     fn go_to(&mut self, line: u16, column: u16)
         ensures { self.new ≡ after_move self.old line column }
     {
@@ -129,6 +130,7 @@ impl Live {
         }
     }
 
+    #[inline(always)]
     fn obey(&mut self, command: Command)
         ensures { self.new ≡ after_command self.old command }
     {
@@ -193,6 +195,7 @@ impl Live {
     }
 
     /// The run takes effect, if there is one.
+    #[inline(always)]
     fn end_run(&mut self) -> Result<(), AllocError>
         ensures { OnOk result (self.new ≡ run_ended self.old) }
     {
