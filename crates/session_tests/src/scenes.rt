@@ -42,7 +42,7 @@ type D
 place 1
 type \x1b[99z
 place 1
-bytes d7 78 13
+bytes d77813
 stored axb
 place 2
 
@@ -94,7 +94,7 @@ stored ab
 
 # a line feed behind a carriage return
 open 3 10 auto 1\u{240d}2
-bytes 06 06 0a 13
+bytes 06060a13
 stored 1\u{240d}\u{240a}2
 place 3
 shows 2 1 1|2|-_2:1_save

@@ -2,7 +2,7 @@
 //!
 //!     open ROWS COLUMNS auto|ltr|rtl TEXT     another scene; ␍ is CR, ␊ is LF
 //!     type CHARACTERS                         the bytes of the characters
-//!     bytes HEX HEX ..                        bytes
+//!     bytes DIGITS                            bytes in hexadecimal
 //!     told ROWS COLUMNS                       a size is told
 //!     window ROWS COLUMNS                     the screen has another size
 //!     failing CALL                            another store, which fails at this call

@@ -28,14 +28,19 @@ fn digit_of(byte: u8) -> Result<u8, Fail> {
     }
 }
 
-/// The bytes of pairs of digits with blanks between them.
-pub(crate) fn from_hex(alloc: Global, words: &str) -> Result<Vec<u8>, Fail> {
+/// The byte of a pair of digits.
+pub(crate) fn byte_of(digits: &[u8]) -> Result<u8, Fail> {
+    let [high, low] = digits else {
+        return Err(Fail::new("no pair of digits"));
+    };
+    Ok(digit_of(*high)? << 4 | digit_of(*low)?)
+}
+
+/// The bytes of pairs of digits.
+pub(crate) fn from_hex(alloc: Global, digits: &str) -> Result<Vec<u8>, Fail> {
     let mut bytes = Vec::new(alloc);
-    for word in words.split(' ') {
-        let [high, low] = word.as_bytes() else {
-            return Err(Fail::new("no pair of digits"));
-        };
-        bytes.push(digit_of(*high)? << 4 | digit_of(*low)?)?;
+    for pair in digits.as_bytes().chunks(2) {
+        bytes.push(byte_of(pair)?)?;
     }
     Ok(bytes)
 }
