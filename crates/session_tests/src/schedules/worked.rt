@@ -166,11 +166,11 @@ send 0
 line
 read 99
 is hidden
-pending \x1b[0m\x1b[2J\x1b[1;1H\x1b[1;1H
+pending \x1b[0m\x1b[2J\x1b[1;1H
 send 99
 pending
 read 0
-line \x1b[0m\x1b[2J\x1b[1;1H\x1b[1;1H
+line \x1b[0m\x1b[2J\x1b[1;1H
 read 99
 line
 is shown
