@@ -276,11 +276,6 @@ moves F 7
 shows 1 3 ___12_\u{5d1}\u{5d0}
 moves C 5
 shows 1 4 ___12_\u{5d1}\u{5d0}
-open 1 5 auto \u{5d0}\u{5d1} 12
-moves F 7
-shows 1 1 12_\u{5d1}\u{5d0}
-open 1 8 ltr \u{5d0}\u{5d1} 12
-shows 1 5 12_\u{5d1}\u{5d0}
 open 1 6 rtl a \u{5d0}\u{5d1} b
 shows 1 6 b_\u{5d1}\u{5d0}_a
 
@@ -310,10 +305,6 @@ open 3 5 auto a\u{240a}\u{5d0}
 moves C 1 2 1 2
 
 # down to a shorter row
-open 3 6 auto abc\u{240a}d
-moves F 3
-moves B 5
-shows 2 2 abc|d|-_2:2
 open 3 6 auto abc\u{240a}\u{5d0}
 moves F 3
 moves B 6
