@@ -1,5 +1,6 @@
 //! Tests of the session: scenes of files, keys and sizes with what they send, show and store, runs over readers and writers that
-//! may fail, and schedules of a world's steps. They stand in a crate of their own since the tests of a crate prove all of it once more.
+//! may fail, and schedules of a world's steps. They stand in a crate of their own since the tests of a crate prove all of it once
+//! more.
 #![tactic(auto)]
 
 #[cfg(test)]

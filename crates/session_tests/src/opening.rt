@@ -15,10 +15,7 @@ fn refusal(alloc: Global, bytes: Vec<u8>, height: u16) -> Result<Option<OpenErro
 #[test]
 fn no_utf8(rt: HostRuntime) -> Result<(), Fail> {
     let bytes = Vec::from_slice(rt.alloc(), b"a\xff")?;
-    assert_eq!(rt;
-        refusal(rt.alloc(), bytes, 0)?,
-        Some(OpenError::NotUtf8(1))
-    );
+    assert_eq!(rt; refusal(rt.alloc(), bytes, 0)?, Some(OpenError::NotUtf8(1)));
     Ok(())
 }
 
@@ -35,9 +32,6 @@ fn no_rows(rt: HostRuntime) -> Result<(), Fail> {
 #[test]
 fn a_byte_too_many(rt: HostRuntime) -> Result<(), Fail> {
     let bytes = vec![in rt.alloc(); 0xffu8; 16_777_217]?;
-    assert_eq!(rt;
-        refusal(rt.alloc(), bytes, 0)?,
-        Some(OpenError::TooLong)
-    );
+    assert_eq!(rt; refusal(rt.alloc(), bytes, 0)?, Some(OpenError::TooLong));
     Ok(())
 }

@@ -12,10 +12,7 @@ use std::test::Fail;
 fn is_inside(grid: &Grid, cell: Cell) -> bool
     ensures { IsTrue result → IsWithin grid.now.height grid.now.width cell.line cell.column }
 {
-    1 <= cell.line
-        && cell.line <= grid.height()
-        && 1 <= cell.column
-        && cell.column <= grid.width()
+    1 <= cell.line && cell.line <= grid.height() && 1 <= cell.column && cell.column <= grid.width()
 }
 
 /// Puts a glyph where the grid has room for it.

@@ -111,11 +111,13 @@ fn breaks(
     let reader = &mut Letters { left: letters };
     let found = run_within(limit, reader, &mut written, &mut store, &mut session);
     let start = b"\x1b[0m\x1b[2J\x1b[1;1Hab\x1b[1;1H";
-    Ok(found == Err(fault)
-        && session.place() == fed
-        && session.pending().is_empty()
-        && written.as_slice().starts_with(start)
-        && written.len() >= start.len().saturating_add(fed))
+    Ok(
+        found == Err(fault)
+            && session.place() == fed
+            && session.pending().is_empty()
+            && written.as_slice().starts_with(start)
+            && written.len() >= start.len().saturating_add(fed),
+    )
 }
 
 #[test]
@@ -160,7 +162,10 @@ fn a_failed_flush_is_a_fault(rt: HostRuntime) -> Result<(), Fail> {
 #[test]
 fn a_failed_read_is_a_fault(rt: HostRuntime) -> Result<(), Fail> {
     for left in [0, 1, 5] {
-        assert!(rt; breaks(rt.alloc(), left, 99, RunFault::ReadFault, left)?, "{left} letters");
+        assert!(rt;
+            breaks(rt.alloc(), left, 99, RunFault::ReadFault, left)?,
+            "{left} letters"
+        );
     }
     Ok(())
 }

@@ -63,7 +63,11 @@ fn are_bytes(alloc: Global, bytes: &[u8], field: &str) -> Result<bool, Fail> {
 }
 
 /// The first thing in which a course is not what it should be, if any.
-fn fault_of(alloc: Global, course: &mut Course, wanted: &str) -> Result<Option<&'static str>, Fail> {
+fn fault_of(
+    alloc: Global,
+    course: &mut Course,
+    wanted: &str,
+) -> Result<Option<&'static str>, Fail> {
     let mut fields = wanted.split('|');
     if course.letters() != fields.next().ok_or("no answers")?.as_bytes() {
         return Ok(Some("answers"));

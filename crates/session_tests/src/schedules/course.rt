@@ -48,14 +48,7 @@ impl Opening {
     fn world(&self) -> Result<World<Tables>, Fail> {
         let tables = sample_tables(self.alloc)?;
         let file = Vec::from_slice(self.alloc, &self.file)?;
-        Ok(World::open(
-            self.alloc,
-            file,
-            tables,
-            self.height,
-            self.width,
-            self.base,
-        )?)
+        Ok(World::open(self.alloc, file, tables, self.height, self.width, self.base)?)
     }
 
     fn store(&self) -> MemoryStore {
