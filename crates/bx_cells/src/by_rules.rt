@@ -19,8 +19,8 @@ fn may_be_simple(cluster: &str) -> bool {
     }
 }
 
-/// Adds the units of the clusters that stand from an offset on, one at least if any is left, up to one that may be simple;
-/// gives the offset of what is left.
+/// Adds the units of the clusters that stand from an offset on, one at least if any is left, up to the second of two that may
+/// be simple, so that a blank between words that are not is no end; gives the offset of what is left.
 pub(crate) fn push_by_rules<D: BidiData>(
     units: &mut Vec<Unit>,
     body: &str,
@@ -35,10 +35,13 @@ pub(crate) fn push_by_rules<D: BidiData>(
         ≡ units.old.items ++ units_from (D.class_of source.now) w body.now at) }
 {
     let mut start = at;
+    let mut was_simple = false;
     for cluster in body[at..].graphemes(true) {
-        if start > at && may_be_simple(cluster) {
+        let is_simple = may_be_simple(cluster);
+        if start > at && was_simple && is_simple {
             return Ok(start);
         }
+        was_simple = is_simple;
         let stop = start + cluster.len();
         units.push(Unit {
             start,
