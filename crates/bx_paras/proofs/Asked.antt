@@ -1,8 +1,8 @@
 -- What an index answers, told by the lengths of the paragraphs.
-use Rattle.std.proofs.Common.{◌≡◌, ◌<◌, ◌≤◌, ◌+◌, ◌∙◌, ℕ, zero, suc, true, false, cond, nat_le, List, [], ◌∷◌, ◌++◌, length, take, get_or, slice_get, count_by}
+use Rattle.std.proofs.Common.{◌≡◌, ◌<◌, ◌≤◌, ◌+◌, ◌-◌, ◌∙◌, ℕ, zero, suc, true, false, cond, nat_le, List, [], ◌∷◌, ◌++◌, length, take, get_or, slice_get, count_by}
 use Rattle.std.proofs.Common.{Option, Some, None, refl, ap, sym, arith, length-append}
 use Rattle.std.proofs.lemmas.Bool.Decides.{nat_tests}
-use Rattle.std.proofs.lemmas.List.{get_or_append_left, take-append-le}
+use Rattle.std.proofs.lemmas.List.{get_or_append_left, take-append-le, take_all}
 use Rattle.std.proofs.lemmas.List.Sums.{sum_by-cons}
 use Rattle.std.proofs.Math.Seq.{get_or-append_seam, take-append_seam}
 use Rattle.bx_paras.specs.declared.lengths.Lengths.{Lengths}
@@ -10,6 +10,7 @@ use Rattle.bx_paras.specs.declared.position.Position.{Position}
 use Rattle.bx_paras.specs.Positions.{bytes_of, total, spans_from, spans, separators, paragraph_of}
 use Rattle.bx_paras.specs.Flat.{IsPosition}
 use Rattle.bx_paras.proofs.Followed.{has_end, no_end}
+use Rattle.bx_paras.proofs.Totals.{total_more}
 
 -- ---- the paragraph of an offset
 
@@ -93,6 +94,39 @@ span_of_last ps u n start e s =
     let same : 0 + total (take n (ps ++ u ∷ [])) ≡ start = omega (arith, front) in
     span_at 0 n (ps ++ u ∷ []) u (omega (arith, e, length-append ps (u ∷ []))) ∙ ap (λ k. Some (k, k + (get_or (ps ++ u ∷ []) n u).body)) same
     ∙ ap (λ (q : Lengths). Some (start, start + q.body)) here
+
+-- the paragraph of an offset, by its position: one that ends, and the last
+pub record EndedSpan (ps : List Lengths) (u : Lengths) (p : Position) (e : ℕ) : Type 0 where
+  pub within : p.number < length (ps ++ u ∷ [])
+  pub order : p.separator ≤ e
+  pub span : slice_get (spans (ps ++ u ∷ [])) p.number ≡ Some (p.start, e - p.separator)
+
+pub ended_span : (ps : List Lengths) (u : Lengths) (offset : ℕ) (p : Position) (e : ℕ) → IsPosition ps offset p → p.end ≡ Some e → EndedSpan ps u p e
+ended_span ps u offset p e h k =
+    let t = has_end ps offset p e h k in
+    let inside : p.number < length ps = t.inside in
+    let d : Lengths = record { body = 0; separator = 0 } in
+    let q : Lengths = get_or ps p.number d in
+    let sep : p.separator ≡ q.separator = h.separator_is in
+    let sum : e ≡ p.start + (q.body + q.separator) = omega (arith, t.end, total_more ps p.number d inside, h.start) in
+    let more : p.number < length (ps ++ u ∷ []) = omega (arith, inside, length-append ps (u ∷ [])) in
+    let front : total (take p.number (ps ++ u ∷ [])) ≡ p.start = ap total (take-append-le p.number ps (u ∷ []) (omega (arith, inside))) ∙ sym h.start in
+    let here : get_or (ps ++ u ∷ []) p.number d ≡ q = get_or_append_left ps (u ∷ []) d p.number inside in
+    let same : 0 + total (take p.number (ps ++ u ∷ [])) ≡ p.start = omega (arith, front) in
+    let stop : p.start + q.body ≡ e - p.separator = omega (arith, sum, sep) in
+    record {
+      within = more;
+      order = omega (arith, sum, sep);
+      span = span_at 0 p.number (ps ++ u ∷ []) d more ∙ ap (λ s. Some (s, s + (get_or (ps ++ u ∷ []) p.number d).body)) same
+          ∙ ap (λ (r : Lengths). Some (p.start, p.start + r.body)) here ∙ ap (λ s. Some (p.start, s)) stop;
+    }
+
+pub last_span : (ps : List Lengths) (u : Lengths) (offset : ℕ) (p : Position) → IsPosition ps offset p → p.end ≡ None
+    → slice_get (spans (ps ++ u ∷ [])) p.number ≡ Some (p.start, p.start + u.body)
+last_span ps u offset p h k =
+    let all : p.number ≡ length ps = no_end ps offset p h k in
+    let start : p.start ≡ total ps = h.start ∙ ap total (take_all p.number ps (omega (arith, all))) in
+    span_of_last ps u p.number p.start all start
 
 pub separator_at : (ps : List Lengths) (n : ℕ) (d : Lengths) → n < length ps → slice_get (separators ps) n ≡ Some (get_or ps n d).separator
 separator_at [] n d h = absurd (omega arith)

@@ -10,6 +10,7 @@ use Rattle.bx_text.specs.Edits.{Leads, largest_text}
 use Rattle.bx_paras.specs.declared.lengths.Lengths.{Lengths}
 use Rattle.bx_paras.specs.declared.position.Position.{Position}
 use Rattle.bx_paras.specs.Paragraphs.{lengths, separator_count}
+use Rattle.bx_paras.specs.Capacity.{block_capacity}
 use Rattle.bx_paras.specs.Positions.{bytes_of, total}
 use Rattle.bx_paras.specs.Ended.{ended_within}
 use Rattle.bx_text.specs.Text.{HasRoomFor}
@@ -217,9 +218,9 @@ module _ {class : ℕ → Class} {old : List ℕ} {c : Change} {new : List ℕ} 
 
 -- the room that was made covers what was added
 pub has_spares : (room : Option ℕ) (spares separators : ℕ) → IfSome room (HasSpares spares) → HasRoomFor room separators → separators ≤ largest_text
-    → separators + 258 ≤ 128 * spares
+    → separators + 2 * block_capacity + 2 ≤ block_capacity * spares
 has_spares None spares separators h k few = absurd k
-has_spares (Some room) spares separators h k few = let enough : min room largest_text + 258 ≤ 128 * spares = h in omega (arith, k)
+has_spares (Some room) spares separators h k few = let enough : min room largest_text + 2 * block_capacity + 2 ≤ block_capacity * spares = h in omega (arith, k)
 
 -- so does as much room as bytes
 pub room_for_bytes : (class : ℕ → Class) (old : List ℕ) (c : Change) (new : List ℕ) → IsUtf8 old → IsUtf8 new → Leads old c new

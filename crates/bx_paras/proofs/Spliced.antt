@@ -5,6 +5,7 @@ use Rattle.std.proofs.lemmas.Bool.Decides.{nat_tests}
 use Rattle.std.proofs.lemmas.List.{take-append-drop, take-append-le, take-take, drop_at, length-take-le, length-take, length-drop, get_or_default}
 use Rattle.std.proofs.Math.Seq.{take-append_seam, get_or-append_seam}
 use Rattle.bx_paras.specs.declared.lengths.Lengths.{Lengths}
+use Rattle.bx_paras.specs.Capacity.{block_capacity}
 use Rattle.bx_paras.specs.Positions.{bytes_of, total}
 use Rattle.bx_paras.specs.Flat.{flat, free_before}
 use Rattle.bx_paras.proofs.Totals.{total_append, total_push, total_cut, total_front}
@@ -184,7 +185,7 @@ pushed_in_block ds bs new i at p same e h n =
     (pushed_from bs _ (i + 1) (i + 1) p (pushed_front bs i h p) (ap flat (pushed_back bs i h p))))
 
 pub free_in_block : (bs ds : List (List Lengths)) (i at : ℕ) (p : Lengths) → ds ≡ take i bs ++ (get_or bs i [] ++ p ∷ []) ∷ drop (i + 1) bs → i < length bs
-    → i + 1 ≡ at → length (get_or bs i []) < 128 → free_before ds at + 1 ≡ free_before bs at
+    → i + 1 ≡ at → length (get_or bs i []) < block_capacity → free_before ds at + 1 ≡ free_before bs at
 free_in_block bs ds i at p e h n room =
     let some : (at == 0) ≡ false = grind (arith, nat_tests) in
     let back : at - 1 ≡ i = omega arith in
@@ -200,18 +201,18 @@ pushed_alone ds bs new at p same e h =
     (pushed_from bs _ at (at + 1) p (put_front bs at h p) (ap flat (put_back bs at h p)))
 
 pub free_alone : (bs ds : List (List Lengths)) (at : ℕ) (p : Lengths) → ds ≡ take at bs ++ (p ∷ []) ∷ drop at bs → at ≤ length bs
-    → free_before ds (at + 1) ≡ 127
+    → free_before ds (at + 1) + 1 ≡ block_capacity
 free_alone bs ds at p e h =
     let some : (at + 1 == 0) ≡ false = grind (arith, nat_tests) in
     let back : at + 1 - 1 ≡ at = omega arith in
     let last : get_or ds (at + 1 - 1) [] ≡ p ∷ [] = ap (λ k. get_or ds k []) back ∙ ap (λ cs. get_or cs at []) e ∙ put_last bs at h p in
     rw some (omega (arith, ap length last))
 
-free_none_at : (bs : List (List Lengths)) (at : ℕ) (none : Bool) → (at == 0) ≡ none → (0 < at → 128 ≤ length (get_or bs (at - 1) [])) → free_before bs at ≡ 0
+free_none_at : (bs : List (List Lengths)) (at : ℕ) (none : Bool) → (at == 0) ≡ none → (0 < at → block_capacity ≤ length (get_or bs (at - 1) [])) → free_before bs at ≡ 0
 free_none_at bs at true e h = rw e refl
-free_none_at bs at false e h = let full : 128 ≤ length (get_or bs (at - 1) []) = h (grind (arith, nat_tests)) in rw e (omega arith)
+free_none_at bs at false e h = let full : block_capacity ≤ length (get_or bs (at - 1) []) = h (grind (arith, nat_tests)) in rw e (omega arith)
 
-pub free_none : (bs : List (List Lengths)) (at : ℕ) → (0 < at → 128 ≤ length (get_or bs (at - 1) [])) → free_before bs at ≡ 0
+pub free_none : (bs : List (List Lengths)) (at : ℕ) → (0 < at → block_capacity ≤ length (get_or bs (at - 1) [])) → free_before bs at ≡ 0
 free_none bs at h = free_none_at bs at (at == 0) refl h
 
 -- what an insertion that succeeds puts in

@@ -2,6 +2,7 @@
 use Rattle.std.specs.Prelude.{◌≡◌, ◌<◌, ◌≤◌, ℕ, ◌+◌, ◌-◌, ◌*◌, ◌==◌, List, [], ◌∷◌, ◌++◌, length, take, get_or, if◌then◌else◌, MatchOption}
 use Rattle.bx_paras.specs.declared.lengths.Lengths.{Lengths}
 use Rattle.bx_paras.specs.declared.position.Position.{Position}
+use Rattle.bx_paras.specs.Capacity.{block_capacity}
 use Rattle.bx_paras.specs.Positions.{total}
 
 -- the paragraphs of all blocks
@@ -16,11 +17,11 @@ pub record BlocksState : Type 0 where
 
 -- how many more paragraphs the block in front of a position among the blocks can hold
 abbrev pub free_before : List (List Lengths) → ℕ → ℕ
-free_before bs at = if at == 0 then 0 else 128 - length (get_or bs (at - 1) [])
+free_before bs at = if at == 0 then 0 else block_capacity - length (get_or bs (at - 1) [])
 
 -- how many paragraphs can be put in at a position among the blocks with no memory
 abbrev pub room_at : BlocksState → ℕ → ℕ
-room_at s at = free_before s.blocks at + 128 * s.spares
+room_at s at = free_before s.blocks at + block_capacity * s.spares
 
 -- the bytes of a paragraph's separator, 0 where there are not so many paragraphs
 abbrev pub separator_of : List Lengths → ℕ → ℕ

@@ -3,6 +3,7 @@ use Rattle.std.specs.Prelude.{ℕ, ◌+◌, ◌*◌, ◌≤◌, min, List, [], �
 use Rattle.bx_text.specs.Edits.{largest_text}
 use Rattle.bx_paras.specs.declared.lengths.Lengths.{Lengths}
 use Rattle.bx_paras.specs.declared.index.Index.TheInside.{Inside}
+use Rattle.bx_paras.specs.Capacity.{block_capacity}
 use Rattle.bx_paras.specs.Flat.{flat}
 use Rattle.bx_paras.specs.Positions.{total}
 
@@ -16,7 +17,7 @@ index_of i = record { paragraphs = flat i.front.blocks ++ record { body = i.last
 
 -- the blocks that an edit cuts, and those that it fills: no text has more separators than bytes
 abbrev pub HasSpares : ℕ → ℕ → Type 0
-HasSpares spares separators = min separators largest_text + 258 ≤ 128 * spares
+HasSpares spares separators = min separators largest_text + 2 * block_capacity + 2 ≤ block_capacity * spares
 
 pub record IsIndex (i : Inside) : Type 0 where
   pub short : total (flat i.front.blocks ++ record { body = i.last; separator = 0 } ∷ []) ≤ largest_text

@@ -4,6 +4,7 @@ pub mod Ended
 pub mod Scan
 pub mod Leads
 pub mod Windows
+pub mod Capacity
 pub mod OneBlock
 pub mod Flat
 pub mod Spots

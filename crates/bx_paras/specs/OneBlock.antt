@@ -1,10 +1,11 @@
 -- What a block of paragraphs keeps.
 use Rattle.std.specs.Prelude.{◌≡◌, ◌≤◌, vec_len, vec_capacity}
 use Rattle.bx_paras.specs.declared.block.Block.TheInside.{Inside}
+use Rattle.bx_paras.specs.Capacity.{block_capacity}
 use Rattle.bx_paras.specs.Positions.{total}
 
--- a block knows its bytes, and has room for 128 paragraphs
+-- a block knows its bytes, and has room for as many paragraphs as it may have
 pub record IsBlock (b : Inside) : Type 0 where
   pub bytes : b.bytes ≡ total b.lengths.items
-  pub few : vec_len b.lengths ≤ 128
-  pub room : 128 ≤ vec_capacity b.lengths
+  pub few : vec_len b.lengths ≤ block_capacity
+  pub room : block_capacity ≤ vec_capacity b.lengths

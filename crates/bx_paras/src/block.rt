@@ -1,6 +1,7 @@
 //! A block of paragraphs.
 
 ghost use Rattle.std.specs.Prelude.{◌≡◌, [], ◌∷◌, ◌++◌, ◌+◌, ◌<◌, ◌≤◌, ◌^◌, length, take, drop, nat_lt, IfOk};
+ghost use Rattle.bx_paras.specs.Capacity.{block_capacity};
 ghost use Rattle.bx_paras.specs.Positions.{bytes_of, total};
 
 use crate::lengths::Lengths;
@@ -8,9 +9,9 @@ use std::alloc::{AllocError, Global};
 use std::marker::Model;
 
 /// How many paragraphs a block has room for.
-pub const BLOCK_CAPACITY: usize = 128;
+pub const BLOCK_CAPACITY: usize = 512;
 
-/// Paragraphs that follow one another, at most 128, and how many bytes they have together.
+/// Paragraphs that follow one another, at most `BLOCK_CAPACITY`, and how many bytes they have together.
 #[derive(Drop)]
 pub struct Block {
     lengths: Vec<Lengths>,
@@ -43,7 +44,7 @@ pub fn total(lengths: &[Lengths]) -> usize
 }
 
 impl Block {
-    /// No paragraph, and room for 128.
+    /// No paragraph, and room for as many as it may have.
     pub fn new(alloc: Global) -> Result<Block, AllocError>
         ensures { IfOk result (λ b. b ≡ []) }
     {
@@ -63,14 +64,14 @@ impl Block {
     /// The paragraphs. No memory.
     pub fn lengths(&self) -> &[Lengths]
         ensures paragraphs { result.now ≡ self.now }
-        ensures few { length result.now ≤ 128 }
+        ensures few { length result.now ≤ block_capacity }
     {
         self.lengths.as_slice()
     }
 
     /// Whether another paragraph fits in. No memory.
     pub fn has_room(&self) -> bool
-        ensures { result ≡ nat_lt (length self.now) 128 }
+        ensures { result ≡ nat_lt (length self.now) block_capacity }
     {
         self.lengths.len() < BLOCK_CAPACITY
     }
@@ -78,7 +79,7 @@ impl Block {
     /// One paragraph more, behind the others. No memory.
     #[tactic(auto, using(crate::proofs::Totals::total_push))]
     pub fn push(&mut self, paragraph: Lengths)
-        requires room { length self.old < 128 }
+        requires room { length self.old < block_capacity }
         requires short { total self.old + bytes_of paragraph < 2 ^ 64 }
         ensures { self.new ≡ self.old ++ paragraph ∷ [] }
     {
@@ -105,7 +106,7 @@ impl Block {
     /// Puts the paragraphs of another block behind these. No memory.
     #[tactic(auto, using(crate::proofs::Totals::total_append))]
     pub fn append(&mut self, other: &Block)
-        requires room { length self.old + length other.now ≤ 128 }
+        requires room { length self.old + length other.now ≤ block_capacity }
         requires short { total self.old + total other.now < 2 ^ 64 }
         ensures { self.new ≡ self.old ++ other.now }
     {

@@ -1,6 +1,7 @@
 //! Paragraphs of a text put in among others.
 
 ghost use Rattle.std.specs.Prelude.{◌≡◌, ◌++◌, ◌+◌, ◌*◌, ◌<◌, ◌≤◌, ◌^◌, length, take, drop, IsCharBoundary};
+ghost use Rattle.bx_paras.specs.Capacity.{block_capacity};
 ghost use Rattle.bx_paras.specs.Positions.{total};
 ghost use Rattle.bx_paras.specs.Ended.{ended_between};
 ghost use Rattle.bx_paras.specs.Flat.{flat, room_at};
@@ -72,7 +73,7 @@ pub fn replace<D: BidiData>(
     requires window { IsWindow (D.class_of source.now) text.now.edited.text from.start window }
     requires order { from.number ≤ to }
     requires inside { to ≤ length (flat blocks.old.blocks) }
-    requires room { 256 + length (ended_between (D.class_of source.now) text.now.edited.text from.start stop) ≤ 128 * blocks.old.spares }
+    requires room { 2 * block_capacity + length (ended_between (D.class_of source.now) text.now.edited.text from.start stop) ≤ block_capacity * blocks.old.spares }
     requires short { total (flat blocks.old.blocks) + total (ended_between (D.class_of source.now) text.now.edited.text from.start stop) < 2 ^ 64 }
     requires few { length (flat blocks.old.blocks) + length (ended_between (D.class_of source.now) text.now.edited.text from.start stop) < 2 ^ 64 }
     ensures paragraphs { flat blocks.new.blocks

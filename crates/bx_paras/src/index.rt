@@ -237,6 +237,20 @@ impl Index {
         self.front.find(offset).number
     }
 
+    /// The number of the paragraph, from 0, that an offset in bytes falls in, and where its body begins and ends. It is found
+    /// by one walk. No memory.
+    pub fn span_at(&self, offset: usize) -> (usize, (usize, usize))
+        ensures number { result.0 ≡ paragraph_of self.now.paragraphs offset }
+        ensures span { slice_get (spans self.now.paragraphs) result.0 ≡ Some result.1 }
+    {
+        let position = self.front.find(offset);
+        let start = position.start;
+        let Some(end) = position.end else {
+            return (position.number, (start, start + self.last as usize));
+        };
+        (position.number, (start, end - position.separator))
+    }
+
     /// Where the body of a paragraph begins and ends, in bytes. No memory.
     pub fn span(&self, number: usize) -> (usize, usize)
         requires { number < length self.now.paragraphs }

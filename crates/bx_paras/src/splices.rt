@@ -1,6 +1,7 @@
 //! Blocks that are cut, lengthened and joined among others.
 
 ghost use Rattle.std.specs.Prelude.{◌≡◌, [], ◌∷◌, ◌++◌, ◌+◌, ◌<◌, ◌≤◌, ◌^◌, length, take, drop, get_or, vec_len, vec_capacity};
+ghost use Rattle.bx_paras.specs.Capacity.{block_capacity};
 ghost use Rattle.bx_paras.specs.Positions.{bytes_of, total};
 
 use crate::block::Block;
@@ -25,7 +26,7 @@ pub fn cut_at(blocks: &mut Vec<Block>, at: usize, within: usize, spare: Block)
 #[tactic(auto, using(crate::proofs::Written::set_parts))]
 pub fn push_at(blocks: &mut Vec<Block>, at: usize, paragraph: Lengths)
     requires position { at < vec_len blocks.old }
-    requires room { length (get_or blocks.old.items at []) < 128 }
+    requires room { length (get_or blocks.old.items at []) < block_capacity }
     requires short { total (get_or blocks.old.items at []) + bytes_of paragraph < 2 ^ 64 }
     ensures items { blocks.new.items ≡ take at blocks.old.items ++ (get_or blocks.old.items at [] ++ paragraph ∷ []) ∷ drop (at + 1) blocks.old.items }
     ensures len { vec_len blocks.new ≡ vec_len blocks.old }
@@ -38,7 +39,7 @@ pub fn push_at(blocks: &mut Vec<Block>, at: usize, paragraph: Lengths)
 #[tactic(auto, using(crate::proofs::Written::join_parts))]
 pub fn join_at(blocks: &mut Vec<Block>, at: usize)
     requires position { at + 1 < vec_len blocks.old }
-    requires room { length (get_or blocks.old.items at []) + length (get_or blocks.old.items (at + 1) []) ≤ 128 }
+    requires room { length (get_or blocks.old.items at []) + length (get_or blocks.old.items (at + 1) []) ≤ block_capacity }
     requires short { total (get_or blocks.old.items at []) + total (get_or blocks.old.items (at + 1) []) < 2 ^ 64 }
     ensures items { blocks.new.items
         ≡ take at blocks.old.items
