@@ -15,7 +15,7 @@ if ! command -v tmux > /dev/null 2>&1; then
     exit 0
 fi
 
-cd "$(dirname "$0")/../crates/paint_glyphs"
+cd "$(dirname "$0")/../crates/paint_glyphs" || exit 1
 rt run -- 1 1 1 1 > /dev/null 2>&1 || exit 1
 
 folder=$(mktemp -d)
@@ -53,22 +53,22 @@ acute=$(printf 'e\314\201')
 tmux -u -f /dev/null -L "$socket" new-session -d -s keep -x 80 -y 24 'sleep 600'
 
 check ascii 2 10 '|- 1:1' 0,0 1 1 2 1 +- 2 3 +1 2 4 +: 2 5 +1
-check inserted 1 5 'xab' 1,0 1 1 1 1 +a 1 2 +b then 1 2 1 1 +x 1 2 +a 1 3 +b
-check erased 1 5 'ab' 0,0 1 2 1 1 +x 1 2 +a 1 3 +b then 1 1 1 1 +a 1 2 +b
-check cursor_alone 1 5 'ab' 3,0 1 1 1 1 +a 1 2 +b then 1 4 1 1 +a 1 2 +b
+check inserted 1 5 'xab' 1,0 1 1 1 1 +a 1 2 +b 'then' 1 2 1 1 +x 1 2 +a 1 3 +b
+check erased 1 5 'ab' 0,0 1 2 1 1 +x 1 2 +a 1 3 +b 'then' 1 1 1 1 +a 1 2 +b
+check cursor_alone 1 5 'ab' 3,0 1 1 1 1 +a 1 2 +b 'then' 1 4 1 1 +a 1 2 +b
 check negative_mark 1 3 'a<I>b' 0,0 1 1 1 1 +a 1 2 -I 1 3 +b
-check negative_gone 1 3 'aIb' 2,0 1 1 1 1 +a 1 2 -I 1 3 +b then 1 3 1 1 +a 1 2 +I 1 3 +b
+check negative_gone 1 3 'aIb' 2,0 1 1 1 1 +a 1 2 -I 1 3 +b 'then' 1 3 1 1 +a 1 2 +I 1 3 +b
 check to_the_edge 2 3 'abc|d' 2,0 1 3 1 1 +a 1 2 +b 1 3 +c 2 1 +d
 check wide 1 4 "$wide" 0,0 1 1 1 1 "+$wide"
 check wide_negative 1 4 "<$wide>b" 0,0 1 1 1 1 "-$wide" 1 3 +b
-check before_a_wide_glyph 1 4 "x$wide" 1,0 1 1 1 1 "+$wide" then 1 2 1 1 +x 1 2 "+$wide"
-check wide_covered 1 4 'ab' 0,0 1 1 1 1 "+$wide" then 1 1 1 1 +a 1 2 +b
-check first_half_covered 1 4 'a' 0,0 1 1 1 1 "+$wide" then 1 1 1 1 +a
-check second_half_covered 1 4 ' b' 0,0 1 1 1 1 "+$wide" then 1 1 1 2 +b
-check wide_moved 1 4 " $wide" 0,0 1 1 1 1 "+$wide" then 1 1 1 2 "+$wide"
+check before_a_wide_glyph 1 4 "x$wide" 1,0 1 1 1 1 "+$wide" 'then' 1 2 1 1 +x 1 2 "+$wide"
+check wide_covered 1 4 'ab' 0,0 1 1 1 1 "+$wide" 'then' 1 1 1 1 +a 1 2 +b
+check first_half_covered 1 4 'a' 0,0 1 1 1 1 "+$wide" 'then' 1 1 1 1 +a
+check second_half_covered 1 4 ' b' 0,0 1 1 1 1 "+$wide" 'then' 1 1 1 2 +b
+check wide_moved 1 4 " $wide" 0,0 1 1 1 1 "+$wide" 'then' 1 1 1 2 "+$wide"
 check wide_to_the_edge 1 4 "ab$wide" 0,0 1 1 1 1 +a 1 2 +b 1 3 "+$wide"
 check combining_mark 1 4 "${acute}b" 0,0 1 1 1 1 "+$acute" 1 2 +b
-check mark_gone 1 4 'eb' 0,0 1 1 1 1 "+$acute" 1 2 +b then 1 1 1 1 +e 1 2 +b
+check mark_gone 1 4 'eb' 0,0 1 1 1 1 "+$acute" 1 2 +b 'then' 1 1 1 1 +e 1 2 +b
 check hebrew 1 4 "$bet$alef" 0,0 1 1 1 1 "+$bet" 1 2 "+$alef"
 
 [ "$failed" = 0 ] && echo "all as the model says"

@@ -34,7 +34,7 @@ abbrev pub cut_after : ℕ → List Col → List Col
 cut_after d [] = []
 cut_after d (x ∷ xs) = (if nat_lt d (columns_before x) then Unknown else x) ∷ cut_after (d + 1) xs
 
--- these in the place of others, which are lost
+-- these instead of others, which are lost
 abbrev pub paste : List Col → ℕ → List Col → List Col
 paste columns k new = take k columns ++ new ++ drop (k + length new) columns
 

@@ -154,16 +154,16 @@ front_texts (c ∷ cs) h =
 
 -- ---- a row
 
-place_ends : (near : Bool) (row column : ℕ) → row < 2 ^ 63 → column < 2 ^ 63 → EndTokens (if near then [] else move_bytes row column)
-place_ends true row column r c = ends_nothing
-place_ends false row column r c = ends_all (move_bytes row column) (move_ends row column r c)
+position_ends : (near : Bool) (row column : ℕ) → row < 2 ^ 63 → column < 2 ^ 63 → EndTokens (if near then [] else move_bytes row column)
+position_ends true row column r c = ends_nothing
+position_ends false row column r c = ends_all (move_bytes row column) (move_ends row column r c)
 
 glyph_ends : (row column : ℕ) (near negative : Bool) (text : List ℕ) (glyph_negative : Bool) → row < 2 ^ 63 → column < 2 ^ 63 → EndTokens text
     → EndTokens (glyph_bytes row column near negative text glyph_negative)
 glyph_ends row column near negative text glyph_negative r c h =
     let at_once = near && is_ascii_glyph text in
     ends_append (if at_once then [] else move_bytes row column) (render_change negative glyph_negative ++ text)
-    (place_ends at_once row column r c)
+    (position_ends at_once row column r c)
     (ends_append (render_change negative glyph_negative) text (change_ends negative glyph_negative) h)
 
 step_by : (sent : Bool) (s : Step) (negative : Bool) → EndTokens s.bytes → EndTokens (if sent then s else nothing_sent negative).bytes

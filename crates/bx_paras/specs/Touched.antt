@@ -8,8 +8,8 @@ use Rattle.bx_paras.specs.declared.position.Position.{Position}
 use Rattle.bx_paras.specs.Paragraphs.{lengths}
 use Rattle.bx_paras.specs.Flat.{IsPosition}
 
--- the paragraphs that end, and the one behind them, are those of the old text: the byte before the change stands in the
--- first of two of them, and what stands behind the change in the last
+-- The paragraphs of the old text are `front`, each of which ends with a separator, and then `behind`. The byte before the
+-- change stands in the paragraph `first`, and what follows the change begins in the paragraph `last`.
 pub record IsTouched (class : ℕ → Class) (old : List ℕ) (change : Change) (new : List ℕ) (front : List Lengths) (behind : Lengths)
     (first last : Position) : Type 0 where
   pub old_utf8 : IsUtf8 old

@@ -14,9 +14,9 @@ use Rattle.bx_rows.specs.Wrapping.{columns_at, fit_count_from, is_break, rows_fr
 abbrev pub Fits : ℕ → ℕ → Unit → Type 0
 Fits w c u = (c < w) × (c + columns_at w c u.face ≤ w)
 
--- Of the row that begins with the units `here`, `last` units were read up to its last break and `count` behind it, where
--- `behind` begins; `rest` is not read. It has these columns, and the units behind the break would have `since` in a row of
--- their own.
+-- What is known of a row that is read up to `rest`. The row begins with the units `here`: `last` units stand up to its last
+-- break, and then `count` units, with which `behind` begins. All of them have these columns, and the last `count` would have
+-- `since` columns in a row of their own.
 pub record IsScan (p : Unit → Bool) (w : ℕ) (here behind rest : List Unit) (columns last count since : ℕ) : Type 0 where
   pub front : List Unit
   pub back : List Unit

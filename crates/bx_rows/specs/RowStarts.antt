@@ -31,8 +31,8 @@ units_in us (Some r) = row_units us r
 abbrev pub units_of_row : (ℕ → Class) → ℕ → List ℕ → ℕ → List Unit
 units_of_row class w body k = let us = units class w body in units_in us (slice_get (wrap class w body us) k)
 
--- how many units the row has that begins at `start`, where the next begins at `next`; behind the last row there is none, and
--- it has no more units than the body has bytes; a window of no columns has none in a row
+-- How many units the row has at most that begins at `start`, where the next one begins at `next`. The last row has none
+-- behind it, and no more units than the body has bytes. In a window of no columns each row is empty.
 abbrev pub most_units : ℕ → List ℕ → RowStart → Option RowStart → ℕ
 most_units zero body start next = 0
 most_units (suc w) body start None = length body

@@ -2,8 +2,8 @@
 use Rattle.std.specs.Prelude.{ℕ, zero, suc, ◌+◌, ◌-◌, ◌%◌, nat_le, max, min, true, false, List, [], ◌∷◌, ◌++◌, map, Option, Some, None}
 use Rattle.std.specs.List.{enumerate_from}
 
--- units, each by its number and its level; each maximal run at level `n` or higher is reversed
--- `run` has the units of the run so far, the latest first
+-- Units, each by its number and its level, with each maximal run at level `n` or higher reversed. `run` has the units of the
+-- run so far, the latest first.
 abbrev pub reverse_runs : ℕ → List (ℕ × ℕ) → List (ℕ × ℕ) → List (ℕ × ℕ)
 reverse_runs n run [] = run
 reverse_runs n run (u ∷ us) = elim (nat_le n u.1) [ true ↦ reverse_runs n (u ∷ run) us | false ↦ run ++ u ∷ reverse_runs n [] us ]

@@ -42,9 +42,9 @@ pub record Sent (old new : Session) (writer writer' : Option (List ℕ)) (writte
 abbrev pub HasRead : ℕ → Option (List ℕ) → Option (List ℕ) → Type 0
 HasRead count reader reader' = (bytes : List ℕ) × (count ≤ length bytes) × Consumes reader reader' bytes
 
--- how far a run has come: `answered` are the bytes up to the session's end, `dropped` those read after it, `written` what
--- was written; `all` is the session if nothing had been, so what was pending at the start and all that was appended since
--- is what was written and what is pending, in order
+-- How far a run has come. `answered` are the bytes that were read up to the session's end, and `dropped` those behind it.
+-- `all` is what the session would be if nothing were written, so that its queue has all that was pending at the start and
+-- was appended since. That is what was written, and then what is pending.
 pub record HasRun (d : Data) (old new : Session) (store store' : StoreState) (reader reader' writer writer' : Option (List ℕ))
     (answered : List ByteAnswer) (dropped written : List ℕ) (all : Session) : Type 0 where
   pub feeds : FeedsAll d old store answered all store'

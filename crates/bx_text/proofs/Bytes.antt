@@ -142,7 +142,7 @@ rest_in_buffers b x xs k h short c =
     let at : IsCharBoundary (piece_bytes b x) k = IsCharBoundary-left (piece_bytes b x) (bytes_of b xs) k (omega (arith, length-piece_bytes b x h)) c in
     record { inside = omega (arith, h.inside); utf8 = subst IsUtf8 (sym (rest_bytes b x k short)) (IsUtf8-drop (piece_bytes b x) k h.utf8 at) }
 
--- a place past the first piece
+-- an offset past the first piece
 further_bounds : (b : Buffers) (x : Piece) (xs : List Piece) (k : ℕ) → IsInBuffer b x → x.len ≤ k → IsCharBoundary (bytes_of b (x ∷ xs)) k
     → IsCharBoundary (bytes_of b xs) (k - x.len)
 further_bounds b x xs k h past c = IsCharBoundary-right (piece_bytes b x) (bytes_of b xs) x.len k (length-piece_bytes b x h) past c

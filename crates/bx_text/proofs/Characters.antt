@@ -5,7 +5,7 @@ use Rattle.std.proofs.lemmas.Str.{IsUtf8-append, IsUtf8-take, IsUtf8-drop, IsCha
 use Rattle.std.specs.Str.{IsUtf8, IsCharBoundary}
 use Rattle.bx_text.specs.Edits.{IsRange, splice}
 
--- a place in one of two texts that are joined
+-- an offset in one of two texts that are joined
 pub IsCharBoundary-left : (xs ys : List ℕ) (k : ℕ) → k ≤ length xs → IsCharBoundary (xs ++ ys) k → IsCharBoundary xs k
 IsCharBoundary-left xs ys k h c =
     (h, λ inside high. omega (arith, get_or_append_left xs ys 0 k inside, length-append xs ys, c.1))
@@ -18,7 +18,7 @@ pub IsCharBoundary-drop : (xs : List ℕ) (i k : ℕ) → IsCharBoundary xs (i +
 IsCharBoundary-drop xs i k c =
     (omega (arith, length-drop i xs, c.0), λ inside high. omega (arith, get_or-drop i xs k 0, length-drop i xs, c.1))
 
--- what stands between two places
+-- what stands between two offsets
 pub IsUtf8-inside : (text : List ℕ) (start len : ℕ) → IsUtf8 text → IsRange text start (start + len) → IsUtf8 (take len (drop start text))
 IsUtf8-inside text start len utf8 r =
     IsUtf8-take (drop start text) len (IsUtf8-drop text start utf8 r.start_bounds) (IsCharBoundary-drop text start len r.stop_bounds)
@@ -29,7 +29,7 @@ IsUtf8-splice text new start len utf8 more r =
     IsUtf8-append (take start text ++ new) (drop (start + len) text) (IsUtf8-append (take start text) new (IsUtf8-take text start utf8 r.start_bounds) more)
     (IsUtf8-drop text (start + len) utf8 r.stop_bounds)
 
--- what was put in stands between two places
+-- what was put in stands between two offsets
 pub IsRange-splice : (text new : List ℕ) (start len : ℕ) → IsUtf8 text → IsUtf8 new → IsRange text start (start + len)
     → IsRange (splice text start (start + len) new) start (start + length new)
 IsRange-splice text new start len utf8 more r =

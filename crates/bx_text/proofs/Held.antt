@@ -56,8 +56,8 @@ holds_at false b x xs k p j e in_buffers more h =
     let g = rw e at h in
     let both : (x, k) ≡ (p, j) = some_same (x, k) (p, j) g in
     let same_piece : x ≡ p = ap (λ (z : Piece × ℕ). z.0) both in
-    let same_place : k ≡ j = ap (λ (z : Piece × ℕ). z.1) both in
-    rw (sym same_piece, sym same_place) (here b x xs k in_buffers (grind (arith, nat_tests)))
+    let same_offset : k ≡ j = ap (λ (z : Piece × ℕ). z.1) both in
+    rw (sym same_piece, sym same_offset) (here b x xs k in_buffers (grind (arith, nat_tests)))
 
 pub holds : (b : Buffers) (ps : List Piece) (k : ℕ) (p : Piece) (j : ℕ) → AreInBuffers b ps → holding ps k ≡ Some (p, j) → Holds b ps k p j
 holds b [] k p j in_buffers h = absurd (cc h)
@@ -72,7 +72,7 @@ pub held_none : (ps : List Piece) (k : ℕ) → holding ps k ≡ None → total 
 held_none [] k h = omega arith
 held_none (x ∷ xs) k h = held_none_at (nat_le x.len k) x xs k refl (held_none xs (k - x.len)) h
 
--- ---- places between characters
+-- ---- boundaries of characters
 
 module _ (b : Buffers) (ps : List Piece) (k : ℕ) (p : Piece) (j : ℕ) (h : Holds b ps k p j) where
   pub bounds_text : IsCharBoundary (buffer_bytes b p.buffer) (p.start + j) → IsCharBoundary (bytes_of b ps) k
@@ -94,7 +94,7 @@ module _ (b : Buffers) (ps : List Piece) (k : ℕ) (p : Piece) (j : ℕ) (h : Ho
       (subst IsUtf8 (sym (take-add p.start p.len text))
       (IsUtf8-append (take p.start text) (piece_bytes b p) (IsUtf8-take text p.start utf8 start) h.in_buffers.utf8))
 
--- what a text goes on with, up to a place between two characters
+-- what a text goes on with, up to a boundary of characters
 pub rest_bounds : (text : List ℕ) (k : ℕ) (rest : List ℕ) → IsUtf8 text → IsCharBoundary text k → IsUtf8 rest → take (length rest) (drop k text) ≡ rest
     → IsCharBoundary text (k + length rest)
 rest_bounds text k rest utf8 c rest_utf8 e =

@@ -8,7 +8,7 @@ use Rattle.std.specs.Iterator.{Yields, Drains}
 use Rattle.std.specs.Str.{IsCharBoundary}
 use Rattle.bx_text.specs.Slices.{lends, joined}
 
--- a place in what a text goes on with
+-- an offset in what a text goes on with
 pub IsCharBoundary-part : (text rest : List ℕ) (at j : ℕ) → take (length rest) (drop at text) ≡ rest → at + length rest ≤ length text → j ≤ length rest
     → IsCharBoundary text (at + j) → IsCharBoundary rest j
 IsCharBoundary-part text rest at j e long short c = (

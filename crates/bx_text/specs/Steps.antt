@@ -1,5 +1,5 @@
--- The past and the future of a text, as the program keeps them: for each edit the pieces that stand there before it, or
--- after it. The versions of the text are told from the text as it is.
+-- The past and the future of a text, as the program keeps them: a step of the past has the pieces that stood there before an
+-- edit, a step of the future those that stood there after it. So each version of the text is told from the text as it is.
 use Rattle.std.specs.Prelude.{◌^◌, ◌<◌, ◌++◌, ◌≡◌, ℕ, ◌+◌, ◌≤◌, List, [], ◌∷◌, length}
 use Rattle.bx_pieces.specs.declared.piece.Piece.{Piece}
 use Rattle.bx_pieces.specs.Pieces.{total, front, back}
@@ -7,7 +7,7 @@ use Rattle.bx_text.specs.declared.step.Step.{Step}
 use Rattle.bx_text.specs.Buffers.{Buffers, bytes_of, AreInBuffers}
 use Rattle.bx_text.specs.Edits.{Edit, IsRange, splice, largest_text}
 
--- the text with the step's pieces in the place of what stands there
+-- the text with the step's pieces instead of what stands there
 abbrev pub after_swap : Buffers → List ℕ → Step → List ℕ
 after_swap b text s = splice text s.start (s.start + s.len) (bytes_of b s.span)
 

@@ -1,4 +1,4 @@
-//! Pieces in the place of others.
+//! Pieces instead of others.
 
 ghost use Rattle.std.specs.Prelude.{◌≡◌, ◌++◌, ◌+◌, ◌<◌, ◌≤◌, ◌^◌, OnOk, OnErr, length, vec_len, vec_capacity, string_len, string_capacity, string_bytes};
 ghost use Rattle.bx_text.specs.Buffers.{with_added};
@@ -10,7 +10,7 @@ use crate::step::Step;
 use bx_pieces::{Buffer, Piece, Pieces, Spares};
 use std::mem;
 
-/// Puts a span in the place of so many bytes, and gives what stood there. No memory.
+/// Puts a span instead of so many bytes, and gives what stood there. No memory.
 pub fn swap(
     pieces: &mut Pieces,
     start: usize,
@@ -49,7 +49,7 @@ fn add(pieces: &mut Pieces, added: &mut String, text: &str, spares: &mut Spares)
     pieces.push(piece, spares);
 }
 
-/// Puts text in the place of so many bytes, and gives what stood there. No memory.
+/// Puts text instead of so many bytes, and gives what stood there. No memory.
 pub fn put(
     pieces: &mut Pieces,
     start: usize,

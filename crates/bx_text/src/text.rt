@@ -153,7 +153,7 @@ impl Text {
         }
     }
 
-    /// Puts text in the place of so many bytes: one edit. No memory.
+    /// Puts text instead of so many bytes: one edit. No memory.
     fn replace(
         &mut self,
         start: usize,

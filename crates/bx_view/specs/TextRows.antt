@@ -31,8 +31,8 @@ text_rows class bracket base w text = rows_from class bracket base w 0 (paragrap
 abbrev pub first : TextRow → ℕ
 first r = r.start + first_of r.row
 
--- the number of the row that an offset falls in: the last that begins at or before it. So a place falls in the row that has
--- its slot, a separator's bytes in its paragraph's last row, and an offset past the text's end in the last row
+-- The number of the row that an offset falls in: the last that begins at or before it. For a place that is the row that has
+-- its slot, for a separator's bytes the last row of its paragraph, and for an offset past the text's end the last row of all.
 abbrev pub row_of : List TextRow → ℕ → ℕ
 row_of rows offset = falls_in (map first rows) offset
 

@@ -1,13 +1,13 @@
 //! The layout of a text.
-ghost use Rattle.std.specs.Prelude.{◌≡◌, ℕ, ◌<◌, ◌≤◌, [], true, length, IfOk, IsUtf8};
+ghost use Rattle.std.specs.Prelude.{◌≡◌, ℕ, ◌<◌, ◌≤◌, [], true, length, slice_range, IfOk, IsUtf8};
 ghost use Rattle.std.specs.Str.{IsCharBoundary};
 ghost use Rattle.bx_terms.specs.Sizes.{is_side};
-ghost use Rattle.bx_text.specs.Edits.{largest_text};
+ghost use Rattle.bx_text.specs.Edits.{IsRange, largest_text};
 ghost use Rattle.bx_paras.specs.Paragraphs.{lengths};
 ghost use Rattle.bx_view.specs.Cursor.{IsBefore, IsNext, IsSameAtEnd, StandsOn};
 ghost use Rattle.bx_view.specs.Holding.{HoldsBody, IsOfText, IsViewBy, Keeps};
 ghost use Rattle.bx_view.specs.Moves.{row_home};
-ghost use Rattle.bx_view.specs.Standing.{body_at, count};
+ghost use Rattle.bx_view.specs.Standing.{body_at};
 ghost use Rattle.bx_view.specs.TextRows.{cell_of, row_of, text_rows};
 
 use crate::cursor::RowAt;
@@ -75,23 +75,27 @@ impl Layout {
         self.w
     }
 
-    /// The number among those held of a paragraph of the text, which is laid out if it is not held.
+    /// The number among those held of a paragraph of the text, whose body stands between two offsets. It is laid out if it is
+    /// not held.
     ///
     /// Errors: `OutOfMemory`.
     pub(crate) fn find<D: BidiData>(
         &mut self,
         text: &Text,
-        index: &Index,
         source: &D,
         number: usize,
+        start: usize,
+        stop: usize,
     ) -> Result<usize, ViewError>
         requires data { IsViewBy (D.class_of source.now) (D.bracket_of source.now) self.old }
-        requires index { index.now.paragraphs ≡ lengths (D.class_of source.now) text.now.edited.text }
-        requires number { number < count (D.class_of source.now) text.now.edited.text }
+        requires body { slice_range text.now.edited.text start stop ≡ body_at (D.class_of source.now) text.now.edited.text number }
+        requires range { IsRange text.now.edited.text start stop }
+        requires order { start ≤ stop }
+        requires within { stop ≤ length text.now.edited.text }
         ensures keeps { Keeps (D.class_of source.now) (D.bracket_of source.now) self.old self.new }
         ensures body { IfOk result (HoldsBody (body_at (D.class_of source.now) text.now.edited.text number) self.new.held) }
     {
-        let (start, stop) = body_span(text, index, source, number);
+        let _ = number;
         if let Some(i) = position(&self.held, self.recent, text, start, stop) {
             self.recent = i;
             return Ok(i);
@@ -141,8 +145,8 @@ impl Layout {
         ensures utf8 { IsUtf8 text.now.edited.text }
         ensures short { length text.now.edited.text ≤ largest_text }
     {
-        let (number, start) = paragraph_under(text, index, source, offset);
-        let held = self.find(text, index, source, number)?;
+        let (number, start, stop) = paragraph_under(text, index, source, offset);
+        let held = self.find(text, source, number, start, stop)?;
         let paragraph = self.paragraph(text, source, number, held);
         let row = paragraph.row_of(offset - start);
         Ok(RowAt {
@@ -172,7 +176,6 @@ impl Layout {
         ensures same { IfOk result (IsSameAtEnd self.old self.new) }
     {
         let _utf8 = text.len();
-        let count = index.count();
         let rows = self
             .paragraph(text, source, at.paragraph, at.held)
             .row_count();
@@ -184,12 +187,13 @@ impl Layout {
                 held: at.held,
             }));
         }
+        let count = index.count();
         let number = at.paragraph + 1;
         if number >= count {
             return Ok(None);
         }
-        let (start, _) = body_span(text, index, source, number);
-        let held = self.find(text, index, source, number)?;
+        let (start, stop) = body_span(text, index, source, number);
+        let held = self.find(text, source, number, start, stop)?;
         Ok(Some(RowAt {
             paragraph: number,
             start,
@@ -229,8 +233,8 @@ impl Layout {
             return Ok(None);
         }
         let number = at.paragraph - 1;
-        let (start, _) = body_span(text, index, source, number);
-        let held = self.find(text, index, source, number)?;
+        let (start, stop) = body_span(text, index, source, number);
+        let held = self.find(text, source, number, start, stop)?;
         let rows = self.paragraph(text, source, number, held).row_count();
         Ok(Some(RowAt {
             paragraph: number,

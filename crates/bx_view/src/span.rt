@@ -31,23 +31,27 @@ pub(crate) fn body_span<D: BidiData>(
     index.span(number)
 }
 
-/// The number of the paragraph that an offset falls in, and where its body begins. No memory.
+/// The number of the paragraph that an offset falls in, and where its body begins and ends. No memory.
 pub(crate) fn paragraph_under<D: BidiData>(
     text: &Text,
     index: &Index,
     source: &D,
     offset: usize,
-) -> (usize, usize)
+) -> (usize, usize, usize)
     requires index { index.now.paragraphs ≡ lengths (D.class_of source.now) text.now.edited.text }
     ensures number { result.0 ≡ paragraph_of (lengths (D.class_of source.now) text.now.edited.text) offset }
     ensures there { result.0 < count (D.class_of source.now) text.now.edited.text }
     ensures start { result.1 ≡ start_at (D.class_of source.now) text.now.edited.text result.0 }
+    ensures body { slice_range text.now.edited.text result.1 result.2 ≡ body_at (D.class_of source.now) text.now.edited.text result.0 }
+    ensures range { IsRange text.now.edited.text result.1 result.2 }
+    ensures ends { result.1 ≤ result.2 }
+    ensures within { result.2 ≤ length text.now.edited.text }
     ensures order { result.1 ≤ offset }
     ensures short { length text.now.edited.text ≤ largest_text }
     ensures utf8 { IsUtf8 text.now.edited.text }
 {
+    let _ = source;
     let _utf8 = text.len();
-    let number = index.paragraph_of(offset);
-    let (start, _) = body_span(text, index, source, number);
-    (number, start)
+    let (number, (start, stop)) = index.span_at(offset);
+    (number, start, stop)
 }

@@ -27,8 +27,8 @@ impl Layout {
         ensures keeps { Keeps (D.class_of source.now) (D.bracket_of source.now) self.old self.new }
         ensures number { IfOk result (λ n. n ≡ unit_number (D.class_of source.now) self.old.w text.now.edited.text place) }
     {
-        let (number, start) = paragraph_under(text, index, source, place);
-        let held = self.find(text, index, source, number)?;
+        let (number, start, stop) = paragraph_under(text, index, source, place);
+        let held = self.find(text, source, number, start, stop)?;
         let paragraph = self.paragraph(text, source, number, held);
         let row = paragraph.row_of(place - start);
         let here = paragraph.units_before(row, place - start, source)?;

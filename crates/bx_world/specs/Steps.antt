@@ -52,8 +52,8 @@ AfterSendStep old count (Err faults.Line) new = new ≡ old
 AfterSendStep old count (Err (faults.Session fault)) new = ⊥
 AfterSendStep old count (Err (faults.Screen fault)) new = ⊥
 
--- a count above what is on the line takes all; one that takes no byte is answered Ok, also by a terminal that has failed;
--- where memory runs out, the bytes are off the line
+-- A count above what is on the line takes all. A read of no byte is answered Ok, also where the terminal has failed. Where
+-- the terminal's memory runs out, the bytes that it was given are off the line.
 abbrev pub AfterReadStep : {A : Type 0} → World → ℕ → Result A StepFault → World → Type 0
 AfterReadStep old count (Ok _) new = (take count old.line ≢ [] → IsSome old.screen) × (new ≡ after_read old count)
 AfterReadStep old count (Err (faults.Screen grid.OutOfMemory)) new =
