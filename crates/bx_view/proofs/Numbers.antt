@@ -235,3 +235,16 @@ span-told class text ls n a b utf8 within same e =
       order = omega (arith, told.0, told.1);
       within = omega (arith, told.1, inside);
     }
+
+-- the span of the paragraph that an offset falls in
+pub record IsUnder (class : ℕ → Class) (text : List ℕ) (offset n a b : ℕ) : Type 0 where
+  pub there : n < count class text
+  pub span : IsSpan class text n a b
+  pub before : a ≤ offset
+
+pub under-told : (class : ℕ → Class) (text : List ℕ) (ls : List Lengths) (offset n a b : ℕ) → IsUtf8 text → ls ≡ lengths class text
+    → n ≡ paragraph_of ls offset → ◌≡◌ {A = Option (ℕ × ℕ)} (slice_get (spans ls) n) (Some (a, b)) → IsUnder class text offset n a b
+under-told class text ls offset n a b utf8 same number e =
+    let falls = falls-at class text offset n utf8 (number ∙ ap (λ ks. paragraph_of ks offset) same) in
+    let span = span-told class text ls n a b utf8 falls.within same e in
+    record { there = falls.within; span = span; before = omega (arith, falls.order, span.start) }

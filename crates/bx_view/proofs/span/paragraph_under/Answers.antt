@@ -1,20 +1,37 @@
-use Rattle.std.proofs.Common.{◌∙◌, ap, arith}
-use Rattle.bx_paras.specs.Positions.{paragraph_of}
-use Rattle.bx_view.proofs.Numbers.{falls-at}
+use Rattle.bx_view.proofs.Numbers.{under-told}
 use Rattle.bx_view.proofs.span.paragraph_under.Goals as goal
 
-pub body_span-start-requires-clause-number : goal.body_span-start-requires-clause-number
-body_span-start-requires-clause-number g c = (falls-at (g.D.BidiData.class_of c.args.source.now) c.args.text.now.edited.text c.args.offset
-    c.paragraph_of-number.result c.len-utf8.ensures.utf8
-    (c.paragraph_of-number.ensures ∙ ap (λ ls. paragraph_of ls c.args.offset) c.requires.index)).within
-
 pub returns-clause-there : goal.returns-clause-there
-returns-clause-there g c = (falls-at (g.D.BidiData.class_of c.args.source.now) c.args.text.now.edited.text c.args.offset
-    c.paragraph_of-number.result c.len-utf8.ensures.utf8
-    (c.paragraph_of-number.ensures ∙ ap (λ ls. paragraph_of ls c.args.offset) c.requires.index)).within
+returns-clause-there g c = (under-told (g.D.BidiData.class_of c.args.source.now) c.args.text.now.edited.text c.args.index.now.paragraphs c.args.offset
+    c.span_at-number.result.0 c.span_at-number.result.1.0 c.span_at-number.result.1.1 c.len-utf8.ensures.utf8 c.requires.index
+    c.span_at-number.ensures.number c.span_at-number.ensures.span).there
+
+pub returns-clause-start : goal.returns-clause-start
+returns-clause-start g c = (under-told (g.D.BidiData.class_of c.args.source.now) c.args.text.now.edited.text c.args.index.now.paragraphs c.args.offset
+    c.span_at-number.result.0 c.span_at-number.result.1.0 c.span_at-number.result.1.1 c.len-utf8.ensures.utf8 c.requires.index
+    c.span_at-number.ensures.number c.span_at-number.ensures.span).span.start
+
+pub returns-clause-body : goal.returns-clause-body
+returns-clause-body g c = (under-told (g.D.BidiData.class_of c.args.source.now) c.args.text.now.edited.text c.args.index.now.paragraphs c.args.offset
+    c.span_at-number.result.0 c.span_at-number.result.1.0 c.span_at-number.result.1.1 c.len-utf8.ensures.utf8 c.requires.index
+    c.span_at-number.ensures.number c.span_at-number.ensures.span).span.body
+
+pub returns-clause-range : goal.returns-clause-range
+returns-clause-range g c = (under-told (g.D.BidiData.class_of c.args.source.now) c.args.text.now.edited.text c.args.index.now.paragraphs c.args.offset
+    c.span_at-number.result.0 c.span_at-number.result.1.0 c.span_at-number.result.1.1 c.len-utf8.ensures.utf8 c.requires.index
+    c.span_at-number.ensures.number c.span_at-number.ensures.span).span.range
+
+pub returns-clause-ends : goal.returns-clause-ends
+returns-clause-ends g c = (under-told (g.D.BidiData.class_of c.args.source.now) c.args.text.now.edited.text c.args.index.now.paragraphs c.args.offset
+    c.span_at-number.result.0 c.span_at-number.result.1.0 c.span_at-number.result.1.1 c.len-utf8.ensures.utf8 c.requires.index
+    c.span_at-number.ensures.number c.span_at-number.ensures.span).span.order
+
+pub returns-clause-within : goal.returns-clause-within
+returns-clause-within g c = (under-told (g.D.BidiData.class_of c.args.source.now) c.args.text.now.edited.text c.args.index.now.paragraphs c.args.offset
+    c.span_at-number.result.0 c.span_at-number.result.1.0 c.span_at-number.result.1.1 c.len-utf8.ensures.utf8 c.requires.index
+    c.span_at-number.ensures.number c.span_at-number.ensures.span).span.within
 
 pub returns-clause-order : goal.returns-clause-order
-returns-clause-order g c =
-    let falls = falls-at (g.D.BidiData.class_of c.args.source.now) c.args.text.now.edited.text c.args.offset c.paragraph_of-number.result
-    c.len-utf8.ensures.utf8 (c.paragraph_of-number.ensures ∙ ap (λ ls. paragraph_of ls c.args.offset) c.requires.index) in
-    omega (arith, falls.order, c.body_span-start.ensures.start)
+returns-clause-order g c = (under-told (g.D.BidiData.class_of c.args.source.now) c.args.text.now.edited.text c.args.index.now.paragraphs c.args.offset
+    c.span_at-number.result.0 c.span_at-number.result.1.0 c.span_at-number.result.1.1 c.len-utf8.ensures.utf8 c.requires.index
+    c.span_at-number.ensures.number c.span_at-number.ensures.span).before
