@@ -18,5 +18,6 @@ pub mod Pasted
 pub mod Laid
 pub mod Blanks
 pub mod Shared
+pub mod Copied
 mod AtOnce
 mod Still

@@ -1,9 +1,10 @@
-ghost use Rattle.std.specs.Prelude.{◌≡◌, ◌↔◌, ◌∷◌, [], IsTrue, ◌≤◌, length, map};
+ghost use Rattle.std.specs.Prelude.{◌≡◌, ◌↔◌, ◌∷◌, [], IsTrue, ◌≤◌, length, map, IfOk};
 ghost use Rattle.bx_grid.specs.Columns as spec;
 ghost use Rattle.bx_grid.specs.Columns.{is_blank, blank, col_eq, are_equal};
 ghost use Rattle.bx_grid.specs.Seen.{seen};
 
 use crate::glyph_text::GlyphText;
+use std::alloc::{AllocError, Global};
 
 /// What stands in one column of a grid.
 #[derive(Drop)]
@@ -42,6 +43,29 @@ impl Column {
             columns: 1,
             offset: 0,
             negative,
+        }
+    }
+
+    /// A copy. One of a text of at most seven bytes takes no memory.
+    ///
+    /// Errors: want of memory.
+    #[inline(always)]
+    pub(crate) fn copy(&self, alloc: Global) -> Result<Column, AllocError>
+        ensures { IfOk result (λ c. seen c ≡ seen self.now) }
+    {
+        match self {
+            Column::Unknown => Ok(Column::Unknown),
+            Column::Glyph {
+                text,
+                columns,
+                offset,
+                negative,
+            } => Ok(Column::Glyph {
+                text: text.copy(alloc)?,
+                columns: *columns,
+                offset: *offset,
+                negative: *negative,
+            }),
         }
     }
 

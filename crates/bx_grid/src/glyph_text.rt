@@ -52,6 +52,16 @@ impl ShortText {
         }
     }
 
+    #[inline(always)]
+    fn copy(&self) -> ShortText
+        ensures { result ≡ self.now }
+    {
+        ShortText {
+            bytes: self.bytes,
+            len: self.len,
+        }
+    }
+
     fn as_bytes(&self) -> &[u8]
         ensures bytes { result.now ≡ self.now }
         ensures short { length result.now ≤ 7 }
@@ -110,6 +120,24 @@ impl GlyphText {
     {
         GlyphText {
             stored: Stored::Short(ShortText::new(text.as_bytes())),
+        }
+    }
+
+    /// A copy. One of at most seven bytes takes no memory.
+    ///
+    /// Errors: want of memory.
+    #[inline(always)]
+    pub fn copy(&self, alloc: Global) -> Result<GlyphText, AllocError>
+        ensures ok { IfOk result (λ t. t ≡ self.now) }
+        ensures short { length self.now ≤ 7 → IsOk result }
+    {
+        match &self.stored {
+            Stored::Short(text) => Ok(GlyphText {
+                stored: Stored::Short(text.copy()),
+            }),
+            Stored::Long(text) => Ok(GlyphText {
+                stored: Stored::Long(String::from_str(alloc, text)?),
+            }),
         }
     }
 

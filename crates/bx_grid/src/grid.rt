@@ -20,10 +20,10 @@ use std::marker::Model;
 /// A grid of columns, row by row: each row is glyphs with all their columns.
 #[derive(Drop)]
 pub struct Grid {
-    height: u16,
-    width: u16,
-    columns: Vec<Column>,
-    codes: Vec<u64>,
+    pub(crate) height: u16,
+    pub(crate) width: u16,
+    pub(crate) columns: Vec<Column>,
+    pub(crate) codes: Vec<u64>,
 }
 
 impl Model for Grid {

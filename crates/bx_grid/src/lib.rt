@@ -18,6 +18,7 @@ mod grid;
 mod live;
 mod picture;
 mod row;
+mod row_copy;
 mod screen;
 mod sequence;
 mod token;
@@ -30,6 +31,7 @@ pub use glyph_text::GlyphText;
 pub use grid::Grid;
 pub use picture::Picture;
 pub use row::Row;
+pub use row_copy::RowCopy;
 pub use screen::Screen;
 
 /// However the bytes are cut, reading them piece by piece is reading them at once.

@@ -87,6 +87,13 @@ module _ (class : ℕ → Class) (bracket : ℕ → Option (Side × ℕ)) where
     pub told : {A : Type 0} (F : TextRow → A) → F (text_row at.start (row_by class bracket l at.row)) ≡ F (row_at (of v text) n)
     told F = sym (ap F row-told)
 
+    -- it is the row of that number of the paragraph's body
+    pub body-row-told : (body : List ℕ) → body ≡ l.body
+        → (row_at (of v text) n).row ≡ row_at_body (body_rows class bracket v.base v.w body) at.row
+    body-row-told body e =
+        sym (told (λ r. r.row)) ∙ ap (λ rs. row_at_body rs at.row) is.rows_are
+        ∙ ap (λ b. row_at_body (body_rows class bracket v.base v.w b) at.row) (sym is.body_is ∙ sym e)
+
     abbrev high : ℕ
     high = length (body_at class text at.paragraph)
 

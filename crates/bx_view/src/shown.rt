@@ -3,6 +3,8 @@ ghost use Rattle.std.specs.Prelude.{◌≡◌, ℕ, ◌+◌, ◌≤◌, true, Al
 ghost use Rattle.std.specs.Cow.{cow_str_bytes};
 ghost use Rattle.bx_terms.specs.Glyphs.{is_one_glyph, run_width};
 ghost use Rattle.bx_text.specs.Edits.{largest_text};
+ghost use Rattle.bx_paragraph.specs.BodyRows.{body_rows};
+ghost use Rattle.bx_paragraph.specs.BodyRows.{row_at as row_at_body};
 ghost use Rattle.bx_paras.specs.Paragraphs.{lengths};
 ghost use Rattle.bx_rows.specs.Shown.{glyph_of};
 ghost use Rattle.bx_view.specs.Cursor.{OfRow, StandsOn, rows_by};
@@ -53,6 +55,18 @@ impl Layout {
         let paragraph = self.paragraph(text, source, at.paragraph, at.held);
         let picture = paragraph.picture(at.row, source)?;
         Ok(picture)
+    }
+
+    /// The body of a row's paragraph, and the number of the row in it, from 0. No memory.
+    pub fn row_in_body<D: BidiData>(&self, text: &Text, source: &D, at: RowAt) -> (&str, usize)
+        requires data { IsViewBy (D.class_of source.now) (D.bracket_of source.now) self.now }
+        requires row { (n : ℕ) × StandsOn (D.class_of source.now) (D.bracket_of source.now) self.now text.now.edited.text at n }
+        ensures { OfRow (D.class_of source.now) (D.bracket_of source.now) self.now text.now.edited.text at (λ r. r.row
+            ≡ row_at_body (body_rows (D.class_of source.now) (D.bracket_of source.now) self.now.base self.now.w result.0.now) result.1) }
+    {
+        let _utf8 = text.len();
+        let paragraph = self.paragraph(text, source, at.paragraph, at.held);
+        (paragraph.body(), at.row)
     }
 
     /// The places of the row that a place falls in, from left to right as they are shown.
