@@ -120,8 +120,8 @@ fn bring(rows: &mut Vec<DrawnRow>, i: usize, at: usize)
     }
 }
 
-/// Keeps a row at the number `at` in a page of `count` rows. The one that stood there stands as far behind the page, in
-/// the place of another.
+/// Keeps a row at the number `at` of a page of `count` rows. The one that stood there is kept at that number behind the
+/// page, where it drops another.
 fn put_in(rows: &mut Vec<DrawnRow>, at: u16, count: u16, new: DrawnRow) -> Result<(), AllocError>
     ensures { (d : Data) → AreDrawnBy d rows.old.items → IsDrawnBy d new → AreDrawnBy d rows.new.items }
 {
