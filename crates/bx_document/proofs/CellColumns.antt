@@ -1,12 +1,12 @@
 -- The column of each cell lies in the window.
 use Rattle.std.proofs.Common.{◌≡◌, ℕ, zero, suc, ◌+◌, ◌-◌, ◌%◌, ◌<◌, ◌≤◌, ◌==◌, nat_lt, nat_le}
 use Rattle.std.proofs.Common.{◌&&◌, min, max, Bool, true, false, List, [], ◌∷◌, ◌++◌, length, map}
-use Rattle.std.proofs.Common.{take, drop, get_or, sum_by, find, Option, Some, None, option_map, unwrap_or}
-use Rattle.std.proofs.Common.{cond, chars, IsUtf8, refl, sym, ap, subst, ◌∙◌, arith, leb-true}
+use Rattle.std.proofs.Common.{take, drop, get_or, sum_by, find, Option, Some, option_map, unwrap_or}
+use Rattle.std.proofs.Common.{cond, chars, IsUtf8, refl, sym, ap, subst, ◌∙◌, arith}
 use Rattle.std.specs.Prelude.{⊤, All}
 use Rattle.std.proofs.lemmas.Bool.{and_parts}
 use Rattle.std.proofs.lemmas.Bool.Decides.{nat_tests}
-use Rattle.std.proofs.lemmas.List.{drop-drop, get_or-map, length-map}
+use Rattle.std.proofs.lemmas.List.{drop-drop}
 use Rattle.std.proofs.lemmas.List.Sums.{sum_by-cons}
 use Rattle.bx_ucd.specs.declared.class.Class.{Class}
 use Rattle.bx_ucd.specs.declared.data.Side.{Side}
@@ -21,7 +21,7 @@ use Rattle.bx_rows.specs.declared.row.Row.{Row}
 use Rattle.bx_rows.specs.RowPicture.{columns_used, unit_columns}
 use Rattle.bx_rows.specs.Shown.{IsRowOf}
 use Rattle.bx_rows.specs.VisualOrder.{visual}
-use Rattle.bx_rows.specs.Wrapping.{columns_at, fit_count, fit_count_from, is_break, row_len, row_units, rows_from, rows_of, wrap}
+use Rattle.bx_rows.specs.Wrapping.{columns_at, fit_count_from, is_break, row_len, row_units, rows_from, rows_of, wrap}
 use Rattle.bx_rows.proofs.FaceGlyphs.{Tells, tells-face}
 use Rattle.bx_rows.proofs.NumbersBelow.{below_if_visual}
 use Rattle.bx_rows.proofs.PictureSums.{columns-length}
@@ -30,7 +30,7 @@ use Rattle.bx_rows.proofs.RowsFit.{fit_if_wrapped, row-within}
 use Rattle.bx_paragraph.specs.declared.slot.Slot.{Slot}
 use Rattle.bx_paragraph.specs.BodyRows.{BodyRow, body_rows, row_with, rows_units, with_last}
 use Rattle.bx_paragraph.specs.BodyRows.{row_at as row_at_body, row_of as row_of_body}
-use Rattle.bx_paragraph.specs.Slots.{column_in, column_of, columns_of, end_slot, extent_of, left_column, row_slots, side_by_side, unit_slots}
+use Rattle.bx_paragraph.specs.Slots.{column_in, columns_of, end_slot, extent_of, left_column, row_slots, side_by_side, unit_slots}
 use Rattle.bx_paragraph.proofs.LayoutRows.{last-at}
 use Rattle.bx_paragraph.proofs.RowSlots.{columns-in-order, extent-is}
 use Rattle.bx_paras.specs.Paragraphs.{lengths}

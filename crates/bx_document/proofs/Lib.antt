@@ -1,4 +1,5 @@
 pub mod PutOn
+pub mod CopiedRows
 pub mod RowGlyphs
 pub mod RowsDrawn
 pub mod ShownRows

@@ -31,7 +31,7 @@ put_none old row h =
 abbrev front : GridState → ℕ → List Col
 front old row = take (row * old.width) old.columns
 
-length-front : (old : GridState) (row : ℕ) → IsRoomy old row → length (front old row) ≡ row * old.width
+pub length-front : (old : GridState) (row : ℕ) → IsRoomy old row → length (front old row) ≡ row * old.width
 length-front old row h = length-take-le (row * old.width) old.columns (omega (arith, h.inside))
 
 index_is : (old : GridState) (row column : ℕ) (done : List Col) → IsRoomy old row → column ≡ length done + 1

@@ -2,8 +2,9 @@
 use Rattle.std.specs.Prelude.{◌≡◌, ℕ, ◌+◌, ◌-◌, ◌*◌, ◌≤◌, ◌<◌, List, ◌++◌, flat_map, length, take, drop, replicate}
 use Rattle.bx_grid.specs.Columns.{Col, blank, glyph_columns}
 use Rattle.bx_grid.specs.Picture.{GridState}
+use Rattle.bx_paragraph.specs.BodyRows.{BodyRow, row_glyphs}
 use Rattle.bx_rows.specs.RowPicture.{Glyph}
-use Rattle.bx_view.specs.TextRows.{TextRow, row_of, text_row_glyphs}
+use Rattle.bx_view.specs.TextRows.{TextRow, row_of}
 use Rattle.bx_view.specs.Top.{shown_rows}
 use Rattle.bx_document.specs.Data.{Data}
 use Rattle.bx_document.specs.Document.{Document, rows}
@@ -12,9 +13,13 @@ use Rattle.bx_document.specs.Document.{Document, rows}
 abbrev pub side_by_side : List Glyph → List Col
 side_by_side glyphs = flat_map (λ g. glyph_columns g.text g.columns g.negative) glyphs
 
+-- the columns of a row of a paragraph's body
+abbrev pub body_row_columns : Data → ℕ → BodyRow → List Col
+body_row_columns d width r = side_by_side (row_glyphs d.class d.mirror width r)
+
 -- the columns of a row of text
 abbrev pub row_columns : Data → ℕ → TextRow → List Col
-row_columns d width r = side_by_side (text_row_glyphs d.class d.mirror width r)
+row_columns d width r = body_row_columns d width r.row
 
 -- those of the rows that are shown, and blank rows where the text ends
 abbrev pub rows_columns : Data → ℕ → ℕ → List TextRow → List Col

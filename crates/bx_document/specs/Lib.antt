@@ -1,3 +1,4 @@
+pub mod Cache
 pub mod Data
 pub mod Document
 pub mod Drawing

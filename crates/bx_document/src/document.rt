@@ -8,6 +8,7 @@ ghost use Rattle.bx_text.specs.Edits.{largest_text};
 ghost use Rattle.bx_document.specs.Document.{at_opening};
 
 use crate::error::DocumentError;
+use crate::row_cache::RowCache;
 use bx_explicit::Base;
 use bx_paras::Index;
 use bx_text::{Slices, Text, TextError};
@@ -23,6 +24,7 @@ pub struct Document<D: BidiData + Drop> {
     pub(crate) index: Index,
     pub(crate) layout: Layout,
     pub(crate) tables: D,
+    pub(crate) row_cache: RowCache,
     pub(crate) alloc: Global,
 }
 
@@ -30,6 +32,7 @@ impl<D: BidiData + Drop> Model for Document<D> {
     ghost use Rattle.std.specs.Prelude.{◌≡◌};
     ghost use Rattle.bx_paras.specs.Paragraphs.{lengths};
     ghost use Rattle.bx_view.specs.Holding.{IsViewBy};
+    ghost use Rattle.bx_document.specs.Cache.{AreDrawnBy};
     ghost use Rattle.bx_document.specs.Document.{DocumentState, KeepsBoundaries};
 
     ghost Value = { DocumentState D };
@@ -41,7 +44,8 @@ impl<D: BidiData + Drop> Model for Document<D> {
 
     ghost invariant = { λ d. (d.index.paragraphs ≡ lengths (D.class_of d.tables) d.text.edited.text)
         × IsViewBy (D.class_of d.tables) (D.bracket_of d.tables) d.layout
-        × KeepsBoundaries d.text.edited };
+        × KeepsBoundaries d.text.edited
+        × AreDrawnBy (record { class = D.class_of d.tables; bracket = D.bracket_of d.tables; mirror = D.mirror_of d.tables }) d.row_cache };
 }
 
 impl<D: BidiData + Drop> Document<D> {
@@ -71,6 +75,7 @@ impl<D: BidiData + Drop> Document<D> {
             index,
             layout,
             tables,
+            row_cache: RowCache::new(alloc),
             alloc,
         })
     }

@@ -5,11 +5,13 @@ ghost use Rattle.bx_paras.specs.Paragraphs.{lengths};
 ghost use Rattle.bx_view.specs.Cursor.{OfRow, StandsOn, rows_by};
 ghost use Rattle.bx_view.specs.Holding.{IsViewBy, Keeps};
 ghost use Rattle.bx_view.specs.TextRows.{row_of};
+ghost use Rattle.bx_document.specs.Cache.{AreDrawnBy};
 ghost use Rattle.bx_document.specs.Drawing.{IsBlankFrom, row_columns, rows_columns, with_row};
 
 use crate::answers::Answers;
 use crate::drawing::put_row;
 use crate::error::DocumentError;
+use crate::row_cache::RowCache;
 use bx_grid::Grid;
 use bx_paras::Index;
 use bx_text::Text;
@@ -19,7 +21,7 @@ use bx_view::{Layout, RowAt};
 /// Draws a row of the text into row number `row` of a grid, from 0, which is blank from that row on.
 ///
 /// Errors: `OutOfMemory`.
-fn draw_row<D: BidiData>(
+fn draw_anew<D: BidiData>(
     layout: &Layout,
     text: &Text,
     tables: &D,
@@ -39,6 +41,45 @@ fn draw_row<D: BidiData>(
 {
     let picture = layout.picture(text, tables, at)?;
     put_row(grid, row, &picture)?;
+    Ok(())
+}
+
+/// Draws a row of the text as `draw_anew` does, or puts the copy of it that is kept. What is drawn is kept, as row number
+/// `row` of a page of `count` rows.
+///
+/// Errors: `OutOfMemory`.
+fn draw_row<D: BidiData>(
+    layout: &Layout,
+    text: &Text,
+    tables: &D,
+    at: RowAt,
+    grid: &mut Grid,
+    row: u16,
+    count: u16,
+    cache: &mut RowCache,
+) -> Result<(), DocumentError>
+    requires data { IsViewBy (D.class_of tables.now) (D.bracket_of tables.now) layout.now }
+    requires row { (n : ℕ) × StandsOn (D.class_of tables.now) (D.bracket_of tables.now) layout.now text.now.edited.text at n }
+    requires inside { row < grid.old.height }
+    requires width { grid.old.width ≡ layout.now.w }
+    requires blank { IsBlankFrom grid.old row }
+    requires cache { AreDrawnBy (⟦<D as Answers>⟧.data tables.now) cache.old }
+    ensures drawn { OfRow (D.class_of tables.now) (D.bracket_of tables.now) layout.now text.now.edited.text at (λ r.
+        OnOk result (grid.new ≡ with_row grid.old row (row_columns (⟦<D as Answers>⟧.data tables.now) layout.now.w r))) }
+    ensures filled { OfRow (D.class_of tables.now) (D.bracket_of tables.now) layout.now text.now.edited.text at (λ r.
+        OnOk result (length (row_columns (⟦<D as Answers>⟧.data tables.now) layout.now.w r) ≡ layout.now.w)) }
+    ensures cache { AreDrawnBy (⟦<D as Answers>⟧.data tables.now) cache.new }
+{
+    let _columns = grid.columns();
+    let (body, number) = layout.row_in_body(text, tables, at);
+    let base = layout.base();
+    if let Some(i) = cache.find(row, body, base, number, layout.width()) {
+        grid.put_copy(row, cache.columns(i))?;
+        cache.bring(i, row);
+        return Ok(());
+    }
+    draw_anew(layout, text, tables, at, grid, row)?;
+    cache.keep(body, base, number, grid, row, count);
     Ok(())
 }
 
@@ -62,6 +103,7 @@ pub(crate) fn draw_rows<D: BidiData>(
     place: usize,
     grid: &mut Grid,
     count: u16,
+    cache: &mut RowCache,
 ) -> Result<u16, DocumentError>
     requires data { IsViewBy (D.class_of tables.now) (D.bracket_of tables.now) layout.old }
     requires index { index.now.paragraphs ≡ lengths (D.class_of tables.now) text.now.edited.text }
@@ -70,6 +112,7 @@ pub(crate) fn draw_rows<D: BidiData>(
     requires inside { count ≤ grid.old.height }
     requires width { grid.old.width ≡ layout.old.w }
     requires blank { IsBlankFrom grid.old 0 }
+    requires cache { AreDrawnBy (⟦<D as Answers>⟧.data tables.now) cache.old }
     ensures keeps { Keeps (D.class_of tables.now) (D.bracket_of tables.now) layout.old layout.new }
     ensures drawn { (k : ℕ) → StandsOn (D.class_of tables.now) (D.bracket_of tables.now) layout.old text.now.edited.text at k → OnOk result
         (grid.new ≡ record grid.old {
@@ -81,10 +124,11 @@ pub(crate) fn draw_rows<D: BidiData>(
         → k ≤ row_of (rows_by (D.class_of tables.now) (D.bracket_of tables.now) layout.old text.now.edited.text) place
         → row_of (rows_by (D.class_of tables.now) (D.bracket_of tables.now) layout.old text.now.edited.text) place < k + count
         → IfOk result (λ n. n ≡ row_of (rows_by (D.class_of tables.now) (D.bracket_of tables.now) layout.old text.now.edited.text) place - k) }
+    ensures cache { AreDrawnBy (⟦<D as Answers>⟧.data tables.now) cache.new }
 {
     let _utf8 = text.len();
     let _columns = grid.columns();
-    draw_row(layout, text, tables, at, grid, 0)?;
+    draw_row(layout, text, tables, at, grid, 0, count, cache)?;
     let mut here = at;
     let mut row = 0;
     let mut above = 0;
@@ -95,7 +139,7 @@ pub(crate) fn draw_rows<D: BidiData>(
         here = next;
         row += 1;
         above = nearest_row(above, row, layout.first_in(text, tables, here), place);
-        draw_row(layout, text, tables, here, grid, row)?;
+        draw_row(layout, text, tables, here, grid, row, count, cache)?;
     }
     Ok(above)
 }

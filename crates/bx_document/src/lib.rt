@@ -9,6 +9,7 @@ mod drawn_rows;
 mod edits;
 mod error;
 mod moves;
+mod row_cache;
 mod shown;
 mod window;
 

@@ -106,6 +106,7 @@ impl<D: BidiData + Drop> Document<D> {
             place,
             grid,
             count,
+            &mut self.row_cache,
         )?;
         Ok(above)
     }

@@ -1,6 +1,6 @@
-use Rattle.std.proofs.Common.{◌≡◌, ℕ, ◌+◌, ◌-◌, ◌<◌, ◌≤◌, ◌∙◌, ap, arith, drop, length, min, refl, subst, sym}
+use Rattle.std.proofs.Common.{◌≡◌, ℕ, ◌+◌, ◌∙◌, ap, arith, drop, length, refl, subst, sym}
 use Rattle.bx_view.specs.Cursor.{IsNext, StandsOn, rows_by}
-use Rattle.bx_view.specs.TextRows.{first, row_at, row_of}
+use Rattle.bx_view.specs.TextRows.{first, row_at}
 use Rattle.bx_view.proofs.Beyond.{keeps-then}
 use Rattle.bx_view.proofs.Told.{side-some}
 use Rattle.bx_document.specs.Data.{Data}
@@ -26,6 +26,7 @@ loop-row-init g c =
           first-one class bracket d old text c.len-utf8.ensures.utf8 was c.requires.width k c.args.at c.draw_row.new.grid on
           (omega (arith, c.requires.some, c.requires.inside)) c.columns-columns.ensures.grid.sized.each c.requires.blank (drawn.filled k on) (drawn.drawn k on);
       above = λ k on low. omega arith;
+      kept = c.draw_row.ensures.cache;
     }
 
 pub next_row-requires-clause-row : goal.next_row-requires-clause-row
@@ -165,6 +166,7 @@ loop-row-preserved g c =
           next-above class bracket old.base old.w text (side-some old.w on.side) utf8 c.args.place k row c.loop-row.above c.nearest_row-above.result
           c.first_in.result (inside-kept class bracket d old text utf8 was c.requires.width k v keeps next (k + (row + 1)) there)
           (c.first_in.ensures (k + (row + 1)) there ∙ ap (λ rs. first (row_at rs (k + (row + 1)))) same) c.nearest_row-above.ensures low (i.above k on low);
+      kept = c.draw_row-in-loop-row.ensures.cache;
     }
 
 pub returns-clause-drawn : goal.returns-clause-drawn

@@ -1,4 +1,4 @@
-use Rattle.std.proofs.Common.{◌≡◌, ◌≤◌, ap, subst, sym}
+use Rattle.std.proofs.Common.{◌≤◌, ap, subst, sym}
 use Rattle.bx_view.proofs.Told.{side-some}
 use Rattle.bx_document.proofs.CellColumns.{cell-inside}
 use Rattle.bx_document.proofs.document.Document.cell_of.Goals as goal

@@ -1,4 +1,4 @@
-use Rattle.std.proofs.Common.{◌≡◌, subst}
+use Rattle.std.proofs.Common.{subst}
 use Rattle.bx_view.proofs.Told.{side-some}
 use Rattle.bx_document.specs.Document.{rows}
 use Rattle.bx_document.specs.Drawing.{IsAmong}

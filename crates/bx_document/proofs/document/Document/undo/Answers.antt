@@ -5,7 +5,8 @@ use Rattle.bx_document.proofs.document.Document.undo.Goals as goal
 
 pub invariant_of-self-2 : goal.invariant_of-self-2
 invariant_of-self-2 g c =
-    (c.follow.ensures, c.self.invariant.1, keeps_undone c.self.inside.text.edited c.undo.new.self.edited c.in-Ok-Some.ensures.ok c.self.invariant.2)
+    let keeps = keeps_undone c.self.inside.text.edited c.undo.new.self.edited c.in-Ok-Some.ensures.ok c.self.invariant.2 in
+    (c.follow.ensures, c.self.invariant.1, keeps, c.self.invariant.3)
 
 pub returns-clause-boundary : goal.returns-clause-boundary
 returns-clause-boundary g c =
