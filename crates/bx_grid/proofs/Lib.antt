@@ -22,3 +22,4 @@ pub mod Copied
 pub mod Printed
 mod AtOnce
 mod Still
+mod Marks

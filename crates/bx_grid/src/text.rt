@@ -68,6 +68,7 @@ fn first_len(bytes: &[u8]) -> usize
 {
     match bytes {
         [byte, ..] if is_one(*byte) => 1,
+        [byte, ..] if *byte < 0xC2 => 0,
         [lead, last, ..] if is_two(*lead, *last) => 2,
         [lead, second, last, ..] if is_three(*lead, *second, *last) => 3,
         _ => 0,
