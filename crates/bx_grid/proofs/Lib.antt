@@ -19,5 +19,7 @@ pub mod Laid
 pub mod Blanks
 pub mod Shared
 pub mod Copied
+pub mod Printed
 mod AtOnce
 mod Still
+mod Marks

@@ -21,6 +21,7 @@ mod row;
 mod row_copy;
 mod screen;
 mod sequence;
+mod text;
 mod token;
 mod width;
 

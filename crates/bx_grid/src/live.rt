@@ -218,6 +218,7 @@ impl Live {
     }
 
     /// A text takes effect behind the run. Where there is no run it is not kept.
+    #[inline(always)]
     fn show(&mut self, text: &str) -> Result<(), AllocError>
         ensures { OnOk result (self.new ≡ run_ended (record self.old { run = self.old.run ++ text.now })) }
     {

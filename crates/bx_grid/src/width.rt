@@ -4,15 +4,32 @@ ghost use Rattle.std.specs.Prelude.{◌≡◌, false, IfSome};
 ghost use Rattle.std.specs.List.{list_all};
 ghost use Rattle.std.specs.Str.{chars};
 ghost use Rattle.bx_grid.specs.Columns.{are_ascii_printable, run_width};
-ghost use Rattle.bx_grid.specs.Widths.{is_still, IsBase};
+ghost use Rattle.bx_grid.specs.Widths.{is_letter, is_mark, is_still, IsBase};
+ghost use Rattle.unicode_width.specs.Width.{char_width};
 
 use bx_terms::run_width;
 use unicode_width::UnicodeWidthChar;
 
+/// Whether a character is a mark that needs no look into the tables.
+#[inline(always)]
+fn is_mark(c: char) -> bool
+    ensures { result ≡ is_mark c }
+{
+    ('\u{300}' <= c && c <= '\u{36F}')
+        || ('\u{591}' <= c && c <= '\u{5BD}')
+        || ('\u{5C1}' <= c && c <= '\u{5C2}')
+        || ('\u{64B}' <= c && c <= '\u{65F}')
+}
+
 /// Whether a character takes no column, and changes none of the character before it.
+#[inline(always)]
+#[tactic(auto, using(crate::proofs::Marks::mark_still))]
 fn is_still(c: char) -> bool
     ensures { result ≡ is_still c }
 {
+    if is_mark(c) {
+        return true;
+    }
     if c <= '\u{A0}' || c >= '\u{FE00}' {
         return false;
     }
@@ -41,6 +58,29 @@ fn base(text: &str) -> Option<char>
     None
 }
 
+/// Whether a character is a letter of one column that needs no look into the tables.
+#[inline(always)]
+fn is_letter(c: char) -> bool
+    ensures { result ≡ is_letter c }
+{
+    ('\u{C0}' <= c && c <= '\u{FF}')
+        || ('\u{410}' <= c && c <= '\u{44F}')
+        || ('\u{5D0}' <= c && c <= '\u{5FF}')
+        || ('\u{620}' <= c && c <= '\u{64A}')
+}
+
+/// How many columns a character takes, if it is no control.
+#[inline(always)]
+#[tactic(auto, using(crate::proofs::Marks::letter_narrow))]
+fn char_width(c: char) -> Option<usize>
+    ensures { result ≡ char_width false c }
+{
+    if is_letter(c) {
+        return Some(1);
+    }
+    c.width()
+}
+
 /// How many columns a text takes that is not all from SPACE to TILDE. A character with still ones behind it is looked up at once.
 #[tactic(auto, using(crate::proofs::Still::width_of_base))]
 fn other_width(text: &str) -> usize
@@ -48,7 +88,7 @@ fn other_width(text: &str) -> usize
     ensures { result ≡ run_width text.now }
 {
     if let Some(c) = base(text) {
-        if let Some(columns) = c.width() {
+        if let Some(columns) = char_width(c) {
             return columns;
         }
     }

@@ -5,6 +5,7 @@ ghost use Rattle.bx_grid.specs.Terminal.{after_command, run_ended, reads};
 
 use crate::live::Live;
 use crate::sequence::{are_printable, first_sequence, text_len};
+use crate::text::text_before_escape;
 use crate::token::{Command, ESCAPE};
 use std::alloc::AllocError;
 
@@ -66,6 +67,10 @@ impl Live {
             if let Some(sequence) = first_sequence(bytes) {
                 self.obey_sequence(sequence.command)?;
                 return Ok(sequence.len);
+            }
+            if let Some(text) = text_before_escape(bytes) {
+                self.show(text)?;
+                return Ok(text.len());
             }
             let count = text_len(bytes);
             if count > 0 {
