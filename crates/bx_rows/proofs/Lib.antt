@@ -21,5 +21,6 @@ pub mod RowReads
 pub mod RowUnits
 pub mod EachRow
 pub mod NarrowSteps
+pub mod AsciiRuns
 mod Rows
 pub mod Unmirrored

@@ -1,6 +1,7 @@
 //! The rows of a paragraph: where they wrap, the levels of a row's units, their visual order, and what a row shows.
 #![tactic(auto)]
 
+mod ascii_part;
 mod drawn;
 mod error;
 mod few_levels;
