@@ -1,6 +1,7 @@
 pub mod Wraps
 pub mod Breaks
 pub mod Resets
+pub mod LevelSteps
 pub mod Reversals
 pub mod Cancels
 pub mod Pivots

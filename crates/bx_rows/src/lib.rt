@@ -6,6 +6,7 @@ mod drawn;
 mod error;
 mod few_levels;
 mod glyphs;
+mod level_read;
 mod narrow_run;
 mod one_row;
 mod order;
