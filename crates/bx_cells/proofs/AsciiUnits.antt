@@ -22,7 +22,7 @@ pub begins_ascii : (c : ℕ) → is_in_range 0x20 0x7E c ≡ true → (begins c 
 begins_ascii c h = of_common c (printable_common c h)
 
 -- the byte, and what stands behind it
-left_at : (body : List ℕ) (at : ℕ) → at < length body → is_in_range 0x20 0x7E (get_or body at 0) ≡ true
+pub left_at : (body : List ℕ) (at : ℕ) → at < length body → is_in_range 0x20 0x7E (get_or body at 0) ≡ true
     → drop at body ≡ encode_utf8 (get_or body at 0) ++ drop (at + 1) body
 left_at body at less h =
     drop_more body at 0 less ∙ ap (λ x. x ++ drop (at + 1) body) (sym (encode_ascii (get_or body at 0) (ascii_byte (get_or body at 0) h)))

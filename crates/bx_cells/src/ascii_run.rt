@@ -42,7 +42,7 @@ fn blocks_stop(bytes: &[u8], at: usize) -> usize
 }
 
 /// The offset behind the printable ASCII that stands from an offset on.
-fn printable_stop(bytes: &[u8], at: usize) -> usize
+pub fn printable_stop(bytes: &[u8], at: usize) -> usize
     requires { at ≤ length bytes.now }
     ensures order { at ≤ result }
     ensures inside { result ≤ length bytes.now }

@@ -1,6 +1,7 @@
 pub mod Wraps
 pub mod Breaks
 pub mod Resets
+pub mod LevelSteps
 pub mod Reversals
 pub mod Cancels
 pub mod Pivots
@@ -21,5 +22,6 @@ pub mod RowReads
 pub mod RowUnits
 pub mod EachRow
 pub mod NarrowSteps
+pub mod AsciiRuns
 mod Rows
 pub mod Unmirrored

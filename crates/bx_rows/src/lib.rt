@@ -1,10 +1,12 @@
 //! The rows of a paragraph: where they wrap, the levels of a row's units, their visual order, and what a row shows.
 #![tactic(auto)]
 
+mod ascii_part;
 mod drawn;
 mod error;
 mod few_levels;
 mod glyphs;
+mod level_read;
 mod narrow_run;
 mod one_row;
 mod order;

@@ -4,6 +4,7 @@ ghost use Rattle.std.specs.Str.{IsCharBoundary};
 ghost use Rattle.bx_rows.specs.NarrowRuns.{IsNarrowRun, IsRunIn, grown};
 ghost use Rattle.bx_rows.specs.Wrapping.{is_one_blank};
 
+use crate::ascii_part::ascii_run;
 use crate::wrapping::is_blank;
 use bx_cells::first_char;
 use bx_cells::simple::{Simple, common_kind, simple_kind};
@@ -62,16 +63,11 @@ pub(crate) fn narrow_run<D: BidiData>(body: &str, at: usize, most: u16, source: 
     ensures bounds { IsRunIn body.now at result }
     ensures units { (w : ℕ) → IsNarrowRun (D.class_of source.now) w body.now at result }
 {
-    let mut run = NarrowRun {
-        stop: at,
-        count: 0,
-        last: 0,
-        next: at,
-    };
-    if most == 0 {
+    let mut run = ascii_run(body, at, most, source);
+    if run.count == most {
         return run;
     }
-    let Some((c, behind)) = first_char(&body[at..]) else {
+    let Some((c, behind)) = first_char(&body[run.stop..]) else {
         return run;
     };
     let Simple::Begins(columns) = common_kind(c) else {

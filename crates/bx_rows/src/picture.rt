@@ -92,7 +92,7 @@ fn row_glyphs<'a, D: BidiData>(
     let (columns, used) = unit_columns(alloc, units, w)?;
     let order = visual(alloc, levels)?;
     let blanks = w - used;
-    let mut glyphs = Vec::new(alloc);
+    let mut glyphs = Vec::with_capacity(alloc, w as usize)?;
     if paragraph % 2 == 0 {
         push_units(
             &mut glyphs,

@@ -1,12 +1,15 @@
-use Rattle.std.proofs.Common.{ℕ, zero, suc, ◌≡◌, ◌<◌, ◌+◌, ◌-◌, length, drop, length-drop, refl, sym, ap, ◌∙◌, arith}
+use Rattle.std.proofs.Common.{ℕ, zero, suc, ◌≡◌, ◌<◌, ◌≤◌, ◌+◌, ◌-◌, length, drop, length-drop, refl, sym, ap, ◌∙◌, arith}
 use Rattle.std.proofs.lemmas.Str.{IsUtf8-past_char, IsUtf8-drop}
 use Rattle.bx_rows.specs.Wrapping.{is_blank}
-use Rattle.bx_rows.proofs.NarrowSteps.{open-narrow, mark-narrow, open-behind, longer-next, longer-last, grown-less, run-none, run-in-none}
+use Rattle.bx_rows.proofs.NarrowSteps.{open-narrow, mark-narrow, open-behind, longer-next, longer-last, grown-less}
 use Rattle.bx_rows.proofs.narrow_run.narrow_run.Goals as goal
 
-some-if : (n : ℕ) → (n ≡ 0 → ⊥) → 0 < n
-some-if zero h = absurd (h refl)
-some-if (suc n) h = omega arith
+less-if : (n m : ℕ) → n ≤ m → (n ≡ m → ⊥) → n < m
+less-if zero zero h d = absurd (d refl)
+less-if zero (suc m) h d = omega arith
+less-if (suc n) zero h d = absurd (omega (arith, h))
+less-if (suc n) (suc m) h d =
+    let less : n < m = less-if n m (omega (arith, h)) (λ e. d (ap suc e)) in omega (arith, less)
 
 pub chars-init : goal.chars-init
 chars-init g c =
@@ -15,14 +18,18 @@ chars-init g c =
     let first = sym c.range_from.ensures.value ∙ c.in-Some.ensures.0 in
     let shorter = c.in-Some.ensures.1 in
     let whole = ap length c.range_from.ensures.value in
+    let at = c.ascii_run-run.result.stop in
+    let bounds = c.ascii_run-run.ensures.bounds in
+    let few = c.ascii_run-run.ensures.most in
+    let not_all = c.if-run-most.false in
     record {
-      text = IsUtf8-past_char (drop c.args.at body) _ c.in-Some.c (IsUtf8-drop body c.args.at c.utf8.body c.requires) first;
-      cluster = open-narrow class body c.args.at c.in-Some.c c.is_blank-is_break.result _ first
+      text = IsUtf8-past_char (drop at body) _ c.in-Some.c (IsUtf8-drop body at c.utf8.body bounds.boundary) first;
+      cluster = open-narrow class body at c.in-Some.c c.is_blank-is_break.result _ first
           (c.in-Begins.ensures.0, c.in-Begins.ensures.1 ∙ c.if-columns-ne1.false) (c.is_blank-is_break.ensures ∙ ap is_blank c.class.ensures);
-      within = omega (arith, shorter, whole, length-drop c.args.at body);
-      most = some-if c.args.most c.if-most-eq0.false;
-      bounds = run-in-none body c.args.at c.requires;
-      units = λ w. run-none class w body c.args.at;
+      within = omega (arith, shorter, whole, length-drop at body);
+      most = less-if c.ascii_run-run.result.count c.args.most few not_all;
+      bounds = bounds;
+      units = c.ascii_run-run.ensures.units;
     }
 
 pub returns-then-columns-ne1-2-clause-bounds : goal.returns-then-columns-ne1-2-clause-bounds
@@ -47,8 +54,8 @@ returns-then-columns-ne1-2-clause-units g c =
     (longer-next (g.D.BidiData.class_of c.args.source.now) body c.args.at c.chars.run c.grown.result c.chars.is_break rest _ stop c.in-Some-first_char.c
     c.utf8.body i.bounds i.units i.cluster e c.in-Some-first_char.ensures.0 c.in-Begins-simple_kind.ensures.0 c.grown.ensures).units
 
-pub returns-then-run-most-clause-bounds : goal.returns-then-run-most-clause-bounds
-returns-then-run-most-clause-bounds g c =
+pub returns-then-run-most-2-clause-bounds : goal.returns-then-run-most-2-clause-bounds
+returns-then-run-most-2-clause-bounds g c =
     let body = c.args.body.now in
     let rest = c.chars.rest.now in
     let i = c.chars.invariant in
@@ -59,8 +66,8 @@ returns-then-run-most-clause-bounds g c =
     c.in-Some-first_char.c c.utf8.body i.bounds i.units i.cluster e c.in-Some-first_char.ensures.0 c.in-Begins-simple_kind.ensures.0
     c.grown-run.ensures).bounds
 
-pub returns-then-run-most-clause-units : goal.returns-then-run-most-clause-units
-returns-then-run-most-clause-units g c =
+pub returns-then-run-most-2-clause-units : goal.returns-then-run-most-2-clause-units
+returns-then-run-most-2-clause-units g c =
     let body = c.args.body.now in
     let rest = c.chars.rest.now in
     let i = c.chars.invariant in
@@ -71,8 +78,8 @@ returns-then-run-most-clause-units g c =
     c.in-Some-first_char.c c.utf8.body i.bounds i.units i.cluster e c.in-Some-first_char.ensures.0 c.in-Begins-simple_kind.ensures.0
     c.grown-run.ensures).units
 
-pub chars-preserved-else-run-most : goal.chars-preserved-else-run-most
-chars-preserved-else-run-most g c =
+pub chars-preserved-else-run-most-2 : goal.chars-preserved-else-run-most-2
+chars-preserved-else-run-most-2 g c =
     let class = g.D.BidiData.class_of c.args.source.now in
     let body = c.args.body.now in
     let rest = c.chars.rest.now in
@@ -91,7 +98,7 @@ chars-preserved-else-run-most g c =
           (c.in-Begins-simple_kind.ensures.0, c.in-Begins-simple_kind.ensures.1 ∙ c.if-columns-ne1-2.false)
           (c.is_blank-is_break-in-Begins-simple_kind.ensures ∙ ap is_blank c.class-in-Begins-simple_kind.ensures) c.grown-run.ensures;
       within = omega arith;
-      most = grown-less c.chars.run c.grown-run.result stop c.args.most c.chars.is_break c.grown-run.ensures i.most c.if-run-most.false;
+      most = grown-less c.chars.run c.grown-run.result stop c.args.most c.chars.is_break c.grown-run.ensures i.most c.if-run-most-2.false;
       bounds = longer.bounds;
       units = longer.units;
     }

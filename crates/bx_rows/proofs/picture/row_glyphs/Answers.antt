@@ -10,7 +10,7 @@ returns-then-paragraph-eq0 g c =
     c.args.levels.now _ _ c.in_ok-columns.used _ _ _
     c.if-paragraph-eq0.true (c.deref.ensures.value ∙ c.in_ok-columns.ensures.columns) (c.deref-then-paragraph-eq0.ensures.value ∙ c.in_ok-order.ensures.order)
     c.in_ok-columns.ensures.used
-    (ap (map glyph_of) c.new-glyphs.ensures.items) c.in_ok-push_units.ensures c.in_ok-push_blanks.ensures
+    (ap (map glyph_of) c.in_ok-glyphs.ensures.items) c.in_ok-push_units.ensures c.in_ok-push_blanks.ensures
 
 pub returns : goal.returns
 returns g c =
@@ -18,4 +18,4 @@ returns g c =
     c.args.levels.now _ _ c.in_ok-columns.used _ _ _
     (omega (arith, c.if-paragraph-eq0.false)) (c.deref-2.ensures.value ∙ c.in_ok-columns.ensures.columns)
     (c.deref-3.ensures.value ∙ c.in_ok-order.ensures.order) c.in_ok-columns.ensures.used
-    (ap (map glyph_of) c.new-glyphs.ensures.items) c.in_ok-push_blanks-2.ensures c.in_ok-push_units-2.ensures
+    (ap (map glyph_of) c.in_ok-glyphs.ensures.items) c.in_ok-push_blanks-2.ensures c.in_ok-push_units-2.ensures

@@ -1,0 +1,14 @@
+-- After no byte from `next` on may a row end.
+use Rattle.std.proofs.Common.{◌≡◌, ◌<◌, ◌≤◌, ℕ, false, get_or}
+use Rattle.bx_rows.specs.Wrapping.{is_blank}
+use Rattle.bx_rows.proofs.ascii_part.break_behind.Given as goal
+
+abbrev pub invariant-bytes : goal.invariant-bytes
+invariant-bytes g l = record {
+  from : l.at ≤ l.next;
+  to : l.next ≤ l.stop;
+  none : (i : ℕ) → l.next ≤ i → i < l.stop → is_blank (g.D.BidiData.class_of l.source (get_or l.bytes i 0)) ≡ false;
+}
+
+abbrev pub decreases-bytes : goal.decreases-bytes
+decreases-bytes g l = l.next

@@ -1,0 +1,21 @@
+-- What is read of the unit and what is left of it give all levels.
+use Rattle.std.proofs.Common.{◌≡◌, ◌≤◌, ◌∷◌, ◌++◌, ℕ, List, map, length, chars}
+use Rattle.std.specs.List.{zip}
+use denote.Text.{Utf8}
+use denote.Shadow.{shadow}
+use Rattle.bx_rows.specs.LevelReads.{levels_from, unit_from}
+use Rattle.bx_rows.proofs.level_read.read_unit.Given as goal
+
+abbrev pub invariant-chars : goal.invariant-chars
+invariant-chars g l = record {
+  text : shadow (Utf8 l.rest);
+  within : l.first ≤ length l.found.items;
+  levels : (more counts : List ℕ)
+      → levels_from l.paragraph l.fn.found.items l.fn.waiting 0 (length (chars l.fn.text) ∷ counts)
+      (zip (map (g.D.BidiData.class_of l.source) (chars l.fn.text ++ more)) l.fn.levels)
+      ≡ unit_from l.is_known l.paragraph l.found.items l.first (length (chars l.rest)) counts
+      (zip (map (g.D.BidiData.class_of l.source) (chars l.rest ++ more)) l.left);
+}
+
+abbrev pub decreases-chars : goal.decreases-chars
+decreases-chars g l = length l.rest

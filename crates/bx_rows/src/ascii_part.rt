@@ -1,0 +1,60 @@
+//! Runs of printable ASCII, where each byte is a unit of one column.
+ghost use Rattle.std.specs.Prelude.{◌≡◌, ◌≤◌, ◌<◌, ◌+◌, get_or, length, ℕ, false, true};
+ghost use Rattle.std.specs.Str.{IsCharBoundary};
+ghost use Rattle.bx_rows.specs.NarrowRuns.{IsNarrowRun, IsRunIn};
+ghost use Rattle.bx_rows.specs.Wrapping.{is_blank};
+
+use crate::narrow_run::NarrowRun;
+use crate::wrapping::is_blank;
+use bx_cells::printable_stop;
+use bx_ucd::BidiData;
+
+/// The offset behind the last of the bytes from `at` to before `stop` after which a row may end; `at` if there is none.
+#[inline(always)]
+fn break_behind<D: BidiData>(bytes: &[u8], at: usize, stop: usize, source: &D) -> usize
+    requires order { at ≤ stop }
+    requires inside { stop ≤ length bytes.now }
+    ensures from { at ≤ result }
+    ensures to { result ≤ stop }
+    ensures last { (i : ℕ) → at ≤ i → i + 1 ≡ result → is_blank (D.class_of source.now (get_or bytes.now i 0)) ≡ true }
+    ensures none { (i : ℕ) → result ≤ i → i < stop → is_blank (D.class_of source.now (get_or bytes.now i 0)) ≡ false }
+{
+    let mut next = stop;
+    'bytes: while next > at {
+        if is_blank(source.class(char::from(bytes[next - 1]))) {
+            return next;
+        }
+        next -= 1;
+    }
+    next
+}
+
+/// The printable ASCII that stands from an offset on, but for its last byte, behind which a mark may stand: a unit a byte, at
+/// most `most` of them. Only the bytes behind the last break are asked for their classes.
+#[inline(always)]
+pub(crate) fn ascii_run<D: BidiData>(body: &str, at: usize, most: u16, source: &D) -> NarrowRun
+    requires { IsCharBoundary body.now at }
+    ensures most { result.count ≤ most }
+    ensures bounds { IsRunIn body.now at result }
+    ensures units { (w : ℕ) → IsNarrowRun (D.class_of source.now) w body.now at result }
+{
+    let bytes = body.as_bytes();
+    let limit = at + (bytes.len() - at).min(most as usize + 1);
+    let behind = printable_stop(&bytes[..limit], at);
+    if behind - at <= 1 {
+        return NarrowRun {
+            stop: at,
+            count: 0,
+            last: 0,
+            next: at,
+        };
+    }
+    let stop = behind - 1;
+    let next = break_behind(bytes, at, stop, source);
+    NarrowRun {
+        stop,
+        count: (stop - at) as u16,
+        last: (next - at) as u16,
+        next,
+    }
+}

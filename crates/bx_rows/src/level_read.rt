@@ -1,0 +1,200 @@
+//! The levels of units, read character by character from left to right.
+//!
+//! By L1 a character that may trail has the paragraph level where all behind it, up to a separator or the row's end, may
+//! trail too. So the units whose first kept characters may trail wait, from the first of them on, until that is known.
+ghost use Rattle.std.specs.Prelude.{◌≡◌, ◌≤◌, ◌<◌, ◌++◌, ◌∷◌, [], Bool, IfOk, List, None, chars, drop, get_or, length, map, ℕ};
+ghost use Rattle.std.specs.List.{zip};
+ghost use Rattle.bx_rows.specs.RowLevels.{is_segment_separator, is_trailing};
+ghost use Rattle.bx_rows.specs.LevelReads.{Reads, ReadsChar, level_before, levels_from, settled, settled_if};
+
+use bx_cells::first_char;
+use bx_ucd::{BidiData, Class};
+use std::alloc::AllocError;
+
+/// Whether L1 resets a character of a class wherever it stands.
+fn is_segment_separator(class: Class) -> bool
+    ensures { result ≡ is_segment_separator class }
+{
+    matches!(class, Class::S)
+}
+
+/// Whether L1 resets a character of a class before a segment separator or a row's end.
+fn is_trailing(class: Class) -> bool
+    ensures { result ≡ is_trailing class }
+{
+    matches!(
+        class,
+        Class::WS | Class::FSI | Class::LRI | Class::RLI | Class::PDI
+    )
+}
+
+/// Gives the units that wait, from number `waiting` on, the paragraph level.
+#[tactic(auto, using(crate::proofs::LevelSteps::settled_none))]
+pub(crate) fn settle(found: &mut Vec<u8>, waiting: usize, paragraph: u8)
+    ensures levels { found.new.items ≡ settled paragraph waiting found.old.items }
+    ensures count { length found.new.items ≡ length found.old.items }
+{
+    let mut i = waiting;
+    'units: while i < found.len() {
+        found[i] = paragraph;
+        i += 1;
+    }
+}
+
+/// Reads a kept character of a class; gives the number of the first unit that waits then.
+#[inline(always)]
+fn read_class(found: &mut Vec<u8>, waiting: usize, class: Class, paragraph: u8) -> usize
+    requires { waiting ≤ length found.old.items }
+    ensures within { result ≤ length found.new.items }
+    ensures levels { Reads paragraph class found.old.items waiting found.new.items result }
+{
+    if is_segment_separator(class) {
+        settle(found, waiting, paragraph);
+        return found.len();
+    }
+    if is_trailing(class) {
+        return waiting;
+    }
+    found.len()
+}
+
+/// Reads the first kept character of a unit, whose level is the unit's. Where no unit waits and it is the paragraph's level,
+/// its class is not asked for.
+#[inline(always)]
+fn read_first<D: BidiData>(
+    found: &mut Vec<u8>,
+    waiting: usize,
+    c: char,
+    level: u8,
+    paragraph: u8,
+    source: &D,
+) -> Result<usize, AllocError>
+    requires { waiting ≤ length found.old.items }
+    ensures within { IfOk result (λ next. next ≤ length found.new.items) }
+    ensures levels { IfOk result (λ next. Reads paragraph (D.class_of source.now c) (found.old.items ++ level ∷ []) waiting found.new.items next) }
+{
+    if waiting == found.len() && level == paragraph {
+        found.push(level)?;
+        return Ok(found.len());
+    }
+    found.push(level)?;
+    Ok(read_class(found, waiting, source.class(c), paragraph))
+}
+
+/// Reads another kept character of a unit.
+#[inline(always)]
+fn read_more<D: BidiData>(
+    found: &mut Vec<u8>,
+    waiting: usize,
+    c: char,
+    paragraph: u8,
+    source: &D,
+) -> usize
+    requires { waiting ≤ length found.old.items }
+    ensures within { result ≤ length found.new.items }
+    ensures levels { Reads paragraph (D.class_of source.now c) found.old.items waiting found.new.items result }
+{
+    if waiting == found.len() {
+        return waiting;
+    }
+    read_class(found, waiting, source.class(c), paragraph)
+}
+
+/// Reads a character of a unit, whose level is found or not.
+#[inline(always)]
+fn read_char<D: BidiData>(
+    found: &mut Vec<u8>,
+    waiting: usize,
+    is_known: bool,
+    c: char,
+    level: Option<u8>,
+    paragraph: u8,
+    source: &D,
+) -> Result<usize, AllocError>
+    requires { waiting ≤ length found.old.items }
+    ensures within { IfOk result (λ next. next ≤ length found.new.items) }
+    ensures levels { IfOk result (λ next. ReadsChar paragraph (D.class_of source.now c) is_known level found.old.items waiting found.new.items next) }
+{
+    let Some(level) = level else {
+        return Ok(waiting);
+    };
+    if is_known {
+        return Ok(read_more(found, waiting, c, paragraph, source));
+    }
+    read_first(found, waiting, c, level, paragraph, source)
+}
+
+/// The level of a unit with no kept character: that of the unit before it.
+#[tactic(auto, using(crate::proofs::LevelSteps::before_some, crate::proofs::LevelSteps::before_none))]
+fn level_before(found: &[u8], paragraph: u8) -> u8
+    ensures { result ≡ level_before paragraph found.now }
+{
+    if found.is_empty() {
+        return paragraph;
+    }
+    found[found.len() - 1]
+}
+
+/// Adds a unit with no kept character, which waits where the unit before it does.
+#[inline(never)]
+#[tactic(auto, using(crate::proofs::LevelSteps::before_waits, crate::proofs::LevelSteps::before_settled))]
+fn push_before(found: &mut Vec<u8>, waiting: usize, paragraph: u8) -> Result<usize, AllocError>
+    requires { waiting ≤ length found.old.items }
+    ensures within { IfOk result (λ next. next ≤ length found.new.items) }
+    ensures levels { IfOk result (λ next. (b : Bool) → settled_if b paragraph next found.new.items
+        ≡ settled_if b paragraph waiting found.old.items ++ level_before paragraph (settled_if b paragraph waiting found.old.items) ∷ []) }
+{
+    let level = level_before(found, paragraph);
+    if waiting < found.len() {
+        found.push(level)?;
+        return Ok(waiting);
+    }
+    found.push(level)?;
+    Ok(found.len())
+}
+
+/// The first level, and those behind it; none where no level is left.
+#[inline(always)]
+fn first_level(levels: &[Option<u8>]) -> (Option<u8>, &[Option<u8>])
+    ensures first { result.0 ≡ get_or levels.now 0 None }
+    ensures behind { result.1.now ≡ drop 1 levels.now }
+{
+    if levels.is_empty() {
+        return (None, levels);
+    }
+    (levels[0], &levels[1..])
+}
+
+/// Reads a unit; gives the number of the first unit that waits then, and the levels behind the unit's characters.
+#[inline(always)]
+pub(crate) fn read_unit<'a, D: BidiData>(
+    found: &mut Vec<u8>,
+    waiting: usize,
+    text: &str,
+    levels: &'a [Option<u8>],
+    paragraph: u8,
+    source: &D,
+) -> Result<(usize, &'a [Option<u8>]), AllocError>
+    requires { waiting ≤ length found.old.items }
+    ensures within { IfOk result (λ r. r.0 ≤ length found.new.items) }
+    ensures levels { IfOk result (λ r. (more counts : List ℕ)
+        → levels_from paragraph found.old.items waiting 0 (length (chars text.now) ∷ counts) (zip (map (D.class_of source.now) (chars text.now ++ more)) levels.entry.now)
+        ≡ levels_from paragraph found.new.items r.0 0 counts (zip (map (D.class_of source.now) more) r.1.now)) }
+{
+    let mut first = waiting;
+    let mut is_known = false;
+    let mut rest = text;
+    let mut left = levels;
+    'chars: while let Some((c, behind)) = first_char(rest) {
+        let (level, after) = first_level(left);
+        first = read_char(found, first, is_known, c, level, paragraph, source)?;
+        is_known = is_known || level.is_some();
+        rest = behind;
+        left = after;
+    }
+    if is_known {
+        return Ok((first, left));
+    }
+    let next = push_before(found, first, paragraph)?;
+    Ok((next, left))
+}
