@@ -1,0 +1,99 @@
+#!/bin/sh
+# Runs the built program to each of its ends, and compares the exit status, the line on standard error and the saved file with what
+# the manual says. It stands beside the gate, whose tests call the functions behind `main` and not the program. The last line
+# counts; the status is 1 where one differs.
+set -u
+
+cd "$(dirname "$0")/.." || exit 1
+top=$(pwd)
+editor=$top/crates/bidi_edit/out/bidi_edit
+if ! [ -x "$editor" ]; then
+    echo "the program is not built: rt run in crates/bidi_edit builds it" >&2
+    exit 1
+fi
+
+folder=$(mktemp -d)
+trap 'rm -rf "$folder"' EXIT
+cd "$folder" || exit 1
+passed=0 failed=0
+
+# The program with the repository's tables and these words, fed with what stands in the file `keys`.
+run() {
+    "$editor" --rows 2 --cols 30 --classes "$top/data/DerivedBidiClass.txt" --brackets "$top/data/BidiBrackets.txt" \
+        --mirroring "$top/data/BidiMirroring.txt" "$@" <keys >screen 2>told
+    status=$?
+}
+
+# NAME STATUS LINE: what the last run ended with, and how standard error began.
+ended() {
+    line=$(head -n 1 told)
+    case $line in
+    "$3"*) is_told=1 ;;
+    *) is_told='' ;;
+    esac
+    if [ "$status" = "$2" ] && [ -n "$is_told" ] && { [ -n "$3" ] || [ ! -s told ]; }; then
+        passed=$((passed + 1))
+        echo "ok $1"
+    else
+        failed=$((failed + 1))
+        echo "FAILS $1: status $status and '$line', not $2 and '$3'"
+    fi
+}
+
+printf 'ab' >text
+: >keys
+run text
+ended input_ends_unchanged 0 ''
+printf '\021' >keys
+run text
+ended quit 0 ''
+printf 'x\023\021' >keys
+run new
+ended saved_and_quit 0 ''
+[ "$(cat new)" = x ] || { failed=$((failed + 1)); echo "FAILS saved_and_quit: the file is not x"; }
+[ ! -e new.bx ] || { failed=$((failed + 1)); echo "FAILS saved_and_quit: new.bx is left"; }
+printf 'x' >keys
+run text
+ended input_ends_changed 1 'bidi_edit: input ended before saving'
+: >keys
+printf 'a\377' >bad
+run bad
+ended not_utf8 1 'bidi_edit: not UTF-8 at byte 1'
+head -c 16777217 /dev/zero >long
+run long
+ended too_long 1 'bidi_edit: file too long'
+run /dev/zero
+ended without_end 1 'bidi_edit: file too long'
+mkdir folder
+run folder
+ended a_folder 1 'bidi_edit: cannot read folder'
+run --classes missing text
+ended two_class_files 2 'error: '
+"$editor" --classes missing --brackets missing --mirroring missing text <keys >screen 2>told
+status=$?
+ended no_tables 1 'bidi_edit: cannot read missing'
+printf '0041\n' >short
+"$editor" --classes short --brackets short --mirroring short text <keys >screen 2>told
+status=$?
+ended bad_line 1 'bidi_edit: classes line 1: bad line'
+if [ -w /dev/full ]; then
+    "$editor" --classes "$top/data/DerivedBidiClass.txt" --brackets "$top/data/BidiBrackets.txt" \
+        --mirroring "$top/data/BidiMirroring.txt" text <keys >/dev/full 2>told
+    status=$?
+    ended output_failed 1 'bidi_edit: output failed'
+fi
+"$editor" --classes "$top/data/DerivedBidiClass.txt" --brackets "$top/data/BidiBrackets.txt" \
+    --mirroring "$top/data/BidiMirroring.txt" text <"$folder" >screen 2>told
+status=$?
+ended input_failed 1 'bidi_edit: input failed'
+run
+ended no_file 2 'error: '
+run --rows 501 text
+ended rows_past_500 2 'error: '
+run --direction up text
+ended no_such_direction 2 'error: '
+run "$(printf 'a\377')"
+ended word_not_utf8 2 'bidi_edit: a word is not UTF-8'
+
+echo "$passed passed, $failed failed"
+[ "$failed" = 0 ]
