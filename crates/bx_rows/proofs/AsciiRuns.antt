@@ -85,7 +85,8 @@ module _ (class : ℕ → Class) (body : List ℕ) (at : ℕ) (u : IsUtf8 body) 
       let first : next ≡ at = omega (arith, e, from) in
       let r = run at 0 0 at in
       subst (IsLonger class body at) {x = run (at + (stop - at)) (0 + (stop - at)) 0 at}
-      (same_run (at + (stop - at)) (0 + (stop - at)) 0 at stop (stop - at) (next - at) next (omega (arith, first, to)) (omega arith) (omega (arith, e)) (sym first))
+      (same_run (at + (stop - at)) (0 + (stop - at)) 0 at stop (stop - at) (next - at) next (omega (arith, first, to)) (omega arith) (omega (arith, e))
+      (sym first))
       (no_break (stop - at) r (record { bounds = run-in-none body at boundary; units = λ w. run-none class w body at }) (omega (arith, first, to, less))
       (λ i f t. printable i f (omega (arith, t, first, to))) (λ i f t. none i (omega (arith, f, first)) (omega (arith, t, first, to))))
   by_break (suc m) stop next e from to less printable last none =

@@ -4,7 +4,8 @@ use Rattle.std.proofs.Common.{append_assoc, Option, Some, None, is_some, unwrap_
 use Rattle.std.specs.List.{last_or, zip}
 use Rattle.std.proofs.lemmas.Str.{chars-nil}
 use Rattle.bx_ucd.specs.declared.class.Class.{Class}
-use Rattle.bx_rows.specs.RowLevels.{CharLevel, is_segment_separator, is_trailing, trails, only_trailing, level_at, l1, first_level, unit_levels, levels_or_before}
+use Rattle.bx_rows.specs.RowLevels.{CharLevel, is_segment_separator, is_trailing, trails, only_trailing, level_at, l1}
+use Rattle.bx_rows.specs.RowLevels.{first_level, unit_levels, levels_or_before}
 use Rattle.bx_rows.specs.LevelReads.{settled, settled_if, level_before, followed, levels_from, unit_from, Reads, ReadsChar}
 
 -- ---- the levels that wait
