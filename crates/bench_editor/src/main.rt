@@ -4,7 +4,7 @@
 //!     bench_editor each
 //!
 //! TASK is `opening`, `letter`, `erasure` (a letter and Backspace), `move` (Right and Left), `page` (PageDown and PageUp),
-//! `save` or `repaint`, and TEXT is `ascii`, `hebrew`, `mixed` or `paragraph`. The text has at least BYTES bytes, and each task
+//! `down` (PageDown, to rows that were not shown before), `resize` (to 79 columns and back), `save` or `repaint`, and TEXT is `ascii`, `hebrew`, `mixed` or `paragraph`. The text has at least BYTES bytes, and each task
 //! but the first begins in its middle. It prints what was done and how many bytes were sent and stored in a round, and with
 //! --time also a round's processor time. Without --tables the small tables are taken. `each` takes every task once with
 //! small numbers.
@@ -53,7 +53,7 @@ fn measured<R: CpuClock + AllocGlobal>(
         return openings::run(rt, files, wanted, name.as_str());
     }
     let task = Task::named(task.as_str())
-        .context("TASK is opening, letter, erasure, move, page, save or repaint")
+        .context("TASK is opening, letter, erasure, move, page, down, resize, save or repaint")
         .context(USAGE)?;
     rounds::run(rt, files, task, wanted, name.as_str())
 }
@@ -75,13 +75,15 @@ fn asked<R: Files + CpuClock + AllocGlobal>(rt: &R, words: &[String]) -> Result<
 }
 
 /// One run of each task.
-const EACH: [&str; 9] = [
+const EACH: [&str; 11] = [
     "opening hebrew 20000 2",
     "letter hebrew 20000 7",
     "letter paragraph 5000 3",
     "erasure mixed 20000 3",
     "move mixed 20000 5",
     "page ascii 20000 2",
+    "down hebrew 20000 2",
+    "resize paragraph 5000 1",
     "save ascii 20000 2",
     "save hebrew 20000 0",
     "repaint paragraph 5000 1",

@@ -18,6 +18,12 @@ const SAVE: &str = "\u{13}";
 /// Control and L.
 const REPAINT: &str = "\u{c}";
 
+/// The window is told to be a column narrower.
+const NARROWER: &str = "\u{1b}[8;24;79t";
+
+/// The window is told to be as it was.
+const AS_BEFORE: &str = "\u{1b}[8;24;80t";
+
 /// What a round does.
 #[derive(Clone, Copy)]
 pub(crate) enum Task {
@@ -29,6 +35,10 @@ pub(crate) enum Task {
     Move,
     /// A page down, and one up.
     Page,
+    /// A page down, to rows that were not shown before.
+    Down,
+    /// The window becomes a column narrower, and then as it was.
+    Resize,
     /// The whole text goes to a store.
     Save,
     /// The picture is painted whole.
@@ -43,6 +53,8 @@ impl Task {
             "erasure" => Some(Task::Erasure),
             "move" => Some(Task::Move),
             "page" => Some(Task::Page),
+            "down" => Some(Task::Down),
+            "resize" => Some(Task::Resize),
             "save" => Some(Task::Save),
             "repaint" => Some(Task::Repaint),
             _ => None,
@@ -64,6 +76,11 @@ impl Task {
             Task::Page => {
                 typist.press(PAGE_DOWN)?;
                 typist.press(PAGE_UP)
+            }
+            Task::Down => typist.press(PAGE_DOWN),
+            Task::Resize => {
+                typist.press(NARROWER)?;
+                typist.press(AS_BEFORE)
             }
             Task::Save => typist.press(SAVE),
             Task::Repaint => typist.press(REPAINT),

@@ -119,13 +119,11 @@ impl<D: BidiData + Drop> Document<D> {
         self.layout = Layout::of(self.alloc, self.layout.width(), base);
     }
 
-    /// Lays the text out anew in so many columns, where it has others. No memory.
+    /// Lays the text out in so many columns. The paragraphs that the layout holds keep their levels. No memory.
     pub fn set_width(&mut self, w: u16)
         requires side { is_side w ≡ true }
         ensures { self.new ≡ record self.old { document = record self.old.document { w = w } } }
     {
-        if w != self.layout.width() {
-            self.layout = Layout::of(self.alloc, w, self.layout.base());
-        }
+        self.layout.set_width(w);
     }
 }

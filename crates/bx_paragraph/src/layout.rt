@@ -1,5 +1,5 @@
 //! The layout of one paragraph.
-ghost use Rattle.std.specs.Prelude.{◌≡◌, ◌≤◌, ◌<◌, true, All, IfOk, count_by, length, nat_le, map, slice_index_or, string_bytes, sum_by};
+ghost use Rattle.std.specs.Prelude.{◌≡◌, ◌≤◌, ◌<◌, true, All, IfOk, OnErr, OnOk, count_by, length, nat_le, map, slice_index_or, string_bytes, sum_by};
 ghost use Rattle.std.specs.Cow.{cow_str_bytes};
 ghost use Rattle.bx_terms.specs.Glyphs.{is_one_glyph, run_width};
 ghost use Rattle.bx_terms.specs.Sizes.{is_side};
@@ -101,6 +101,26 @@ impl ParagraphLayout {
         ensures side { is_side result ≡ true }
     {
         self.w
+    }
+
+    /// Lays the paragraph out in a window of `w` columns. Its levels are kept, and its rows are found anew.
+    ///
+    /// Errors: `OutOfMemory`, and nothing has changed.
+    #[tactic(auto, using(crate::proofs::Starts::some_start))]
+    pub fn set_width<D: BidiData>(&mut self, source: &D, w: u16) -> Result<(), ParagraphError>
+        requires side { is_side w ≡ true }
+        requires data { IsLayoutBy (D.class_of source.now) (D.bracket_of source.now) self.old }
+        ensures body { self.new.body ≡ self.old.body }
+        ensures base { self.new.base ≡ self.old.base }
+        ensures w { OnOk result (self.new.w ≡ w) }
+        ensures rows { IsLayoutBy (D.class_of source.now) (D.bracket_of source.now) self.new }
+        ensures err { OnErr result (self.new ≡ self.old) }
+    {
+        let alloc = *self.starts.allocator();
+        let starts = row_starts(alloc, self.body.as_str(), source, w)?;
+        self.w = w;
+        self.starts = starts;
+        Ok(())
     }
 
     /// The paragraph's level, 0 or 1.

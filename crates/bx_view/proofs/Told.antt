@@ -37,26 +37,27 @@ module _ (class : ℕ → Class) (bracket : ℕ → Option (Side × ℕ)) where
 
   -- a paragraph that is held
   pub of-text : (v : ViewState) (text : List ℕ) (number held : ℕ) (l : LayoutState) → is_side v.w ≡ true → IsViewBy class bracket v
-      → HoldsBody (body_at class text number) v.held held → l ≡ get_or v.held held l → IsOfText class bracket v text number l
+      → HoldsBody (body_at class text number) v.w v.held held → l ≡ get_or v.held held l → IsOfText class bracket v text number l
   of-text v text number held l side all h e =
-      let is : IsHeld class bracket v.base v.w l = subst (IsHeld class bracket v.base v.w) (sym e) (all held l h.within) in
+      let is : IsHeld class bracket v.base l = subst (IsHeld class bracket v.base) (sym e) (all held l h.within) in
+      let w_is : l.w ≡ v.w = ap (λ (x : LayoutState). x.w) e ∙ h.w_is l in
       let body : l.body ≡ body_at class text number = ap (λ (x : LayoutState). x.body) e ∙ h.body_is l in
       let same : rows_by class bracket l ≡ rows_in class bracket v.base v.w text number =
-      ap (λ b. body_rows class bracket b l.w l.body) is.base_is ∙ ap (λ w. body_rows class bracket v.base w l.body) is.w_is
+      ap (λ b. body_rows class bracket b l.w l.body) is.base_is ∙ ap (λ w. body_rows class bracket v.base w l.body) w_is
       ∙ ap (body_rows class bracket v.base v.w) body in
       record {
         side = side;
         by = is.rows;
-        w_is = is.w_is;
+        w_is = w_is;
         body_is = body;
         rows_are = same;
-        count_is = row_count l (ap is_side is.w_is ∙ side) class bracket is.rows ∙ ap length same;
+        count_is = row_count l (ap is_side w_is ∙ side) class bracket is.rows ∙ ap length same;
       }
 
   -- the row that an offset falls in
   pub stands : (v : ViewState) (text : List ℕ) (offset : ℕ) (at : RowAt) (l : LayoutState) → IsUtf8 text
       → at.paragraph ≡ paragraph_of (lengths class text) offset → at.start ≡ start_at class text at.paragraph
-      → HoldsBody (body_at class text at.paragraph) v.held at.held → IsOfText class bracket v text at.paragraph l
+      → HoldsBody (body_at class text at.paragraph) v.w v.held at.held → IsOfText class bracket v text at.paragraph l
       → at.row ≡ row_of_body (rows_by class bracket l) (offset - at.start) → StandsOn class bracket v text at (row_of (of v text) offset)
   stands v text offset at l utf8 number start held is row = record {
     side = is.side;
@@ -207,7 +208,7 @@ module _ (class : ℕ → Class) (bracket : ℕ → Option (Side × ℕ)) where
     last-here last = let within = on.is.row in omega (arith, last, within, is.count_is)
 
     pub next-there : (new : ViewState) (start held : ℕ) → Keeps class bracket v new → length l.starts ≤ at.row + 1 → at.paragraph + 1 < count class text
-        → start ≡ start_at class text (at.paragraph + 1) → HoldsBody (body_at class text (at.paragraph + 1)) new.held held
+        → start ≡ start_at class text (at.paragraph + 1) → HoldsBody (body_at class text (at.paragraph + 1)) new.w new.held held
         → StandsOn class bracket new text (record { paragraph = at.paragraph + 1; start = start; row = 0; held = held }) (n + 1)
     next-there new start held keeps last more e h = record {
       side = ap is_side keeps.w ∙ is.side;
@@ -249,7 +250,7 @@ module _ (class : ℕ → Class) (bracket : ℕ → Option (Side × ℕ)) where
 
   pub before-there : (old v : ViewState) (text : List ℕ) (at : RowAt) (n number start held rows : ℕ) (l : LayoutState) → IsUtf8 text
       → StandsOn class bracket old text at n → Keeps class bracket old v → at.row ≡ 0 → at.paragraph ≡ number + 1 → IsOfText class bracket v text number l
-      → rows ≡ length l.starts → 0 < rows → start ≡ start_at class text number → HoldsBody (body_at class text number) v.held held
+      → rows ≡ length l.starts → 0 < rows → start ≡ start_at class text number → HoldsBody (body_at class text number) v.w v.held held
       → (0 < n) × StandsOn class bracket v text (record { paragraph = number; start = start; row = rows - 1; held = held }) (n - 1)
   before-there old v text at n number start held rows l utf8 on keeps none next is counted some e h =
       let there : IsRow class bracket v.base v.w text (number + 1) 0 n =

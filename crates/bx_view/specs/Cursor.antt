@@ -13,7 +13,7 @@ pub record StandsOn (class : ℕ → Class) (bracket : ℕ → Option (Side × �
   pub side : is_side v.w ≡ true
   pub start_is : at.start ≡ start_at class text at.paragraph
   pub is : IsRow class bracket v.base v.w text at.paragraph at.row n
-  pub held_is : HoldsBody (body_at class text at.paragraph) v.held at.held
+  pub held_is : HoldsBody (body_at class text at.paragraph) v.w v.held at.held
 
 -- the row behind row `n` of the text, and none where that is the last
 abbrev pub IsNext : (ℕ → Class) → (ℕ → Option (Side × ℕ)) → ViewState → List ℕ → ℕ → Option RowAt → Type 0

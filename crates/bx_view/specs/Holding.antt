@@ -1,4 +1,4 @@
--- What a layout of a text is seen as: some paragraphs, laid out under its base direction and in its columns.
+-- What a layout of a text is seen as: some paragraphs, laid out under its base direction, in its columns or in those that it had before.
 use Rattle.std.specs.Prelude.{◌≡◌, ℕ, ◌<◌, true, List, length, All, HoldsAt, Option}
 use Rattle.bx_terms.specs.Sizes.{is_side}
 use Rattle.bx_ucd.specs.declared.class.Class.{Class}
@@ -12,15 +12,14 @@ pub record ViewState : Type 0 where
   pub w : ℕ
   pub held : List LayoutState
 
--- a paragraph laid out under a base direction, in so many columns, by some data
-pub record IsHeld (class : ℕ → Class) (bracket : ℕ → Option (Side × ℕ)) (base : Base) (w : ℕ) (l : LayoutState) : Type 0 where
+-- a paragraph laid out under a base direction, in any columns, by some data
+pub record IsHeld (class : ℕ → Class) (bracket : ℕ → Option (Side × ℕ)) (base : Base) (l : LayoutState) : Type 0 where
   pub base_is : l.base ≡ base
-  pub w_is : l.w ≡ w
   pub rows : IsLayoutBy class bracket l
 
 -- all that is held is by some data
 abbrev pub IsViewBy : (ℕ → Class) → (ℕ → Option (Side × ℕ)) → ViewState → Type 0
-IsViewBy class bracket v = All (IsHeld class bracket v.base v.w) v.held
+IsViewBy class bracket v = All (IsHeld class bracket v.base) v.held
 
 -- what is held changed, and nothing else: it is still by the data
 pub record Keeps (class : ℕ → Class) (bracket : ℕ → Option (Side × ℕ)) (old new : ViewState) : Type 0 where
@@ -29,9 +28,15 @@ pub record Keeps (class : ℕ → Class) (bracket : ℕ → Option (Side × ℕ)
   pub held : IsViewBy class bracket new
 
 -- number `i` of those that are held has this body
-pub record HoldsBody (body : List ℕ) (held : List LayoutState) (i : ℕ) : Type 0 where
+pub record HasBody (body : List ℕ) (held : List LayoutState) (i : ℕ) : Type 0 where
   pub within : i < length held
   pub body_is : HoldsAt (λ l. l.body ≡ body) held i
+
+-- number `i` of those that are held has this body, in so many columns
+pub record HoldsBody (body : List ℕ) (w : ℕ) (held : List LayoutState) (i : ℕ) : Type 0 where
+  pub within : i < length held
+  pub body_is : HoldsAt (λ l. l.body ≡ body) held i
+  pub w_is : HoldsAt (λ l. l.w ≡ w) held i
 
 -- the layout of paragraph `number` of a text
 pub record IsOfText (class : ℕ → Class) (bracket : ℕ → Option (Side × ℕ)) (v : ViewState) (text : List ℕ) (number : ℕ) (l : LayoutState) : Type 0 where

@@ -1,6 +1,7 @@
 //! The paragraphs that a layout holds.
-ghost use Rattle.std.specs.Prelude.{◌≤◌, All, IfOk, IfSome, IsTrue, length, slice_range};
-ghost use Rattle.bx_view.specs.Holding.{HoldsBody, IsHeld};
+ghost use Rattle.std.specs.Prelude.{◌≡◌, ◌≤◌, ◌<◌, ℕ, List, true, All, IfOk, IfSome, IsTrue, OnOk, length, slice_range};
+ghost use Rattle.bx_terms.specs.Sizes.{is_side};
+ghost use Rattle.bx_view.specs.Holding.{HasBody, HoldsBody, IsHeld};
 
 use crate::error::ViewError;
 use crate::in_text::stands_at;
@@ -20,7 +21,7 @@ const MOST_HELD: usize = 512;
 fn is_held(held: &[ParagraphLayout], i: usize, text: &Text, start: usize, stop: usize) -> bool
     requires order { start ≤ stop }
     requires within { stop ≤ length text.now.edited.text }
-    ensures { IsTrue result → HoldsBody (slice_range text.now.edited.text start stop) held.now i }
+    ensures { IsTrue result → HasBody (slice_range text.now.edited.text start stop) held.now i }
 {
     if i >= held.len() {
         return false;
@@ -40,7 +41,7 @@ pub(crate) fn position(
 ) -> Option<usize>
     requires order { start ≤ stop }
     requires within { stop ≤ length text.now.edited.text }
-    ensures { IfSome result (HoldsBody (slice_range text.now.edited.text start stop) held.now) }
+    ensures { IfSome result (HasBody (slice_range text.now.edited.text start stop) held.now) }
 {
     if is_held(held, recent, text, start, stop) {
         return Some(recent);
@@ -66,35 +67,32 @@ fn bytes_held(held: &[ParagraphLayout]) -> usize {
 }
 
 /// Where many are held, drops the one that was held first.
-fn drop_oldest<D: BidiData>(held: &mut Vec<ParagraphLayout>, source: &D, base: Base, w: u16)
-    requires { All (IsHeld (D.class_of source.now) (D.bracket_of source.now) base w) held.old.items }
-    ensures { All (IsHeld (D.class_of source.now) (D.bracket_of source.now) base w) held.new.items }
+fn drop_oldest<D: BidiData>(held: &mut Vec<ParagraphLayout>, source: &D, base: Base)
+    requires { All (IsHeld (D.class_of source.now) (D.bracket_of source.now) base) held.old.items }
+    ensures { All (IsHeld (D.class_of source.now) (D.bracket_of source.now) base) held.new.items }
 {
     let _ = source;
     let _ = base;
-    let _ = w;
     if held.len() >= MOST_HELD {
         held.remove(0);
     }
 }
 
 /// Holds one more paragraph, in place of another where many are held, and alone where all have more bytes than two
-/// texts may have. It answers its place among them.
+/// texts may have. It answers its number among them.
 pub(crate) fn hold<D: BidiData>(
     held: &mut Vec<ParagraphLayout>,
     new: ParagraphLayout,
     source: &D,
     base: Base,
-    w: u16,
 ) -> Result<usize, AllocError>
-    requires held { All (IsHeld (D.class_of source.now) (D.bracket_of source.now) base w) held.old.items }
-    requires new { IsHeld (D.class_of source.now) (D.bracket_of source.now) base w new }
-    ensures held { All (IsHeld (D.class_of source.now) (D.bracket_of source.now) base w) held.new.items }
-    ensures new { IfOk result (HoldsBody new.body held.new.items) }
+    requires held { All (IsHeld (D.class_of source.now) (D.bracket_of source.now) base) held.old.items }
+    requires new { IsHeld (D.class_of source.now) (D.bracket_of source.now) base new }
+    ensures held { All (IsHeld (D.class_of source.now) (D.bracket_of source.now) base) held.new.items }
+    ensures new { IfOk result (HoldsBody new.body new.w held.new.items) }
 {
     let _ = source;
     let _ = base;
-    let _ = w;
     let count = held.len();
     let bytes = bytes_held(held).saturating_add(new.body().len());
     if count > 0 && bytes > 2 * LARGEST_TEXT {
@@ -102,7 +100,30 @@ pub(crate) fn hold<D: BidiData>(
         held[0] = new;
         return Ok(0);
     }
-    drop_oldest(held, source, base, w);
+    drop_oldest(held, source, base);
     held.push(new)?;
     Ok(held.len() - 1)
+}
+
+/// Lays a paragraph that is held out in so many columns, if it has others. Its levels are kept.
+///
+/// Errors: `OutOfMemory`, and nothing has changed.
+pub(crate) fn lay_out_in<D: BidiData>(
+    held: &mut Vec<ParagraphLayout>,
+    i: usize,
+    source: &D,
+    base: Base,
+    w: u16,
+) -> Result<(), ViewError>
+    requires held { All (IsHeld (D.class_of source.now) (D.bracket_of source.now) base) held.old.items }
+    requires within { i < length held.old.items }
+    requires side { is_side w ≡ true }
+    ensures held { All (IsHeld (D.class_of source.now) (D.bracket_of source.now) base) held.new.items }
+    ensures body { OnOk result ((body : List ℕ) → HasBody body held.old.items i → HoldsBody body w held.new.items i) }
+{
+    let _ = base;
+    if held[i].width() != w {
+        held[i].set_width(source, w)?;
+    }
+    Ok(())
 }

@@ -12,7 +12,7 @@ ghost use Rattle.bx_view.specs.TextRows.{cell_of, row_of, text_rows};
 
 use crate::cursor::RowAt;
 use crate::error::ViewError;
-use crate::holder::{hold, position};
+use crate::holder::{hold, lay_out_in, position};
 use crate::span::{body_span, paragraph_under};
 use bx_explicit::Base;
 use bx_paragraph::ParagraphLayout;
@@ -75,6 +75,14 @@ impl Layout {
         self.w
     }
 
+    /// Takes other columns. What is held keeps its levels, and its rows are found anew when it is looked for. No memory.
+    pub fn set_width(&mut self, w: u16)
+        requires { is_side w ≡ true }
+        ensures { self.new ≡ record self.old { w = w } }
+    {
+        self.w = w;
+    }
+
     /// The number among those held of a paragraph of the text, whose body stands between two offsets. It is laid out if it is
     /// not held.
     ///
@@ -93,17 +101,18 @@ impl Layout {
         requires order { start ≤ stop }
         requires within { stop ≤ length text.now.edited.text }
         ensures keeps { Keeps (D.class_of source.now) (D.bracket_of source.now) self.old self.new }
-        ensures body { IfOk result (HoldsBody (body_at (D.class_of source.now) text.now.edited.text number) self.new.held) }
+        ensures body { IfOk result (HoldsBody (body_at (D.class_of source.now) text.now.edited.text number) self.new.w self.new.held) }
     {
         let _ = number;
         if let Some(i) = position(&self.held, self.recent, text, start, stop) {
+            lay_out_in(&mut self.held, i, source, self.base, self.w)?;
             self.recent = i;
             return Ok(i);
         }
         let body = text.copy_range(start, stop)?;
         let alloc = *self.held.allocator();
         let layout = ParagraphLayout::of(alloc, body, source, self.w, self.base)?;
-        let i = hold(&mut self.held, layout, source, self.base, self.w)?;
+        let i = hold(&mut self.held, layout, source, self.base)?;
         self.recent = i;
         Ok(i)
     }
@@ -117,7 +126,7 @@ impl Layout {
         held: usize,
     ) -> &ParagraphLayout
         requires data { IsViewBy (D.class_of source.now) (D.bracket_of source.now) self.now }
-        requires held { HoldsBody (body_at (D.class_of source.now) text.now.edited.text number) self.now.held held }
+        requires held { HoldsBody (body_at (D.class_of source.now) text.now.edited.text number) self.now.w self.now.held held }
         ensures { IsOfText (D.class_of source.now) (D.bracket_of source.now) self.now text.now.edited.text number result.now }
     {
         let _ = text;
