@@ -22,8 +22,8 @@ use bx_ucd::BidiData;
 use std::alloc::Global;
 use std::marker::Model;
 
-/// The rows of a text in a window of so many columns, under a base direction. It holds a few paragraphs, laid out
-/// once, and no rows of the whole text.
+/// The rows of a text in a window of so many columns, under a base direction. It holds a few paragraphs, resolved once,
+/// and no rows of the whole text. A paragraph that was laid out in other columns is held as it is until it is looked for.
 #[derive(Drop)]
 pub struct Layout {
     pub(crate) base: Base,
