@@ -9,12 +9,12 @@ pub class_in_written : (block : Block) (i : ℕ) (class : Class) → block.whole
     → class_in (record block { each = set block.each i class }) i ≡ class
 class_in_written block i class own lt = rw (own, get_or-set_same) refl
 
--- and what it had at the other places
+-- and what it had at the other indexes
 pub class_in_kept : (block : Block) (i k : ℕ) (class : Class) → block.whole ≡ None → k ≢ i
     → class_in (record block { each = set block.each i class }) k ≡ class_in block k
 class_in_kept block i k class own ne = rw (own, get_or-set_other) refl
 
--- one more place has the class
+-- one more index has the class
 pub class_in_more : (block : Block) (low i : ℕ) (class : Class) → block.whole ≡ None → i < length block.each
     → ((k : ℕ) → low ≤ k → k < i → class_in block k ≡ class) → (k : ℕ) → low ≤ k → k < i + 1
     → class_in (record block { each = set block.each i class }) k ≡ class

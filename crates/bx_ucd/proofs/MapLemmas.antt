@@ -1,4 +1,4 @@
--- Lemmas on maps in which a later entry takes the place of an earlier one.
+-- Lemmas on maps in which a later entry replaces an earlier one.
 use Rattle.std.proofs.Common.{◌≡◌, ◌<◌, ◌+◌, ℕ, Bool, true, false, cond, List, length, get_or, drop, Option, Some, None, refl, ap, ◌∙◌, sym, suc, ltb, arith}
 use Rattle.std.proofs.Common.{Less, Equal, Greater}
 use Rattle.std.specs.Prelude.{option_map, if◌then◌else◌, ◌==◌}
@@ -19,7 +19,7 @@ tie_is false false exclusive = refl
 pub is_eq-nat_cmp : (a b : ℕ) → is_eq (nat_cmp a b) ≡ (a == b)
 is_eq-nat_cmp a b = tie_is (ltb a b) (a == b) (λ same. let e : a ≡ b = eqb-true a b same in lt-leb (suc a) b (omega arith))
 
--- what is put in for a key takes the place of what was there
+-- what is put in for a key replaces what was there
 put_over : {E V : Type 0} (value : E → V) (later : Option E) (same : Bool) (e : E) (old : Option V)
     → option_or (option_map value (option_or later (if same then Some e else None))) old ≡ option_or (option_map value later) (cond same (Some (value e)) old)
 put_over value (Some l) same e old = refl

@@ -216,7 +216,9 @@ missing_with_a_comment = refl
 
 -- a default that reads badly is a comment
 pub missing_that_reads_badly : answers
-    (codes "# @missing: 0041; Q\n# @missing: 0042..0041; R\n# @missing: 041; R\n# @missing: 0041; R; R\n#@ missing: 0041; R\n## @missing: 0041; R\n# @Missing: 0041; R") [] [] (0x41 ∷ []) [] []
+    (codes
+    "# @missing: 0041; Q\n# @missing: 0042..0041; R\n# @missing: 041; R\n# @missing: 0041; R; R\n#@ missing: 0041; R\n## @missing: 0041; R\n# @Missing: 0041; R")
+    [] [] (0x41 ∷ []) [] []
     ≡ Ok ((L ∷ []), [], [])
 missing_that_reads_badly = refl
 
@@ -241,24 +243,34 @@ later_mirror = refl
 
 -- each class by its short and its long name
 pub short_names : answers (codes
-    "0041;L\n0042;R\n0043;AL\n0044;EN\n0045;ES\n0046;ET\n0047;AN\n0048;CS\n0049;NSM\n004A;BN\n004B;B\n004C;S\n004D;WS\n004E;ON\n004F;LRE\n0050;LRO\n0051;RLE\n0052;RLO\n0053;PDF\n0054;LRI\n0055;RLI\n0056;FSI\n0057;PDI\n") [] [] (0x41 ∷ 0x42 ∷ 0x43 ∷ 0x44 ∷ 0x45 ∷ 0x46 ∷ 0x47 ∷ 0x48 ∷ 0x49 ∷ 0x4A ∷ 0x4B ∷ 0x4C ∷ 0x4D ∷ 0x4E ∷ 0x4F ∷ 0x50 ∷ 0x51 ∷ 0x52 ∷ 0x53 ∷ 0x54 ∷ 0x55 ∷ 0x56 ∷ 0x57 ∷ 0x58 ∷ []) [] []
+    "0041;L\n0042;R\n0043;AL\n0044;EN\n0045;ES\n0046;ET\n0047;AN\n0048;CS\n0049;NSM\n004A;BN\n004B;B\n004C;S\n004D;WS\n004E;ON\n004F;LRE\n0050;LRO\n0051;RLE\n0052;RLO\n0053;PDF\n0054;LRI\n0055;RLI\n0056;FSI\n0057;PDI\n")
+    [] [] (0x41 ∷ 0x42 ∷ 0x43 ∷ 0x44 ∷ 0x45 ∷ 0x46 ∷ 0x47 ∷ 0x48 ∷ 0x49 ∷ 0x4A ∷ 0x4B ∷ 0x4C ∷ 0x4D ∷ 0x4E ∷ 0x4F ∷ 0x50 ∷ 0x51 ∷ 0x52 ∷ 0x53 ∷ 0x54 ∷ 0x55
+    ∷ 0x56 ∷ 0x57 ∷ 0x58 ∷ []) [] []
     ≡ Ok ((L ∷ R ∷ AL ∷ EN ∷ ES ∷ ET ∷ AN ∷ CS ∷ NSM ∷ BN ∷ B ∷ S ∷ WS ∷ ON ∷ LRE ∷ LRO ∷ RLE ∷ RLO ∷ PDF ∷ LRI ∷ RLI ∷ FSI ∷ PDI ∷ L ∷ []), [], [])
 short_names = refl
 
 pub long_names : answers (codes
-    "0041;Left_To_Right\n0042;Right_To_Left\n0043;Arabic_Letter\n0044;European_Number\n0045;European_Separator\n0046;European_Terminator\n0047;Arabic_Number\n0048;Common_Separator\n0049;Nonspacing_Mark\n004A;Boundary_Neutral\n004B;Paragraph_Separator\n004C;Segment_Separator\n004D;White_Space\n004E;Other_Neutral\n004F;Left_To_Right_Embedding\n0050;Left_To_Right_Override\n0051;Right_To_Left_Embedding\n0052;Right_To_Left_Override\n0053;Pop_Directional_Format\n0054;Left_To_Right_Isolate\n0055;Right_To_Left_Isolate\n0056;First_Strong_Isolate\n0057;Pop_Directional_Isolate\n") [] [] (0x41 ∷ 0x42 ∷ 0x43 ∷ 0x44 ∷ 0x45 ∷ 0x46 ∷ 0x47 ∷ 0x48 ∷ 0x49 ∷ 0x4A ∷ 0x4B ∷ 0x4C ∷ 0x4D ∷ 0x4E ∷ 0x4F ∷ 0x50 ∷ 0x51 ∷ 0x52 ∷ 0x53 ∷ 0x54 ∷ 0x55 ∷ 0x56 ∷ 0x57 ∷ 0x58 ∷ []) [] []
+    "0041;Left_To_Right\n0042;Right_To_Left\n0043;Arabic_Letter\n0044;European_Number\n0045;European_Separator\n0046;European_Terminator\n0047;Arabic_Number\n0048;Common_Separator\n0049;Nonspacing_Mark\n004A;Boundary_Neutral\n004B;Paragraph_Separator\n004C;Segment_Separator\n004D;White_Space\n004E;Other_Neutral\n004F;Left_To_Right_Embedding\n0050;Left_To_Right_Override\n0051;Right_To_Left_Embedding\n0052;Right_To_Left_Override\n0053;Pop_Directional_Format\n0054;Left_To_Right_Isolate\n0055;Right_To_Left_Isolate\n0056;First_Strong_Isolate\n0057;Pop_Directional_Isolate\n")
+    [] [] (0x41 ∷ 0x42 ∷ 0x43 ∷ 0x44 ∷ 0x45 ∷ 0x46 ∷ 0x47 ∷ 0x48 ∷ 0x49 ∷ 0x4A ∷ 0x4B ∷ 0x4C ∷ 0x4D ∷ 0x4E ∷ 0x4F ∷ 0x50 ∷ 0x51 ∷ 0x52 ∷ 0x53 ∷ 0x54 ∷ 0x55
+    ∷ 0x56 ∷ 0x57 ∷ 0x58 ∷ []) [] []
     ≡ Ok ((L ∷ R ∷ AL ∷ EN ∷ ES ∷ ET ∷ AN ∷ CS ∷ NSM ∷ BN ∷ B ∷ S ∷ WS ∷ ON ∷ LRE ∷ LRO ∷ RLE ∷ RLO ∷ PDF ∷ LRI ∷ RLI ∷ FSI ∷ PDI ∷ L ∷ []), [], [])
 long_names = refl
 
 -- ---- random files, with the answers of another reader
 
 pub classes_bad_line : answers
-    (codes "\t0042..00042; \t PDI \t \r\n  ##@missing: \t 00005d\t;RLI\t\r\n\t0042; \t PDF\t\r\n\t000044;  RLE\t # x; y\r\n\r\r\n \t #@missing: \t 10ffff ..0043\t;  ON ") (codes "  000042  ;00029  ;\tc  \r\n  00041  ;  005b ; \t o\r\n") (codes "  00042;  0042 \t \n  D800 ;\t00042\n") (0x41 ∷ 0x42 ∷ 0x43 ∷ 0x44 ∷ 0x28 ∷ 0x5B ∷ []) (0x28 ∷ 0x29 ∷ 0x41 ∷ 0x42 ∷ []) (0x28 ∷ 0x29 ∷ 0x41 ∷ 0x42 ∷ [])
+    (codes
+    "\t0042..00042; \t PDI \t \r\n  ##@missing: \t 00005d\t;RLI\t\r\n\t0042; \t PDF\t\r\n\t000044;  RLE\t # x; y\r\n\r\r\n \t #@missing: \t 10ffff ..0043\t;  ON ")
+    (codes "  000042  ;00029  ;\tc  \r\n  00041  ;  005b ; \t o\r\n") (codes "  00042;  0042 \t \n  D800 ;\t00042\n")
+    (0x41 ∷ 0x42 ∷ 0x43 ∷ 0x44 ∷ 0x28 ∷ 0x5B ∷ []) (0x28 ∷ 0x29 ∷ 0x41 ∷ 0x42 ∷ []) (0x28 ∷ 0x29 ∷ 0x41 ∷ 0x42 ∷ [])
     ≡ Err (record { file = Classes; line = 5; cause = BadLine })
 classes_bad_line = refl
 
 pub classes_bad_code : answers
-    (codes " \t 000042 \t ;\tNSM \n \n0005B ..005b\t;  Arabic_Letter  \r\n\t00005b..0028  ;Segment_Separator\n \t 00043 ;  L L \t # @missing: 0041; R\n  0041\t; Right_To_Left_Override#\n") (codes "  0028 \t ;009f \t ;c\t\r\n") (codes " \t 000044; 00028  #\n") (0x41 ∷ 0x42 ∷ 0x43 ∷ 0x44 ∷ 0x28 ∷ 0x5B ∷ []) (0x28 ∷ 0x29 ∷ 0x41 ∷ 0x42 ∷ []) (0x28 ∷ 0x29 ∷ 0x41 ∷ 0x42 ∷ [])
+    (codes
+    " \t 000042 \t ;\tNSM \n \n0005B ..005b\t;  Arabic_Letter  \r\n\t00005b..0028  ;Segment_Separator\n \t 00043 ;  L L \t # @missing: 0041; R\n  0041\t; Right_To_Left_Override#\n")
+    (codes "  0028 \t ;009f \t ;c\t\r\n") (codes " \t 000044; 00028  #\n") (0x41 ∷ 0x42 ∷ 0x43 ∷ 0x44 ∷ 0x28 ∷ 0x5B ∷ []) (0x28 ∷ 0x29 ∷ 0x41 ∷ 0x42 ∷ [])
+    (0x28 ∷ 0x29 ∷ 0x41 ∷ 0x42 ∷ [])
     ≡ Err (record { file = Classes; line = 3; cause = BadCode })
 classes_bad_code = refl
 
@@ -281,7 +293,10 @@ pub brackets_bad_line : answers (codes " \t #\t#@missing:00043..000043 \t ;Nonsp
 brackets_bad_line = refl
 
 pub brackets_bad_code : answers
-    (codes "  # \t @Missing: 009f..000042  ;\tLeft_To_Right_Override \n  \n \t \n \n \t 000043 ;  Right_To_Left_Override\t\n #@missing:  0043  ; B  \n 005b\t; \t B ") (codes "\t0044  ;0042 \t ;  c\t # x; y\n \n\t0042 ;0x41 ;  o  #\r\n") (codes "  0029; 0041  \r\n 00042 \t ;  005B \t \r\n") (0x41 ∷ 0x42 ∷ 0x43 ∷ 0x44 ∷ 0x28 ∷ 0x5B ∷ []) (0x28 ∷ 0x29 ∷ 0x41 ∷ 0x42 ∷ []) (0x28 ∷ 0x29 ∷ 0x41 ∷ 0x42 ∷ [])
+    (codes
+    "  # \t @Missing: 009f..000042  ;\tLeft_To_Right_Override \n  \n \t \n \n \t 000043 ;  Right_To_Left_Override\t\n #@missing:  0043  ; B  \n 005b\t; \t B ")
+    (codes "\t0044  ;0042 \t ;  c\t # x; y\n \n\t0042 ;0x41 ;  o  #\r\n") (codes "  0029; 0041  \r\n 00042 \t ;  005B \t \r\n")
+    (0x41 ∷ 0x42 ∷ 0x43 ∷ 0x44 ∷ 0x28 ∷ 0x5B ∷ []) (0x28 ∷ 0x29 ∷ 0x41 ∷ 0x42 ∷ []) (0x28 ∷ 0x29 ∷ 0x41 ∷ 0x42 ∷ [])
     ≡ Err (record { file = Brackets; line = 3; cause = BadCode })
 brackets_bad_code = refl
 
@@ -318,12 +333,18 @@ pub data_and_defaults : answers (codes "  0029;ET\r\n 00041;\tLeft_To_Right#\r\n
 data_and_defaults = refl
 
 pub overlapping_defaults : answers
-    (codes "# @missing: 0041; R\n \t #@missing: \t 000028; Boundary_Neutral# x\n\t#@missing: \t 0028..00044  ; BN  \n \t #\t@missing:\t0044 ..000029 \t ; \t L  \n") (codes "  00041;00005b; o\t# @missing: 0041; R") [] (0x41 ∷ 0x42 ∷ 0x43 ∷ 0x44 ∷ 0x28 ∷ 0x5B ∷ []) (0x28 ∷ 0x29 ∷ 0x41 ∷ 0x42 ∷ []) (0x28 ∷ 0x29 ∷ 0x41 ∷ 0x42 ∷ [])
+    (codes
+    "# @missing: 0041; R\n \t #@missing: \t 000028; Boundary_Neutral# x\n\t#@missing: \t 0028..00044  ; BN  \n \t #\t@missing:\t0044 ..000029 \t ; \t L  \n")
+    (codes "  00041;00005b; o\t# @missing: 0041; R") [] (0x41 ∷ 0x42 ∷ 0x43 ∷ 0x44 ∷ 0x28 ∷ 0x5B ∷ []) (0x28 ∷ 0x29 ∷ 0x41 ∷ 0x42 ∷ [])
+    (0x28 ∷ 0x29 ∷ 0x41 ∷ 0x42 ∷ [])
     ≡ Ok ((BN ∷ BN ∷ BN ∷ BN ∷ BN ∷ L ∷ []), (None ∷ None ∷ (Some (Opener, 0x5B)) ∷ None ∷ []), (None ∷ None ∷ None ∷ None ∷ []))
 overlapping_defaults = refl
 
 pub overlapping_data : answers
-    (codes "  # @missing:  0005D..000042 \t ;European_Terminator  ; y\r\n  001B ; PDI \t \r\n\t000041; \t L\r\n 00028..10ffff \t ; Left_To_Right_Embedding\t\r\n\t # x; y") (codes "00044 \t ;  000029  ;  c\n \t \n \t 000041; 005b \t ;\tc  \n00005d ;\t005b ;c") (codes "00029; 005d\t\r\n 005d;00005b #\r\n  ") (0x41 ∷ 0x42 ∷ 0x43 ∷ 0x44 ∷ 0x28 ∷ 0x5B ∷ []) (0x28 ∷ 0x29 ∷ 0x41 ∷ 0x42 ∷ []) (0x28 ∷ 0x29 ∷ 0x41 ∷ 0x42 ∷ [])
+    (codes
+    "  # @missing:  0005D..000042 \t ;European_Terminator  ; y\r\n  001B ; PDI \t \r\n\t000041; \t L\r\n 00028..10ffff \t ; Left_To_Right_Embedding\t\r\n\t # x; y")
+    (codes "00044 \t ;  000029  ;  c\n \t \n \t 000041; 005b \t ;\tc  \n00005d ;\t005b ;c") (codes "00029; 005d\t\r\n 005d;00005b #\r\n  ")
+    (0x41 ∷ 0x42 ∷ 0x43 ∷ 0x44 ∷ 0x28 ∷ 0x5B ∷ []) (0x28 ∷ 0x29 ∷ 0x41 ∷ 0x42 ∷ []) (0x28 ∷ 0x29 ∷ 0x41 ∷ 0x42 ∷ [])
     ≡ Ok ((LRE ∷ LRE ∷ LRE ∷ LRE ∷ LRE ∷ LRE ∷ []), (None ∷ None ∷ (Some (Closer, 0x5B)) ∷ None ∷ []), (None ∷ (Some 0x5D) ∷ None ∷ None ∷ []))
 overlapping_data = refl
 
@@ -407,7 +428,9 @@ mirroring_file =
     ++ codes "005D; 005B\n"
 
 abbrev asked : List ℕ
-asked = 0x0 ∷ 0x8 ∷ 0x9 ∷ 0xA ∷ 0xB ∷ 0xD ∷ 0x20 ∷ 0x21 ∷ 0x22 ∷ 0x23 ∷ 0x25 ∷ 0x26 ∷ 0x28 ∷ 0x29 ∷ 0x2A ∷ 0x2B ∷ 0x2C ∷ 0x30 ∷ 0x39 ∷ 0x3A ∷ 0x41 ∷ 0x5B ∷ 0x5C ∷ 0x5D ∷ 0x300 ∷ 0x36F ∷ 0x370 ∷ 0x58F ∷ 0x590 ∷ 0x5CF ∷ 0x5D0 ∷ 0x5EA ∷ 0x5EB ∷ 0x5FF ∷ 0x600 ∷ 0x620 ∷ 0x64A ∷ 0x660 ∷ 0x669 ∷ 0x2028 ∷ 0x2029 ∷ 0x202A ∷ 0x202B ∷ 0x202C ∷ 0x202D ∷ 0x202E ∷ 0x202F ∷ 0x2066 ∷ 0x2067 ∷ 0x2068 ∷ 0x2069 ∷ 0x10FFFF ∷ []
+asked = 0x0 ∷ 0x8 ∷ 0x9 ∷ 0xA ∷ 0xB ∷ 0xD ∷ 0x20 ∷ 0x21 ∷ 0x22 ∷ 0x23 ∷ 0x25 ∷ 0x26 ∷ 0x28 ∷ 0x29 ∷ 0x2A ∷ 0x2B ∷ 0x2C ∷ 0x30 ∷ 0x39 ∷ 0x3A ∷ 0x41 ∷ 0x5B ∷ 0x5C
+    ∷ 0x5D ∷ 0x300 ∷ 0x36F ∷ 0x370 ∷ 0x58F ∷ 0x590 ∷ 0x5CF ∷ 0x5D0 ∷ 0x5EA ∷ 0x5EB ∷ 0x5FF ∷ 0x600 ∷ 0x620 ∷ 0x64A ∷ 0x660 ∷ 0x669 ∷ 0x2028 ∷ 0x2029 ∷ 0x202A
+    ∷ 0x202B ∷ 0x202C ∷ 0x202D ∷ 0x202E ∷ 0x202F ∷ 0x2066 ∷ 0x2067 ∷ 0x2068 ∷ 0x2069 ∷ 0x10FFFF ∷ []
 
 -- both answer the same
 pub small_tables : answers class_file bracket_file mirroring_file asked asked asked ≡ Ok (map class asked, map bracket asked, map mirror asked)

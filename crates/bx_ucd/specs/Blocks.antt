@@ -4,9 +4,9 @@ use Rattle.bx_ucd.specs.declared.class.Class.{Class}
 use Rattle.bx_ucd.specs.declared.class.Class.TheVariants.{L}
 use Rattle.bx_ucd.specs.declared.blocks.Block.{Block}
 
--- the class at a place of a block
+-- the class at an index of a block
 abbrev pub class_in : Block → ℕ → Class
-class_in block place = elim block.whole [ None ↦ slice_index_or block.each place L | (Some class) ↦ class ]
+class_in block index = elim block.whole [ None ↦ slice_index_or block.each index L | (Some class) ↦ class ]
 
 -- what stands for a block past the last
 abbrev pub empty_block : Block

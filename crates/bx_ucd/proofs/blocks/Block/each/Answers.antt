@@ -1,4 +1,4 @@
--- An array of one class has it at each place.
+-- An array of one class has it at each index.
 use Rattle.std.proofs.lemmas.List.{get_or-replicate}
 use Rattle.bx_ucd.specs.declared.class.Class.TheVariants.{L}
 use Rattle.bx_ucd.proofs.blocks.Block.each.Goals as goal
