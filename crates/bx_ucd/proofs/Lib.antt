@@ -8,4 +8,3 @@ pub mod LawLemmas
 pub mod BoundLemmas
 pub mod SmallTables
 mod Rows
-pub mod Remainders

@@ -8,6 +8,6 @@ pub mod BracketFile
 pub mod MirroringFile
 pub mod Blocks
 pub mod ClassTable
-pub mod BracketTable
+pub mod CodeMap
 pub mod Answers
 pub mod Reading

@@ -3,10 +3,10 @@
 
 mod blocks;
 mod bracket_file;
-mod bracket_table;
 pub mod class;
 mod class_file;
 mod class_table;
+mod code_map;
 mod codes;
 pub mod data;
 pub mod error;

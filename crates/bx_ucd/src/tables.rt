@@ -2,13 +2,11 @@
 
 ghost use Rattle.std.specs.Prelude.{◌≡◌, ℕ, ◌<◌, ◌⊎◌, false, None, Some, IfOk, IfErr};
 ghost use Rattle.std.specs.Option.{ForSome};
-ghost use Rattle.std.specs.Ordering.{nat_cmp};
-ghost use Rattle.std.specs.BTreeMap.{get};
-ghost use Rattle.bx_ucd.specs.Answers.{class_by_lines, mirror_by_lines};
+ghost use Rattle.bx_ucd.specs.Answers.{bracket_by_lines, class_by_lines, mirror_by_lines};
 ghost use Rattle.bx_ucd.specs.ClassFile.{class_lines};
 ghost use Rattle.bx_ucd.specs.ClassTable.{class_in_table};
-ghost use Rattle.bx_ucd.specs.BracketTable.{bracket_in_table};
 ghost use Rattle.bx_ucd.specs.BracketFile.{bracket_lines};
+ghost use Rattle.bx_ucd.specs.CodeMap.{value_in};
 ghost use Rattle.bx_ucd.specs.Control.{is_control, no_control_if_some};
 ghost use Rattle.bx_ucd.specs.Lines.{first_refusal, TellsRefusal};
 ghost use Rattle.bx_ucd.specs.MirroringFile.{mirror_lines};
@@ -16,24 +14,23 @@ ghost use Rattle.bx_ucd.specs.Reading.{refusal, NoMemoryAfter, class_in_file, br
 
 use crate::blocks::painted_blocks;
 use crate::bracket_file::BracketEntry;
-use crate::bracket_table::BracketTable;
 use crate::class::Class;
 use crate::class_file::ClassEntry;
 use crate::class_table::ClassTable;
+use crate::code_map::CodeMap;
 use crate::data::{BidiData, Side};
 use crate::error::{UcdError, UcdFile};
 use crate::file::read_entries;
 use crate::mirroring_file::MirrorEntry;
 use std::alloc::{AllocError, Global};
-use std::collections::BTreeMap;
 
 /// Unicode's data as its files give it. The look-ups take no memory.
 #[derive(Drop)]
 pub struct Tables {
     classes: ClassTable,
-    brackets: BracketTable,
-    mirrors: BTreeMap<char, char>,
-    ghost no_control: { (code : ℕ) → ForSome (get nat_cmp mirrors code) (λ m. is_control m ≡ false) },
+    brackets: CodeMap<(Side, char)>,
+    mirrors: CodeMap<char>,
+    ghost no_control: { (code : ℕ) → ForSome (value_in mirrors code) (λ m. is_control m ≡ false) },
 }
 
 /// The table of the classes that the entries give.
@@ -44,11 +41,22 @@ fn class_table(alloc: Global, entries: &[ClassEntry]) -> Result<ClassTable, Allo
     ClassTable::new(alloc, &blocks)
 }
 
-/// The mirrored characters. The last entry for a character counts.
-fn mirror_map(alloc: Global, entries: &[MirrorEntry]) -> Result<BTreeMap<char, char>, AllocError>
-    ensures { IfOk result (λ m. (code : ℕ) → get nat_cmp m code ≡ mirror_by_lines entries.now code) }
+/// The side and pair of each bracket. The last entry for a bracket counts.
+fn bracket_map(alloc: Global, entries: &[BracketEntry]) -> Result<CodeMap<(Side, char)>, AllocError>
+    ensures { IfOk result (λ m. (code : ℕ) → value_in m code ≡ bracket_by_lines entries.now code) }
 {
-    let mut mirrors = BTreeMap::new(alloc);
+    let mut brackets = CodeMap::new(alloc)?;
+    for entry in entries {
+        brackets.insert(entry.bracket, (entry.side, entry.paired))?;
+    }
+    Ok(brackets)
+}
+
+/// The mirrored characters. The last entry for a character counts.
+fn mirror_map(alloc: Global, entries: &[MirrorEntry]) -> Result<CodeMap<char>, AllocError>
+    ensures { IfOk result (λ m. (code : ℕ) → value_in m code ≡ mirror_by_lines entries.now code) }
+{
+    let mut mirrors = CodeMap::new(alloc)?;
     for entry in entries {
         mirrors.insert(entry.character, entry.mirror)?;
     }
@@ -69,22 +77,22 @@ fn read_classes(alloc: Global, bytes: &[u8]) -> Result<ClassTable, UcdError>
 }
 
 /// The brackets of the file, or its first refused line.
-fn read_brackets(alloc: Global, bytes: &[u8]) -> Result<BracketTable, UcdError>
+fn read_brackets(alloc: Global, bytes: &[u8]) -> Result<CodeMap<(Side, char)>, UcdError>
     ensures accepted { IfOk result (λ _. first_refusal UcdFile.Brackets (bracket_lines bytes.now) ≡ None) }
-    ensures answers { IfOk result (λ t. (code : ℕ) → bracket_in_table t code ≡ bracket_in_file bytes.now code) }
+    ensures answers { IfOk result (λ m. (code : ℕ) → value_in m code ≡ bracket_in_file bytes.now code) }
     ensures refused { IfErr result (λ e. TellsRefusal UcdFile.Brackets e (first_refusal UcdFile.Brackets (bracket_lines bytes.now))) }
 {
     let entries = read_entries::<BracketEntry>(alloc, UcdFile::Brackets, bytes)?;
-    match BracketTable::new(alloc, &entries) {
-        Ok(table) => Ok(table),
+    match bracket_map(alloc, &entries) {
+        Ok(brackets) => Ok(brackets),
         Err(_) => Err(UcdError::out_of_memory(UcdFile::Brackets)),
     }
 }
 
 /// The mirrored characters of the file, or its first refused line.
-fn read_mirrors(alloc: Global, bytes: &[u8]) -> Result<BTreeMap<char, char>, UcdError>
+fn read_mirrors(alloc: Global, bytes: &[u8]) -> Result<CodeMap<char>, UcdError>
     ensures accepted { IfOk result (λ _. first_refusal UcdFile.Mirroring (mirror_lines bytes.now) ≡ None) }
-    ensures answers { IfOk result (λ m. (code : ℕ) → get nat_cmp m code ≡ mirror_in_file bytes.now code) }
+    ensures answers { IfOk result (λ m. (code : ℕ) → value_in m code ≡ mirror_in_file bytes.now code) }
     ensures refused { IfErr result (λ e. TellsRefusal UcdFile.Mirroring e (first_refusal UcdFile.Mirroring (mirror_lines bytes.now))) }
 {
     let entries = read_entries::<MirrorEntry>(alloc, UcdFile::Mirroring, bytes)?;
@@ -121,21 +129,21 @@ impl Tables {
 impl BidiData for Tables {
     ghost class_of = { λ t code. class_in_table t.classes code };
 
-    ghost bracket_of = { λ t code. bracket_in_table t.brackets code };
+    ghost bracket_of = { λ t code. value_in t.brackets code };
 
-    ghost mirror_of = { λ t code. get nat_cmp t.mirrors code };
+    ghost mirror_of = { λ t code. value_in t.mirrors code };
 
-    ghost no_mirror_is_control = { λ t code. no_control_if_some (get nat_cmp t.mirrors code) (t.no_control code) };
+    ghost no_mirror_is_control = { λ t code. no_control_if_some (value_in t.mirrors code) (t.no_control code) };
 
     fn class(&self, c: char) -> Class {
         self.classes.class(c)
     }
 
     fn bracket(&self, c: char) -> Option<(Side, char)> {
-        self.brackets.bracket(c)
+        self.brackets.get(c)
     }
 
     fn mirror(&self, c: char) -> Option<char> {
-        self.mirrors.get(&c).copied()
+        self.mirrors.get(c)
     }
 }
