@@ -109,7 +109,8 @@ found_below p j (x ∷ xs) o h e =
       | false ↦ λ k. let z : o.0 < x.0 = ih k in omega arith
     ]) e
 
-pub falling_below : (p : OpenEntry → Bool) (j : ℕ) (os : List OpenEntry) (o : OpenEntry) → IsFalling j os → find p os ≡ Some o → IsFalling o.0 (below_first p os)
+pub falling_below : (p : OpenEntry → Bool) (j : ℕ) (os : List OpenEntry) (o : OpenEntry) → IsFalling j os → find p os ≡ Some o
+    → IsFalling o.0 (below_first p os)
 falling_below p j [] o h e = absurd (cc)
 falling_below p j (x ∷ xs) o h e =
     let ih : find p xs ≡ Some o → IsFalling o.0 (below_first p xs) = falling_below p x.0 xs o h.1 in
@@ -119,7 +120,8 @@ falling_below p j (x ∷ xs) o h e =
     ]) e
 
 -- to close an opener takes it off with what stands above it
-pub through : (p : OpenEntry → Bool) (j : ℕ) (os : List OpenEntry) (o : OpenEntry) → IsFalling j os → find p os ≡ Some o → filter (is_outside o.0 j) os ≡ below_first p os
+pub through : (p : OpenEntry → Bool) (j : ℕ) (os : List OpenEntry) (o : OpenEntry) → IsFalling j os → find p os ≡ Some o
+    → filter (is_outside o.0 j) os ≡ below_first p os
 through p j [] o h e = refl
 through p j (x ∷ xs) o h e =
     let lt : x.0 < j = h.0 in
@@ -166,10 +168,11 @@ ends_later i j (p ∷ ps) h e = (omega (arith, e.0), ends_later i j ps h e.1)
 
 ends_push : (j : ℕ) (ps : List OpenEntry) (p : OpenEntry) → EndsBelow j ps → p.1 < j → EndsBelow j (insert_pair p ps)
 ends_push j [] p e h = (h, tt)
-ends_push j (q ∷ ps) p e h = elim (nat_lt p.0 q.0) as (λ b. EndsBelow j (elim b as (λ x. List OpenEntry) [ true ↦ p ∷ q ∷ ps | false ↦ q ∷ insert_pair p ps ])) [
-  | true ↦ (h, e)
-  | false ↦ (e.0, ends_push j ps p e.1 h)
-]
+ends_push j (q ∷ ps) p e h =
+    elim (nat_lt p.0 q.0) as (λ b. EndsBelow j (elim b as (λ x. List OpenEntry) [ true ↦ p ∷ q ∷ ps | false ↦ q ∷ insert_pair p ps ])) [
+      | true ↦ (h, e)
+      | false ↦ (e.0, ends_push j ps p e.1 h)
+    ]
 
 search_over : (bracket : ℕ → Option (Side × ℕ)) (s : Search) (j : ℕ) (cs : List ℕ) (ts : List Class) → s.is_over ≡ true
     → (search_from bracket s j cs ts).pairs ≡ s.pairs

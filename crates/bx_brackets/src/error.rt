@@ -2,7 +2,7 @@
 use std::alloc::AllocError;
 use thiserror::Error;
 
-/// Why bracket pairs could not be found.
+/// Why bracket pairs could not be found. A call that takes memory is refused only where there is none.
 #[derive(Clone, Copy, PartialEq, Eq, Debug, Error)]
 pub enum BracketError {
     /// Memory ran out.

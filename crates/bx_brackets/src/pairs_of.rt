@@ -209,7 +209,7 @@ fn meet(
 }
 
 /// The bracket pairs of a sequence (BD14 to BD16) from its characters and their current types: the indexes of the opener
-/// and the closer in the sequence, ordered by openers. It takes memory, and is refused only where there is none.
+/// and the closer in the sequence, ordered by openers.
 pub fn pairs<D: BidiData>(
     alloc: Global,
     chars: &[char],

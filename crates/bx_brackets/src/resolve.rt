@@ -259,7 +259,7 @@ fn resolve_next(
     known.clears = resolve_in(types, was_nsm, embedding, before, known.clears, pair);
 }
 
-/// Gives the bracket pairs of a sequence their types, pair by pair (N0), in place. `types` are those after W7,
+/// Gives the bracket pairs of a sequence their types, pair by pair (N0), in the list. `types` are those after W7,
 /// `was_nsm` says which characters were NSM before W1, and `sos` is the type before the sequence of level `level`.
 #[tactic(auto, using(crate::proofs::Marks::pairs_more, crate::proofs::Marks::pairs_all, crate::proofs::Context::first_known))]
 pub fn resolve_pairs(

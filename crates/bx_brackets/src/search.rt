@@ -212,7 +212,7 @@ impl PairSearch {
         Ok(())
     }
 
-    /// Gives the pairs that are found their types, pair by pair (N0), in place. `types` are those after W7, `was_nsm` says
+    /// Gives the pairs that are found their types, pair by pair (N0), in the list. `types` are those after W7, `was_nsm` says
     /// which characters were NSM before W1, and `sos` is the type before the sequence of level `level`.
     pub fn resolve(&self, types: &mut [Class], was_nsm: &[bool], level: u8, sos: Class)
         requires count { length types.old ≡ self.now.count }

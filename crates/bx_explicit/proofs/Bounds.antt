@@ -11,7 +11,7 @@ use Rattle.bx_explicit.specs.declared.state.State.{State}
 use Rattle.bx_explicit.specs.declared.runs.Run.{Run}
 use Rattle.bx_explicit.specs.Role.{role_of}
 use Rattle.bx_explicit.specs.Kept.{level_or_0}
-use Rattle.bx_explicit.specs.Stack.{IsRising}
+use Rattle.bx_explicit.specs.Stack.{max_depth, IsRising}
 use Rattle.bx_explicit.specs.Explicit.{next_state, kept_by, start, explicit_from, explicit_levels}
 use Rattle.bx_explicit.specs.Runs.{run, join_run, runs_from, kept_indexes, indexes_of, IsRunWithin}
 use Rattle.bx_explicit.specs.Sequences.{RunSequence, is_joined, followers, follows, chain_indexes, sequence_of, sequences_from, sequences}
@@ -20,7 +20,7 @@ use Rattle.bx_explicit.proofs.Steps.{rising_next}
 use Rattle.bx_explicit.proofs.LevelRuns.{all_within}
 
 abbrev pub IsLow : Option Kept → Type 0
-IsLow k = level_or_0 k ≤ 125
+IsLow k = level_or_0 k ≤ max_depth
 
 kept_low : (r : Role) (c : Class) (s t : State) → IsRising s.stack → IsRising t.stack → IsLow (kept_by r c s t)
 kept_low Lre c s t h k = omega arith
@@ -42,14 +42,14 @@ explicit_low s (c ∷ cs) h =
     let k : IsRising t.stack = rising_next (role_of c) cs s h in
     All-cons IsLow (kept_by (role_of c) c s t) (explicit_from t cs) (kept_low (role_of c) c s t h k) (explicit_low t cs k)
 
--- no explicit level is above 125
-pub levels_low : (level : ℕ) (cs : List Class) → level ≤ 125 → All IsLow (explicit_levels level cs)
+-- no explicit level is above the greatest
+pub levels_low : (level : ℕ) (cs : List Class) → level ≤ max_depth → All IsLow (explicit_levels level cs)
 levels_low level cs h = explicit_low (start level) cs (h, tt, tt)
 
 abbrev pub IsLowRun : Run → Type 0
-IsLowRun r = r.level ≤ 125
+IsLowRun r = r.level ≤ max_depth
 
-join_low : (k level : ℕ) (rs : List Run) → level ≤ 125 → All IsLowRun rs → All IsLowRun (join_run k level rs)
+join_low : (k level : ℕ) (rs : List Run) → level ≤ max_depth → All IsLowRun rs → All IsLowRun (join_run k level rs)
 join_low k level [] h a = All-cons IsLowRun (run level k k) [] h (All-nil IsLowRun)
 join_low k level (r ∷ rs) h a =
     elim (r.level == level) as (λ v. All IsLowRun (elim v as (λ x. List Run) [ true ↦ run level k r.last ∷ rs | false ↦ run level k k ∷ r ∷ rs ])) [
@@ -87,8 +87,9 @@ followers_each cs Q r (q ∷ qs) a =
       | false ↦ followers_each cs Q r qs (All-tail Q q qs a)
     ]
 
-pub sequences_low : (paragraph : ℕ) (cs : List Class) (kept : List (Option Kept)) → All IsLow kept → All (λ s. s.level ≤ 125) (sequences paragraph cs kept)
-sequences_low paragraph cs kept a = sequences_each paragraph cs kept (λ s. s.level ≤ 125) IsLowRun (λ r fs h t. h) (followers_each cs IsLowRun) []
+pub sequences_low : (paragraph : ℕ) (cs : List Class) (kept : List (Option Kept)) → All IsLow kept
+    → All (λ s. s.level ≤ max_depth) (sequences paragraph cs kept)
+sequences_low paragraph cs kept a = sequences_each paragraph cs kept (λ s. s.level ≤ max_depth) IsLowRun (λ r fs h t. h) (followers_each cs IsLowRun) []
     (runs_from 0 kept) (runs_low 0 kept a)
 
 -- the indexes of a run lie in it

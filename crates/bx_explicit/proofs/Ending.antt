@@ -8,7 +8,7 @@ use Rattle.bx_explicit.specs.declared.runs.Run.{Run}
 use Rattle.bx_explicit.specs.Runs.{runs_from, IsRunWithin}
 use Rattle.bx_explicit.specs.OpenChains.{OpenRuns, run_at, is_over, with_run, newest, others, newest_sequence, sequence_of_runs}
 use Rattle.bx_explicit.specs.Sequences.{RunSequence}
-use Rattle.bx_explicit.specs.Walk.{over_before, still_open, ending, sequences_of, runs_to_come, IsToCome, left_of}
+use Rattle.bx_explicit.specs.Walk.{over_before, still_open, ending, sequences_of, runs_to_come, IsToCome, sequences_left}
 
 over_at : (cs : List Class) (c : List Run) (chains : List (List Run)) (q : Run) (b : Bool) → is_over cs (c ∷ chains) q ≡ b
     → over_before cs (c ∷ chains) q ≡ elim b [ true ↦ c ∷ over_before cs chains q | false ↦ [] ]

@@ -143,9 +143,9 @@ inside_left : (l : ℕ) (s : State) → IsInside l 1 s → (top (end_isolate s))
 inside_left l s w = left_by l s s.overflow_isolates s.valid_isolates refl refl w
 
 -- a kept character above the level `l`
-passed : (l level m : ℕ) (t : State) (cs : List Class) → l < level → resumes_at l (explicit_from t cs) ≡ before_pdi (suc m) cs
+resumes_past : (l level m : ℕ) (t : State) (cs : List Class) → l < level → resumes_at l (explicit_from t cs) ≡ before_pdi (suc m) cs
     → pick (nat_lt l level) (level == l) (one_more (resumes_at l (explicit_from t cs))) (Some 0) ≡ one_more (before_pdi (suc m) cs)
-passed l level m t cs h e = pick_above l level (one_more (resumes_at l (explicit_from t cs))) (Some 0) h ∙ ap one_more e
+resumes_past l level m t cs h e = pick_above l level (one_more (resumes_at l (explicit_from t cs))) (Some 0) h ∙ ap one_more e
 
 -- the first kept character that is not above `l` is the PDI that leads out, and it has that level
 pub out_at : (cs : List Class) (l n : ℕ) (s : State) → IsInside l (suc n) s → resumes_at l (explicit_from s cs) ≡ before_pdi (suc n) cs
@@ -161,21 +161,21 @@ out_at (RLO ∷ cs) l n s w = ap one_more
 out_at (LRI ∷ cs) l n s w =
     let t : State = isolate s (even_above (top s).level) in
     let v : IsInside l (suc (suc n)) t = inside_isolate l (suc n) s (even_above (top s).level) w (omega arith) in
-    passed l (top s).level (suc n) t cs (inside_top l (suc n) s w) (out_at cs l (suc n) t v)
+    resumes_past l (top s).level (suc n) t cs (inside_top l (suc n) s w) (out_at cs l (suc n) t v)
 out_at (RLI ∷ cs) l n s w =
     let t : State = isolate s (odd_above (top s).level) in
     let v : IsInside l (suc (suc n)) t = inside_isolate l (suc n) s (odd_above (top s).level) w (omega arith) in
-    passed l (top s).level (suc n) t cs (inside_top l (suc n) s w) (out_at cs l (suc n) t v)
+    resumes_past l (top s).level (suc n) t cs (inside_top l (suc n) s w) (out_at cs l (suc n) t v)
 out_at (FSI ∷ cs) l n s w =
     let level : ℕ = first_above (isolate_level cs) (top s).level in
     let t : State = isolate s level in
     let v : IsInside l (suc (suc n)) t = inside_isolate l (suc n) s level w (first_higher (isolate_level cs) (top s).level) in
-    passed l (top s).level (suc n) t cs (inside_top l (suc n) s w) (out_at cs l (suc n) t v)
+    resumes_past l (top s).level (suc n) t cs (inside_top l (suc n) s w) (out_at cs l (suc n) t v)
 out_at (PDI ∷ cs) l zero s w = pick_same l (top (end_isolate s)).level (one_more (resumes_at l (explicit_from (end_isolate s) cs))) (Some 0) (inside_left l s w)
 out_at (PDI ∷ cs) l (suc n) s w =
     let t : State = end_isolate s in
     let v : IsInside l (suc n) t = inside_end l n s w in
-    passed l (top t).level n t cs (inside_top l (suc n) t v) (out_at cs l n t v)
+    resumes_past l (top t).level n t cs (inside_top l (suc n) t v) (out_at cs l n t v)
 out_at (PDF ∷ cs) l n s w = ap one_more (out_at cs l n (end_embedding s) (inside_end_embedding l (suc n) s w))
 out_at (BN ∷ cs) l n s w = ap one_more (out_at cs l n s w)
-out_at (_ ∷ cs) l n s w = passed l (top s).level n s cs (inside_top l (suc n) s w) (out_at cs l n s w)
+out_at (_ ∷ cs) l n s w = resumes_past l (top s).level n s cs (inside_top l (suc n) s w) (out_at cs l n s w)

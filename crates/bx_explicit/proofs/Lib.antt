@@ -22,3 +22,4 @@ pub mod Unjoined
 pub mod Waits
 pub mod Overtaken
 pub mod Ordered
+pub mod OneSequence

@@ -56,20 +56,21 @@ first_begins kept o ps w = run_begins kept o ps w o.begin (omega arith) w.begin_
 pub last_begins : (kept : List (Option Kept)) (o : OpenChain) (ps : List ℕ) → IsOpenChain kept o ps → BeginsRun kept o.level (newest_index ps)
 last_begins kept o ps w = let h : o.begin < length ps = w.begin_within in run_begins kept o ps w (length ps - 1) (omega arith) (omega arith)
 
-pub opened : (kept : List (Option Kept)) (os rest : List OpenChain) (o : OpenChain) (ps : List ℕ) → os ≡ o ∷ rest → AreOpen kept os ps → IsOpenChain kept o ps
-opened kept os rest o ps e a = (subst (λ xs. AreOpen kept xs ps) e a).0
+pub newest_is_open : (kept : List (Option Kept)) (os rest : List OpenChain) (o : OpenChain) (ps : List ℕ) → os ≡ o ∷ rest → AreOpen kept os ps
+    → IsOpenChain kept o ps
+newest_is_open kept os rest o ps e a = (subst (λ xs. AreOpen kept xs ps) e a).0
 
 pub ends_below : (kept : List (Option Kept)) (os rest : List OpenChain) (o : OpenChain) (ps : List ℕ) → os ≡ o ∷ rest → AreOpen kept os ps
     → o.last < length kept
 ends_below kept os rest o ps e a =
-    let w : IsOpenChain kept o ps = opened kept os rest o ps e a in
+    let w : IsOpenChain kept o ps = newest_is_open kept os rest o ps e a in
     subst (λ l. l < length kept) w.ends (last_below kept (newest_index ps) (last_begins kept o ps w).within)
 
 -- whether it ends before a run
 pub over_is : (cs : List Class) (kept : List (Option Kept)) (os rest : List OpenChain) (o : OpenChain) (ps : List ℕ) (q : Run) → os ≡ o ∷ rest
     → AreOpen kept os ps → is_over cs (chains_of kept os ps) q ≡ (nat_lt q.level o.level || not (starts_with_initiator (drop o.last cs)))
 over_is cs kept os rest o ps q e a =
-    let w : IsOpenChain kept o ps = opened kept os rest o ps e a in
+    let w : IsOpenChain kept o ps = newest_is_open kept os rest o ps e a in
     let b : BeginsRun kept o.level (newest_index ps) = last_begins kept o ps w in
     ap (λ xs. is_over cs (chains_of kept xs ps) q) e ∙ ap (λ c. is_over cs (c ∷ chains_of kept rest (take o.begin ps)) q)
     (newest_first kept o.begin ps w.begin_within)
@@ -94,7 +95,7 @@ module _ (x : Explicit) (os rest : List OpenChain) (o : OpenChain) (ps : List �
   stacked = record { explicit = x; chains = chains_of x.kept.items os ps }
 
   w : IsOpenChain x.kept.items o ps
-  w = opened x.kept.items os rest o ps e a
+  w = newest_is_open x.kept.items os rest o ps e a
 
   sequence_is : newest_sequence stacked ≡ sequence_of x.level x.classes.items kept (run_at kept (get_or ps o.begin 0))
       (map (run_at kept) (drop (o.begin + 1) ps))

@@ -90,13 +90,13 @@ module _ (paragraph : ℕ) (cs : List Class) (kept : List (Option Kept)) where
   all_behind = behind [] (runs_from 0 kept) (all_rising kept) (begin_all kept kept 0 refl)
 
 -- what is given is the same in another order
-pub permuted : (given all : List RunSequence) → AreGiven given all → IsPermutation given all
-permuted [] all a = subst (IsPermutation []) (sym a) (IsPermutation-refl [])
-permuted (s ∷ given) all a =
+pub given_permutes : (given all : List RunSequence) → AreGiven given all → IsPermutation given all
+given_permutes [] all a = subst (IsPermutation []) (sym a) (IsPermutation-refl [])
+given_permutes (s ∷ given) all a =
     let before : List RunSequence = a.0 in
     let after : List RunSequence = a.1 in
     let e : all ≡ before ++ s ∷ after = a.2 in
-    let rest : IsPermutation (s ∷ given) (s ∷ (before ++ after)) = IsPermutation-cons s given (before ++ after) (permuted given (before ++ after) a.4) in
+    let rest : IsPermutation (s ∷ given) (s ∷ (before ++ after)) = IsPermutation-cons s given (before ++ after) (given_permutes given (before ++ after) a.4) in
     let middle : IsPermutation (s ∷ (before ++ after)) (before ++ s ∷ after) =
     IsPermutation-sym (before ++ s ∷ after) (s ∷ (before ++ after)) (IsPermutation-middle before s after) in
     subst (IsPermutation (s ∷ given)) (sym e) (IsPermutation-trans (s ∷ given) (s ∷ (before ++ after)) (before ++ s ∷ after) rest middle)
@@ -192,12 +192,13 @@ unique all (x ∷ xs) (y ∷ ys) p q n b h =
     ap (λ s. s ∷ xs) e ∙ ap (λ ss. y ∷ ss) tails
 
 -- a sort of the sequences that are given
-pub sorted : (paragraph : ℕ) (cs : List Class) (kept : List (Option Kept)) (given found : List RunSequence) → AreGiven given (sequences paragraph cs kept)
+pub sorted_is_sequences : (paragraph : ℕ) (cs : List Class) (kept : List (Option Kept)) (given found : List RunSequence)
+    → AreGiven given (sequences paragraph cs kept)
     → IsPermutation given found → IsNonDecreasingBy first_index found → found ≡ sequences paragraph cs kept
-sorted paragraph cs kept given found g p n =
+sorted_is_sequences paragraph cs kept given found g p n =
     let all : List RunSequence = sequences paragraph cs kept in
     let b : AreBehind all = all_behind paragraph cs kept in
-    let back : IsPermutation all found = IsPermutation-trans all given found (IsPermutation-sym given all (permuted given all g)) p in
+    let back : IsPermutation all found = IsPermutation-trans all given found (IsPermutation-sym given all (given_permutes given all g)) p in
     let each : All (IsFound all) all = found_each all b in
     unique all found all (All-permutation (IsFound all) all found back each) each n b
     (λ f. total_is f found ∙ sum_by-IsPermutation f all found back ∙ sym (total_is f all))

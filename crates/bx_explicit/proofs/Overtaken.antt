@@ -20,7 +20,7 @@ use Rattle.bx_explicit.proofs.LevelRuns.{runs_within}
 use Rattle.bx_explicit.proofs.Resumed.{joined_by_level}
 use Rattle.bx_explicit.proofs.RunEnd.{EndsAt, run_ends}
 use Rattle.bx_explicit.proofs.Spans.{Spans, each_of_chain, all_reverse, spans_in}
-use Rattle.bx_explicit.proofs.Unjoined.{AreResumed, IsAlone, StandFor, over_alone, resumed, followed, alone, head_over, head_new}
+use Rattle.bx_explicit.proofs.Unjoined.{AreResumed, IsAlone, StandFor, over_alone, resumed_joins, followers_joined, alone, head_over, head_new}
 use Rattle.bx_explicit.proofs.Waits.{heads, IsWaiting, AreWaiting, completed, waiting, ungiven, widen_all, begins_low, wait_before, wait_over, lower_all}
 use Rattle.bx_explicit.proofs.Waits.{none_joined, wait_on, indexes_of_runs, waiting_out}
 use Rattle.bx_explicit.proofs.Ending.{ending_over, ending_open}
@@ -49,7 +49,7 @@ module _ (paragraph : ℕ) (cs : List Class) (kept : List (Option Kept)) where
   runs_on : (r q : Run) (rs rest : List Run) → is_joined cs r q ≡ true
       → (reverse (r ∷ rs) ++ followers cs r (q ∷ rest)) ≡ (reverse (q ∷ r ∷ rs) ++ followers cs q rest)
   runs_on r q rs rest j =
-      ap (λ fs. reverse (r ∷ rs) ++ fs) (followed cs r q rest j)
+      ap (λ fs. reverse (r ∷ rs) ++ fs) (followers_joined cs r q rest j)
       ∙ sym (append_assoc (reverse (r ∷ rs)) (q ∷ []) (followers cs q rest))
       ∙ ap (λ xs. xs ++ followers cs q rest) (sym (reverse-append (q ∷ []) (r ∷ rs)))
 
@@ -228,7 +228,7 @@ module _ (paragraph : ℕ) (cs : List Class) (kept : List (Option Kept)) (law : 
           let low : ℕ = w.waits.0 in
           let c : IsWaiting done r rs (heads chains) low from = w.waits.1 in
           let here : runs_from 0 kept ≡ c.before ++ r ∷ c.between ++ q ∷ rest = split_at done old from (q ∷ rest) c.before c.between r w next c.split in
-          let both : (is_joined cs r q ≡ true) × IsAlone cs r rest = resumed cs (runs_from 0 kept) law c.before r c.between q rest here c.above i h in
+          let both : (is_joined cs r q ≡ true) × IsAlone cs r rest = resumed_joins cs (runs_from 0 kept) law c.before r c.between q rest here c.above i h in
           let lower : All (λ (u : Run). u.level < q.level) (heads chains) = lower_all r.level q.level (heads chains) (omega arith) c.lower in
           let free : All (λ u. is_joined cs u q ≡ false) (heads chains) =
           none_joined cs (runs_from 0 kept) law done chains low q rest (met old w) lower w.waits.2 in

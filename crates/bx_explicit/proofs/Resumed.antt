@@ -28,9 +28,9 @@ use Rattle.bx_explicit.proofs.Inside.{IsInside, out_at}
 use Rattle.bx_explicit.proofs.Overflown.{no_other_run}
 
 -- the index of a match, from what stands before it
-matched : (i : ℕ) (b : Option ℕ) → further (i + 1) b ≡ elim b [ None ↦ None | Some k ↦ Some (i + 1 + k) ]
-matched i None = refl
-matched i (Some k) = refl
+match_further : (i : ℕ) (b : Option ℕ) → further (i + 1) b ≡ elim b [ None ↦ None | Some k ↦ Some (i + 1 + k) ]
+match_further i None = refl
+match_further i (Some k) = refl
 
 abbrev kept : ℕ → Class → Kept
 kept level class = record { level = level; class = class }
@@ -88,7 +88,7 @@ module _ (t : Run) (between : List Run) (q : Run) (after : List Run) where
     after_initiator : (level : ℕ) (cs : List Class) → (top s).level < level → (top s).level ≡ char.level → explicit_from (isolate s level) cs ≡ ks
         → begins_at (elim (before_pdi 1 cs) as (λ x. Option ℕ) [ None ↦ None | Some k ↦ Some (t.last + 1 + k) ]) q.first ≡ is_first
     after_initiator level cs h e f =
-        ap (λ o. begins_at o q.first) (sym (matched t.last (before_pdi 1 cs)))
+        ap (λ o. begins_at o q.first) (sym (match_further t.last (before_pdi 1 cs)))
         ∙ joined_isolate s level cs h (e ∙ same) (ap (runs_from (t.last + 1)) f ∙ later) unlike
 
     joined_after : (c : Class) (cs : List Class) → kept_by (role_of c) c s (next_state (role_of c) cs s) ≡ Some char

@@ -9,6 +9,7 @@ use Rattle.bx_explicit.specs.declared.runs.Run.{Run}
 use Rattle.bx_explicit.specs.LevelIndexes.{level_indexes}
 use Rattle.bx_explicit.specs.OpenChains.{run_at, first_run_of}
 use Rattle.bx_explicit.specs.Runs.{run, join_run, runs_from, kept_indexes, indexes_of, IsRunWithin}
+use Rattle.bx_explicit.specs.Stack.{max_depth}
 use Rattle.bx_explicit.specs.Stacked.{BeginsRun}
 use Rattle.bx_explicit.proofs.LevelRuns.{runs_within, within_eq}
 use Rattle.bx_explicit.proofs.Bounds.{IsLow, IsLowRun, runs_low}
@@ -82,33 +83,33 @@ later level k g (q ∷ qs) r rs e j ih =
           ap (λ n. kept_indexes (k + 1) (take n g)) z ∙ sym (other_level level g (k + 1) q qs e s)
     ] refl j
 
-pub walked : (level : ℕ) (g : List (Option Kept)) (k : ℕ) (r : Run) (rs : List Run) → runs_from k g ≡ r ∷ rs → r.level ≡ level
+pub run_indexes : (level : ℕ) (g : List (Option Kept)) (k : ℕ) (r : Run) (rs : List Run) → runs_from k g ≡ r ∷ rs → r.level ≡ level
     → kept_indexes k (take (r.last + 1 - k) g) ≡ level_indexes level k g
-walked level [] k r rs e s = absurd (cc)
-walked level (None ∷ g) k r rs e s =
+run_indexes level [] k r rs e s = absurd (cc)
+run_indexes level (None ∷ g) k r rs e s =
     let h : k + 1 ≤ r.last = reaches g (k + 1) r rs e in
     let m : r.last + 1 - k ≡ suc (r.last + 1 - (k + 1)) = omega arith in
-    ap (λ n. kept_indexes k (take n (None ∷ g))) m ∙ walked level g (k + 1) r rs e s
-walked level (Some c ∷ g) k r rs e s =
+    ap (λ n. kept_indexes k (take n (None ∷ g))) m ∙ run_indexes level g (k + 1) r rs e s
+run_indexes level (Some c ∷ g) k r rs e s =
     let h : k ≤ r.last = reaches (Some c ∷ g) k r rs e in
     let m : r.last + 1 - k ≡ suc (r.last + 1 - (k + 1)) = omega arith in
     let l : c.level ≡ level = sym (join_level k c.level (runs_from (k + 1) g) r rs e) ∙ s in
     let t : (c.level == level) ≡ true = grind (arith, nat_tests) in
     let j : join_run k level (runs_from (k + 1) g) ≡ r ∷ rs = ap (λ x. join_run k x (runs_from (k + 1) g)) (sym l) ∙ e in
     ap (λ n. kept_indexes k (take n (Some c ∷ g))) m
-    ∙ ap (λ ps. k ∷ ps) (later level k g (runs_from (k + 1) g) r rs refl j (λ q qs f u. walked level g (k + 1) q qs f u))
+    ∙ ap (λ ps. k ∷ ps) (later level k g (runs_from (k + 1) g) r rs refl j (λ q qs f u. run_indexes level g (k + 1) q qs f u))
     ∙ sym (indexes_at level k c g true t)
 
 -- the same for the first run of a list, if there is one
-walked_first : (level : ℕ) (g : List (Option Kept)) (k : ℕ) (rs : List Run) → runs_from k g ≡ rs → (first_run_of rs).level ≡ level
+first_run_indexes : (level : ℕ) (g : List (Option Kept)) (k : ℕ) (rs : List Run) → runs_from k g ≡ rs → (first_run_of rs).level ≡ level
     → kept_indexes k (take ((first_run_of rs).last + 1 - k) g) ≡ level_indexes level k g
-walked_first level g k [] e s = no_indexes g k (0 + 1 - k) e ∙ sym (none_of_level level g k e)
-walked_first level g k (r ∷ rs) e s = walked level g k r rs e s
+first_run_indexes level g k [] e s = no_indexes g k (0 + 1 - k) e ∙ sym (none_of_level level g k e)
+first_run_indexes level g k (r ∷ rs) e s = run_indexes level g k r rs e s
 
 pub indexes_walked : (kept : List (Option Kept)) (level p : ℕ) → BeginsRun kept level p → indexes_of kept (run_at kept p) ≡ level_indexes level p (drop p kept)
 indexes_walked kept level p w =
     ap (λ n. kept_indexes n (take ((run_at kept p).last + 1 - n) (drop n kept))) w.here
-    ∙ walked_first level (drop p kept) p (runs_from p (drop p kept)) refl w.of_level
+    ∙ first_run_indexes level (drop p kept) p (runs_from p (drop p kept)) refl w.of_level
 
 -- what bounds it
 last_in : (n k : ℕ) (rs : List Run) → 0 < n → All (IsRunWithin k n) rs → (first_run_of rs).last < n
@@ -121,9 +122,9 @@ last_below kept p h =
     last_in (length kept) p (runs_from p (drop p kept)) (omega arith)
     (within_eq p (p + length (drop p kept)) (length kept) (runs_from p (drop p kept)) e (runs_within p (drop p kept)))
 
-low_in : (rs : List Run) → All IsLowRun rs → (first_run_of rs).level ≤ 125
+low_in : (rs : List Run) → All IsLowRun rs → (first_run_of rs).level ≤ max_depth
 low_in [] a = omega arith
 low_in (r ∷ rs) a = All-head IsLowRun r rs a
 
-pub level_low : (kept : List (Option Kept)) (p : ℕ) → All IsLow kept → (run_at kept p).level ≤ 125
+pub level_low : (kept : List (Option Kept)) (p : ℕ) → All IsLow kept → (run_at kept p).level ≤ max_depth
 level_low kept p a = low_in (runs_from p (drop p kept)) (runs_low p (drop p kept) (All-drop IsLow p kept a))

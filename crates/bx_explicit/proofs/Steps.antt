@@ -13,7 +13,7 @@ use Rattle.bx_explicit.specs.declared.entry.Entry.{Entry}
 use Rattle.bx_explicit.specs.ParagraphLevel.{isolate_level}
 use Rattle.std.proofs.lemmas.Bool.Decides.{nat_tests}
 use Rattle.bx_explicit.specs.declared.state.State.{State}
-use Rattle.bx_explicit.specs.Stack.{IsRising, top_of, after_isolate, after_embedding, entry}
+use Rattle.bx_explicit.specs.Stack.{max_depth, IsRising, top_of, after_isolate, after_embedding, entry}
 use Rattle.bx_explicit.proofs.Rising.{rising_push, rising_top, rising_length}
 use Rattle.bx_ucd.specs.declared.class.Class.TheVariants.{FSI}
 use Rattle.bx_explicit.specs.TextLevels.{is_fsi}
@@ -81,7 +81,7 @@ pub levels_all : (cs : List Class) (s : State) → explicit_from s (drop (length
 levels_all cs s = rw drop-length
 
 -- the stack stays one of rising levels
-valid_low : (s : State) (l : ℕ) → is_valid s l ≡ true → l ≤ 125
+valid_low : (s : State) (l : ℕ) → is_valid s l ≡ true → l ≤ max_depth
 valid_low s l e = grind (arith, nat_tests)
 
 rising_valid : (s : State) (l : ℕ) (o : Override) (i b : Bool) → is_valid s l ≡ b → IsRising s.stack → (top_of s.stack).level < l
@@ -177,11 +177,11 @@ rising_run zero cs s h = h
 rising_run (suc k) [] s h = h
 rising_run (suc k) (c ∷ cs) s h = rising_run k cs (next_state (role_of c) cs s) (rising_next (role_of c) cs s h)
 
--- the stack never holds more than 126 entries
-pub never_deep : (level k : ℕ) (cs : List Class) → level ≤ 125 → length (state_at k cs (start level)).stack ≤ 126
+-- the stack never holds more entries than there are levels, 0 to the greatest
+pub never_deep : (level k : ℕ) (cs : List Class) → level ≤ max_depth → length (state_at k cs (start level)).stack ≤ max_depth + 1
 never_deep level k cs h = let r : IsRising (state_at k cs (start level)).stack =
     rising_run k cs (start level) (h, tt, tt) in let a : length (state_at k cs (start level)).stack ≤ (top_of (state_at k cs (start level)).stack).level + 1 =
-    rising_length (state_at k cs (start level)).stack r in let b : (top_of (state_at k cs (start level)).stack).level ≤ 125 =
+    rising_length (state_at k cs (start level)).stack r in let b : (top_of (state_at k cs (start level)).stack).level ≤ max_depth =
     rising_top (state_at k cs (start level)).stack r in omega arith
 
 -- so the levels at other indexes do not matter

@@ -63,16 +63,18 @@ IsAlone cs t rest = All (λ q. is_joined cs t q ≡ false) rest
 
 module _ (cs : List Class) (all : List Run) (law : AreResumed cs all) where
   -- after a run that is not above it no run is joined to it
-  passed : (before : List Run) (t : Run) (between rest : List Run) → all ≡ before ++ t ∷ between ++ rest → all_above t.level between ≡ false → IsAlone cs t rest
-  passed before t between [] e h = All-nil (λ q. is_joined cs t q ≡ false)
-  passed before t between (q ∷ rest) e h =
+  alone_after : (before : List Run) (t : Run) (between rest : List Run) → all ≡ before ++ t ∷ between ++ rest → all_above t.level between ≡ false
+      → IsAlone cs t rest
+  alone_after before t between [] e h = All-nil (λ q. is_joined cs t q ≡ false)
+  alone_after before t between (q ∷ rest) e h =
       All-cons (λ x. is_joined cs t x ≡ false) q rest
       (law before t between q rest e ∙ last_of_three (ends_in_initiator cs t) (q.level == t.level) (all_above t.level between) h)
-      (passed before t (between ++ q ∷ []) rest (e ∙ append_one before between rest t q) (still_not t.level between q h))
+      (alone_after before t (between ++ q ∷ []) rest (e ∙ append_one before between rest t q) (still_not t.level between q h))
 
   later_alone : (before : List Run) (t : Run) (between : List Run) (q : Run) (rest : List Run) → all ≡ before ++ t ∷ between ++ q ∷ rest → q.level ≤ t.level
       → IsAlone cs t rest
-  later_alone before t between q rest e h = passed before t (between ++ q ∷ []) rest (e ∙ append_one before between rest t q) (not_above t.level between q h)
+  later_alone before t between q rest e h =
+      alone_after before t (between ++ q ∷ []) rest (e ∙ append_one before between rest t q) (not_above t.level between q h)
 
   pub other_level : (before : List Run) (t : Run) (between : List Run) (q : Run) (rest : List Run) → all ≡ before ++ t ∷ between ++ q ∷ rest → q.level ≢ t.level
       → is_joined cs t q ≡ false
@@ -93,9 +95,9 @@ module _ (cs : List Class) (all : List Run) (law : AreResumed cs all) where
       by false false x y z = λ k d i. joined_none cs t (get_or (q ∷ rest) k d) y
 
   -- a chain that goes on
-  pub resumed : (before : List Run) (t : Run) (between : List Run) (q : Run) (rest : List Run) → all ≡ before ++ t ∷ between ++ q ∷ rest
+  pub resumed_joins : (before : List Run) (t : Run) (between : List Run) (q : Run) (rest : List Run) → all ≡ before ++ t ∷ between ++ q ∷ rest
       → all_above t.level between ≡ true → ends_in_initiator cs t ≡ true → q.level ≡ t.level → (is_joined cs t q ≡ true) × IsAlone cs t rest
-  resumed before t between q rest e a i h =
+  resumed_joins before t between q rest e a i h =
       let s : (q.level == t.level) ≡ true = grind (arith, nat_tests) in (
         law before t between q rest e ∙ all_three (ends_in_initiator cs t) (q.level == t.level) (all_above t.level between) i s a,
         later_alone before t between q rest e (omega arith),
@@ -107,15 +109,15 @@ followers_at : (cs : List Class) (r q : Run) (qs : List Run) (b : Bool) → is_j
 followers_at cs r q qs true e = rw (e, followers)
 followers_at cs r q qs false e = rw (e, followers)
 
-pub followed : (cs : List Class) (t q : Run) (rest : List Run) → is_joined cs t q ≡ true → followers cs t (q ∷ rest) ≡ q ∷ followers cs q rest
-followed cs t q rest h = followers_at cs t q rest true h
+pub followers_joined : (cs : List Class) (t q : Run) (rest : List Run) → is_joined cs t q ≡ true → followers cs t (q ∷ rest) ≡ q ∷ followers cs q rest
+followers_joined cs t q rest h = followers_at cs t q rest true h
 
-pub not_followed : (cs : List Class) (t q : Run) (rest : List Run) → is_joined cs t q ≡ false → followers cs t (q ∷ rest) ≡ followers cs t rest
-not_followed cs t q rest h = followers_at cs t q rest false h
+pub followers_unjoined : (cs : List Class) (t q : Run) (rest : List Run) → is_joined cs t q ≡ false → followers cs t (q ∷ rest) ≡ followers cs t rest
+followers_unjoined cs t q rest h = followers_at cs t q rest false h
 
 pub alone : (cs : List Class) (t : Run) (rest : List Run) → IsAlone cs t rest → followers cs t rest ≡ []
 alone cs t [] a = refl
-alone cs t (q ∷ rest) a = not_followed cs t q rest (All-head (λ x. is_joined cs t x ≡ false) q rest a)
+alone cs t (q ∷ rest) a = followers_unjoined cs t q rest (All-head (λ x. is_joined cs t x ≡ false) q rest a)
     ∙ alone cs t rest (All-tail (λ x. is_joined cs t x ≡ false) q rest a)
 
 -- the runs that are joined to one of those met, where the newest of each chain stand for all

@@ -10,7 +10,7 @@ use Rattle.bx_explicit.specs.Sequences.{RunSequence, is_joined, followers, chain
 use Rattle.bx_explicit.specs.OpenChains.{all_above, first_run_of, sequence_of_runs}
 use Rattle.bx_explicit.specs.Walk.{IsOut}
 use Rattle.bx_explicit.proofs.Spans.{Spans, each_of_chain, all_reverse, spans_before, spans_after}
-use Rattle.bx_explicit.proofs.Unjoined.{AreResumed, other_level, above_more, not_followed}
+use Rattle.bx_explicit.proofs.Unjoined.{AreResumed, other_level, above_more, followers_unjoined}
 
 -- the newest run of each chain
 abbrev pub heads : List (List Run) → List Run
@@ -118,7 +118,7 @@ module _ (paragraph : ℕ) (cs : List Class) (kept : List (Option Kept)) where
       let u : Run = first_run_of c in
       ap (λ ss. ss ++ completed paragraph cs kept c (q ∷ rest) ∷ []) (wait_on chains q rest (All-tail (λ x. is_joined cs x q ≡ false) u (heads chains) a))
       ∙ ap (λ fs. waiting paragraph cs kept chains rest ++ sequence_of_runs paragraph cs kept (reverse c ++ fs) ∷ [])
-      (not_followed cs u q rest (All-head (λ x. is_joined cs x q ≡ false) u (heads chains) a))
+      (followers_unjoined cs u q rest (All-head (λ x. is_joined cs x q ≡ false) u (heads chains) a))
 
   pub indexes_of_runs : (rs : List Run) → chain_indexes kept rs ≡ (sequence_of_runs paragraph cs kept rs).indexes
   indexes_of_runs [] = refl

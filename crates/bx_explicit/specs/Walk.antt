@@ -77,8 +77,8 @@ unlent true chains = others chains
 unlent false chains = chains
 
 -- the sequences of chains and of the runs to come in a paragraph body
-abbrev pub left_of : Explicit → List (List Run) → Option Run → List RunSequence
-left_of e chains run = ending e.level e.classes.items e.kept.items chains (runs_to_come e.kept.items run)
+abbrev pub sequences_left : Explicit → List (List Run) → Option Run → List RunSequence
+sequences_left e chains run = ending e.level e.classes.items e.kept.items chains (runs_to_come e.kept.items run)
 
 -- what a walk keeps: the chains and the run to come are those of its text, and a lent chain is one of them
 pub record IsWalk (e : Explicit) (o : OpenRuns) (next : Option Run) (lent : Bool) : Type 0 where

@@ -2,7 +2,7 @@
 use std::alloc::{AllocError, AllocFailed};
 use thiserror::Error;
 
-/// Why explicit levels or sequences could not be found.
+/// Why explicit levels or sequences could not be found. A call that takes memory is refused only where there is none.
 #[derive(Clone, Copy, PartialEq, Eq, Debug, Error)]
 pub enum ExplicitError {
     /// Memory ran out.

@@ -141,7 +141,7 @@ fn ended_sequences(alloc: Global, explicit: &Explicit) -> Result<Vec<Sequence>, 
 }
 
 /// The isolating run sequences of a paragraph body, ordered by their first indexes, with the types at their ends (BD13,
-/// X10). It takes memory, and is refused only where there is none.
+/// X10).
 pub fn sequences(alloc: Global, explicit: &Explicit) -> Result<Vec<Sequence>, ExplicitError>
     ensures sequences { IfOk result (λ v. v.items ≡ sequences explicit.now.level explicit.now.classes.items explicit.now.kept.items) }
     ensures low { IfOk result (λ v. All (λ s. s.level ≤ max_depth) v.items) }

@@ -123,7 +123,7 @@ impl<'e> OpenChains<'e> {
     }
 
     /// Takes the next run, where the newest chain does not end before it: it goes on with that chain, if they have one
-    /// level, and else begins a chain. It takes memory, and is refused only where there is none.
+    /// level, and else begins a chain.
     pub fn take(&mut self, run: Run) -> Result<(), ExplicitError>
         requires own { run ≡ run_at self.old.explicit.kept.items run.first }
         requires within { run.first < length self.old.explicit.kept.items }

@@ -24,7 +24,7 @@ fn kept_of(alloc: Global, classes: &[Class], level: u8) -> Result<Vec<Option<Kep
     Ok(kept)
 }
 
-/// The explicit levels of a paragraph body of a level (X1 to X9). It takes memory, and is refused only where there is none.
+/// The explicit levels of a paragraph body of a level (X1 to X9).
 #[tactic(auto, using(crate::proofs::Steps::levels_length, crate::proofs::Bounds::levels_low))]
 pub fn explicit(alloc: Global, classes: &[Class], level: u8) -> Result<Explicit, ExplicitError>
     requires { level ≤ 1 }

@@ -4,7 +4,7 @@ ghost use Rattle.bx_explicit.specs.LevelIndexes.{indexes_from};
 ghost use Rattle.bx_explicit.specs.OpenChains.{others, newest_sequence};
 ghost use Rattle.bx_explicit.specs.Sequences.{sequences};
 ghost use Rattle.bx_explicit.specs.Stack.{max_depth};
-ghost use Rattle.bx_explicit.specs.Walk.{SequencesLeft, AreGiven, IsToCome, unlent, left_of, IsWalk};
+ghost use Rattle.bx_explicit.specs.Walk.{SequencesLeft, AreGiven, IsToCome, unlent, sequences_left, IsWalk};
 
 use crate::entry::Explicit;
 use crate::error::ExplicitError;
@@ -24,11 +24,11 @@ fn end_newest(
     requires run { IsToCome explicit.now.kept.items run.old }
     ensures own { chains.new.explicit ≡ explicit.now }
     ensures run { IsToCome explicit.now.kept.items run.new }
-    ensures same { left_of explicit.now chains.new.chains run.new ≡ left_of explicit.now chains.old.chains run.old }
+    ensures same { sequences_left explicit.now chains.new.chains run.new ≡ sequences_left explicit.now chains.old.chains run.old }
     ensures some { IfOk result (λ b. b ≡ true → 0 < length chains.new.chains) }
-    ensures first { IfOk result (λ b. b ≡ true → left_of explicit.now chains.new.chains run.new
-        ≡ newest_sequence chains.new ∷ left_of explicit.now (others chains.new.chains) run.new) }
-    ensures none { IfOk result (λ b. b ≡ false → left_of explicit.now chains.new.chains run.new ≡ []) }
+    ensures first { IfOk result (λ b. b ≡ true → sequences_left explicit.now chains.new.chains run.new
+        ≡ newest_sequence chains.new ∷ sequences_left explicit.now (others chains.new.chains) run.new) }
+    ensures none { IfOk result (λ b. b ≡ false → sequences_left explicit.now chains.new.chains run.new ≡ []) }
 {
     while let Some(next) = *run {
         if chains.is_over(next) {
@@ -60,7 +60,7 @@ impl<'e> Model for SequenceWalk<'e> {
       explicit = w.explicit.now;
       has_current = w.lent;
       current = newest_sequence w.chains;
-      left = left_of w.explicit.now (unlent w.lent w.chains.chains) w.run;
+      left = sequences_left w.explicit.now (unlent w.lent w.chains.chains) w.run;
     } };
 
     ghost invariant = { λ w. IsWalk w.explicit.now w.chains w.run w.lent };
@@ -90,8 +90,7 @@ impl<'e> SequenceWalk<'e> {
         }
     }
 
-    /// Lends the next sequence, if one is left. It takes memory, and is refused only where there is none: then the same
-    /// sequences are left.
+    /// Lends the next sequence, if one is left. Where it is refused, the same sequences are left.
     pub fn advance(&mut self) -> Result<bool, ExplicitError>
         ensures explicit { self.new.explicit ≡ self.old.explicit }
         ensures lent { IfOk result (λ b. b ≡ self.new.has_current) }

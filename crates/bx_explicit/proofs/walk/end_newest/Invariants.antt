@@ -1,13 +1,13 @@
 -- The same sequences are left.
 use Rattle.std.proofs.Common.{◌≡◌, length}
-use Rattle.bx_explicit.specs.Walk.{IsToCome, left_of, runs_to_come}
+use Rattle.bx_explicit.specs.Walk.{IsToCome, sequences_left, runs_to_come}
 use Rattle.bx_explicit.proofs.walk.end_newest.Given as goal
 
 abbrev pub invariant-loop-run : goal.invariant-loop-run
 invariant-loop-run l = record {
   own : l.chains.explicit ≡ l.explicit;
   run : IsToCome l.explicit.kept.items l.run;
-  same : left_of l.explicit l.chains.chains l.run ≡ left_of l.explicit l.fn.chains.chains l.fn.run;
+  same : sequences_left l.explicit l.chains.chains l.run ≡ sequences_left l.explicit l.fn.chains.chains l.fn.run;
 }
 
 abbrev pub decreases-loop-run : goal.decreases-loop-run

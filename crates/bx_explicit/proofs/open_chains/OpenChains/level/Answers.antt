@@ -2,8 +2,9 @@ use Rattle.std.proofs.Common.{◌≡◌, ◌≤◌, ◌-◌, ◌∙◌, ◌∷�
 use Rattle.bx_explicit.specs.declared.entry.Explicit.{Explicit}
 use Rattle.bx_explicit.specs.declared.open_chains.OpenChain.{OpenChain}
 use Rattle.bx_explicit.specs.OpenChains.{OpenRuns, newest_sequence}
+use Rattle.bx_explicit.specs.Stack.{max_depth}
 use Rattle.bx_explicit.specs.Stacked.{BeginsRun}
-use Rattle.bx_explicit.proofs.Newest.{level_is, newest_index, last_begins, opened}
+use Rattle.bx_explicit.proofs.Newest.{level_is, newest_index, last_begins, newest_is_open}
 use Rattle.bx_explicit.proofs.RunWalk.{level_low}
 use Rattle.bx_explicit.proofs.open_chains.OpenChains.level.Goals as goal
 
@@ -24,5 +25,5 @@ returns-clause-low c =
     let ps : List ℕ = c.self.inside.firsts.items in
     let e : os ≡ c.newest.result ∷ rest = ap reverse (sym c.deref.ensures.value) ∙ c.newest.ensures in
     let b : BeginsRun x.kept.items c.newest.result.level (newest_index ps) =
-    last_begins x.kept.items c.newest.result ps (opened x.kept.items os rest c.newest.result ps e c.self.invariant) in
-    subst (λ l. l ≤ 125) b.of_level (level_low x.kept.items (newest_index ps) x.low)
+    last_begins x.kept.items c.newest.result ps (newest_is_open x.kept.items os rest c.newest.result ps e c.self.invariant) in
+    subst (λ l. l ≤ max_depth) b.of_level (level_low x.kept.items (newest_index ps) x.low)

@@ -5,7 +5,7 @@ use Rattle.bx_explicit.specs.declared.open_chains.OpenChain.{OpenChain}
 use Rattle.bx_explicit.specs.OpenChains.{OpenRuns, newest_sequence}
 use Rattle.bx_explicit.specs.Runs.{run}
 use Rattle.bx_explicit.specs.Stacked.{BeginsRun, IsOpenChain}
-use Rattle.bx_explicit.proofs.Newest.{sos_is, first_begins, opened}
+use Rattle.bx_explicit.proofs.Newest.{sos_is, first_begins, newest_is_open}
 use Rattle.bx_explicit.proofs.open_chains.OpenChains.sos.Goals as goal
 
 pub start_class-requires : goal.start_class-requires
@@ -16,7 +16,7 @@ start_class-requires c =
     let o : OpenChain = c.newest-newest.result in
     let ps : List ℕ = c.self.inside.firsts.items in
     let e : os ≡ o ∷ rest = ap reverse (sym c.deref.ensures.value) ∙ c.newest-newest.ensures in
-    let w : IsOpenChain x.kept.items o ps = opened x.kept.items os rest o ps e c.self.invariant in
+    let w : IsOpenChain x.kept.items o ps = newest_is_open x.kept.items os rest o ps e c.self.invariant in
     let b : BeginsRun x.kept.items o.level (get_or ps o.begin 0) = first_begins x.kept.items o ps w in
     let read : c.index.result.now ≡ get_or ps o.begin 0 = c.index.ensures ∙ get_or_default ps o.begin c.index.result.now 0 w.begin_within in
     omega (arith, b.within, read)
@@ -29,7 +29,7 @@ returns c =
     let o : OpenChain = c.newest-newest.result in
     let ps : List ℕ = c.self.inside.firsts.items in
     let e : os ≡ o ∷ rest = ap reverse (sym c.deref.ensures.value) ∙ c.newest-newest.ensures in
-    let w : IsOpenChain x.kept.items o ps = opened x.kept.items os rest o ps e c.self.invariant in
+    let w : IsOpenChain x.kept.items o ps = newest_is_open x.kept.items os rest o ps e c.self.invariant in
     let read : c.index.result.now ≡ get_or ps o.begin 0 = c.index.ensures ∙ get_or_default ps o.begin c.index.result.now 0 w.begin_within in
     c.start_class.ensures ∙ sos_is x os rest o ps e c.self.invariant (run o.level c.index.result.now o.last) refl read
     ∙ ap (λ (v : OpenRuns). (newest_sequence v).sos) c.self.view_is
