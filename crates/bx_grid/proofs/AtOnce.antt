@@ -21,6 +21,7 @@ use Rattle.bx_grid.proofs.Reading.{at, reads-append, IsFinal, all-append, digits
 use Rattle.bx_grid.proofs.RunEnds.{half_ended, ended_early}
 use Rattle.bx_grid.proofs.Texts.{text_read}
 use Rattle.bx_bytes.specs.Utf8.{are_printable}
+use Rattle.bx_terms.specs.Sizes.{largest_side}
 use Rattle.std.specs.Str.{IsUtf8}
 
 -- ---- a run that ends leaves the size
@@ -58,7 +59,8 @@ all_params : (bs : List ℕ) → list_all is_param (params bs) ≡ true
 all_params [] = refl
 all_params (b ∷ bs) = all_by (is_param b) b bs refl (all_params bs)
 
-sequence_reads : (t : Terminal) (ps : List ℕ) (f : ℕ) → t.half_read ≡ [] → list_all is_param ps ≡ true → IsFinal f → t.height ≤ 500 → t.width ≤ 500
+sequence_reads : (t : Terminal) (ps : List ℕ) (f : ℕ) → t.half_read ≡ [] → list_all is_param ps ≡ true → IsFinal f
+    → t.height ≤ largest_side → t.width ≤ largest_side
     → reads t (0x1B ∷ 0x5B ∷ (ps ++ f ∷ [])) ≡ after_command (run_ended t) (capped (command_of ps f))
 sequence_reads t ps f none all final high wide =
     let u : Terminal = run_ended t in
@@ -68,7 +70,7 @@ sequence_reads t ps f none all final high wide =
     ∙ sym (obeyed_capped u (command_of ps f) (omega (arith, size.height, high)) (omega (arith, size.width, wide)))
 
 obeyed_by : (t : Terminal) (ps : List ℕ) (f : ℕ) (after : List ℕ) (command : Command) → t.half_read ≡ [] → list_all is_param ps ≡ true → is_final f ≡ true
-    → command ≡ capped (command_of ps f) → t.height ≤ 500 → t.width ≤ 500
+    → command ≡ capped (command_of ps f) → t.height ≤ largest_side → t.width ≤ largest_side
     → reads t (0x1B ∷ 0x5B ∷ (ps ++ f ∷ after)) ≡ reads (after_command (run_ended t) command) after
 obeyed_by t ps f after command none all final asks high wide =
     let parts : 0x1B ∷ 0x5B ∷ (ps ++ f ∷ after) ≡ (0x1B ∷ 0x5B ∷ (ps ++ f ∷ [])) ++ after =

@@ -1,5 +1,5 @@
 -- Grids: their sizes, a grid of blanks, and what putting one more glyph keeps.
-use Rattle.std.proofs.Common.{◌≡◌, ℕ, ◌+◌, ◌*◌, ◌-◌, ◌<◌, ◌≤◌, nat_le, Bool, true, ◌&&◌, List, [], ◌∷◌, ◌++◌, length, map, take, drop, set, get_or, replicate}
+use Rattle.std.proofs.Common.{◌≡◌, ℕ, ◌+◌, ◌*◌, ◌-◌, ◌<◌, ◌≤◌, Bool, true, List, [], ◌∷◌, ◌++◌, length, map, take, drop, set, get_or, replicate}
 use Rattle.std.proofs.Common.{zero, suc, refl, subst, ap, sym, ◌∙◌, append_assoc, arith}
 use Rattle.std.specs.Str.{IsUtf8}
 use Rattle.std.proofs.lemmas.List.{get_or-map, map-set, set_at, drop_more, length-take-le, length-replicate, take-append-drop, take-map, drop-map}
@@ -12,6 +12,7 @@ use Rattle.bx_grid.specs.Codes.{code_of, codes_of}
 use Rattle.bx_grid.specs.Seen.{seen, all_seen}
 use Rattle.bx_grid.specs.declared.column.Column.{Column}
 use Rattle.bx_grid.specs.Picture.{GridState, HasRoom, IsGrid, IsWithin}
+use Rattle.bx_terms.specs.Sizes.{is_side, largest_side}
 use Rattle.bx_grid.proofs.Pasted.{length-paste, rows_paste}
 use Rattle.bx_grid.proofs.Puts.{run_length, narrow_columns}
 use Rattle.bx_grid.proofs.Whole.{rows-blank, columns_some, whole_glyph}
@@ -39,12 +40,12 @@ span_inside r k n h w all e low left = omega (arith, e, mul-le-mul_right w (let 
 
 pub record IsSide (n : ℕ) : Type 0 where
   pub low : 1 ≤ n
-  pub high : n ≤ 500
+  pub high : n ≤ largest_side
 
-pub side_is : (n : ℕ) → nat_le 1 n && nat_le n 500 ≡ true → IsSide n
+pub side_is : (n : ℕ) → is_side n ≡ true → IsSide n
 side_is n h = record { low = grind (arith, nat_tests); high = grind (arith, nat_tests) }
 
-pub sized_blanks : (h w : ℕ) (columns : List Col) → nat_le 1 h && nat_le h 500 ≡ true → nat_le 1 w && nat_le w 500 ≡ true
+pub sized_blanks : (h w : ℕ) (columns : List Col) → is_side h ≡ true → is_side w ≡ true
     → columns ≡ replicate (h * w) blank → IsGrid h w columns
 sized_blanks h w columns tall wide e =
     let t = side_is h tall in

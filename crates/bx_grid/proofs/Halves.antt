@@ -8,6 +8,7 @@ use Rattle.std.proofs.Math.Bool.{and-false}
 use Rattle.bx_grid.specs.Capped.{capped}
 use Rattle.bx_grid.specs.Tokens.{command}
 use Rattle.bx_grid.specs.Terminal.{Terminal, after_move, after_command, token_read}
+use Rattle.bx_terms.specs.Sizes.{largest_side}
 use Rattle.bx_bytes.specs.declared.fate.Fate.TheVariants.{Waits, Ends, Breaks}
 use Rattle.bx_bytes.specs.Fate.{fate_in}
 use Rattle.bx_bytes.specs.Utf8.{characters, is_character, begins_character}
@@ -28,7 +29,8 @@ run_never_ends t h = never t Waits Breaks Ends (λ (w : Waits ≡ Ends). cc w) (
 
 -- ---- commands
 
-columns_capped : (t : Terminal) (line column : ℕ) → t.height ≤ 500 → t.width ≤ 500 → after_move t line (min 1000 column) ≡ after_move t line column
+columns_capped : (t : Terminal) (line column : ℕ) → t.height ≤ largest_side → t.width ≤ largest_side
+    → after_move t line (min 1000 column) ≡ after_move t line column
 columns_capped t line column h w = elim (cases_lt 1000 column) [
   | inl big ↦ (
       let a : nat_le 1 column ≡ true = grind (arith, nat_tests) in
@@ -41,7 +43,8 @@ columns_capped t line column h w = elim (cases_lt 1000 column) [
       rw c refl)
 ]
 
-moved_capped : (t : Terminal) (line column : ℕ) → t.height ≤ 500 → t.width ≤ 500 → after_move t (min 1000 line) (min 1000 column) ≡ after_move t line column
+moved_capped : (t : Terminal) (line column : ℕ) → t.height ≤ largest_side → t.width ≤ largest_side
+    → after_move t (min 1000 line) (min 1000 column) ≡ after_move t line column
 moved_capped t line column h w = elim (cases_lt 1000 line) [
   | inl big ↦ (
       let a : nat_le 1 line ≡ true = grind (arith, nat_tests) in
@@ -54,7 +57,7 @@ moved_capped t line column h w = elim (cases_lt 1000 line) [
       rw c (columns_capped t line column h w))
 ]
 
-pub obeyed_capped : (t : Terminal) (c : Command) → t.height ≤ 500 → t.width ≤ 500 → after_command t (capped c) ≡ after_command t c
+pub obeyed_capped : (t : Terminal) (c : Command) → t.height ≤ largest_side → t.width ≤ largest_side → after_command t (capped c) ≡ after_command t c
 obeyed_capped t (Move line column) h w = moved_capped t line column h w
 obeyed_capped t Clear h w = refl
 obeyed_capped t Erase h w = refl
@@ -64,7 +67,7 @@ obeyed_capped t Other h w = refl
 -- the last byte of a sequence
 pub end_read : (t : Terminal) (b : ℕ) (rest : List ℕ) → t.half_read ++ b ∷ [] ≡ 0x1B ∷ 0x5B ∷ drop 2 (t.half_read ++ b ∷ [])
     → rest ≡ drop 2 (t.half_read ++ b ∷ [])
-    → t.height ≤ 500 → t.width ≤ 500
+    → t.height ≤ largest_side → t.width ≤ largest_side
     → after_command (at t []) (capped (command rest)) ≡ token_read t (t.half_read ++ b ∷ [])
 end_read t b rest h e hh ww =
     obeyed_capped (at t []) (command rest) hh ww

@@ -66,7 +66,8 @@ latin_printable a b is low high = two_by a b (omega arith) (omega arith) (omega 
 pub two_printable : (a b : ℕ) → 0xC3 ≤ a → a ≤ 0xDF → 0x80 ≤ b → b ≤ 0xBF → IsPrintable (a ∷ b ∷ [])
 two_printable a b l h low high = two_by a b (omega arith) h low high (omega arith)
 
-three_tests : (t u : Bool) (a b c : ℕ) → nat_eq a 0xE0 ≡ t → nat_eq a 0xED ≡ u → 0xE0 ≤ a → a ≤ 0xEF → is_second a b ≡ true → 0x80 ≤ c → c ≤ 0xBF → IsOfThree a b c
+three_tests : (t u : Bool) (a b c : ℕ) → nat_eq a 0xE0 ≡ t → nat_eq a 0xED ≡ u → 0xE0 ≤ a → a ≤ 0xEF → is_second a b ≡ true → 0x80 ≤ c → c ≤ 0xBF
+    → IsOfThree a b c
 three_tests t u a b c et eu l h second low high = record {
   lead_low = l;
   lead_high = h;

@@ -2,7 +2,7 @@
 use Rattle.std.specs.Prelude.{◌≡◌, ℕ, ◌+◌, ◌-◌, ◌*◌, ◌≤◌, ◌<◌, Bool, false, ◌&&◌, List, [], Some, length}
 use Rattle.bx_grid.specs.Columns.{Col, AreBlank}
 use Rattle.bx_grid.specs.Glyphs.{AreWholeRows}
-use Rattle.bx_terms.specs.Sizes.{is_side}
+use Rattle.bx_terms.specs.Sizes.{is_side, largest_side}
 use Rattle.bx_grid.specs.Terminal.{Terminal, reads}
 
 -- what a grid shows, row by row
@@ -40,9 +40,9 @@ pub record Shows (t : Terminal) (p : PictureState) : Type 0 where
 -- each side is from 1 to 500, and there is a column for each index
 pub record IsSized (height width columns : ℕ) : Type 0 where
   pub low : 1 ≤ height
-  pub high : height ≤ 500
+  pub high : height ≤ largest_side
   pub narrow : 1 ≤ width
-  pub wide : width ≤ 500
+  pub wide : width ≤ largest_side
   pub each : columns ≡ height * width
 
 -- a grid's columns are all known, and each row is glyphs that a printable run can put, with all their columns

@@ -2,11 +2,12 @@
 use Rattle.std.specs.Prelude.{◌≡◌, ◌≤◌, ℕ, List, [], length, drop}
 use Rattle.bx_grid.specs.declared.token.Command.{Command}
 use Rattle.bx_grid.specs.Terminal.{Terminal, run_ended, after_command, reads}
+use Rattle.bx_terms.specs.Sizes.{largest_side}
 
 -- so many of the first bytes are a sequence: a terminal with no token half read ends its run and obeys this command, and then
 -- reads the others
 pub record BeginWithSequence (bytes : List ℕ) (command : Command) (len : ℕ) : Type 0 where
   pub some : 1 ≤ len
   pub within : len ≤ length bytes
-  pub obeyed : (t : Terminal) → t.half_read ≡ [] → t.height ≤ 500 → t.width ≤ 500
+  pub obeyed : (t : Terminal) → t.half_read ≡ [] → t.height ≤ largest_side → t.width ≤ largest_side
       → reads t bytes ≡ reads (after_command (run_ended t) command) (drop len bytes)

@@ -9,6 +9,7 @@ ghost use Rattle.bx_grid.specs.Columns.{cut_after, columns_after, columns_before
 ghost use Rattle.bx_grid.specs.Columns as spec;
 ghost use Rattle.bx_grid.specs.Seen.{seen, all_seen};
 ghost use Rattle.bx_grid.specs.Uncut.{AreUncut};
+ghost use Rattle.bx_terms.specs.Sizes.{largest_side};
 
 use crate::column::Column;
 use crate::glyph_text::{GlyphText, SHORT};
@@ -263,7 +264,7 @@ pub fn show_at(
     count: u16,
     negative: bool,
 ) -> Result<(), AllocError>
-    requires small { (row < 500) × (width ≤ 500) }
+    requires small { (row < largest_side) × (width ≤ largest_side) }
     requires rows { row * width + width ≤ length columns.old }
     requires uncut { AreUncut (take width (drop (row * width) (all_seen columns.old))) }
     requires counted { count ≡ run_width run.now }
@@ -287,7 +288,7 @@ pub fn show_at(
 }
 
 pub fn erase_at(columns: &mut [Column], width: usize, row: usize, from: usize)
-    requires small { (row < 500) × (width ≤ 500) }
+    requires small { (row < largest_side) × (width ≤ largest_side) }
     requires rows { row * width + width ≤ length columns.old }
     requires uncut { AreUncut (take width (drop (row * width) (all_seen columns.old))) }
     requires inside { from ≤ width }

@@ -5,6 +5,7 @@ ghost use Rattle.std.specs.Prelude.{IsTrue, true, false};
 ghost use Rattle.bx_grid.specs.Columns.{blank, is_one_glyph, paste, run_columns, run_width};
 ghost use Rattle.bx_grid.specs.Seen.{seen, all_seen};
 ghost use Rattle.bx_grid.specs.Picture.{GridState, HasRoom, IsGrid, IsWithin, is_size};
+ghost use Rattle.bx_terms.specs.Sizes.{largest_side};
 
 use crate::cell::Cell;
 use crate::codes::{blank_codes, note_codes, set_column};
@@ -156,7 +157,7 @@ impl Grid {
         requires { row < self.now.height }
         ensures row { result ≡ take self.now.width (drop (row * self.now.width) self.now.columns) }
         ensures width { length result ≡ self.now.width }
-        ensures wide { length result ≤ 500 }
+        ensures wide { length result ≤ largest_side }
     {
         let start = row as usize * self.width as usize;
         let stop = start + self.width as usize;
@@ -167,7 +168,7 @@ impl Grid {
     pub fn height(&self) -> u16
         ensures height { result ≡ self.now.height }
         ensures low { 1 ≤ result }
-        ensures high { result ≤ 500 }
+        ensures high { result ≤ largest_side }
     {
         self.height
     }
@@ -176,7 +177,7 @@ impl Grid {
     pub fn width(&self) -> u16
         ensures width { result ≡ self.now.width }
         ensures low { 1 ≤ result }
-        ensures high { result ≤ 500 }
+        ensures high { result ≤ largest_side }
     {
         self.width
     }

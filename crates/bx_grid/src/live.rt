@@ -9,6 +9,7 @@ ghost use Rattle.bx_grid.specs.Columns.{run_columns};
 ghost use Rattle.bx_grid.specs.Tokens.{fate};
 ghost use Rattle.bx_grid.specs.Terminal.{Terminal, all_unknown, after_move, after_clear, after_erase, after_rendition, after_command, glyphs_put, run_ended};
 ghost use Rattle.bx_grid.specs.Terminal.{character_read, token_read, after_first_byte, after_next_byte, byte_read, reads, after_resize};
+ghost use Rattle.bx_terms.specs.Sizes.{largest_side};
 
 use crate::column::{Column, all_same};
 use crate::columns::{erase_at, fill_blank, fill_unknown, show_at, unknown_columns};
@@ -48,8 +49,8 @@ impl Model for Live {
 
 impl Live {
     pub fn new(alloc: Global, height: u16, width: u16) -> Result<Live, AllocError>
-        requires tall { (1 ≤ height) × (height ≤ 500) }
-        requires wide { (1 ≤ width) × (width ≤ 500) }
+        requires tall { (1 ≤ height) × (height ≤ largest_side) }
+        requires wide { (1 ≤ width) × (width ≤ largest_side) }
         ensures { IfOk result (λ t. t ≡ record {
           height = height;
           width = width;
@@ -309,8 +310,8 @@ impl Live {
     }
 
     pub fn resize(&mut self, height: u16, width: u16) -> Result<(), AllocError>
-        requires tall { (1 ≤ height) × (height ≤ 500) }
-        requires wide { (1 ≤ width) × (width ≤ 500) }
+        requires tall { (1 ≤ height) × (height ≤ largest_side) }
+        requires wide { (1 ≤ width) × (width ≤ largest_side) }
         ensures { OnOk result (self.new ≡ after_resize self.old height width) }
     {
         let alloc = *self.columns.allocator();

@@ -1,11 +1,9 @@
 //! Control sequences and texts that stand whole in what is read.
 
 ghost use Rattle.std.specs.Prelude.{◌≡◌, ◌∷◌, ◌≤◌, length, IfSome};
-ghost use Rattle.bx_bytes.specs.Utf8.{are_printable};
 ghost use Rattle.bx_grid.specs.Sequences.{BeginWithSequence};
 
 use crate::token::{Command, ESCAPE, command_of, first_digits, is_last, params_len};
-use bx_terms::is_control;
 
 /// A control sequence of parameter bytes and a final byte: what it asks for, and how many bytes it has.
 #[derive(Clone, Copy)]
@@ -73,11 +71,4 @@ pub fn text_len(bytes: &[u8]) -> usize
         len += 1;
     }
     len
-}
-
-/// Whether a text has no control.
-pub fn are_printable(text: &str) -> bool
-    ensures { result ≡ are_printable text.now }
-{
-    text.chars().all(|c| !is_control(c))
 }

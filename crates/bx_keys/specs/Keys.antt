@@ -1,5 +1,5 @@
 -- The key of each item, and the keys of input.
-use Rattle.bx_terms.specs.Sizes.{is_side}
+use Rattle.bx_terms.specs.Sizes.{is_side, largest_side}
 use Rattle.std.specs.Prelude.{ℕ, zero, suc, ◌-◌, ◌≤◌, max, Bool, ◌&&◌, nat_le, ◌==◌, List, [], ◌∷◌, ◌++◌, length, slice_index, take, drop, Option, Some, None}
 use Rattle.std.specs.Prelude.{find, option_map, option_to_list, codes, if◌then◌else◌}
 use Rattle.std.specs.List.{slice_split}
@@ -64,7 +64,7 @@ key_of (b ∷ c ∷ rest) =
 
 -- a size that a window may have
 abbrev pub HasSides : Key → Type 0
-HasSides (Size h w) = ((1 ≤ h) × (h ≤ 500)) × ((1 ≤ w) × (w ≤ 500))
+HasSides (Size h w) = ((1 ≤ h) × (h ≤ largest_side)) × ((1 ≤ w) × (w ≤ largest_side))
 HasSides _ = Unit {0}
 
 -- ---- the keys of input

@@ -7,11 +7,12 @@ ghost use Rattle.std.specs.Str.Parse.{digits_value};
 ghost use Rattle.bx_keys.specs.Keys as spec;
 ghost use Rattle.bx_keys.specs.Keys.{HasSides, is_side_in_digits};
 ghost use Rattle.bx_keys.specs.Waiting.{fate};
+ghost use Rattle.bx_terms.specs.Sizes.{largest_side};
 
 use crate::key::Key;
 use crate::sequence::ESC;
 use bx_bytes::{Fate, character};
-use bx_terms::is_side;
+use bx_terms::{is_ascii_printable, is_side};
 
 /// The key of the item whose last byte this is.
 pub fn key_of(waiting: &[u8], byte: u8) -> Option<Key>
@@ -42,7 +43,7 @@ fn single_key(byte: u8) -> Option<Key>
         0x13 => Some(Key::Save),
         0x19 => Some(Key::Redo),
         0x1A => Some(Key::Undo),
-        0x20..=0x7E => Some(Key::Insert(char::from(byte))),
+        byte if is_ascii_printable(byte) => Some(Key::Insert(char::from(byte))),
         _ => None,
     }
 }
@@ -127,7 +128,7 @@ fn first_semicolon(bytes: &[u8]) -> Option<usize>
 /// A window's side, from 1 to 500, in one to three digits.
 fn side(digits: &[u8]) -> Option<u16>
     ensures value { result ≡ (if is_side_in_digits digits.now then Some (digits_value 10 digits.now) else None) }
-    ensures fits { IfSome result (λ side. (1 ≤ side) × (side ≤ 500)) }
+    ensures fits { IfSome result (λ side. (1 ≤ side) × (side ≤ largest_side)) }
 {
     let side = match digits {
         [a] => digit(*a)?,

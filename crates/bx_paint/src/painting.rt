@@ -4,6 +4,7 @@ ghost use Rattle.std.specs.Prelude.{◌≡◌, ◌+◌, ◌-◌, ◌≤◌, ◌<
 ghost use Rattle.bx_grid.specs.Effects.{effects};
 ghost use Rattle.bx_grid.specs.Picture.{AreWholeTokens, PictureState, IsGrid, IsIdle, IsPicture, Shows};
 ghost use Rattle.bx_grid.specs.Terminal.{Terminal, reads};
+ghost use Rattle.bx_terms.specs.Sizes.{largest_side};
 ghost use Rattle.bx_paint.specs.Changed.{changed, differing};
 ghost use Rattle.bx_paint.specs.Painting.{whole_bytes, changes_bytes, columns_changed, ended, render_change, move_bytes};
 
@@ -19,8 +20,8 @@ const ROOM: usize = 64;
 
 /// Normal rendition, and the cursor.
 fn write_end(out: &mut Output, negative: bool, cursor: Cell) -> Result<(), AllocError>
-    requires line { (1 ≤ cursor.line) × (cursor.line ≤ 500) }
-    requires column { (1 ≤ cursor.column) × (cursor.column ≤ 500) }
+    requires line { (1 ≤ cursor.line) × (cursor.line ≤ largest_side) }
+    requires column { (1 ≤ cursor.column) × (cursor.column ≤ largest_side) }
     ensures bytes { OnOk result (out.new.painting ≡ out.old.painting ++ (render_change negative false ++ move_bytes (cursor.line - 1) (cursor.column - 1))) }
     ensures before { out.new.before ≡ out.old.before }
 {

@@ -11,6 +11,7 @@ pub fn is_control(c: char) -> bool
 }
 
 /// Whether a byte is a character from SPACE to TILDE.
+#[inline(always)]
 pub fn is_ascii_printable(byte: u8) -> bool
     ensures { result ≡ is_ascii_printable byte }
 {

@@ -5,6 +5,8 @@ mod characters;
 mod glyphs;
 mod sizes;
 
-pub use characters::{are_ascii_printable, ascii_glyph, is_ascii_printable, is_control};
+pub use characters::{
+    are_ascii_printable, are_printable, ascii_glyph, is_ascii_printable, is_control,
+};
 pub use glyphs::{is_glyph, run_width};
 pub use sizes::{LARGEST_SIDE, LARGEST_TEXT, is_side};

@@ -4,9 +4,10 @@ ghost use Rattle.std.specs.Prelude.{◌≡◌, ◌<◌, ◌≤◌, [], length, g
 ghost use Rattle.bx_grid.specs.Terminal.{after_command, run_ended, reads};
 
 use crate::live::Live;
-use crate::sequence::{are_printable, first_sequence, text_len};
+use crate::sequence::{first_sequence, text_len};
 use crate::text::text_before_escape;
 use crate::token::{Command, ESCAPE};
+use bx_terms::are_printable;
 use std::alloc::AllocError;
 
 impl Live {
