@@ -14,7 +14,8 @@ use Rattle.bx_brackets.specs.Resolve.{resolve_pairs}
 use Rattle.bx_resolve.specs.Weak.{weak, is_nsm}
 use Rattle.bx_resolve.specs.Neutral.{n1, n2, implicit_at}
 use Rattle.bx_resolve.specs.Plain.{is_plain, is_plain_right, is_from_right, is_unformatted, all_pass}
-use Rattle.bx_resolve.proofs.PlainRuns.{Each, kept_as, explicit_plain, sequences_plain, whole, indexes_from, chars_whole, types_whole}
+use Rattle.bx_explicit.proofs.OneSequence.{kept_as, indexes_from, whole, sequences_plain}
+use Rattle.bx_resolve.proofs.PlainRuns.{Each, explicit_plain, chars_whole, types_whole}
 use Rattle.bx_resolve.proofs.PlainLengths.{levels_length}
 use Rattle.bx_resolve.proofs.PlainTypes.{plain_sequence}
 use Rattle.bx_resolve.proofs.RightTypes.{plain_right_sequence}

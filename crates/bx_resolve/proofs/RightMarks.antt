@@ -46,18 +46,18 @@ two_low b s u p x y r (inl e) = subst (λ z. rise_odd (after_w7 s (last_written 
 two_low b s u p x y r (inr e) = subst (λ z. rise_odd (after_w7 s (last_written b p x (z ∷ r))) ≡ 0
     → rise_odd (after_w7 u (last_written x (past_next p (after_w4 b x (z ∷ r))) z r)) ≡ 0) (sym e) (λ h. refl)
 
-marked_by : (strong mark : Class) → seen mark (strong_next strong mark) NSM ≡ seen mark strong NSM
-marked_by strong AL = refl
-marked_by strong _ = refl
+nsm_after_nsm : (strong mark : Class) → seen mark (strong_next strong mark) NSM ≡ seen mark strong NSM
+nsm_after_nsm strong AL = refl
+nsm_after_nsm strong _ = refl
 
-marked : (mark strong t : Class) → (seen (mark_next mark t) (strong_next strong (after_w1 mark t)) NSM ≡ seen mark strong t)
+nsm_after : (mark strong t : Class) → (seen (mark_next mark t) (strong_next strong (after_w1 mark t)) NSM ≡ seen mark strong t)
     ⊎ (seen (mark_next mark t) (strong_next strong (after_w1 mark t)) NSM ≡ ON)
-marked mark strong NSM = inl (marked_by strong mark)
-marked mark strong LRI = inr refl
-marked mark strong RLI = inr refl
-marked mark strong FSI = inr refl
-marked mark strong PDI = inr refl
-marked mark strong _ = inl refl
+nsm_after mark strong NSM = inl (nsm_after_nsm strong mark)
+nsm_after mark strong LRI = inr refl
+nsm_after mark strong RLI = inr refl
+nsm_after mark strong FSI = inr refl
+nsm_after mark strong PDI = inr refl
+nsm_after mark strong _ = inl refl
 
 abbrev State : Type 0
 State = Class × Class × Class × Bool × Class
@@ -67,7 +67,7 @@ next_low : (state : State) (t : Class) (ts : List Class) → rise_odd (out_all s
 next_low (mark, strong, b, p, s) t ts e =
     let m : Class = mark_next mark t in
     let n : Class = strong_next strong (after_w1 mark t) in
-    two_low b s (side_next s (left_all mark strong b p t (NSM ∷ ts))) p (seen mark strong t) (seen m n NSM) (rest_seen m n NSM ts) (marked mark strong t) e
+    two_low b s (side_next s (left_all mark strong b p t (NSM ∷ ts))) p (seen mark strong t) (seen m n NSM) (rest_seen m n NSM ts) (nsm_after mark strong t) e
 
 marks_low : (state : State) (t : Class) (ts : List Class) → rise_odd (out_all state t ts) ≡ 0
     → AreMarksLow (map is_nsm ts) (map rise_odd (go next_all out_all (next_all state t ts) ts))

@@ -1,5 +1,5 @@
 -- The ends of a text, and the offsets at which they begin.
-use Rattle.std.proofs.Common.{◌≡◌, ◌<◌, ◌≤◌, ◌+◌, ◌-◌, ◌*◌, ◌∙◌, ℕ, zero, suc, List, []}
+use Rattle.std.proofs.Common.{◌≡◌, ◌<◌, ◌+◌, ◌-◌, ◌*◌, ◌∙◌, ℕ, zero, suc, List, []}
 use Rattle.std.proofs.Common.{◌∷◌, ◌++◌, length, get_or, drop, chars, refl, ap, sym, subst, arith, length-append}
 use Rattle.std.proofs.Common.{◌⊎◌, inl, inr}
 use Rattle.std.specs.Str.{IsUtf8}

@@ -105,7 +105,7 @@ fn meet_sequence<D: BidiData>(
     Ok(())
 }
 
-/// Gives the bracket pairs of a text that is one sequence their types (N0), in place. The text is read again only where one
+/// Gives the bracket pairs of a text that is one sequence their types (N0), in the list. The text is read again only where one
 /// of its characters may be a bracket.
 #[tactic(auto, using(crate::proofs::NoBrackets::no_pairs))]
 pub fn resolve_brackets_of<D: BidiData>(
@@ -128,7 +128,7 @@ pub fn resolve_brackets_of<D: BidiData>(
     Ok(())
 }
 
-/// Gives the bracket pairs of a sequence their types (N0), in place. Its characters are read where one may be a bracket.
+/// Gives the bracket pairs of a sequence their types (N0), in the list. Its characters are read where one may be a bracket.
 #[tactic(auto, using(crate::proofs::NoBrackets::no_pairs))]
 pub fn resolve_brackets_in<D: BidiData>(
     scratch: &mut Scratch,

@@ -4,7 +4,7 @@ use bx_explicit::ExplicitError;
 use std::alloc::AllocError;
 use thiserror::Error;
 
-/// Why levels could not be found.
+/// Why levels could not be found. A call that takes memory is refused only where there is none.
 #[derive(Clone, Copy, PartialEq, Eq, Debug, Error)]
 pub enum ResolveError {
     /// Memory ran out.

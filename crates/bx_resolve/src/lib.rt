@@ -1,6 +1,7 @@
 //! The levels of the characters of a paragraph body (UAX #9, 3.3).
 #![tactic(auto)]
 
+mod at_indexes;
 mod body;
 mod brackets;
 mod by_rules;

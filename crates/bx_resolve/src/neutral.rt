@@ -1,10 +1,11 @@
 //! The rules for neutral types and the implicit levels.
-ghost use Rattle.std.specs.Prelude.{◌≡◌, ◌≤◌, ◌+◌};
+ghost use Rattle.std.specs.Prelude.{◌≡◌, ◌≤◌, ◌+◌, IfOk};
 ghost use Rattle.bx_explicit.specs.Stack.{max_depth};
-ghost use Rattle.bx_resolve.specs.Neutral.{side_of, side, agreed, n1, n2, n2_at, implicit_at};
+ghost use Rattle.bx_resolve.specs.Neutral.{side_of, side, agreed, n1, n2, n2_at, implicit_at, implicit};
 
 use bx_ucd::Class;
 use bx_ucd::class::is_neutral;
+use std::alloc::{AllocError, Global};
 
 /// The direction that a class counts as, beside neutrals.
 fn side_of(t: Class) -> Class
@@ -125,4 +126,12 @@ pub fn implicit_at(level: u8, t: Class) -> u8
             _ => level,
         }
     }
+}
+
+/// I1 and I2: the levels of resolved types in a sequence of a level.
+pub fn implicit(alloc: Global, types: &[Class], level: u8) -> Result<Vec<u8>, AllocError>
+    requires { level ≤ max_depth }
+    ensures { IfOk result (λ v. v.items ≡ implicit level types.now) }
+{
+    types.iter().map(|t| implicit_at(level, *t)).collect(alloc)
 }

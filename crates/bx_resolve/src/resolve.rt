@@ -75,7 +75,7 @@ fn unformatted_levels<D: BidiData>(
 
 /// The levels of a paragraph body under a base (UAX #9, 3.3). A text of one direction in which no class needs a rule pays
 /// for none, one from right to left without L for W1 to W7 alone, and one with no formatting characters for no explicit
-/// rule. It takes memory, and is refused only where there is none. A body of 4 GiB goes by the rules one after another.
+/// rule. A body of 4 GiB goes by the rules one after another.
 #[tactic(auto, using(crate::proofs::PlainLevels::plain_levels, crate::proofs::PlainLevels::plain_right_levels, crate::proofs::PlainLevels::from_right_levels))]
 pub fn levels<D: BidiData>(
     alloc: Global,

@@ -53,7 +53,7 @@ impl Scratch {
         }
     }
 
-    /// Gives the types of a sequence those after W7, in place, and notes which were NSM.
+    /// Gives the types of a sequence those after W7, in the list, and notes which were NSM.
     pub fn resolve_weak(&mut self, types: &mut [Class], sos: Class) -> Result<(), AllocError>
         ensures types { OnOk result (types.new ≡ weak sos types.old) }
         ensures marks { OnOk result (self.new.marks.items ≡ map is_nsm types.old) }
@@ -63,7 +63,7 @@ impl Scratch {
         Ok(())
     }
 
-    /// Gives the bracket pairs that are found their types (N0), in place, where the marks are noted.
+    /// Gives the bracket pairs that are found their types (N0), in the list, where the marks are noted.
     pub fn resolve_brackets(&self, types: &mut [Class], ends: Ends)
         requires count { length types.old ≡ self.now.search.count }
         requires marks { length self.now.marks.items ≡ length types.old }
@@ -81,7 +81,7 @@ pub fn may_have_brackets(types: &[Class]) -> bool
     types.iter().any(|t| *t == Class::ON)
 }
 
-/// Gives neutral types those after N2, in place.
+/// Gives neutral types those after N2, in the list.
 pub fn resolve_neutral(types: &mut [Class], ends: Ends)
     ensures { types.new ≡ n2 (direction ends.level) (n1 ends.sos ends.eos types.old) }
 {

@@ -1,10 +1,11 @@
 //! The rules for weak types (W1 to W7), each over a whole sequence.
-ghost use Rattle.std.specs.Prelude.{◌≡◌, MatchOption, true};
+ghost use Rattle.std.specs.Prelude.{◌≡◌, IfOk, MatchOption, map, true};
 ghost use Rattle.bx_resolve.specs.Turns.{rest_after_w3, after_w1, mark_next, after_w2, strong_next, ahead, after_w5, past_next, after_w7, side_next};
 ghost use Rattle.bx_resolve.specs.Weak.{is_nsm, is_en, is_an, is_et, is_settled, mark_after, number_after, w3_at, beside, separator, is_en_past, terminator_of};
 ghost use Rattle.bx_resolve.specs.Weak.{w6_at, left_number, w1, w2, w3, w4, w5, w6, w7, weak};
 
 use bx_ucd::Class;
+use std::alloc::{AllocError, Global};
 
 /// What an NSM becomes after a character.
 fn mark_after(t: Class) -> Class
@@ -51,9 +52,19 @@ fn is_en_past(types: &[Class]) -> bool
     false
 }
 
+/// Which types are NSM.
+pub fn marks(alloc: Global, types: &[Class]) -> Result<Vec<bool>, AllocError>
+    ensures { IfOk result (λ v. v.items ≡ map is_nsm types.now) }
+{
+    types
+        .iter()
+        .map(|t| matches!(*t, Class::NSM))
+        .collect(alloc)
+}
+
 /// W1: nonspacing marks.
 #[tactic(auto, using(crate::proofs::Run::run_write, crate::proofs::Run::run_keep, crate::proofs::Run::w1_run))]
-fn w1(types: &mut [Class], sos: Class)
+pub fn w1(types: &mut [Class], sos: Class)
     ensures { types.new ≡ w1 sos types.old }
 {
     let mut mark = sos;
@@ -68,7 +79,7 @@ fn w1(types: &mut [Class], sos: Class)
 
 /// W2: numbers after Arabic letters.
 #[tactic(auto, using(crate::proofs::Run::run_write, crate::proofs::Run::run_keep, crate::proofs::Run::w2_run))]
-fn w2(types: &mut [Class], sos: Class)
+pub fn w2(types: &mut [Class], sos: Class)
     ensures { types.new ≡ w2 sos types.old }
 {
     let mut strong = sos;
@@ -82,7 +93,7 @@ fn w2(types: &mut [Class], sos: Class)
 }
 
 /// W3: Arabic letters.
-fn w3(types: &mut [Class])
+pub fn w3(types: &mut [Class])
     ensures { types.new ≡ w3 types.old }
 {
     for t in types.iter_mut() {
@@ -144,7 +155,7 @@ fn after_w3(t: Class) -> Class
 
 /// W4: single separators between numbers.
 #[tactic(auto, using(crate::proofs::Run::run_write, crate::proofs::Run::run_keep, crate::proofs::Run::w4_run))]
-fn w4(types: &mut [Class])
+pub fn w4(types: &mut [Class])
     ensures { types.new ≡ w4 types.old }
 {
     let mut before = Class::ON;
@@ -183,7 +194,7 @@ fn left_number(strong: Class) -> Class
 
 /// W5: terminators beside numbers.
 #[tactic(auto, using(crate::proofs::Run::run_write, crate::proofs::Run::run_keep, crate::proofs::Run::w5_run, crate::proofs::Run::past_more))]
-fn w5(types: &mut [Class])
+pub fn w5(types: &mut [Class])
     ensures { types.new ≡ w5 types.old }
 {
     let mut before = false;
@@ -205,7 +216,7 @@ fn w5(types: &mut [Class])
 }
 
 /// W6: the separators and terminators that are left.
-fn w6(types: &mut [Class])
+pub fn w6(types: &mut [Class])
     ensures { types.new ≡ w6 types.old }
 {
     for t in types.iter_mut() {
@@ -218,7 +229,7 @@ fn w6(types: &mut [Class])
 
 /// W7: numbers after L.
 #[tactic(auto, using(crate::proofs::Run::run_write, crate::proofs::Run::run_keep, crate::proofs::Run::w7_run))]
-fn w7(types: &mut [Class], sos: Class)
+pub fn w7(types: &mut [Class], sos: Class)
     ensures { types.new ≡ w7 sos types.old }
 {
     let mut strong = sos;
@@ -398,17 +409,4 @@ pub fn weak_in_one_pass(types: &mut [Class], sos: Class)
             side = side_next(side, sixth);
         }
     }
-}
-
-/// W1 to W7, one after another.
-pub fn weak(types: &mut [Class], sos: Class)
-    ensures { types.new ≡ weak sos types.old }
-{
-    w1(types, sos);
-    w2(types, sos);
-    w3(types);
-    w4(types);
-    w5(types);
-    w6(types);
-    w7(types, sos);
 }

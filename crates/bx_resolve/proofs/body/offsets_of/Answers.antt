@@ -1,5 +1,4 @@
-use Rattle.std.proofs.Common.{ℕ, List, length, rules}
-use Rattle.std.proofs.lemmas.List.{length_push}
+use Rattle.std.proofs.Common.{ℕ, List, rules}
 use Rattle.bx_resolve.proofs.TextEnds.{end_of_end, offset_more, chars_more}
 use Rattle.bx_resolve.proofs.body.offsets_of.Goals as goal
 

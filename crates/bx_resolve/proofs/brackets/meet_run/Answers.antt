@@ -1,4 +1,4 @@
-use Rattle.std.proofs.Common.{◌≡◌, ◌∷◌, ◌++◌, ◌∙◌, ℕ, List, sym, arith, rules, chars, drop, length}
+use Rattle.std.proofs.Common.{◌≡◌, ◌∷◌, ◌++◌, ◌∙◌, ℕ, List, sym, arith, rules, chars, drop}
 use Rattle.bx_explicit.specs.LevelIndexes.{level_indexes}
 use Rattle.bx_resolve.specs.Levels.{chars_at}
 use Rattle.bx_resolve.proofs.PairsLeft.{types_out, char_here, chars_behind, kept_left, removed_left}

@@ -1,5 +1,5 @@
 -- What is met so far, and what is left to meet.
-use Rattle.std.proofs.Common.{◌≡◌, ◌≤◌, ◌++◌, ℕ, List, drop, chars, length}
+use Rattle.std.proofs.Common.{◌≡◌, ◌≤◌, ◌++◌, ℕ, List, drop, chars}
 use denote.Text.{Utf8}
 use denote.Shadow.{shadow}
 use Rattle.bx_brackets.specs.Search.{pairs_after}

@@ -1,5 +1,5 @@
 -- What is met so far, and what is left to meet.
-use Rattle.std.proofs.Common.{◌≡◌, ◌≤◌, drop, length}
+use Rattle.std.proofs.Common.{◌≡◌, ◌≤◌, drop}
 use Rattle.bx_brackets.specs.Search.{pairs_after}
 use Rattle.bx_explicit.specs.LevelIndexes.{indexes_from}
 use Rattle.bx_resolve.specs.Levels.{chars_at}

@@ -1,4 +1,4 @@
-use Rattle.std.proofs.Common.{◌∙◌, sym, arith, chars, length}
+use Rattle.std.proofs.Common.{◌∙◌, sym, arith, chars}
 use Rattle.bx_resolve.proofs.PairsLeft.{types_out}
 use Rattle.bx_resolve.proofs.brackets.meet_text.Goals as goal
 

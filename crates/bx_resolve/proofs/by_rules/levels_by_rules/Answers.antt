@@ -4,21 +4,22 @@ use Rattle.bx_explicit.specs.declared.entry.Kept.{Kept}
 use Rattle.bx_explicit.specs.Sequences.{RunSequence}
 use Rattle.bx_resolve.specs.Levels.{with_levels, with_sequences, levels_in}
 use Rattle.bx_resolve.proofs.Written.{sequences_more, levels_length}
-use Rattle.bx_resolve.proofs.by_rules.each_level.Goals as goal
+use Rattle.bx_resolve.proofs.by_rules.levels_by_rules.Goals as goal
 
 pub loop-sequence-preserved : goal.loop-sequence-preserved
 loop-sequence-preserved g c =
     let bracket : ℕ → Option (Side × ℕ) = g.D.BidiData.bracket_of c.args.source.now in
-    let chars : List ℕ = c.args.chars.now in
-    let kept : List (Option Kept) = c.args.explicit.now.kept.items in
+    let chars : List ℕ = c.in_ok-chars.chars.items in
+    let kept : List (Option Kept) = c.in_ok-explicit.explicit.kept.items in
     let ss : List RunSequence = c.deref-sequence-items.result.now in
     let i : ℕ = c.loop-sequence.sequence-index in
     let s : RunSequence = c.sequence-item.result in
     let each : List (Option ℕ) = c.loop-sequence.each.items in
-    let levels : c.deref-in-loop-sequence.result.now ≡ levels_in bracket chars kept s = c.deref-in-loop-sequence.ensures.value ∙ c.in_ok-levels.ensures
-    ∙ ap (λ k. levels_in bracket chars k s) c.deref.ensures.value in
+    let levels : c.deref-in-loop-sequence-3.result.now ≡ levels_in bracket chars kept s = c.deref-in-loop-sequence-3.ensures.value ∙ c.in_ok-levels.ensures
+    ∙ ap (λ cs. levels_in bracket cs c.deref-in-loop-sequence-2.result.now s) c.deref-in-loop-sequence.ensures.value
+    ∙ ap (λ k. levels_in bracket chars k s) c.deref-in-loop-sequence-2.ensures.value in
     let new : c.write_levels.new.each.items ≡ with_levels s.indexes (levels_in bracket chars kept s) each = c.write_levels.ensures
-    ∙ ap (λ ps. with_levels ps c.deref-in-loop-sequence.result.now each) c.indexes.ensures ∙ ap (λ ls. with_levels s.indexes ls each) levels in
+    ∙ ap (λ ps. with_levels ps c.deref-in-loop-sequence-3.result.now each) c.indexes.ensures ∙ ap (λ ls. with_levels s.indexes ls each) levels in
     record {
       as_long = ap length new ∙ levels_length s.indexes (levels_in bracket chars kept s) each ∙ c.loop-sequence.invariant.as_long;
       written = c.loop-sequence.invariant.written ∙ sequences_more bracket chars kept ss each i s (omega arith)

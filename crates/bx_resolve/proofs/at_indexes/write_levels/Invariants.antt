@@ -1,7 +1,7 @@
 -- What is written so far, and what is left to write.
 use Rattle.std.proofs.Common.{◌≡◌, drop, length}
 use Rattle.bx_resolve.specs.Levels.{with_levels}
-use Rattle.bx_resolve.proofs.by_rules.write_levels.Given as goal
+use Rattle.bx_resolve.proofs.at_indexes.write_levels.Given as goal
 
 abbrev pub invariant-loop-i : goal.invariant-loop-i
 invariant-loop-i l = record {

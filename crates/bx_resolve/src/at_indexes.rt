@@ -1,0 +1,57 @@
+//! What stands at the indexes of a sequence.
+ghost use Rattle.std.specs.Prelude.{◌≡◌, ◌<◌, IfOk, All, None, length, slice_index_or};
+ghost use Rattle.bx_resolve.specs.Levels.{type_of, chars_at, types_at, with_levels};
+
+use bx_explicit::Kept;
+use bx_ucd::Class;
+use std::alloc::{AllocError, Global};
+
+/// The characters at indexes.
+pub fn chars_at(alloc: Global, chars: &[char], indexes: &[usize]) -> Result<Vec<char>, AllocError>
+    requires { All (λ p. p < length chars.now) indexes.now }
+    ensures { IfOk result (λ v. v.items ≡ chars_at chars.now indexes.now) }
+{
+    let mut found = Vec::with_capacity(alloc, indexes.len())?;
+    for p in indexes {
+        found.push(chars[*p])?;
+    }
+    Ok(found)
+}
+
+/// The type of the character at an index, after overrides.
+fn type_at(kept: &[Option<Kept>], index: usize) -> Class
+    requires { index < length kept.now }
+    ensures { result ≡ type_of (slice_index_or kept.now index None) }
+{
+    match kept[index] {
+        Some(k) => k.class,
+        None => Class::ON,
+    }
+}
+
+/// The types of the characters at indexes, after overrides.
+pub fn types_at(
+    alloc: Global,
+    kept: &[Option<Kept>],
+    indexes: &[usize],
+) -> Result<Vec<Class>, AllocError>
+    requires { All (λ p. p < length kept.now) indexes.now }
+    ensures { IfOk result (λ v. v.items ≡ types_at kept.now indexes.now) }
+{
+    let mut types = Vec::with_capacity(alloc, indexes.len())?;
+    for p in indexes {
+        types.push(type_at(kept, *p))?;
+    }
+    Ok(types)
+}
+
+/// Writes levels at their indexes.
+pub fn write_levels(each: &mut Vec<Option<u8>>, indexes: &[usize], levels: &[u8])
+    requires { All (λ p. p < length each.old.items) indexes.now }
+    ensures { each.new.items ≡ with_levels indexes.now levels.now each.old.items }
+{
+    let count = indexes.len().min(levels.len());
+    for i in 0..count {
+        each[indexes[i]] = Some(levels[i]);
+    }
+}
