@@ -1,4 +1,4 @@
-ghost use Rattle.std.specs.Prelude.{◌≡◌, ◌↔◌, ◌∷◌, [], IsTrue, ◌≤◌, length, map, IfOk};
+ghost use Rattle.std.specs.Prelude.{◌≡◌, ◌↔◌, ◌∷◌, [], IsTrue, ◌≤◌, length, map, IfOk, IfSome};
 ghost use Rattle.bx_grid.specs.Columns as spec;
 ghost use Rattle.bx_grid.specs.Columns.{is_blank, blank, col_eq, are_equal};
 ghost use Rattle.bx_grid.specs.Seen.{seen};
@@ -62,6 +62,27 @@ impl Column {
                 negative,
             } => Ok(Column::Glyph {
                 text: text.copy(alloc)?,
+                columns: *columns,
+                offset: *offset,
+                negative: *negative,
+            }),
+        }
+    }
+
+    /// A copy of a column of a short text. There may be none of any other.
+    #[inline(always)]
+    pub(crate) fn short_copy(&self) -> Option<Column>
+        ensures { IfSome result (λ c. seen c ≡ seen self.now) }
+    {
+        match self {
+            Column::Unknown => None,
+            Column::Glyph {
+                text,
+                columns,
+                offset,
+                negative,
+            } => Some(Column::Glyph {
+                text: text.short_copy()?,
                 columns: *columns,
                 offset: *offset,
                 negative: *negative,

@@ -28,7 +28,7 @@ pub fn blank_columns(alloc: Global, count: usize) -> Result<Vec<Column>, AllocEr
 {
     let mut columns = Vec::with_capacity(alloc, count)?;
     for _ in 0..count {
-        columns.push(blank_column())?;
+        columns.push_reserved(blank_column());
     }
     Ok(columns)
 }
@@ -38,7 +38,7 @@ pub fn unknown_columns(alloc: Global, count: usize) -> Result<Vec<Column>, Alloc
 {
     let mut columns = Vec::with_capacity(alloc, count)?;
     for _ in 0..count {
-        columns.push(Column::Unknown)?;
+        columns.push_reserved(Column::Unknown);
     }
     Ok(columns)
 }

@@ -141,6 +141,19 @@ impl GlyphText {
         }
     }
 
+    /// A copy of a text of at most seven bytes, and none of any other.
+    #[inline(always)]
+    pub(crate) fn short_copy(&self) -> Option<GlyphText>
+        ensures { MatchOption result (7 < length self.now) (λ t. t ≡ self.now) }
+    {
+        match &self.stored {
+            Stored::Short(text) => Some(GlyphText {
+                stored: Stored::Short(text.copy()),
+            }),
+            Stored::Long(_) => None,
+        }
+    }
+
     /// The text of one byte.
     pub(crate) fn of_byte(byte: u8) -> GlyphText
         ensures { result ≡ byte ∷ [] }

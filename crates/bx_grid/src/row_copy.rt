@@ -84,9 +84,24 @@ fn copies_of(alloc: Global, columns: &[Column]) -> Result<Vec<Column>, AllocErro
 {
     let mut copies = Vec::with_capacity(alloc, columns.len())?;
     for column in columns {
-        copies.push(column.copy(alloc)?)?;
+        copies.push_reserved(column.copy(alloc)?);
     }
     Ok(copies)
+}
+
+/// Puts copies of columns up to the first one that may take memory: how many it puts.
+fn copy_short(columns: &mut [Column], from: usize, others: &[Column]) -> usize
+    requires inside { from + length others.now ≤ length columns.old }
+    ensures few { result ≤ length others.now }
+    ensures put { all_seen columns.new ≡ paste (all_seen columns.old) from (all_seen (take result others.now)) }
+{
+    for (i, other) in others.iter().enumerate() {
+        let Some(short) = other.short_copy() else {
+            return i;
+        };
+        columns[from + i] = short;
+    }
+    others.len()
 }
 
 /// Puts copies of columns. Where memory runs out some of them are written, and nothing else.
@@ -100,8 +115,9 @@ fn copy_over(
     ensures ok { OnOk result (all_seen columns.new ≡ paste (all_seen columns.old) from (all_seen others.now)) }
     ensures err { OnErr result (AreSameAround from (length others.now) (all_seen columns.old) (all_seen columns.new)) }
 {
-    for (i, other) in others.iter().enumerate() {
-        columns[from + i] = other.copy(alloc)?;
+    let done = copy_short(columns, from, others);
+    for i in done..others.len() {
+        columns[from + i] = others[i].copy(alloc)?;
     }
     Ok(())
 }
