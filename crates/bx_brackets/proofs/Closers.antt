@@ -1,7 +1,7 @@
 -- The pairs by a list of closers, and the openers that have none.
 use Rattle.std.proofs.Common.{◌≡◌, ◌≢◌, ◌<◌, ◌≤◌, ◌+◌, ◌∙◌, ℕ, zero, suc, List, []}
 use Rattle.std.proofs.Common.{◌∷◌, length, get_or, set, drop, replicate, refl, ap, sym, subst, arith, cond}
-use Rattle.std.proofs.Common.{Option, Some, None, Bool, true, false, ◌⊎◌, inl, inr}
+use Rattle.std.proofs.Common.{Option, Some, None, Bool, true, false, inl, inr}
 use Rattle.std.specs.Prelude.{All, IfSome, find, nat_lt}
 use Rattle.std.proofs.lemmas.Bool.Decides.{nat_tests}
 use Rattle.std.proofs.lemmas.List.{at_drop_more, get_or-set_other, length-replicate}

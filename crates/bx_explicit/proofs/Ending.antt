@@ -1,14 +1,13 @@
 -- The sequences in the order in which their chains end: what a turn of the walk does.
-use Rattle.std.proofs.Common.{◌≡◌, ◌<◌, ◌+◌, ◌∙◌, ℕ, List, [], ◌∷◌, ◌++◌, length, drop, reverse, refl, ap, sym, arith, Bool, true, false, Option, Some, None}
+use Rattle.std.proofs.Common.{◌≡◌, ◌+◌, ◌∙◌, ℕ, List, [], ◌∷◌, ◌++◌, drop, reverse, refl, ap, sym, Bool, true, false, Option, Some, None}
 use Rattle.std.specs.Prelude.{IfNone, IfSome}
 use Rattle.bx_ucd.specs.declared.class.Class.{Class}
-use Rattle.bx_explicit.specs.declared.entry.Explicit.{Explicit}
 use Rattle.bx_explicit.specs.declared.entry.Kept.{Kept}
 use Rattle.bx_explicit.specs.declared.runs.Run.{Run}
-use Rattle.bx_explicit.specs.Runs.{runs_from, IsRunWithin}
-use Rattle.bx_explicit.specs.OpenChains.{OpenRuns, run_at, is_over, with_run, newest, others, newest_sequence, sequence_of_runs}
+use Rattle.bx_explicit.specs.Runs.{runs_from}
+use Rattle.bx_explicit.specs.OpenChains.{is_over, with_run, sequence_of_runs}
 use Rattle.bx_explicit.specs.Sequences.{RunSequence}
-use Rattle.bx_explicit.specs.Walk.{over_before, still_open, ending, sequences_of, runs_to_come, IsToCome, sequences_left}
+use Rattle.bx_explicit.specs.Walk.{over_before, still_open, ending, sequences_of, runs_to_come}
 
 over_at : (cs : List Class) (c : List Run) (chains : List (List Run)) (q : Run) (b : Bool) → is_over cs (c ∷ chains) q ≡ b
     → over_before cs (c ∷ chains) q ≡ elim b [ true ↦ c ∷ over_before cs chains q | false ↦ [] ]

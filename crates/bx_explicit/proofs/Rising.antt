@@ -1,8 +1,8 @@
 -- The stack of rising levels, and what its list, last entry last, becomes.
-use Rattle.std.proofs.Common.{◌≡◌, ◌<◌, ◌≤◌, ◌+◌, ℕ, List, [], ◌∷◌, ◌++◌, length, reverse, arith, subst}
-use Rattle.std.proofs.lemmas.List.{reverse-append, length-reverse, reverse-reverse}
+use Rattle.std.proofs.Common.{◌≡◌, ◌<◌, ◌≤◌, ◌+◌, ℕ, List, [], ◌∷◌, length, reverse, arith}
+use Rattle.std.proofs.lemmas.List.{length-reverse}
 use Rattle.bx_explicit.specs.declared.entry.Entry.{Entry}
-use Rattle.bx_explicit.specs.Stack.{max_depth, stack_room, IsRising, top_of, rest_of}
+use Rattle.bx_explicit.specs.Stack.{max_depth, stack_room, IsRising, top_of}
 
 pub rising_length : (es : List Entry) → IsRising es → length es ≤ (top_of es).level + 1
 rising_length [] r = omega arith
@@ -22,5 +22,3 @@ rising_push (f ∷ es) e r h k = (h, k, r)
 pub room : (xs : List Entry) (n : ℕ) → IsRising (reverse xs) → (top_of (reverse xs)).level < n → n ≤ max_depth → length xs < stack_room
 room xs n r h k = let a : length (reverse xs) ≤ (top_of (reverse xs)).level + 1 = rising_length (reverse xs) r in let b : length (reverse xs) ≡ length xs =
     length-reverse xs in omega arith
-
--- what is true of every stack is true of the list with its last entry last

@@ -1,10 +1,8 @@
 -- Isolating run sequences and the types at their ends, BD13 and X10.
 pub use Rattle.bx_ucd.specs.Class.{direction}
-use Rattle.std.specs.Prelude.{◌==◌, ℕ, ◌+◌, ◌%◌, Bool, true, false, List, [], ◌∷◌, ◌++◌, Option, Some, None, take, drop, reverse, max}
+use Rattle.std.specs.Prelude.{◌==◌, ℕ, ◌+◌, Bool, true, false, List, [], ◌∷◌, ◌++◌, Option, Some, None, take, drop, reverse, max}
 use Rattle.std.specs.List.{list_any}
-use Rattle.std.proofs.Common.{zero, suc}
 use Rattle.bx_ucd.specs.declared.class.Class.{Class}
-use Rattle.bx_ucd.specs.declared.class.Class.TheVariants.{L, R}
 use Rattle.bx_ucd.specs.Class.{is_initiator}
 use Rattle.bx_explicit.specs.declared.entry.Kept.{Kept}
 use Rattle.bx_explicit.specs.declared.runs.Run.{Run}

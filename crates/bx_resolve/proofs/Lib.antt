@@ -7,7 +7,7 @@ pub mod PairsLeft
 pub mod Fused
 pub mod Written
 pub mod Apart
-pub mod PlainRuns
+pub mod PlainKept
 pub mod PlainPairs
 pub mod PlainLengths
 pub mod PlainTypes

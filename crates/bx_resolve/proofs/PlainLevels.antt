@@ -15,7 +15,7 @@ use Rattle.bx_resolve.specs.Weak.{weak, is_nsm}
 use Rattle.bx_resolve.specs.Neutral.{n1, n2, implicit_at}
 use Rattle.bx_resolve.specs.Plain.{is_plain, is_plain_right, is_from_right, is_unformatted, all_pass}
 use Rattle.bx_explicit.proofs.OneSequence.{kept_as, indexes_from, whole, sequences_plain}
-use Rattle.bx_resolve.proofs.PlainRuns.{Each, explicit_plain, chars_whole, types_whole}
+use Rattle.bx_resolve.proofs.PlainKept.{Each, explicit_plain, chars_whole, types_whole}
 use Rattle.bx_resolve.proofs.PlainLengths.{levels_length}
 use Rattle.bx_resolve.proofs.PlainTypes.{plain_sequence}
 use Rattle.bx_resolve.proofs.RightTypes.{plain_right_sequence}
@@ -54,8 +54,8 @@ levels_whole : (bracket : ℕ → Option (Side × ℕ)) (p : ℕ) (chars : List 
 levels_whole bracket p chars cs n e f = ap (λ xs. sequence_levels bracket p (direction p) (direction p) xs (types_at (map (kept_as p) cs) (indexes_from 0 n)))
     (chars_whole chars n e) ∙ ap (sequence_levels bracket p (direction p) (direction p) chars) (types_whole p cs n f)
 
-written : (n : ℕ) (ls : List ℕ) → length ls ≡ n → with_levels (indexes_from 0 n) ls (replicate n None) ≡ map found ls
-written n ls e = ap (λ k. with_levels (indexes_from 0 k) ls (replicate k None)) (sym e) ∙ write_all ls [] 0 refl
+levels_at_all : (n : ℕ) (ls : List ℕ) → length ls ≡ n → with_levels (indexes_from 0 n) ls (replicate n None) ≡ map found ls
+levels_at_all n ls e = ap (λ k. with_levels (indexes_from 0 k) ls (replicate k None)) (sym e) ∙ write_all ls [] 0 refl
 
 by_classes : (bracket : ℕ → Option (Side × ℕ)) (p : ℕ) (chars : List ℕ) (cs : List Class) (n : ℕ) → length chars ≡ n → length cs ≡ n
     → with_sequences bracket chars (map (kept_as p) cs) (sequences p cs (map (kept_as p) cs)) (replicate n None)
@@ -69,7 +69,7 @@ by_classes bracket p chars (c ∷ cs) n e f =
     let s : sequences p (c ∷ cs) kept ≡ whole p n ∷ [] = sequences_plain p c cs ∙ ap (λ k. whole p k ∷ []) f in
     ap (λ ss. with_sequences bracket chars kept ss (replicate n None)) s
     ∙ ap (λ ls. with_levels (indexes_from 0 n) ls (replicate n None)) (levels_whole bracket p chars (c ∷ cs) n e f)
-    ∙ written n levels (levels_length bracket p (direction p) (direction p) chars (c ∷ cs) ∙ f)
+    ∙ levels_at_all n levels (levels_length bracket p (direction p) (direction p) chars (c ∷ cs) ∙ f)
 
 each_pass : (p : Class → Bool) (cs : List Class) → all_pass p cs ≡ true → Each p cs
 each_pass p [] e = tt

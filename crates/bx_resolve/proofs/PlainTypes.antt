@@ -15,7 +15,7 @@ use Rattle.bx_resolve.specs.Weak.{number_after, left_number, is_left_or_right, b
 use Rattle.bx_resolve.specs.Neutral.{n1, n2, n1_at, side, agreed, implicit}
 use Rattle.bx_resolve.specs.Levels.{sequence_levels}
 use Rattle.bx_resolve.specs.Plain.{is_plain}
-use Rattle.bx_resolve.proofs.PlainRuns.{Each}
+use Rattle.bx_resolve.proofs.PlainKept.{Each}
 use Rattle.bx_resolve.proofs.PlainPairs.{AreInside, pairs_inside}
 use Rattle.bx_resolve.proofs.PlainLengths.{at_each_length, weak_length, change_length}
 

@@ -16,7 +16,7 @@ use Rattle.bx_resolve.specs.Neutral.{n2, n1_at, n2_at, side, agreed, rise_odd, i
 use Rattle.bx_resolve.specs.AtEach.{at_each}
 use Rattle.bx_resolve.specs.Levels.{sequence_levels}
 use Rattle.bx_resolve.specs.Plain.{is_from_right}
-use Rattle.bx_resolve.proofs.PlainRuns.{Each}
+use Rattle.bx_resolve.proofs.PlainKept.{Each}
 use Rattle.bx_resolve.proofs.PlainPairs.{AreInside, pairs_inside}
 use Rattle.bx_resolve.proofs.PlainTypes.{each_by_rule, each_map, each_take, each_drop, each_append}
 use Rattle.bx_resolve.proofs.PairTypes.{AreOn, HaveEnds, pairs_ends}

@@ -13,7 +13,7 @@ use Rattle.bx_resolve.specs.Weak.{terminator_of, is_en_past}
 use Rattle.bx_resolve.specs.Neutral.{n1, n2, n1_at, side, agreed, implicit}
 use Rattle.bx_resolve.specs.Levels.{sequence_levels}
 use Rattle.bx_resolve.specs.Plain.{is_plain_right}
-use Rattle.bx_resolve.proofs.PlainRuns.{Each}
+use Rattle.bx_resolve.proofs.PlainKept.{Each}
 use Rattle.bx_resolve.proofs.PlainPairs.{AreInside, pairs_inside}
 use Rattle.bx_resolve.proofs.PlainLengths.{at_each_length, weak_length, change_length}
 use Rattle.bx_resolve.proofs.PlainTypes.{each_by_rule, each_map, each_take, each_drop, each_append}

@@ -63,9 +63,9 @@ found : (test : MirrorEntry → Bool) (ls : List (List ℕ)) → IfSome (find_la
 found test [] = tt
 found test (l ∷ ls) = one_more test (entry (mirror_line l)) (filter_map entry (map mirror_line ls)) (line_no_control l) (found test ls)
 
-mirrored : (o : Option MirrorEntry) → IfSome o HasNoControl → ForSome (option_map (λ e. e.mirror) o) (λ m. is_control m ≡ false)
-mirrored None h = λ m e. cc
-mirrored (Some e) h = λ m is. let same : e.mirror ≡ m = cc in rw (← same) h
+mirror_no_control : (o : Option MirrorEntry) → IfSome o HasNoControl → ForSome (option_map (λ e. e.mirror) o) (λ m. is_control m ≡ false)
+mirror_no_control None h = λ m e. cc
+mirror_no_control (Some e) h = λ m is. let same : e.mirror ≡ m = cc in rw (← same) h
 
 pub no_mirror_is_control : (bytes : List ℕ) (code : ℕ) → ForSome (mirror_by_lines (entries (mirror_lines bytes)) code) (λ m. is_control m ≡ false)
-no_mirror_is_control bytes code = mirrored _ (found (λ e. e.character == code) (lines bytes))
+no_mirror_is_control bytes code = mirror_no_control _ (found (λ e. e.character == code) (lines bytes))

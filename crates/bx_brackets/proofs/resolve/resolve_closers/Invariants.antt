@@ -1,5 +1,5 @@
 -- The pairs before index `i` are resolved, and what is known is true of the types.
-use Rattle.std.proofs.Common.{◌≡◌, drop, length}
+use Rattle.std.proofs.Common.{◌≡◌, drop}
 use Rattle.bx_brackets.specs.Resolve.{resolve_pairs}
 use Rattle.bx_brackets.specs.Search.{pairs_in}
 use Rattle.bx_brackets.specs.Clear.{IsKnown}

@@ -1,6 +1,5 @@
 use Rattle.std.specs.Prelude.{IfSome}
-use Rattle.std.proofs.Common.{◌<◌, ◌∙◌, length, sym, subst}
-use Rattle.bx_brackets.specs.Search.{IsSearched}
+use Rattle.std.proofs.Common.{◌<◌, length, sym, subst}
 use Rattle.bx_brackets.proofs.Closers.{found_pair, searched_close, pairs_close}
 use Rattle.bx_brackets.proofs.search.meet_closer.Goals as goal
 

@@ -33,20 +33,20 @@ explicit_plain p [] h = refl
 explicit_plain p (c ∷ cs) h = plain_step p c cs h.0 ∙ ap (λ ks. kept_as p c ∷ ks) (explicit_plain p cs h.1)
 
 -- what stands at all indexes is the list
-drop_get : {A B : Type 0} (f : A → B) (d : A) (whole : List A) (k : ℕ) (x : A) (xs : List A) → drop k whole ≡ x ∷ xs
+drop_get : {A : Type 0} (d : A) (whole : List A) (k : ℕ) (x : A) (xs : List A) → drop k whole ≡ x ∷ xs
     → (get_or whole k d ≡ x) × (drop (suc k) whole ≡ xs)
-drop_get f d [] zero x xs e = absurd (cc)
-drop_get f d [] (suc k) x xs e = absurd (cc)
-drop_get f d (y ∷ ys) zero x xs e = (cc, cc)
-drop_get f d (y ∷ ys) (suc k) x xs e = drop_get f d ys k x xs e
+drop_get d [] zero x xs e = absurd (cc)
+drop_get d [] (suc k) x xs e = absurd (cc)
+drop_get d (y ∷ ys) zero x xs e = (cc, cc)
+drop_get d (y ∷ ys) (suc k) x xs e = drop_get d ys k x xs e
 
 map_at : {A B : Type 0} (f : A → B) (d : A) (whole : List A) (k : ℕ) (xs : List A) → drop k whole ≡ xs
     → map (λ p. f (get_or whole p d)) (indexes_from k (length xs)) ≡ map f xs
 map_at f d whole k [] e = refl
 map_at f d whole k (x ∷ xs) e =
-    let h : get_or whole k d ≡ x = (drop_get f d whole k x xs e).0 in
+    let h : get_or whole k d ≡ x = (drop_get d whole k x xs e).0 in
     let s : k + 1 ≡ suc k = omega arith in
-    let t : drop (k + 1) whole ≡ xs = ap (λ n. drop n whole) s ∙ (drop_get f d whole k x xs e).1 in
+    let t : drop (k + 1) whole ≡ xs = ap (λ n. drop n whole) s ∙ (drop_get d whole k x xs e).1 in
     ap (λ y. f y ∷ map (λ p. f (get_or whole p d)) (indexes_from (k + 1) (length xs))) h ∙ ap (λ ys. f x ∷ ys) (map_at f d whole (k + 1) xs t)
 
 map_same : (xs : List ℕ) → map (λ x. x) xs ≡ xs
