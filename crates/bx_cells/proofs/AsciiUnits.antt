@@ -1,6 +1,6 @@
 -- The unit of a printable byte that stands before another one.
 use Rattle.std.proofs.Common.{◌≡◌, ℕ, ◌+◌, ◌<◌, true, false, List, [], ◌∷◌, ◌++◌, length, drop, get_or, encode_utf8, sym, ap, ◌∙◌, arith}
-use Rattle.std.specs.Int.{is_in_range}
+use Rattle.bx_terms.specs.Characters.{is_ascii_printable}
 use Rattle.std.specs.Str.{IsUtf8, IsCharBoundary}
 use Rattle.std.proofs.lemmas.Bool.Decides.{nat_tests}
 use Rattle.std.proofs.lemmas.List.{drop_more, length-drop}
@@ -15,20 +15,20 @@ use Rattle.bx_cells.proofs.OpenCluster.{IsOpen, open-first, open-boundary, unit-
 use Rattle.bx_cells.proofs.Printable.{printable_common}
 use Rattle.bx_cells.proofs.RangeFacts.{of_common}
 
-ascii_byte : (b : ℕ) → is_in_range 0x20 0x7E b ≡ true → b < 128
+ascii_byte : (b : ℕ) → is_ascii_printable b ≡ true → b < 128
 ascii_byte b h = grind (arith, nat_tests)
 
-pub begins_ascii : (c : ℕ) → is_in_range 0x20 0x7E c ≡ true → (begins c ≡ true) × (own_columns c ≡ 1)
+pub begins_ascii : (c : ℕ) → is_ascii_printable c ≡ true → (begins c ≡ true) × (own_columns c ≡ 1)
 begins_ascii c h = of_common c (printable_common c h)
 
 -- the byte, and what stands behind it
-pub left_at : (body : List ℕ) (at : ℕ) → at < length body → is_in_range 0x20 0x7E (get_or body at 0) ≡ true
+pub left_at : (body : List ℕ) (at : ℕ) → at < length body → is_ascii_printable (get_or body at 0) ≡ true
     → drop at body ≡ encode_utf8 (get_or body at 0) ++ drop (at + 1) body
 left_at body at less h =
     drop_more body at 0 less ∙ ap (λ x. x ++ drop (at + 1) body) (sym (encode_ascii (get_or body at 0) (ascii_byte (get_or body at 0) h)))
 
 module _ (body : List ℕ) (at : ℕ) (u : IsUtf8 body) (b : IsCharBoundary body at) (less : at + 1 < length body)
-    (here : is_in_range 0x20 0x7E (get_or body at 0) ≡ true) where
+    (here : is_ascii_printable (get_or body at 0) ≡ true) where
   open_ascii : IsOpen body at (get_or body at 0) false (drop (at + 1) body)
   open_ascii =
       let within : at < length body = omega (arith, less) in
@@ -41,7 +41,7 @@ module _ (body : List ℕ) (at : ℕ) (u : IsUtf8 body) (b : IsCharBoundary body
   ascii-boundary = open-boundary body at (get_or body at 0) false (drop (at + 1) body) u b open_ascii (at + 1) rest_len
 
   -- its unit is added
-  pub ascii-more : (class : ℕ → Class) (w : ℕ) (f : Face) (done new all : List Unit) → is_in_range 0x20 0x7E (get_or body (at + 1) 0) ≡ true
+  pub ascii-more : (class : ℕ → Class) (w : ℕ) (f : Face) (done new all : List Unit) → is_ascii_printable (get_or body (at + 1) 0) ≡ true
       → f ≡ simple_face class w (get_or body at 0) false → new ≡ done ++ record { start = at; stop = at + 1; face = f } ∷ []
       → done ++ units_from class w body at ≡ all → new ++ units_from class w body (at + 1) ≡ all
   ascii-more class w f done new all next face pushed inv =

@@ -101,11 +101,11 @@ pub record IsOpen (body : List ℕ) (start c : ℕ) (is_marked : Bool) (rest : L
   pub bytes : drop start body ≡ encode_utf8_all (c ∷ marks) ++ rest
   pub begin : begins c ≡ true
   pub all : list_all is_mark marks ≡ true
-  pub marked : is_marked ≡ is_some_mark marks
+  pub mark : is_marked ≡ is_some_mark marks
 
 pub open-first : (body : List ℕ) (start c : ℕ) (rest : List ℕ) → drop start body ≡ encode_utf8 c ++ rest → begins c ≡ true → IsOpen body start c false rest
 open-first body start c rest e b =
-    record { marks = []; bytes = e ∙ ap (λ x. x ++ rest) (sym (append-nil (encode_utf8 c))); begin = b; all = refl; marked = refl }
+    record { marks = []; bytes = e ∙ ap (λ x. x ++ rest) (sym (append-nil (encode_utf8 c))); begin = b; all = refl; mark = refl }
 
 all_push : (ms : List ℕ) (m : ℕ) → list_all is_mark ms ≡ true → is_mark m ≡ true → list_all is_mark (ms ++ m ∷ []) ≡ true
 all_push [] m h k = and_from (is_mark m) true k refl
@@ -125,7 +125,7 @@ open-mark body start c k rest m more o e h = record {
       ∙ ap (λ x. x ++ more) (sym (encodes-append (c ∷ o.marks) (m ∷ [])));
   begin = o.begin;
   all = all_push o.marks m o.all h;
-  marked = sym (some_push o.marks m);
+  mark = sym (some_push o.marks m);
 }
 
 -- the unit of an open cluster that ends at an offset
@@ -145,7 +145,7 @@ module _ (body : List ℕ) (start c : ℕ) (k : Bool) (rest : List ℕ) (u : IsU
   open-face : (class : ℕ → Class) (w : ℕ) → face class w (encode_utf8_all (c ∷ o.marks)) ≡ simple_face class w c k
   open-face class w =
       let valid = scalars_front (c ∷ o.marks) (chars rest) (ap all_scalars (sym open-chars) ∙ scalars-chars (drop start body) (IsUtf8-drop body start u b)) in
-      ap (face_of class w) (chars-encodes (c ∷ o.marks) valid) ∙ face-simple class w c o.marks o.begin o.all ∙ ap (simple_face class w c) (sym o.marked)
+      ap (face_of class w) (chars-encodes (c ∷ o.marks) valid) ∙ face-simple class w c o.marks o.begin o.all ∙ ap (simple_face class w c) (sym o.mark)
 
   open-unit : (class : ℕ → Class) (w stop : ℕ) → stop + length rest ≡ length body
       → unit_at class w (start, encode_utf8_all (c ∷ o.marks)) ≡ open_unit class w start stop c k
@@ -227,7 +227,7 @@ module _ (body : List ℕ) (start c : ℕ) (k : Bool) (rest : List ℕ) (u : IsU
       let width : length first ≡ stop - start = let same = open-width stop e in omega (arith, same) in
       ap (λ x. only_char (chars (take (stop - start) x))) o.bytes
       ∙ ap (λ x. only_char (chars x)) (take_at first rest (stop - start) width)
-      ∙ ap only_char (chars-encodes (c ∷ o.marks) valid) ∙ only_of_open c o.marks ∙ ap (λ x. cond x None (Some c)) (sym o.marked)
+      ∙ ap only_char (chars-encodes (c ∷ o.marks) valid) ∙ only_of_open c o.marks ∙ ap (λ x. cond x None (Some c)) (sym o.mark)
 
   open-grows : (stop : ℕ) → stop + length rest ≡ length body → start < stop
   open-grows stop e =

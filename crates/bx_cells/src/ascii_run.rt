@@ -1,25 +1,18 @@
 //! Units of printable ASCII, a byte each.
 ghost use Rattle.std.specs.Prelude.{◌≡◌, ◌≤◌, ◌<◌, ◌++◌, ℕ, IfOk, get_or, length, true};
-ghost use Rattle.std.specs.Int.{is_in_range};
+ghost use Rattle.bx_terms.specs.Characters.{is_ascii_printable};
 ghost use Rattle.std.specs.Str.{IsCharBoundary};
 ghost use Rattle.bx_cells.specs.Units.{units_from};
 
 use crate::by_character::simple_face;
-use crate::fitting::are_printable;
+use crate::fitting::are_ascii_printable;
 use crate::unit::Unit;
+use bx_terms::is_ascii_printable;
 use bx_ucd::BidiData;
 use std::alloc::AllocError;
 
 /// How many bytes are tested at once.
 const BLOCK: usize = 16;
-
-/// Whether a byte is printable ASCII.
-#[inline(always)]
-fn is_printable_byte(byte: u8) -> bool
-    ensures { result ≡ is_in_range 0x20 0x7E byte }
-{
-    byte >= 0x20 && byte <= 0x7e
-}
 
 /// The offset behind the whole blocks of printable ASCII that stand from an offset on.
 #[inline(always)]
@@ -28,12 +21,12 @@ fn blocks_stop(bytes: &[u8], at: usize) -> usize
     requires { at ≤ length bytes.now }
     ensures order { at ≤ result }
     ensures inside { result ≤ length bytes.now }
-    ensures printable { (i : ℕ) → at ≤ i → i < result → is_in_range 0x20 0x7E (get_or bytes.now i 0) ≡ true }
+    ensures printable { (i : ℕ) → at ≤ i → i < result → is_ascii_printable (get_or bytes.now i 0) ≡ true }
 {
     let mut stop = at;
     'steps: while bytes.len() - stop >= BLOCK {
         let block = &bytes[stop..stop + BLOCK];
-        if !are_printable(block) {
+        if !are_ascii_printable(block) {
             return stop;
         }
         stop += BLOCK;
@@ -46,10 +39,10 @@ pub fn printable_stop(bytes: &[u8], at: usize) -> usize
     requires { at ≤ length bytes.now }
     ensures order { at ≤ result }
     ensures inside { result ≤ length bytes.now }
-    ensures printable { (i : ℕ) → at ≤ i → i < result → is_in_range 0x20 0x7E (get_or bytes.now i 0) ≡ true }
+    ensures printable { (i : ℕ) → at ≤ i → i < result → is_ascii_printable (get_or bytes.now i 0) ≡ true }
 {
     let mut stop = blocks_stop(bytes, at);
-    while stop < bytes.len() && is_printable_byte(bytes[stop]) {
+    while stop < bytes.len() && is_ascii_printable(bytes[stop]) {
         stop += 1;
     }
     stop

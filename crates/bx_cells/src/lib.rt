@@ -1,4 +1,6 @@
 //! The units of a paragraph's body: its grapheme clusters, each with the face that it shows.
+//!
+//! Only the functions that answer a `Result` take memory.
 #![tactic(auto)]
 
 mod ascii_run;

@@ -1,7 +1,7 @@
 -- Runs of printable ASCII, a unit of one column a byte.
 use Rattle.std.proofs.Common.{◌≡◌, ℕ, zero, suc, ◌+◌, ◌-◌, ◌<◌, ◌≤◌, Bool, true, false, List, length, drop, get_or}
 use Rattle.std.proofs.Common.{refl, sym, ap, subst, ◌∙◌, arith, length-drop}
-use Rattle.std.specs.Int.{is_in_range}
+use Rattle.bx_terms.specs.Characters.{is_ascii_printable}
 use Rattle.std.specs.Str.{IsCharBoundary, IsUtf8}
 use Rattle.bx_ucd.specs.declared.class.Class.{Class}
 use Rattle.bx_cells.proofs.AsciiUnits.{begins_ascii, left_at}
@@ -23,8 +23,8 @@ grown-count r stop false = refl
 
 module _ (class : ℕ → Class) (body : List ℕ) (at : ℕ) (u : IsUtf8 body) (boundary : IsCharBoundary body at) where
   -- one more byte, before another one
-  one_more : (r : NarrowRun) (b : Bool) → IsLonger class body at r → r.stop + 1 < length body → is_in_range 0x20 0x7E (get_or body r.stop 0) ≡ true
-      → is_in_range 0x20 0x7E (get_or body (r.stop + 1) 0) ≡ true → b ≡ is_blank (class (get_or body r.stop 0))
+  one_more : (r : NarrowRun) (b : Bool) → IsLonger class body at r → r.stop + 1 < length body → is_ascii_printable (get_or body r.stop 0) ≡ true
+      → is_ascii_printable (get_or body (r.stop + 1) 0) ≡ true → b ≡ is_blank (class (get_or body r.stop 0))
       → IsLonger class body at (grown r (r.stop + 1) b)
   one_more r b h less here next blank =
       let within : r.stop < length body = omega (arith, less) in
@@ -36,7 +36,7 @@ module _ (class : ℕ → Class) (body : List ℕ) (at : ℕ) (u : IsUtf8 body) 
 
   -- bytes behind which no row may end
   no_break : (d : ℕ) (r : NarrowRun) → IsLonger class body at r → r.stop + d < length body
-      → ((i : ℕ) → r.stop ≤ i → i ≤ r.stop + d → is_in_range 0x20 0x7E (get_or body i 0) ≡ true)
+      → ((i : ℕ) → r.stop ≤ i → i ≤ r.stop + d → is_ascii_printable (get_or body i 0) ≡ true)
       → ((i : ℕ) → r.stop ≤ i → i < r.stop + d → is_blank (class (get_or body i 0)) ≡ false)
       → IsLonger class body at (run (r.stop + d) (r.count + d) r.last r.next)
   no_break zero r h less printable none =
@@ -56,7 +56,7 @@ module _ (class : ℕ → Class) (body : List ℕ) (at : ℕ) (u : IsUtf8 body) 
     stop_is : reached.stop ≡ at + k
     count_is : reached.count ≡ k
 
-  reach : (k : ℕ) → at + k < length body → ((i : ℕ) → at ≤ i → i ≤ at + k → is_in_range 0x20 0x7E (get_or body i 0) ≡ true) → Reached k
+  reach : (k : ℕ) → at + k < length body → ((i : ℕ) → at ≤ i → i ≤ at + k → is_ascii_printable (get_or body i 0) ≡ true) → Reached k
   reach zero less printable = record {
     reached = run at 0 0 at;
     is = record { bounds = run-in-none body at boundary; units = λ w. run-none class w body at };
@@ -77,7 +77,7 @@ module _ (class : ℕ → Class) (body : List ℕ) (at : ℕ) (u : IsUtf8 body) 
       }
 
   by_break : (m stop next : ℕ) → m ≡ next - at → at ≤ next → next ≤ stop → stop < length body
-      → ((i : ℕ) → at ≤ i → i ≤ stop → is_in_range 0x20 0x7E (get_or body i 0) ≡ true)
+      → ((i : ℕ) → at ≤ i → i ≤ stop → is_ascii_printable (get_or body i 0) ≡ true)
       → ((i : ℕ) → at ≤ i → i + 1 ≡ next → is_blank (class (get_or body i 0)) ≡ true)
       → ((i : ℕ) → next ≤ i → i < stop → is_blank (class (get_or body i 0)) ≡ false)
       → IsLonger class body at (run stop (stop - at) (next - at) next)
@@ -85,7 +85,8 @@ module _ (class : ℕ → Class) (body : List ℕ) (at : ℕ) (u : IsUtf8 body) 
       let first : next ≡ at = omega (arith, e, from) in
       let r = run at 0 0 at in
       subst (IsLonger class body at) {x = run (at + (stop - at)) (0 + (stop - at)) 0 at}
-      (same_run (at + (stop - at)) (0 + (stop - at)) 0 at stop (stop - at) (next - at) next (omega (arith, first, to)) (omega arith) (omega (arith, e)) (sym first))
+      (same_run (at + (stop - at)) (0 + (stop - at)) 0 at stop (stop - at) (next - at) next (omega (arith, first, to)) (omega arith) (omega (arith, e))
+      (sym first))
       (no_break (stop - at) r (record { bounds = run-in-none body at boundary; units = λ w. run-none class w body at }) (omega (arith, first, to, less))
       (λ i f t. printable i f (omega (arith, t, first, to))) (λ i f t. none i (omega (arith, f, first)) (omega (arith, t, first, to))))
   by_break (suc m) stop next e from to less printable last none =
@@ -106,7 +107,7 @@ module _ (class : ℕ → Class) (body : List ℕ) (at : ℕ) (u : IsUtf8 body) 
       (λ i f t. none i (omega (arith, f, here)) (omega (arith, t, here, to))))
 
   pub ascii-longer : (stop next : ℕ) → at ≤ next → next ≤ stop → stop < length body
-      → ((i : ℕ) → at ≤ i → i ≤ stop → is_in_range 0x20 0x7E (get_or body i 0) ≡ true)
+      → ((i : ℕ) → at ≤ i → i ≤ stop → is_ascii_printable (get_or body i 0) ≡ true)
       → ((i : ℕ) → at ≤ i → i + 1 ≡ next → is_blank (class (get_or body i 0)) ≡ true)
       → ((i : ℕ) → next ≤ i → i < stop → is_blank (class (get_or body i 0)) ≡ false)
       → IsLonger class body at (run stop (stop - at) (next - at) next)

@@ -97,10 +97,10 @@ first-row p w i (u ∷ us) = refl
 same-row : (a b : Row) → Some a ≡ Some b → a ≡ b
 same-row a b e = cc
 
-followed : (p : Unit → Bool) (w : ℕ) (k i : ℕ) (us : List Unit) → All (λ u. FitsWindow w u.face) us → (r : Row)
+row-and-next : (p : Unit → Bool) (w : ℕ) (k i : ℕ) (us : List Unit) → All (λ u. FitsWindow w u.face) us → (r : Row)
     → slice_get (rows_from p w i 0 us) k ≡ Some r → IsFollowed w (i + length us) r (slice_get (rows_from p w i 0 us) (suc k))
-followed p w k i [] fit r e = cc
-followed p w zero i (u ∷ us) fit r e =
+row-and-next p w k i [] fit r e = cc
+row-and-next p w zero i (u ∷ us) fit r e =
     let n = row_len p w (u ∷ us) in
     let row : Row = record { start = i; stop = i + n } in
     let left = drop (max n 1) (u ∷ us) in
@@ -121,7 +121,7 @@ followed p w zero i (u ∷ us) fit r e =
       some = λ h. let some = row-some p w u us h (fit 0 no_unit (omega (arith, one))) in omega (arith, some);
       none = λ h. let none = row-none p w (u ∷ us) h in omega (arith, none);
     })
-followed p w (suc k) i (u ∷ us) fit r e =
+row-and-next p w (suc k) i (u ∷ us) fit r e =
     let n = row_len p w (u ∷ us) in
     let left = drop (max n 1) (u ∷ us) in
     let turn = rows_turn p w i (u ∷ us) (omega arith) in
@@ -130,7 +130,7 @@ followed p w (suc k) i (u ∷ us) fit r e =
     let total : i + max n 1 + length left ≡ i + length (u ∷ us) = omega (arith, length-drop (max n 1) (u ∷ us), within, one) in
     subst (λ m. IsFollowed w m r (slice_get (rows_from p w i 0 (u ∷ us)) (suc (suc k)))) total
     (subst (IsFollowed w (i + max n 1 + length left) r) (sym (ap (λ x. slice_get x (suc (suc k))) turn))
-    (followed p w k (i + max n 1) left (All-drop (λ u. FitsWindow w u.face) (max n 1) (u ∷ us) fit) r (sym (ap (λ x. slice_get x (suc k)) turn) ∙ e)))
+    (row-and-next p w k (i + max n 1) left (All-drop (λ u. FitsWindow w u.face) (max n 1) (u ∷ us) fit) r (sym (ap (λ x. slice_get x (suc k)) turn) ∙ e)))
 
 -- ---- the units of a row, from its start and the next one's
 
@@ -227,7 +227,7 @@ module _ (class : ℕ → Class) (body : List ℕ) (us : List Unit) where
       let r = found.0 in
       let total : 0 + length (v ∷ vs) ≡ length us = omega (arith, ap length e) in
       let next = subst (λ n. IsFollowed w n r (slice_get rows (suc k))) total
-      (followed p w k 0 (v ∷ vs) (subst (All (λ u. FitsWindow w u.face)) (sym e) fit) r found.1) in
+      (row-and-next p w k 0 (v ∷ vs) (subst (All (λ u. FitsWindow w u.face)) (sym e) fit) r found.1) in
       let d = drop-cons us r.start no_unit next.begins in
       let u = get_or us r.start no_unit in
       let rest = drop (suc r.start) us in

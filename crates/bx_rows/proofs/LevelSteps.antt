@@ -4,8 +4,9 @@ use Rattle.std.proofs.Common.{append_assoc, Option, Some, None, is_some, unwrap_
 use Rattle.std.specs.List.{last_or, zip}
 use Rattle.std.proofs.lemmas.Str.{chars-nil}
 use Rattle.bx_ucd.specs.declared.class.Class.{Class}
-use Rattle.bx_rows.specs.RowLevels.{CharLevel, is_segment_separator, is_trailing, trails, only_trailing, level_at, l1, first_level, unit_levels, levels_or_before}
-use Rattle.bx_rows.specs.LevelReads.{settled, settled_if, level_before, followed, levels_from, unit_from, Reads, ReadsChar}
+use Rattle.bx_rows.specs.RowLevels.{CharLevel, is_segment_separator, is_trailing, trails, only_trailing, level_at, l1}
+use Rattle.bx_rows.specs.RowLevels.{first_level, unit_levels, levels_or_before}
+use Rattle.bx_rows.specs.LevelReads.{settled, settled_if, level_before, with_levels_behind, levels_from, unit_from, Reads, ReadsChar}
 
 -- ---- the levels that wait
 
@@ -90,9 +91,9 @@ before_none p [] h = refl
 before_none p (x ∷ xs) h = absurd (omega (arith, h))
 
 -- one more unit
-followed-more : (p x : ℕ) (found : List ℕ) (l : Option ℕ) (ls : List (Option ℕ)) → x ≡ unwrap_or l (level_before p found)
-    → followed p found (l ∷ ls) ≡ followed p (found ++ x ∷ []) ls
-followed-more p x found l ls e =
+levels-behind-more : (p x : ℕ) (found : List ℕ) (l : Option ℕ) (ls : List (Option ℕ)) → x ≡ unwrap_or l (level_before p found)
+    → with_levels_behind p found (l ∷ ls) ≡ with_levels_behind p (found ++ x ∷ []) ls
+levels-behind-more p x found l ls e =
     let level = unwrap_or l (level_before p found) in
     sym (append_assoc found (level ∷ []) (levels_or_before level ls))
     ∙ ap (λ y. (found ++ y ∷ []) ++ levels_or_before y ls) (sym e)
@@ -100,11 +101,11 @@ followed-more p x found l ls e =
 
 -- a unit whose first kept character is read
 kept-first : (t : Bool) (p waiting n l : ℕ) (class : Class) (found : List ℕ) (ls rest : List (Option ℕ)) → waiting ≤ length found
-    → followed p (settled_if t p waiting found) (first_level (take (suc n) (level_at p (class, Some l) t ∷ ls)) ∷ rest)
-    ≡ followed p (settled_if t p waiting (found ++ l ∷ [])) rest
+    → with_levels_behind p (settled_if t p waiting found) (first_level (take (suc n) (level_at p (class, Some l) t ∷ ls)) ∷ rest)
+    ≡ with_levels_behind p (settled_if t p waiting (found ++ l ∷ [])) rest
 kept-first true p waiting n l class found ls rest h =
-    followed-more p p (settled p waiting found) (Some p) rest refl ∙ ap (λ xs. followed p xs rest) (sym (settled-push p waiting l found h))
-kept-first false p waiting n l class found ls rest h = followed-more p l found (Some l) rest refl
+    levels-behind-more p p (settled p waiting found) (Some p) rest refl ∙ ap (λ xs. with_levels_behind p xs rest) (sym (settled-push p waiting l found h))
+kept-first false p waiting n l class found ls rest h = levels-behind-more p l found (Some l) rest refl
 
 last-settled : (o : Option ℕ) (p waiting : ℕ) (found : List ℕ) → waiting < length found → last_or o (settled p waiting found) ≡ Some p
 last-settled o p waiting [] h = absurd (omega (arith, h))
@@ -134,7 +135,8 @@ pub no_kept : (p waiting next : ℕ) (found new : List ℕ) (counts : List ℕ) 
 no_kept p waiting next found new counts cs h =
     let b = only_trailing cs in
     let s = settled_if b p waiting found in
-    followed-more p (level_before p s) s None (unit_levels counts (l1 p cs)) refl ∙ ap (λ xs. followed p xs (unit_levels counts (l1 p cs))) (sym (h b))
+    levels-behind-more p (level_before p s) s None (unit_levels counts (l1 p cs)) refl
+    ∙ ap (λ xs. with_levels_behind p xs (unit_levels counts (l1 p cs))) (sym (h b))
 
 -- ---- the characters of a unit
 
@@ -143,12 +145,12 @@ first-kept : (p l : ℕ) (class : Class) (old new : List ℕ) (waiting next : �
 first-kept p l class old new waiting next h reads = λ n counts cs.
     let b = only_trailing cs in
     kept-first (trails (class, Some l) b) p waiting n l class old (l1 p cs) (unit_levels counts (drop n (l1 p cs))) h
-    ∙ ap (λ xs. followed p xs (unit_levels counts (drop n (l1 p cs)))) (sym (reads l b))
+    ∙ ap (λ xs. with_levels_behind p xs (unit_levels counts (drop n (l1 p cs)))) (sym (reads l b))
 
 more-kept : (p l : ℕ) (class : Class) (old new : List ℕ) (waiting next : ℕ) → Reads p class old waiting new next
     → ReadsChar p class true (Some l) old waiting new next
 more-kept p l class old new waiting next reads = λ n counts cs.
-    ap (λ xs. followed p xs (unit_levels counts (drop n (l1 p cs)))) (sym (reads l (only_trailing cs)))
+    ap (λ xs. with_levels_behind p xs (unit_levels counts (drop n (l1 p cs)))) (sym (reads l (only_trailing cs)))
 
 not-kept : (p : ℕ) (class : Class) (k : Bool) (found : List ℕ) (waiting : ℕ) → ReadsChar p class k None found waiting found waiting
 not-kept p class true found waiting = λ n counts cs. refl
@@ -181,9 +183,9 @@ take-nil (suc n) = refl
 -- characters behind the last level
 no_levels : (k : Bool) (p : ℕ) (found : List ℕ) (waiting n : ℕ) (counts : List ℕ)
     → unit_from k p found waiting (suc n) counts [] ≡ unit_from k p found waiting n counts []
-no_levels true p found waiting n counts = ap (λ xs. followed p (settled p waiting found) (unit_levels counts xs)) (sym (drop-nil n))
+no_levels true p found waiting n counts = ap (λ xs. with_levels_behind p (settled p waiting found) (unit_levels counts xs)) (sym (drop-nil n))
 no_levels false p found waiting n counts =
-    ap₂ (λ xs ys. followed p (settled p waiting found) (first_level xs ∷ unit_levels counts ys)) (sym (take-nil n)) (sym (drop-nil n))
+    ap₂ (λ xs ys. with_levels_behind p (settled p waiting found) (first_level xs ∷ unit_levels counts ys)) (sym (take-nil n)) (sym (drop-nil n))
 
 behind_none : (k : Bool) (p : ℕ) (class : Class) (found : List ℕ) (waiting n : ℕ) (counts : List ℕ)
     → unit_from k p found waiting (suc n) counts ((class, None) ∷ []) ≡ unit_from k p found waiting n counts []

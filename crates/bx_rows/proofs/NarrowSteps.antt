@@ -83,22 +83,22 @@ run-in-grown body at r stop false i more b =
 -- a cluster of one column is open, after which a row may end as it stands, or not
 pub record HasOpen (class : ℕ → Class) (body : List ℕ) (start : ℕ) (b : Bool) (rest : List ℕ) : Type 0 where
   pub first : ℕ
-  pub marked : Bool
-  pub cluster : IsOpen body start first marked rest
+  pub is_marked : Bool
+  pub cluster : IsOpen body start first is_marked rest
   pub columns : own_columns first ≡ 1
-  pub end : b ≡ is_one_blank class (cond marked None (Some first))
+  pub end : b ≡ is_one_blank class (cond is_marked None (Some first))
 
 pub open-narrow : (class : ℕ → Class) (body : List ℕ) (start c : ℕ) (b : Bool) (rest : List ℕ) → drop start body ≡ encode_utf8 c ++ rest
     → (begins c ≡ true) × (own_columns c ≡ 1) → b ≡ is_blank (class c) → HasOpen class body start b rest
 open-narrow class body start c b rest e h k =
-    record { first = c; marked = false; cluster = open-first body start c rest e h.0; columns = h.1; end = k }
+    record { first = c; is_marked = false; cluster = open-first body start c rest e h.0; columns = h.1; end = k }
 
 pub mark-narrow : (class : ℕ → Class) (body : List ℕ) (start m : ℕ) (b : Bool) (rest more : List ℕ) → HasOpen class body start b rest
     → rest ≡ encode_utf8 m ++ more → is_mark m ≡ true → HasOpen class body start false more
 mark-narrow class body start m b rest more o e h = record {
   first = o.first;
-  marked = true;
-  cluster = open-mark body start o.first o.marked rest m more o.cluster e h;
+  is_marked = true;
+  cluster = open-mark body start o.first o.is_marked rest m more o.cluster e h;
   columns = o.columns;
   end = refl;
 }
@@ -121,16 +121,16 @@ pub longer-next : (class : ℕ → Class) (body : List ℕ) (at : ℕ) (r q : Na
     → rest ≡ encode_utf8 d ++ more → begins d ≡ true → q ≡ grown r stop b → IsLonger class body at q
 longer-next class body at r q b rest more stop d u bounds units o e next begin is =
     subst (IsLonger class body at) (sym is)
-    (longer class body at r o.first stop o.marked b bounds units
-    (at-next body r.stop o.first o.marked rest u bounds.boundary o.cluster stop d 1 more e next begin o.columns) o.end)
+    (longer class body at r o.first stop o.is_marked b bounds units
+    (at-next body r.stop o.first o.is_marked rest u bounds.boundary o.cluster stop d 1 more e next begin o.columns) o.end)
 
 pub longer-last : (class : ℕ → Class) (body : List ℕ) (at : ℕ) (r q : NarrowRun) (b : Bool) (rest : List ℕ) → IsUtf8 body → IsRunIn body at r
     → ((w : ℕ) → IsNarrowRun class w body at r) → HasOpen class body r.stop b rest → length rest ≡ 0 → q ≡ grown r (length body) b
     → IsLonger class body at q
 longer-last class body at r q b rest u bounds units o none is =
     subst (IsLonger class body at) (sym is)
-    (longer class body at r o.first (length body) o.marked b bounds units
-    (at-last body r.stop o.first o.marked rest u bounds.boundary o.cluster (length body) 1 refl none o.columns) o.end)
+    (longer class body at r o.first (length body) o.is_marked b bounds units
+    (at-last body r.stop o.first o.is_marked rest u bounds.boundary o.cluster (length body) 1 refl none o.columns) o.end)
 
 pub grown-stop : (r q : NarrowRun) (stop : ℕ) (b : Bool) → q ≡ grown r stop b → q.stop ≡ stop
 grown-stop r q stop true e = ap (λ x. x.stop) e
@@ -142,7 +142,7 @@ pub open-behind : (class : ℕ → Class) (body : List ℕ) (r q : NarrowRun) (b
     → (begins d ≡ true) × (own_columns d ≡ 1) → k ≡ is_blank (class d) → q ≡ grown r stop b → HasOpen class body q.stop k more
 open-behind class body r q b k rest more stop d u boundary o e next begin blank is =
     subst (λ x. HasOpen class body x k more) (sym (grown-stop r q stop b is))
-    (open-narrow class body stop d k more (open-left body r.stop o.first o.marked rest u boundary o.cluster stop e ∙ next) begin blank)
+    (open-narrow class body stop d k more (open-left body r.stop o.first o.is_marked rest u boundary o.cluster stop e ∙ next) begin blank)
 
 grown-count : (r : NarrowRun) (stop : ℕ) (b : Bool) → (grown r stop b).count ≡ r.count + 1
 grown-count r stop true = refl

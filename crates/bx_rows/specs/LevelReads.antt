@@ -20,14 +20,14 @@ abbrev pub level_before : ℕ → List ℕ → ℕ
 level_before paragraph found = unwrap_or (last_or None found) paragraph
 
 -- these levels, and those of the units behind by their own first levels
-abbrev pub followed : ℕ → List ℕ → List (Option ℕ) → List ℕ
-followed paragraph found ls = found ++ levels_or_before (level_before paragraph found) ls
+abbrev pub with_levels_behind : ℕ → List ℕ → List (Option ℕ) → List ℕ
+with_levels_behind paragraph found ls = found ++ levels_or_before (level_before paragraph found) ls
 
 -- the levels of all units, where those of `found` are read, the last of them but for `n` characters; `cs` are not read, with
 -- those that units of these `counts` have
 abbrev pub levels_from : ℕ → List ℕ → ℕ → ℕ → List ℕ → List CharLevel → List ℕ
 levels_from paragraph found waiting n counts cs =
-    followed paragraph (settled_if (only_trailing cs) paragraph waiting found) (unit_levels counts (drop n (l1 paragraph cs)))
+    with_levels_behind paragraph (settled_if (only_trailing cs) paragraph waiting found) (unit_levels counts (drop n (l1 paragraph cs)))
 
 -- the same inside a unit of which `n` characters are not read, and whose level is found or not
 abbrev pub unit_from : Bool → ℕ → List ℕ → ℕ → ℕ → List ℕ → List CharLevel → List ℕ

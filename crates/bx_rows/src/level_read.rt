@@ -178,7 +178,8 @@ pub(crate) fn read_unit<'a, D: BidiData>(
     requires { waiting ≤ length found.old.items }
     ensures within { IfOk result (λ r. r.0 ≤ length found.new.items) }
     ensures levels { IfOk result (λ r. (more counts : List ℕ)
-        → levels_from paragraph found.old.items waiting 0 (length (chars text.now) ∷ counts) (zip (map (D.class_of source.now) (chars text.now ++ more)) levels.entry.now)
+        → levels_from paragraph found.old.items waiting 0 (length (chars text.now) ∷ counts)
+        (zip (map (D.class_of source.now) (chars text.now ++ more)) levels.entry.now)
         ≡ levels_from paragraph found.new.items r.0 0 counts (zip (map (D.class_of source.now) more) r.1.now)) }
 {
     let mut first = waiting;

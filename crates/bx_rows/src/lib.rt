@@ -1,4 +1,6 @@
 //! The rows of a paragraph: where they wrap, the levels of a row's units, their visual order, and what a row shows.
+//!
+//! Only the functions that answer a `Result` take memory.
 #![tactic(auto)]
 
 mod ascii_part;

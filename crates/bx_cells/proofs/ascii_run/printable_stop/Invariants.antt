@@ -1,13 +1,13 @@
 -- All bytes that were passed are printable.
 use Rattle.std.proofs.Common.{◌≡◌, ◌<◌, ◌≤◌, ◌-◌, ℕ, true, length, get_or}
-use Rattle.std.specs.Int.{is_in_range}
+use Rattle.bx_terms.specs.Characters.{is_ascii_printable}
 use Rattle.bx_cells.proofs.ascii_run.printable_stop.Given as goal
 
 abbrev pub invariant-loop-stop : goal.invariant-loop-stop
 invariant-loop-stop l = record {
   order : l.at ≤ l.stop;
   inside : l.stop ≤ length l.bytes;
-  printable : (i : ℕ) → l.at ≤ i → i < l.stop → is_in_range 0x20 0x7E (get_or l.bytes i 0) ≡ true;
+  printable : (i : ℕ) → l.at ≤ i → i < l.stop → is_ascii_printable (get_or l.bytes i 0) ≡ true;
 }
 
 abbrev pub decreases-loop-stop : goal.decreases-loop-stop

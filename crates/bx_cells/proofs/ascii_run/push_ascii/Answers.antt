@@ -1,5 +1,5 @@
 use Rattle.std.proofs.Common.{◌≡◌, ◌+◌, ◌<◌, true, false, length, get_or, ap, subst, ◌∙◌, arith}
-use Rattle.std.specs.Int.{is_in_range}
+use Rattle.bx_terms.specs.Characters.{is_ascii_printable}
 use Rattle.bx_cells.specs.Simple.{own_columns}
 use Rattle.bx_cells.specs.SimpleFace.{simple_face}
 use Rattle.bx_cells.proofs.AsciiUnits.{begins_ascii, ascii-boundary, ascii-more}
@@ -24,10 +24,10 @@ bytes-preserved g c =
     let same = c.as_bytes-bytes.ensures.value in
     let size = ap length same in
     let less : at + 1 < length body = omega (arith, test, inside, size) in
-    let here : is_in_range 0x20 0x7E (get_or body at 0) ≡ true =
-    subst (λ xs. is_in_range 0x20 0x7E (get_or xs at 0) ≡ true) same (c.printable_stop-stop.ensures.printable at from (omega (arith, test))) in
-    let next : is_in_range 0x20 0x7E (get_or body (at + 1) 0) ≡ true =
-    subst (λ xs. is_in_range 0x20 0x7E (get_or xs (at + 1) 0) ≡ true) same
+    let here : is_ascii_printable (get_or body at 0) ≡ true =
+    subst (λ xs. is_ascii_printable (get_or xs at 0) ≡ true) same (c.printable_stop-stop.ensures.printable at from (omega (arith, test))) in
+    let next : is_ascii_printable (get_or body (at + 1) 0) ≡ true =
+    subst (λ xs. is_ascii_printable (get_or xs (at + 1) 0) ≡ true) same
     (c.printable_stop-stop.ensures.printable (at + 1) (omega (arith, from)) (omega (arith, test))) in
     let byte = c.from.ensures ∙ ap (λ xs. get_or xs at 0) same in
     let class = g.D.BidiData.class_of c.args.source.now in

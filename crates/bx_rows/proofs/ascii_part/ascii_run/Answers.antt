@@ -1,5 +1,5 @@
 use Rattle.std.proofs.Common.{◌≡◌, ◌≤◌, ◌+◌, ◌-◌, true, false, length, get_or, ap, subst, ◌∙◌, arith}
-use Rattle.std.specs.Int.{is_in_range}
+use Rattle.bx_terms.specs.Characters.{is_ascii_printable}
 use Rattle.std.proofs.lemmas.List.{get_or-take, length-take-le}
 use Rattle.bx_rows.specs.Wrapping.{is_blank}
 use Rattle.bx_rows.proofs.AsciiRuns.{ascii-longer}
@@ -23,7 +23,7 @@ returns-clause-units g c =
     let within : limit ≤ length bytes = omega (arith, few, size) in
     let cut = length-take-le limit bytes within in
     (ascii-longer class body at c.utf8.body c.requires stop c.break_behind-next.result from to (omega (arith, some, inside, cut, within, size))
-    (λ i f t. subst (λ b. is_in_range 0x20 0x7E b ≡ true)
+    (λ i f t. subst (λ b. is_ascii_printable b ≡ true)
     (get_or-take limit bytes i 0 (omega (arith, t, some, inside, cut)) ∙ ap (λ xs. get_or xs i 0) same)
     (c.printable_stop-behind.ensures.printable i f (omega (arith, t, some))))
     (λ i f e. subst (λ xs. is_blank (class (get_or xs i 0)) ≡ true) same (c.break_behind-next.ensures.last i f e))

@@ -21,10 +21,11 @@ chars-preserved-then-is_known g c =
     let behind = c.in-Some.behind.now in
     let i = c.chars.invariant in
     let next = c.in-Some.ensures in
+    let waiting = c.args.waiting in
     record {
       text = IsUtf8-past_char rest behind c.in-Some.c i.text next.0;
       within = c.in_ok-first.ensures.within;
-      levels = unit-more class c.args.paragraph (λ more counts. levels_from c.args.paragraph c.args.found.now.items c.args.waiting 0 (length (chars text) ∷ counts)
+      levels = unit-more class c.args.paragraph (λ more counts. levels_from c.args.paragraph c.args.found.now.items waiting 0 (length (chars text) ∷ counts)
           (zip (map class (chars text ++ more)) c.args.levels.now)) rest c.chars.is_known c.chars.found.items c.chars.first c.chars.left.now i.levels
           c.in-Some.c behind c.read_char.new.found.items c.first_level-level.result.0 c.first_level-level.result.1.now c.in_ok-first.first c.chars.is_known
           (chars_past_char rest behind c.in-Some.c i.text next.0) c.first_level-level.ensures.first c.first_level-level.ensures.behind
@@ -39,10 +40,11 @@ chars-preserved g c =
     let behind = c.in-Some.behind.now in
     let i = c.chars.invariant in
     let next = c.in-Some.ensures in
+    let waiting = c.args.waiting in
     record {
       text = IsUtf8-past_char rest behind c.in-Some.c i.text next.0;
       within = c.in_ok-first.ensures.within;
-      levels = unit-more class c.args.paragraph (λ more counts. levels_from c.args.paragraph c.args.found.now.items c.args.waiting 0 (length (chars text) ∷ counts)
+      levels = unit-more class c.args.paragraph (λ more counts. levels_from c.args.paragraph c.args.found.now.items waiting 0 (length (chars text) ∷ counts)
           (zip (map class (chars text ++ more)) c.args.levels.now)) rest c.chars.is_known c.chars.found.items c.chars.first c.chars.left.now i.levels
           c.in-Some.c behind c.read_char.new.found.items c.first_level-level.result.0 c.first_level-level.result.1.now c.in_ok-first.first
           c.is_some-is_known.result (chars_past_char rest behind c.in-Some.c i.text next.0) c.first_level-level.ensures.first
