@@ -1,4 +1,4 @@
-ghost use Rattle.std.specs.Prelude.{◌≡◌, ◌↔◌, ◌∷◌, [], IsTrue, ◌≤◌, length, map, IfOk, IfSome};
+ghost use Rattle.std.specs.Prelude.{◌≡◌, ◌↔◌, ◌∷◌, [], IsTrue, ◌≤◌, length, map, IfOk, true, false};
 ghost use Rattle.bx_grid.specs.Columns as spec;
 ghost use Rattle.bx_grid.specs.Columns.{is_blank, blank, col_eq, are_equal};
 ghost use Rattle.bx_grid.specs.Seen.{seen};
@@ -69,25 +69,37 @@ impl Column {
         }
     }
 
-    /// A copy of a column of a short text. There may be none of any other.
+    /// Becomes a copy of another where both have short texts: whether it does.
     #[inline(always)]
-    pub(crate) fn short_copy(&self) -> Option<Column>
-        ensures { IfSome result (λ c. seen c ≡ seen self.now) }
+    pub(crate) fn set_short(&mut self, other: &Column) -> bool
+        ensures set { result ≡ true → seen self.new ≡ seen other.now }
+        ensures same { result ≡ false → self.new ≡ self.old }
     {
-        match self {
-            Column::Unknown => None,
-            Column::Glyph {
-                text,
-                columns,
-                offset,
-                negative,
-            } => Some(Column::Glyph {
-                text: text.short_copy()?,
-                columns: *columns,
-                offset: *offset,
-                negative: *negative,
-            }),
+        let Column::Glyph {
+            text: other_text,
+            columns: other_columns,
+            offset: other_offset,
+            negative: other_negative,
+        } = other
+        else {
+            return false;
+        };
+        let Column::Glyph {
+            text,
+            columns,
+            offset,
+            negative,
+        } = self
+        else {
+            return false;
+        };
+        if !text.set_short(other_text) {
+            return false;
         }
+        *columns = *other_columns;
+        *offset = *other_offset;
+        *negative = *other_negative;
+        true
     }
 
     /// Whether this is a space, one column wide, in normal rendition.

@@ -141,16 +141,18 @@ impl GlyphText {
         }
     }
 
-    /// A copy of a text of at most seven bytes, and none of any other.
+    /// Takes over another's text where both are short: whether it does.
     #[inline(always)]
-    pub(crate) fn short_copy(&self) -> Option<GlyphText>
-        ensures { MatchOption result (7 < length self.now) (λ t. t ≡ self.now) }
+    pub(crate) fn set_short(&mut self, other: &GlyphText) -> bool
+        ensures set { result ≡ true → self.new ≡ other.now }
+        ensures same { result ≡ false → self.new ≡ self.old }
     {
-        match &self.stored {
-            Stored::Short(text) => Some(GlyphText {
-                stored: Stored::Short(text.copy()),
-            }),
-            Stored::Long(_) => None,
+        match (&mut self.stored, &other.stored) {
+            (Stored::Short(text), Stored::Short(new)) => {
+                *text = new.copy();
+                true
+            }
+            _ => false,
         }
     }
 

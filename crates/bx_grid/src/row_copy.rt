@@ -89,17 +89,18 @@ fn copies_of(alloc: Global, columns: &[Column]) -> Result<Vec<Column>, AllocErro
     Ok(copies)
 }
 
-/// Puts copies of columns up to the first one that may take memory: how many it puts.
+/// Puts copies of columns up to the first one that may take memory, or that comes over one that may have some: how many
+/// it puts.
+#[inline(never)]
 fn copy_short(columns: &mut [Column], from: usize, others: &[Column]) -> usize
     requires inside { from + length others.now ≤ length columns.old }
     ensures few { result ≤ length others.now }
     ensures put { all_seen columns.new ≡ paste (all_seen columns.old) from (all_seen (take result others.now)) }
 {
     for (i, other) in others.iter().enumerate() {
-        let Some(short) = other.short_copy() else {
+        if !columns[from + i].set_short(other) {
             return i;
-        };
-        columns[from + i] = short;
+        }
     }
     others.len()
 }
