@@ -6,7 +6,7 @@ use Rattle.std.proofs.lemmas.Bool.{and_parts}
 use Rattle.std.proofs.lemmas.List.{at_drop_more, get_or-map, length-map}
 use Rattle.std.proofs.lemmas.List.Sums.{sum_by-append, sum_by-cons}
 use Rattle.std.proofs.lemmas.Slice.Zip.{get_or-zip}
-use Rattle.bx_terms.specs.Sizes.{is_side}
+use Rattle.bx_terms.specs.Sizes.{is_side, largest_side}
 use Rattle.bx_cells.specs.declared.unit.Unit.{Unit}
 use Rattle.bx_rows.specs.RowPicture.{unit_columns, columns_used}
 use Rattle.bx_rows.specs.VisualOrder.{visual}
@@ -34,8 +34,8 @@ side-more f order i column a b old new target h at all pushed =
     ap (λ xs. xs ++ side_by_side (column + b) rest) pushed ∙ append_assoc old (slot a column b ∷ []) (side_by_side (column + b) rest)
     ∙ ap (λ xs. old ++ xs) (sym here) ∙ all
 
-pub room-more : (columns order : List ℕ) (i column : ℕ) → i < length order → column + columns_of columns (drop i order) ≤ 501
-    → column + get_or columns (get_or order i 0) 0 + columns_of columns (drop (i + 1) order) ≤ 501
+pub room-more : (columns order : List ℕ) (i column : ℕ) → i < length order → column + columns_of columns (drop i order) ≤ largest_side + 1
+    → column + get_or columns (get_or order i 0) 0 + columns_of columns (drop (i + 1) order) ≤ largest_side + 1
 room-more columns order i column h room =
     let g : ℕ → ℕ = λ k. get_or columns k 0 in
     omega (arith, room, at_drop_more (sum_by g) order i 0 h, sum_by-cons g (get_or order i 0) (drop (i + 1) order))
@@ -70,15 +70,15 @@ columns-in-order w us levels columns order e is at =
     ap (λ xs. columns_of xs order) is ∙ ap (columns_of ns) at ∙ sym (chosen ns (visual levels)) ∙ sum-visual (λ n. n) pieces levels count ∙ ones ns
     ∙ sum_by-same ns
 
-side-few : (w : ℕ) → is_side w ≡ true → w ≤ 500
-side-few w e = leb-true w 500 (and_parts (nat_le 1 w) (nat_le w 500) e).1
+side-few : (w : ℕ) → is_side w ≡ true → w ≤ largest_side
+side-few w e = leb-true w largest_side (and_parts (nat_le 1 w) (nat_le w largest_side) e).1
 
 pub room-even : (w : ℕ) (us : List Unit) (levels columns order : List ℕ) → is_side w ≡ true → columns_used w us ≤ w → length levels ≡ length us
-    → columns ≡ unit_columns w 0 us → order ≡ visual levels → 1 + columns_of columns order ≤ 501
+    → columns ≡ unit_columns w 0 us → order ≡ visual levels → 1 + columns_of columns order ≤ largest_side + 1
 room-even w us levels columns order side fits e is at = omega (arith, side-few w side, fits, columns-in-order w us levels columns order e is at)
 
 pub room-odd : (w : ℕ) (us : List Unit) (levels columns order : List ℕ) (used : ℕ) → is_side w ≡ true → columns_used w us ≤ w → length levels ≡ length us
-    → columns ≡ unit_columns w 0 us → order ≡ visual levels → used ≡ columns_used w us → w - used + 1 + columns_of columns order ≤ 501
+    → columns ≡ unit_columns w 0 us → order ≡ visual levels → used ≡ columns_used w us → w - used + 1 + columns_of columns order ≤ largest_side + 1
 room-odd w us levels columns order used side fits e is at count =
     omega (arith, side-few w side, fits, count, columns-in-order w us levels columns order e is at)
 

@@ -10,7 +10,7 @@ use Rattle.std.proofs.Math.ListN.{get_or-map as get_or-map-all}
 use Rattle.unicode_segmentation.specs.Grapheme.{graphemes}
 use Rattle.unicode_segmentation.specs.Segments.{with_offsets}
 use Rattle.bx_terms.specs.Characters.{is_control}
-use Rattle.bx_terms.specs.Sizes.{is_side}
+use Rattle.bx_terms.specs.Sizes.{is_side, largest_side}
 use Rattle.bx_ucd.specs.declared.class.Class.{Class}
 use Rattle.bx_ucd.specs.declared.data.Side.{Side}
 use Rattle.bx_explicit.specs.declared.base.Base.{Base}
@@ -123,7 +123,7 @@ firsts class bracket base w body h =
 -- ---- the same of a layout
 
 side-some : (w : ℕ) → is_side w ≡ true → 1 ≤ w
-side-some w e = leb-true 1 w (and_parts (nat_le 1 w) (nat_le w 500) e).0
+side-some w e = leb-true 1 w (and_parts (nat_le 1 w) (nat_le w largest_side) e).0
 
 pub firsts-by : (l : LayoutState) (class : ℕ → Class) (bracket : ℕ → Option (Side × ℕ)) → IsLayoutBy class bracket l → is_side l.w ≡ true
     → map first_of (rows_by class bracket l) ≡ map (λ s. s.offset) l.starts

@@ -130,7 +130,7 @@ impl ParagraphLayout {
         self.levels.paragraph
     }
 
-    /// How many rows it has, at least one. No memory.
+    /// How many rows it has, at least one.
     #[tactic(auto, using(crate::proofs::Starts::row_count))]
     pub fn row_count(&self) -> usize
         ensures starts { result ≡ length self.now.starts }
@@ -140,7 +140,7 @@ impl ParagraphLayout {
         self.starts.len()
     }
 
-    /// The number of the row, from 0, that an offset of the body falls in: the last that begins at or before it. No memory.
+    /// The number of the row, from 0, that an offset of the body falls in: the last that begins at or before it.
     #[tactic(auto, using(crate::proofs::Starts::row_falls))]
     pub fn row_of(&self, offset: usize) -> usize
         ensures within { result < length self.now.starts }
@@ -149,7 +149,7 @@ impl ParagraphLayout {
         starts_up_to(&self.starts, offset).saturating_sub(1)
     }
 
-    /// The offset in the body at which a row begins, in bytes. No memory.
+    /// The offset in the body at which a row begins, in bytes.
     pub fn first(&self, row: usize) -> usize
         requires { row < length self.now.starts }
         ensures { OfRows self.now (λ rows. result ≡ first_of (row_at rows row)) }
@@ -157,7 +157,7 @@ impl ParagraphLayout {
         self.starts[row].offset
     }
 
-    /// How many units of the body stand before a row. No memory.
+    /// How many units of the body stand before a row.
     pub fn units_ahead(&self, row: usize) -> usize
         requires { row < length self.now.starts }
         ensures { result ≡ slice_index_or (map (λ s. s.units) self.now.starts) row 0 }

@@ -1,4 +1,6 @@
 //! The rows of one paragraph: its body wrapped in a window, the slots of each row and their columns.
+//!
+//! Only the functions that answer a `Result` take memory.
 #![tactic(auto)]
 
 mod cursor;

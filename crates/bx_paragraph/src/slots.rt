@@ -1,6 +1,6 @@
 //! The slots of a row, made from its units.
 ghost use Rattle.std.specs.Prelude.{◌≡◌, ◌≤◌, ◌<◌, ◌+◌, ◌++◌, ◌∷◌, [], true, false, All, IfOk, OnOk, length, map};
-ghost use Rattle.bx_terms.specs.Sizes.{is_side};
+ghost use Rattle.bx_terms.specs.Sizes.{is_side, largest_side};
 ghost use Rattle.bx_rows.specs.RowPicture.{columns_used};
 ghost use Rattle.bx_paragraph.specs.Slots.{columns_of, extent_of, row_slots, side_by_side};
 
@@ -20,7 +20,7 @@ fn push_units(
 ) -> Result<(), AllocError>
     requires counts { length columns.now ≡ length units.now }
     requires order { All (λ k. k < length units.now) order.now }
-    requires room { at + columns_of columns.now order.now ≤ 501 }
+    requires room { at + columns_of columns.now order.now ≤ largest_side + 1 }
     ensures { OnOk result (slots.new.items ≡ slots.old.items
         ++ side_by_side at (map (extent_of units.now columns.now) order.now)) }
 {

@@ -1,6 +1,6 @@
 -- What an index answers, told by the lengths of the paragraphs.
-use Rattle.std.proofs.Common.{◌≡◌, ◌<◌, ◌≤◌, ◌+◌, ◌-◌, ◌∙◌, ℕ, zero, suc, true, false, cond, nat_le, List, [], ◌∷◌, ◌++◌, length, take, get_or, slice_get, count_by}
-use Rattle.std.proofs.Common.{Option, Some, None, refl, ap, sym, arith, length-append}
+use Rattle.std.proofs.Common.{◌≡◌, ◌<◌, ◌≤◌, ◌+◌, ◌-◌, ◌∙◌, ℕ, zero, suc, true, false, cond, nat_le, List, [], ◌∷◌, ◌++◌}
+use Rattle.std.proofs.Common.{length, take, get_or, slice_get, count_by, Option, Some, None, refl, ap, sym, arith, length-append}
 use Rattle.std.proofs.lemmas.Bool.Decides.{nat_tests}
 use Rattle.std.proofs.lemmas.List.{get_or_append_left, take-append-le, take_all}
 use Rattle.std.proofs.lemmas.List.Sums.{sum_by-cons}

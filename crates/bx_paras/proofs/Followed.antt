@@ -168,8 +168,8 @@ module _ {class : ℕ → Class} {old : List ℕ} {c : Change} {new : List ℕ} 
     pub few : length (found stop) ≤ added_separators + 2
     pub bytes : length new ≡ first.start + (total (found stop) + total back)
 
-  followed : (stop : ℕ) (back : List Lengths) → IsRewritten class new (take first.number ps) stop added_separators back → IsFollowed stop back
-  followed stop back r =
+  rewrite_follows : (stop : ℕ) (back : List Lengths) → IsRewritten class new (take first.number ps) stop added_separators back → IsFollowed stop back
+  rewrite_follows stop back r =
       let e : total (take first.number ps) ≡ first.start = sym touched.first_is.start in
       let kept : lengths class new ≡ take first.number ps ++ (found stop ++ back) =
       subst (λ n. lengths class new ≡ take first.number ps ++ (ended_within (stop - n) (lengths class (drop n new)) ++ back)) e r.kept in
@@ -181,12 +181,12 @@ module _ {class : ℕ → Class} {old : List ℕ} {c : Change} {new : List ℕ} 
       }
 
   pub inside : (end : ℕ) → last.end ≡ Some end → IsFollowed ((end - c.removed) + c.added) (drop (last.number + 1) ps ++ u ∷ [])
-  inside end k = followed _ _ (follow_inside end k)
+  inside end k = rewrite_follows _ _ (follow_inside end k)
 
   pub at_end : (stop : ℕ) → stop ≡ length new → last.end ≡ None → (r : ℕ) × IsFollowed stop (unended r ∷ [])
   at_end stop e k =
       let (r, w) = follow_at_end k in
-      (r, followed stop (unended r ∷ []) (subst (λ n. IsRewritten class new (take first.number ps) n added_separators (unended r ∷ [])) (sym e) w))
+      (r, rewrite_follows stop (unended r ∷ []) (subst (λ n. IsRewritten class new (take first.number ps) n added_separators (unended r ∷ [])) (sym e) w))
 
   -- the paragraphs in blocks, with the last, are those of the new text
   pub closed_inside : (stop to : ℕ) (fs : List Lengths) → IsFollowed stop (drop to ps ++ u ∷ []) → fs ≡ take first.number ps ++ (found stop ++ drop to ps)

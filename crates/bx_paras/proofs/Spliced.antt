@@ -208,7 +208,8 @@ free_alone bs ds at p e h =
     let last : get_or ds (at + 1 - 1) [] ≡ p ∷ [] = ap (λ k. get_or ds k []) back ∙ ap (λ cs. get_or cs at []) e ∙ put_last bs at h p in
     rw some (omega (arith, ap length last))
 
-free_none_at : (bs : List (List Lengths)) (at : ℕ) (none : Bool) → (at == 0) ≡ none → (0 < at → block_capacity ≤ length (get_or bs (at - 1) [])) → free_before bs at ≡ 0
+free_none_at : (bs : List (List Lengths)) (at : ℕ) (none : Bool) → (at == 0) ≡ none
+    → (0 < at → block_capacity ≤ length (get_or bs (at - 1) [])) → free_before bs at ≡ 0
 free_none_at bs at true e h = rw e refl
 free_none_at bs at false e h = let full : block_capacity ≤ length (get_or bs (at - 1) []) = h (grind (arith, nat_tests)) in rw e (omega arith)
 

@@ -54,14 +54,14 @@ impl Block {
         })
     }
 
-    /// How many bytes the paragraphs have. No memory.
+    /// How many bytes the paragraphs have.
     pub fn bytes(&self) -> usize
         ensures { result ≡ total self.now }
     {
         self.bytes
     }
 
-    /// The paragraphs. No memory.
+    /// The paragraphs.
     pub fn lengths(&self) -> &[Lengths]
         ensures paragraphs { result.now ≡ self.now }
         ensures few { length result.now ≤ block_capacity }
@@ -69,14 +69,14 @@ impl Block {
         self.lengths.as_slice()
     }
 
-    /// Whether another paragraph fits in. No memory.
+    /// Whether another paragraph fits in.
     pub fn has_room(&self) -> bool
         ensures { result ≡ nat_lt (length self.now) block_capacity }
     {
         self.lengths.len() < BLOCK_CAPACITY
     }
 
-    /// One paragraph more, behind the others. No memory.
+    /// One paragraph more, behind the others.
     #[tactic(auto, using(crate::proofs::Totals::total_push))]
     pub fn push(&mut self, paragraph: Lengths)
         requires room { length self.old < block_capacity }
@@ -87,7 +87,7 @@ impl Block {
         self.lengths.push(paragraph).unwrap();
     }
 
-    /// Takes the paragraphs from a number on into another block, instead of those that it had. No memory.
+    /// Takes the paragraphs from a number on into another block, instead of those that it had.
     #[tactic(auto, using(crate::proofs::Totals::total_rest))]
     pub fn cut(&mut self, at: usize, mut rest: Block) -> Block
         requires { at ≤ length self.old }
@@ -103,7 +103,7 @@ impl Block {
         rest
     }
 
-    /// Puts the paragraphs of another block behind these. No memory.
+    /// Puts the paragraphs of another block behind these.
     #[tactic(auto, using(crate::proofs::Totals::total_append))]
     pub fn append(&mut self, other: &Block)
         requires room { length self.old + length other.now ≤ block_capacity }
@@ -114,7 +114,7 @@ impl Block {
         self.lengths.extend_from_slice(&other.lengths).unwrap();
     }
 
-    /// No paragraph any more. No memory.
+    /// No paragraph any more.
     pub fn clear(&mut self)
         ensures { self.new ≡ [] }
     {

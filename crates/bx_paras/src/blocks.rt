@@ -59,7 +59,7 @@ fn position_within(lengths: &[Lengths], offset: usize) -> (usize, usize, usize, 
     (number, start, start, 0)
 }
 
-/// One of the blocks that were made ahead, with no paragraph. No memory.
+/// One of the blocks that were made ahead, with no paragraph.
 fn spare(spares: &mut Vec<Block>) -> Block
     requires { 0 < vec_len spares.old }
     ensures fewer { vec_len spares.new + 1 ≡ vec_len spares.old }
@@ -81,7 +81,7 @@ impl Blocks {
         }
     }
 
-    /// Where the paragraph stands that an offset falls in. No memory.
+    /// Where the paragraph stands that an offset falls in.
     #[tactic(auto, using(crate::proofs::Flats::total_flat_more, crate::proofs::Flats::length_flat_more, crate::proofs::Flats::total_flat_front, crate::proofs::Flats::length_flat_front))]
     pub fn find(&self, offset: usize) -> Position
         ensures { IsPosition (flat self.now.blocks) offset result }
@@ -113,7 +113,7 @@ impl Blocks {
         }
     }
 
-    /// How many paragraphs there are, and how many bytes they have. No memory.
+    /// How many paragraphs there are, and how many bytes they have.
     #[tactic(auto, using(crate::proofs::Flats::total_flat_more, crate::proofs::Flats::length_flat_more, crate::proofs::Flats::total_flat_front, crate::proofs::Flats::length_flat_front))]
     pub fn size(&self) -> (usize, usize)
         ensures count { result.0 ≡ length (flat self.now.blocks) }
@@ -128,7 +128,7 @@ impl Blocks {
         (count, bytes)
     }
 
-    /// A paragraph and the offset at which it begins; none where there are not so many. No memory.
+    /// A paragraph and the offset at which it begins; none where there are not so many.
     #[tactic(auto, using(crate::proofs::Flats::total_flat_more, crate::proofs::Flats::length_flat_more, crate::proofs::Flats::total_flat_front, crate::proofs::Flats::length_flat_front))]
     pub fn get(&self, number: usize) -> Option<(usize, Lengths)>
         ensures { MatchOption result (length (flat self.now.blocks) ≤ number)
@@ -149,7 +149,7 @@ impl Blocks {
         None
     }
 
-    /// The paragraphs of a block; none where there are not so many blocks. No memory.
+    /// The paragraphs of a block; none where there are not so many blocks.
     pub fn block(&self, at: usize) -> Option<&[Lengths]>
         ensures lent { MatchOption result (length self.now.blocks ≤ at) (λ ls. (at < length self.now.blocks) × (ls.now ≡ get_or self.now.blocks at [])) }
         ensures few { length self.now.blocks < 2 ^ 64 }
@@ -158,7 +158,7 @@ impl Blocks {
         Some(self.blocks.get(at)?.lengths())
     }
 
-    /// The offset at which a paragraph begins, or the one behind the last. No memory.
+    /// The offset at which a paragraph begins, or the one behind the last.
     pub fn start_of(&self, number: usize) -> usize
         requires { number ≤ length (flat self.now.blocks) }
         ensures { result ≡ total (take number (flat self.now.blocks)) }
@@ -170,7 +170,7 @@ impl Blocks {
     }
 
     /// The block of a paragraph, and how many paragraphs of the block stand before it; behind the last one no block
-    /// is left. No memory.
+    /// is left.
     #[tactic(auto, using(crate::proofs::Flats::length_flat_more, crate::proofs::Flats::length_flat_front))]
     pub fn seek(&self, number: usize) -> (usize, usize)
         requires { number ≤ length (flat self.now.blocks) }
@@ -250,7 +250,7 @@ impl Blocks {
     }
 
     /// Cuts the block that a paragraph stands in, so that the paragraph begins a block, and gives the block's number,
-    /// which is that of the blocks where the paragraph is behind the last. No memory.
+    /// which is that of the blocks where the paragraph is behind the last.
     fn cut(&mut self, number: usize) -> usize
         requires spare { 0 < self.old.spares }
         requires inside { number ≤ length (flat self.old.blocks) }
@@ -272,7 +272,6 @@ impl Blocks {
     }
 
     /// Puts a paragraph behind those of the blocks before a position among the blocks, and gives the position behind it.
-    /// No memory.
     pub fn push(&mut self, at: usize, paragraph: Lengths) -> usize
         requires position { at ≤ length self.old.blocks }
         requires room { 0 < room_at self.old at }
@@ -293,7 +292,7 @@ impl Blocks {
         at + 1
     }
 
-    /// Takes out the paragraphs from one to another, and gives the position among the blocks where they stood. No memory.
+    /// Takes out the paragraphs from one to another, and gives the position among the blocks where they stood.
     pub fn take_out(&mut self, from: usize, to: usize) -> usize
         requires spares { 2 ≤ self.old.spares }
         requires order { from ≤ to }
@@ -311,7 +310,7 @@ impl Blocks {
         first
     }
 
-    /// Joins the blocks before and behind a position among them, where they have room for one another. No memory.
+    /// Joins the blocks before and behind a position among them, where they have room for one another.
     pub fn join(&mut self, at: usize)
         ensures paragraphs { flat self.new.blocks ≡ flat self.old.blocks }
         ensures spares { self.new.spares ≡ self.old.spares }

@@ -17,7 +17,7 @@ use bx_text::Text;
 use bx_ucd::BidiData;
 
 /// Puts in, at a position among the blocks, the paragraphs of a text that end with a separator from one offset to another,
-/// of which it looks at what stands in a window. Gives the position behind them and the offset where the last of them ends. No memory.
+/// of which it looks at what stands in a window. Gives the position behind them and the offset where the last of them ends.
 fn fill<D: BidiData>(
     blocks: &mut Blocks,
     position: usize,
@@ -57,7 +57,7 @@ fn fill<D: BidiData>(
 }
 
 /// Takes out the paragraphs from the one at a position to another, and puts in those of a text that end with a separator from
-/// where the first one began to an offset. Gives the offset where the last of them ends, and gives back what is left of the room. No memory.
+/// where the first one began to an offset. Gives the offset where the last of them ends, and gives back what is left of the room.
 pub fn replace<D: BidiData>(
     blocks: &mut Blocks,
     text: &Text,
@@ -73,7 +73,8 @@ pub fn replace<D: BidiData>(
     requires window { IsWindow (D.class_of source.now) text.now.edited.text from.start window }
     requires order { from.number ≤ to }
     requires inside { to ≤ length (flat blocks.old.blocks) }
-    requires room { 2 * block_capacity + length (ended_between (D.class_of source.now) text.now.edited.text from.start stop) ≤ block_capacity * blocks.old.spares }
+    requires room { 2 * block_capacity + length (ended_between (D.class_of source.now) text.now.edited.text from.start stop)
+        ≤ block_capacity * blocks.old.spares }
     requires short { total (flat blocks.old.blocks) + total (ended_between (D.class_of source.now) text.now.edited.text from.start stop) < 2 ^ 64 }
     requires few { length (flat blocks.old.blocks) + length (ended_between (D.class_of source.now) text.now.edited.text from.start stop) < 2 ^ 64 }
     ensures paragraphs { flat blocks.new.blocks

@@ -175,9 +175,9 @@ impl Index {
         Ok(())
     }
 
-    /// Follows an edit of the text, of which it looks at what was added and at what stands beside it. No memory, and it always succeeds: the index
-    /// was that of the text before the change, by the same data, and `ready` made room for the separators among what
-    /// was added.
+    /// Follows an edit of the text, of which it looks at what was added and at what stands beside it. It takes no memory and
+    /// always succeeds: the index was that of the text before the change, by the same data, and `ready` made room for the
+    /// separators among what was added.
     pub fn edited<D: BidiData>(&mut self, text: &Text, source: &D, change: &Change)
         requires was { (old : List ℕ)
             × IsUtf8 old
@@ -221,7 +221,7 @@ impl Index {
         self.room = None;
     }
 
-    /// How many paragraphs the text has, at least one. No memory.
+    /// How many paragraphs the text has, at least one.
     pub fn count(&self) -> usize
         ensures count { result ≡ length self.now.paragraphs }
         ensures some { 0 < result }
@@ -230,7 +230,6 @@ impl Index {
     }
 
     /// The number of the paragraph, from 0, that an offset in bytes falls in: the last that begins at or before it.
-    /// No memory.
     pub fn paragraph_of(&self, offset: usize) -> usize
         ensures { result ≡ paragraph_of self.now.paragraphs offset }
     {
@@ -238,7 +237,7 @@ impl Index {
     }
 
     /// The number of the paragraph, from 0, that an offset in bytes falls in, and where its body begins and ends. It is found
-    /// by one walk. No memory.
+    /// by one walk.
     pub fn span_at(&self, offset: usize) -> (usize, (usize, usize))
         ensures number { result.0 ≡ paragraph_of self.now.paragraphs offset }
         ensures span { slice_get (spans self.now.paragraphs) result.0 ≡ Some result.1 }
@@ -251,7 +250,7 @@ impl Index {
         (position.number, (start, end - position.separator))
     }
 
-    /// Where the body of a paragraph begins and ends, in bytes. No memory.
+    /// Where the body of a paragraph begins and ends, in bytes.
     pub fn span(&self, number: usize) -> (usize, usize)
         requires { number < length self.now.paragraphs }
         ensures { slice_get (spans self.now.paragraphs) number ≡ Some result }
@@ -265,7 +264,7 @@ impl Index {
         }
     }
 
-    /// How many bytes the separator has that ends a paragraph, 0 for the last. No memory.
+    /// How many bytes the separator has that ends a paragraph, 0 for the last.
     pub fn separator(&self, number: usize) -> usize
         requires { number < length self.now.paragraphs }
         ensures { slice_get (separators self.now.paragraphs) number ≡ Some result }
@@ -276,7 +275,7 @@ impl Index {
         }
     }
 
-    /// A walk that stands at the paragraph of a number. No memory.
+    /// A walk that stands at the paragraph of a number.
     pub fn walk_at(&self, number: usize) -> ParagraphWalk<'_>
         requires { number < length self.now.paragraphs }
         ensures { result ≡ record { paragraphs = self.now.paragraphs; number = number } }
@@ -284,7 +283,7 @@ impl Index {
         ParagraphWalk::new(&self.front, self.last, number)
     }
 
-    /// A walk that stands at the paragraph that an offset in bytes falls in. No memory.
+    /// A walk that stands at the paragraph that an offset in bytes falls in.
     pub fn walk_at_offset(&self, offset: usize) -> ParagraphWalk<'_>
         ensures { result ≡ record { paragraphs = self.now.paragraphs; number = paragraph_of self.now.paragraphs offset } }
     {

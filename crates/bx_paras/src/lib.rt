@@ -1,4 +1,6 @@
 //! The paragraphs of a text: an index that follows its edits.
+//!
+//! Only the functions that answer a `Result` take memory.
 #![tactic(auto)]
 
 mod block;

@@ -7,7 +7,7 @@ ghost use Rattle.bx_paras.specs.Positions.{bytes_of, total};
 use crate::block::Block;
 use crate::lengths::Lengths;
 
-/// Cuts a block in two, the second part in a block that was made ahead. No memory.
+/// Cuts a block in two, the second part in a block that was made ahead.
 pub fn cut_at(blocks: &mut Vec<Block>, at: usize, within: usize, spare: Block)
     requires position { at < vec_len blocks.old }
     requires inside { within ≤ length (get_or blocks.old.items at []) }
@@ -22,7 +22,7 @@ pub fn cut_at(blocks: &mut Vec<Block>, at: usize, within: usize, spare: Block)
     blocks.insert(at + 1, back).unwrap();
 }
 
-/// Puts a paragraph behind those of a block. No memory.
+/// Puts a paragraph behind those of a block.
 #[tactic(auto, using(crate::proofs::Written::set_parts))]
 pub fn push_at(blocks: &mut Vec<Block>, at: usize, paragraph: Lengths)
     requires position { at < vec_len blocks.old }
@@ -35,7 +35,7 @@ pub fn push_at(blocks: &mut Vec<Block>, at: usize, paragraph: Lengths)
     blocks[at].push(paragraph);
 }
 
-/// Puts the paragraphs of the next block behind those of a block. No memory.
+/// Puts the paragraphs of the next block behind those of a block.
 #[tactic(auto, using(crate::proofs::Written::join_parts))]
 pub fn join_at(blocks: &mut Vec<Block>, at: usize)
     requires position { at + 1 < vec_len blocks.old }
@@ -51,7 +51,7 @@ pub fn join_at(blocks: &mut Vec<Block>, at: usize)
     blocks[at].append(&next);
 }
 
-/// Takes out the blocks from one to another. No memory.
+/// Takes out the blocks from one to another.
 pub fn remove_blocks(blocks: &mut Vec<Block>, from: usize, to: usize)
     requires order { from ≤ to }
     requires inside { to ≤ vec_len blocks.old }

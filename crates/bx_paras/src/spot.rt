@@ -18,7 +18,7 @@ pub struct Spot {
     pub within: usize,
 }
 
-/// Where the paragraph of a number stands. No memory.
+/// Where the paragraph of a number stands.
 pub fn spot_of(blocks: &Blocks, number: usize) -> Spot
     requires { number ≤ length (flat blocks.now.blocks) }
     ensures number { result.number ≡ number }
@@ -32,7 +32,7 @@ pub fn spot_of(blocks: &Blocks, number: usize) -> Spot
     }
 }
 
-/// The first block from one on that has a paragraph; the count of the blocks, where none has. No memory.
+/// The first block from one on that has a paragraph; the count of the blocks, where none has.
 #[tactic(auto, using(crate::proofs::Flats::length_flat_more))]
 fn first_filled(blocks: &Blocks, from: usize) -> usize
     requires { from ≤ length blocks.now.blocks }
@@ -50,7 +50,7 @@ fn first_filled(blocks: &Blocks, from: usize) -> usize
     at
 }
 
-/// The last block before one that has a paragraph, and how many it has. No memory.
+/// The last block before one that has a paragraph, and how many it has.
 #[tactic(auto, using(crate::proofs::Flats::length_flat_more))]
 fn last_filled(blocks: &Blocks, to: usize) -> (usize, usize)
     requires inside { to ≤ length blocks.now.blocks }
@@ -72,7 +72,7 @@ fn last_filled(blocks: &Blocks, to: usize) -> (usize, usize)
     (0, 0)
 }
 
-/// Where the next paragraph stands; none behind the last. No memory.
+/// Where the next paragraph stands; none behind the last.
 #[tactic(auto, using(crate::proofs::Flats::length_flat_more))]
 pub fn next_spot(blocks: &Blocks, spot: Spot) -> Option<Spot>
     requires { IsSpot blocks.now.blocks spot }
@@ -96,7 +96,7 @@ pub fn next_spot(blocks: &Blocks, spot: Spot) -> Option<Spot>
     })
 }
 
-/// Where the paragraph before it stands; none before the first. No memory.
+/// Where the paragraph before it stands; none before the first.
 pub fn previous_spot(blocks: &Blocks, spot: Spot) -> Option<Spot>
     requires { IsSpot blocks.now.blocks spot }
     ensures { MatchOption result (spot.number ≡ 0) (λ s. (s.number + 1 ≡ spot.number) × IsSpot blocks.now.blocks s) }
@@ -120,7 +120,7 @@ pub fn previous_spot(blocks: &Blocks, spot: Spot) -> Option<Spot>
     })
 }
 
-/// The paragraph that stands there, where the last one has so many bytes. No memory.
+/// The paragraph that stands there, where the last one has so many bytes.
 pub fn paragraph_at(blocks: &Blocks, last: u32, spot: Spot) -> Lengths
     requires { IsSpot blocks.now.blocks spot }
     ensures { result ≡ get_or (closed blocks.now.blocks last) spot.number result }

@@ -19,7 +19,7 @@ pub struct Window {
     pub separator: usize,
 }
 
-/// All that stands from an offset on. No memory.
+/// All that stands from an offset on.
 pub fn window_to_end(text: &Text, at: usize) -> Window
     requires { IsCharBoundary text.now.edited.text at }
     ensures { (class : ℕ → Class) → IsWindow class text.now.edited.text at result }

@@ -15,7 +15,7 @@ fn buffer_of<'a>(opened: &'a str, added: &'a str, buffer: Buffer) -> &'a str
 }
 
 /// The rest, from an offset on, of the piece that holds it; none where the offset bounds no character, is
-/// the end of the pieces' text or is past it. No memory.
+/// the end of the pieces' text or is past it.
 pub fn rest_in<'a>(opened: &'a str, added: &'a str, pieces: &Pieces, at: usize) -> Option<&'a str>
     requires { AreInBuffers (record { opened = opened.now; added = added.now }) pieces.now }
     ensures there { let text = bytes_of (record { opened = opened.now; added = added.now }) pieces.now in

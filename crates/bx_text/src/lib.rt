@@ -1,4 +1,6 @@
 //! A text under edits, with undo and redo: a piece table.
+//!
+//! Only the functions that answer a `Result` take memory.
 #![tactic(auto)]
 
 mod buffers;

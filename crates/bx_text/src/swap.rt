@@ -10,7 +10,7 @@ use crate::step::Step;
 use bx_pieces::{Buffer, Piece, Pieces, Spares};
 use std::mem;
 
-/// Puts a span instead of so many bytes, and gives what stood there. No memory.
+/// Puts a span instead of so many bytes, and gives what stood there.
 pub fn swap(
     pieces: &mut Pieces,
     start: usize,
@@ -31,7 +31,7 @@ pub fn swap(
     old
 }
 
-/// Appends text to the buffer of what was added, and puts it behind some pieces. No memory.
+/// Appends text to the buffer of what was added, and puts it behind some pieces.
 fn add(pieces: &mut Pieces, added: &mut String, text: &str, spares: &mut Spares)
     requires room { string_len added.old + length text.now ≤ string_capacity added.old }
     requires spare { 1 ≤ spares.old }
@@ -49,7 +49,7 @@ fn add(pieces: &mut Pieces, added: &mut String, text: &str, spares: &mut Spares)
     pieces.push(piece, spares);
 }
 
-/// Puts text instead of so many bytes, and gives what stood there. No memory.
+/// Puts text instead of so many bytes, and gives what stood there.
 pub fn put(
     pieces: &mut Pieces,
     start: usize,

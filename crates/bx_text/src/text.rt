@@ -81,7 +81,7 @@ impl Text {
         })
     }
 
-    /// How many bytes the text has. No memory.
+    /// How many bytes the text has.
     pub fn len(&self) -> usize
         ensures len { result ≡ length self.now.edited.text }
         ensures short { length self.now.edited.text ≤ largest_text }
@@ -90,7 +90,7 @@ impl Text {
         self.pieces.len()
     }
 
-    /// What `undo` would do next; none where there is nothing to take back. No memory.
+    /// What `undo` would do next; none where there is nothing to take back.
     pub fn next_undo(&self) -> Option<Change>
         ensures { result ≡ next_undo self.now.edited }
     {
@@ -103,7 +103,7 @@ impl Text {
         })
     }
 
-    /// What `redo` would do next; none where there is nothing to make again. No memory.
+    /// What `redo` would do next; none where there is nothing to make again.
     pub fn next_redo(&self) -> Option<Change>
         ensures { result ≡ next_redo self.now.edited }
     {
@@ -153,7 +153,7 @@ impl Text {
         }
     }
 
-    /// Puts text instead of so many bytes: one edit. No memory.
+    /// Puts text instead of so many bytes: one edit.
     fn replace(
         &mut self,
         start: usize,
@@ -196,7 +196,7 @@ impl Text {
     }
 
     /// The rest, from an offset on, of the piece of the text that holds it; none where the offset bounds no
-    /// character, is the text's end or is past it. No memory.
+    /// character, is the text's end or is past it.
     pub fn piece_at(&self, offset: usize) -> Option<&str>
         ensures there { IsSome result ↔ (IsCharBoundary self.now.edited.text offset × (offset < length self.now.edited.text)) }
         ensures bytes { IfSome result (λ s. take (length s.now) (drop offset self.now.edited.text) ≡ s.now) }
@@ -208,14 +208,14 @@ impl Text {
         rest_in(opened, added, &self.pieces, offset)
     }
 
-    /// Whether an offset is the text's end or the first byte of a character. No memory.
+    /// Whether an offset is the text's end or the first byte of a character.
     fn is_boundary(&self, at: usize) -> bool
         ensures { IsTrue result ↔ IsCharBoundary self.now.edited.text at }
     {
         at == self.len() || self.piece_at(at).is_some()
     }
 
-    /// Whether two offsets bound characters and stand in order. No memory.
+    /// Whether two offsets bound characters and stand in order.
     fn is_range(&self, start: usize, stop: usize) -> bool
         ensures range { IsTrue result ↔ IsRange self.now.edited.text start stop }
         ensures short { length self.now.edited.text ≤ largest_text }
@@ -225,7 +225,7 @@ impl Text {
         start <= stop && stop <= len && self.is_boundary(start) && self.is_boundary(stop)
     }
 
-    /// What stands from an offset on, as far as the piece that holds it goes, up to a later offset. No memory.
+    /// What stands from an offset on, as far as the piece that holds it goes, up to a later offset.
     pub fn part_at(&self, at: usize, stop: usize) -> &str
         requires range { IsRange self.now.edited.text at stop }
         requires before { at < stop }
@@ -238,7 +238,7 @@ impl Text {
         &rest[..len]
     }
 
-    /// The text's pieces in order, which joined are the text. No memory.
+    /// The text's pieces in order, which joined are the text.
     pub fn pieces(&self) -> Slices<'_>
         ensures text { result ≡ self.now.edited.text }
         ensures joined { (slices : List (Bor (List ℕ))) → Drains lends result slices → joined slices ≡ self.now.edited.text }
