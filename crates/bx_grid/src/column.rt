@@ -93,12 +93,13 @@ impl Column {
         else {
             return false;
         };
+        let (count, place, is_negative) = (*other_columns, *other_offset, *other_negative);
         if !text.set_short(other_text) {
             return false;
         }
-        *columns = *other_columns;
-        *offset = *other_offset;
-        *negative = *other_negative;
+        *columns = count;
+        *offset = place;
+        *negative = is_negative;
         true
     }
 

@@ -146,6 +146,7 @@ impl GlyphText {
     pub(crate) fn set_short(&mut self, other: &GlyphText) -> bool
         ensures set { result ≡ true → self.new ≡ other.now }
         ensures same { result ≡ false → self.new ≡ self.old }
+        ensures short { length self.old ≤ 7 → length other.now ≤ 7 → result ≡ true }
     {
         match (&mut self.stored, &other.stored) {
             (Stored::Short(text), Stored::Short(new)) => {

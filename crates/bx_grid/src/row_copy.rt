@@ -1,7 +1,7 @@
 //! A row of a grid, copied, so that it can be put into another grid.
 
-ghost use Rattle.std.specs.Prelude.{◌≡◌, ◌+◌, ◌*◌, ◌≤◌, ◌<◌, ◌++◌, length, take, drop, IfOk, OnOk, OnErr};
-ghost use Rattle.bx_grid.specs.Columns.{paste, AreBlank, AreSameAround};
+ghost use Rattle.std.specs.Prelude.{List, ◌≡◌, ◌+◌, ◌*◌, ◌≤◌, ◌<◌, ◌++◌, length, take, drop, IfOk, OnOk, OnErr};
+ghost use Rattle.bx_grid.specs.Columns.{Col, paste, AreBlank, AreSameAround};
 ghost use Rattle.bx_grid.specs.Seen.{all_seen};
 
 use crate::column::Column;
@@ -89,16 +89,18 @@ fn copies_of(alloc: Global, columns: &[Column]) -> Result<Vec<Column>, AllocErro
     Ok(copies)
 }
 
-/// Puts copies of columns up to the first one that may take memory, or that comes over one that may have some: how many
-/// it puts.
+/// Goes on putting copies of columns from an index up to the next one that may take memory, or that comes over one that may
+/// have some: up to where.
 #[inline(never)]
-fn copy_short(columns: &mut [Column], from: usize, others: &[Column]) -> usize
+fn copy_short(columns: &mut [Column], from: usize, others: &[Column], at: usize) -> usize
     requires inside { from + length others.now ≤ length columns.old }
-    ensures few { result ≤ length others.now }
-    ensures put { all_seen columns.new ≡ paste (all_seen columns.old) from (all_seen (take result others.now)) }
+    requires order { at ≤ length others.now }
+    ensures least { at ≤ result }
+    ensures most { result ≤ length others.now }
+    ensures put { (start : List Col) → from + length others.now ≤ length start → all_seen columns.old ≡ paste start from (all_seen (take at others.now)) → all_seen columns.new ≡ paste start from (all_seen (take result others.now)) }
 {
-    for (i, other) in others.iter().enumerate() {
-        if !columns[from + i].set_short(other) {
+    for i in at..others.len() {
+        if !columns[from + i].set_short(&others[i]) {
             return i;
         }
     }
@@ -116,9 +118,10 @@ fn copy_over(
     ensures ok { OnOk result (all_seen columns.new ≡ paste (all_seen columns.old) from (all_seen others.now)) }
     ensures err { OnErr result (AreSameAround from (length others.now) (all_seen columns.old) (all_seen columns.new)) }
 {
-    let done = copy_short(columns, from, others);
-    for i in done..others.len() {
-        columns[from + i] = others[i].copy(alloc)?;
+    let mut next = copy_short(columns, from, others, 0);
+    while next < others.len() {
+        columns[from + next] = others[next].copy(alloc)?;
+        next = copy_short(columns, from, others, next + 1);
     }
     Ok(())
 }
