@@ -60,14 +60,14 @@ impl Layout {
         }
     }
 
-    /// The base direction. No memory.
+    /// The base direction.
     pub fn base(&self) -> Base
         ensures { result ≡ self.now.base }
     {
         self.base
     }
 
-    /// The window's columns. No memory.
+    /// The window's columns.
     pub fn width(&self) -> u16
         ensures width { result ≡ self.now.w }
         ensures side { is_side self.now.w ≡ true }
