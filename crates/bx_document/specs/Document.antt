@@ -28,7 +28,7 @@ rows_of d t text = text_rows d.class d.bracket t.base t.w text
 abbrev pub rows : Data → Document → List TextRow
 rows d t = rows_of d t t.content.text
 
--- the place after an edit that puts bytes in the place of those from start to stop: the least place of the new text that is
+-- the place after an edit that puts bytes instead of those from start to stop: the least place of the new text that is
 -- not before their end
 abbrev pub place_behind : Data → Document → ℕ → ℕ → List ℕ → ℕ
 place_behind d t start stop new = place_from (rows_of d t (splice t.content.text start stop new)) (start + length new)

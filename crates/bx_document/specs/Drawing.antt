@@ -42,7 +42,7 @@ rows_above d t top place = row_of (rows d t) place - row_of (rows d t) top
 abbrev pub IsBlankFrom : GridState → ℕ → Type 0
 IsBlankFrom g row = drop (row * g.width) g.columns ≡ replicate (length g.columns - row * g.width) blank
 
--- the grid with these columns in the place of the first ones of row number `row`, and blanks behind them
+-- the grid with these columns instead of the first ones of row number `row`, and blanks behind them
 abbrev pub with_row : GridState → ℕ → List Col → GridState
 with_row g row columns = record g {
   columns = take (row * g.width) g.columns ++ (columns ++ replicate (length g.columns - row * g.width - length columns) blank);

@@ -13,7 +13,7 @@ window_start class text start = start_at class text (paragraph_of (lengths class
 abbrev pub window_stop : (ℕ → Class) → List ℕ → ℕ → ℕ
 window_stop class text stop = start_at class text (paragraph_of (lengths class text) stop + 1)
 
--- what stands between them once bytes took the place of those from start to stop
+-- what stands between them once bytes stand instead of those from start to stop
 abbrev pub window : (ℕ → Class) → List ℕ → ℕ → ℕ → List ℕ → List ℕ
 window class text start stop new =
     slice_range text (window_start class text start) start ++ new ++ slice_range text stop (window_stop class text stop)

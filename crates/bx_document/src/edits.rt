@@ -27,7 +27,7 @@ fn follow<D: BidiData>(index: &mut Index, text: &Text, source: &D, change: &Chan
 }
 
 impl<D: BidiData + Drop> Document<D> {
-    /// The place behind an edit that puts characters in the place of those from start to stop, which is not made yet.
+    /// The place behind an edit that puts characters instead of those from start to stop, which is not made yet.
     ///
     /// Errors: `OutOfMemory`.
     fn place_behind(&mut self, start: usize, stop: usize, new: &str) -> Result<usize, DocumentError>

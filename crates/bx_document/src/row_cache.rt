@@ -111,7 +111,7 @@ fn position(
     None
 }
 
-/// Lets the row of the number `i` change places with the one of the number `at`, if that stands before it.
+/// Swaps the row of the number `i` with the one of the number `at`, if that stands before it.
 fn bring(rows: &mut Vec<DrawnRow>, i: usize, at: usize)
     ensures { (d : Data) → AreDrawnBy d rows.old.items → AreDrawnBy d rows.new.items }
 {

@@ -4,7 +4,7 @@ use Rattle.std.proofs.Common.{reverse, find, get_or, nat_le, Option, Some, None,
 use Rattle.std.proofs.Common.{refl, sym, ap, ap₂, subst, ◌∙◌, arith, leb-true}
 use Rattle.std.specs.Prelude.{All, IfSome, map}
 use Rattle.std.proofs.lemmas.Bool.{and_parts}
-use Rattle.bx_terms.specs.Sizes.{is_side}
+use Rattle.bx_terms.specs.Sizes.{is_side, largest_side}
 use Rattle.bx_ucd.specs.declared.class.Class.{Class}
 use Rattle.bx_ucd.specs.declared.data.Side.{Side}
 use Rattle.bx_text.specs.Edits.{IsRange}
@@ -29,7 +29,7 @@ use Rattle.bx_view.proofs.Within.{end-fits, entry-fits, find-lies, last-fits, st
 use Rattle.bx_view.proofs.Walking.{before-over, before-some, first-short, next-in, next-none, next-over, row-is, row-under}
 
 pub side-some : (w : ℕ) → is_side w ≡ true → 1 ≤ w
-side-some w e = leb-true 1 w (and_parts (nat_le 1 w) (nat_le w 500) e).0
+side-some w e = leb-true 1 w (and_parts (nat_le 1 w) (nat_le w largest_side) e).0
 
 module _ (class : ℕ → Class) (bracket : ℕ → Option (Side × ℕ)) where
   abbrev of : ViewState → List ℕ → List TextRow

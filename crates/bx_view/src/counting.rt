@@ -18,7 +18,7 @@ use bx_text::Text;
 use bx_ucd::BidiData;
 use std::alloc::Global;
 
-/// Where the body of the paragraph begins and ends at which a walk stands. No memory.
+/// Where the body of the paragraph begins and ends at which a walk stands.
 fn walked_span<D: BidiData>(text: &Text, walk: &ParagraphWalk<'_>, source: &D) -> (usize, usize)
     requires walk { walk.now.paragraphs ≡ lengths (D.class_of source.now) text.now.edited.text }
     requires number { walk.now.number < count (D.class_of source.now) text.now.edited.text }

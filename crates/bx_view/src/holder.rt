@@ -17,7 +17,7 @@ use std::marker::Model;
 // More than the rows of any window.
 const MOST_HELD: usize = 512;
 
-/// Whether a paragraph that is held has the bytes between two offsets of a text as its body. No memory.
+/// Whether a paragraph that is held has the bytes between two offsets of a text as its body.
 fn is_held(held: &[ParagraphLayout], i: usize, text: &Text, start: usize, stop: usize) -> bool
     requires order { start ≤ stop }
     requires within { stop ≤ length text.now.edited.text }
@@ -31,7 +31,7 @@ fn is_held(held: &[ParagraphLayout], i: usize, text: &Text, start: usize, stop: 
 }
 
 /// Which of those that are held has the bytes between two offsets as its body. That of the number `recent` is asked
-/// first, and then the one behind it: the paragraphs of a page were held one after another. No memory.
+/// first, and then the one behind it: the paragraphs of a page were held one after another.
 pub(crate) fn position(
     held: &[ParagraphLayout],
     recent: usize,
@@ -78,7 +78,7 @@ fn drop_oldest<D: BidiData>(held: &mut Vec<ParagraphLayout>, source: &D, base: B
     }
 }
 
-/// Holds one more paragraph, in place of another where many are held, and alone where all have more bytes than two
+/// Holds one more paragraph, instead of the first where many are held, and alone where all have more bytes than two
 /// texts may have. It answers its number among them.
 pub(crate) fn hold<D: BidiData>(
     held: &mut Vec<ParagraphLayout>,

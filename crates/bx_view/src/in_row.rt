@@ -30,7 +30,7 @@ pub(crate) fn place_in(start: usize, offset: Option<usize>) -> Option<usize>
 }
 
 impl Layout {
-    /// The offset at which a row begins, in bytes of the text. No memory.
+    /// The offset at which a row begins, in bytes of the text.
     pub fn first_in<D: BidiData>(&self, text: &Text, source: &D, at: RowAt) -> usize
         requires data { IsViewBy (D.class_of source.now) (D.bracket_of source.now) self.now }
         requires row { (n : ℕ) × StandsOn (D.class_of source.now) (D.bracket_of source.now) self.now text.now.edited.text at n }

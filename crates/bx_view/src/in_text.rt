@@ -10,7 +10,7 @@ fn are_same(left: &[u8], right: &[u8]) -> bool
     left == right
 }
 
-/// Whether these bytes stand in the text at an offset. No memory.
+/// Whether these bytes stand in the text at an offset.
 pub(crate) fn stands_at(text: &Text, start: usize, bytes: &[u8]) -> bool
     requires { start + length bytes.now ≤ length text.now.edited.text }
     ensures { IsTrue result → take (length bytes.now) (drop start text.now.edited.text) ≡ bytes.now }

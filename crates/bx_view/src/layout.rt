@@ -60,14 +60,14 @@ impl Layout {
         }
     }
 
-    /// The base direction. No memory.
+    /// The base direction.
     pub fn base(&self) -> Base
         ensures { result ≡ self.now.base }
     {
         self.base
     }
 
-    /// The window's columns. No memory.
+    /// The window's columns.
     pub fn width(&self) -> u16
         ensures width { result ≡ self.now.w }
         ensures side { is_side self.now.w ≡ true }
@@ -75,7 +75,7 @@ impl Layout {
         self.w
     }
 
-    /// Takes other columns. What is held keeps its levels, and its rows are found anew when it is looked for. No memory.
+    /// Takes other columns. What is held keeps its levels, and its rows are found anew when it is looked for.
     pub fn set_width(&mut self, w: u16)
         requires { is_side w ≡ true }
         ensures { self.new ≡ record self.old { w = w } }

@@ -1,4 +1,6 @@
 //! The rows of a whole text, the places of its cursor in them, the moves, and the rows that are shown.
+//!
+//! Only the functions that answer a `Result` take memory.
 #![tactic(auto)]
 
 mod counting;

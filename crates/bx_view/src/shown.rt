@@ -57,7 +57,7 @@ impl Layout {
         Ok(picture)
     }
 
-    /// The body of a row's paragraph, and the number of the row in it, from 0. No memory.
+    /// The body of a row's paragraph, and the number of the row in it, from 0.
     pub fn row_in_body<D: BidiData>(&self, text: &Text, source: &D, at: RowAt) -> (&str, usize)
         requires data { IsViewBy (D.class_of source.now) (D.bracket_of source.now) self.now }
         requires row { (n : ℕ) × StandsOn (D.class_of source.now) (D.bracket_of source.now) self.now text.now.edited.text at n }

@@ -9,7 +9,7 @@ use bx_paras::Index;
 use bx_text::Text;
 use bx_ucd::BidiData;
 
-/// Where the body of a paragraph begins and ends. No memory.
+/// Where the body of a paragraph begins and ends.
 pub(crate) fn body_span<D: BidiData>(
     text: &Text,
     index: &Index,
@@ -31,7 +31,7 @@ pub(crate) fn body_span<D: BidiData>(
     index.span(number)
 }
 
-/// The number of the paragraph that an offset falls in, and where its body begins and ends. No memory.
+/// The number of the paragraph that an offset falls in, and where its body begins and ends.
 pub(crate) fn paragraph_under<D: BidiData>(
     text: &Text,
     index: &Index,

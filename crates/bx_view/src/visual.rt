@@ -26,7 +26,7 @@ fn is_read_on(side: Visual, level: u8) -> bool
 }
 
 impl Layout {
-    /// Whether a side is where a row is read on. No memory.
+    /// Whether a side is where a row is read on.
     fn reads_on<D: BidiData>(&self, text: &Text, source: &D, at: RowAt, side: Visual) -> bool
         requires data { IsViewBy (D.class_of source.now) (D.bracket_of source.now) self.now }
         requires row { (n : ℕ) × StandsOn (D.class_of source.now) (D.bracket_of source.now) self.now text.now.edited.text at n }
