@@ -4,7 +4,7 @@ ghost use Rattle.std.specs.Prelude.{◌≡◌, true, IfSome};
 ghost use Rattle.bx_terms.specs.Sizes.{is_side};
 
 use bx_explicit::Base;
-use bx_terms::is_side;
+use bx_terms::{LARGEST_SIDE, is_side};
 use clap::error::ErrorKind;
 use clap::{Arg, ArgMatches, Command, value_parser};
 use std::alloc::{AllocError, Global};
@@ -39,7 +39,7 @@ fn side<'a>(alloc: Global, name: &'a str, default: &'a str) -> Arg<'a> {
     Arg::new(alloc, name)
         .long(name)
         .value_name("N")
-        .value_parser(value_parser!(u16).range(1..=500))
+        .value_parser(value_parser!(u16).range(1..=i64::from(LARGEST_SIDE)))
         .default_value(default)
 }
 
