@@ -4,10 +4,10 @@
 //!     bench_editor each
 //!
 //! TASK is `opening`, `letter`, `erasure` (a letter and Backspace), `move` (Right and Left), `page` (PageDown and PageUp),
-//! `down` (PageDown, to rows that were not shown before), `resize` (to 79 columns and back), `save` or `repaint`, and TEXT is `ascii`, `hebrew`, `mixed` or `paragraph`. The text has at least BYTES bytes, and each task
-//! but the first begins in its middle. It prints what was done and how many bytes were sent and stored in a round, and with
-//! --time also a round's processor time. Without --tables the small tables are taken. `each` takes every task once with
-//! small numbers.
+//! `down` (PageDown, to rows that were not shown before), `resize` (to 79 columns and back), `save` or `repaint`, and TEXT
+//! is `ascii`, `hebrew`, `mixed` or `paragraph`. The text has at least BYTES bytes, and each task but the first begins in its
+//! middle. It prints what was done and how many bytes were sent and stored in a round, and with --time also a round's
+//! processor time. Without --tables the small tables are taken. `each` takes every task once with small numbers.
 //!
 //! With TIMES 0 nothing but the preparation is done. Where instructions are wanted, they are the difference of two runs under
 //! `valgrind --tool=callgrind` that differ in TIMES alone; those of `opening` have the reading of the tables and a copy of the

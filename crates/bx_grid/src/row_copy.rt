@@ -97,7 +97,9 @@ fn copy_short(columns: &mut [Column], from: usize, others: &[Column], at: usize)
     requires order { at ≤ length others.now }
     ensures least { at ≤ result }
     ensures most { result ≤ length others.now }
-    ensures put { (start : List Col) → from + length others.now ≤ length start → all_seen columns.old ≡ paste start from (all_seen (take at others.now)) → all_seen columns.new ≡ paste start from (all_seen (take result others.now)) }
+    ensures put { (start : List Col) → from + length others.now ≤ length start
+        → all_seen columns.old ≡ paste start from (all_seen (take at others.now))
+        → all_seen columns.new ≡ paste start from (all_seen (take result others.now)) }
 {
     for i in at..others.len() {
         if !columns[from + i].set_short(&others[i]) {

@@ -22,6 +22,11 @@ returns-in_err-columns-clause-err c =
     let others = c.args.others.now in
     let some = all_seen (take c.loop-next.next others) in
     let few : length some ≤ length others =
-    omega (arith, c.loop-next-test.true, length-map (take c.loop-next.next others) seen, length-take-le c.loop-next.next others (omega (arith, c.loop-next-test.true))) in
+    omega (
+      arith,
+      c.loop-next-test.true,
+      length-map (take c.loop-next.next others) seen,
+      length-take-le c.loop-next.next others (omega (arith, c.loop-next-test.true)),
+    ) in
     err_always _ _ (subst (λ (cs : List spec.Col). spec.AreSameAround c.args.from (length others) old cs) (sym c.loop-next.invariant.1)
     (paste_around old some c.args.from (length others) few (omega (arith, c.requires.inside, length-map c.args.columns.now seen))))
