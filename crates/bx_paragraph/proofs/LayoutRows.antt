@@ -1,9 +1,8 @@
 -- A row of a layout, by its units.
-use Rattle.std.proofs.Common.{◌≡◌, ℕ, zero, suc, ◌+◌, ◌-◌, ◌==◌, ◌<◌, Bool, List, [], ◌∷◌, length, take, get_or, Option, refl, sym, ap, ◌∙◌, arith}
+use Rattle.std.proofs.Common.{◌≡◌, ℕ, zero, suc, ◌+◌, ◌==◌, ◌<◌, Bool, List, [], ◌∷◌, length, get_or, Option, refl, sym, ap, ◌∙◌, arith}
 use Rattle.std.specs.Prelude.{chars, map, slice_get}
 use Rattle.std.proofs.Common.{ne_eqb}
 use Rattle.std.proofs.Math.Dec.{eqb-suc-suc}
-use Rattle.std.proofs.Math.Seq.{take-length}
 use Rattle.std.proofs.lemmas.List.{length-map}
 use Rattle.bx_ucd.specs.declared.class.Class.{Class}
 use Rattle.bx_ucd.specs.declared.data.Side.{Side}
@@ -11,14 +10,13 @@ use Rattle.bx_resolve.specs.Levels.{paragraph_level_under, levels_under}
 use Rattle.bx_cells.specs.declared.unit.Unit.{Unit}
 use Rattle.bx_cells.specs.Units.{units}
 use Rattle.bx_rows.specs.RowLevels.{row_levels}
-use Rattle.bx_rows.specs.RowPicture.{Glyph, draw}
+use Rattle.bx_rows.specs.NumberedRows.{draw_numbered}
+use Rattle.bx_rows.specs.RowPicture.{Glyph}
 use Rattle.bx_rows.specs.declared.row.Row.{Row}
 use Rattle.bx_rows.specs.RowStarts.{start_of, units_in, units_of_row}
 use Rattle.bx_rows.specs.Wrapping.{row_units, wrap}
-use Rattle.bx_paragraph.specs.declared.row_parts.RowParts.{RowParts}
 use Rattle.bx_paragraph.specs.BodyRows.{BodyRow, no_row, row_glyphs, row_with, rows_units, with_last}
 use Rattle.bx_paragraph.specs.Layout.{IsLayoutBy, LayoutState, row_by}
-use Rattle.bx_paragraph.specs.RowParts.{row_of_parts}
 
 one-more : (k : ℕ) → suc k + 1 ≡ suc (k + 1)
 one-more k = omega arith
@@ -57,19 +55,6 @@ row-is l class bracket k us levels is_last is h units-are levels-are last =
     ∙ ap (λ p. make p l.each is_last us) is.paragraph ∙ ap (λ e. make paragraph e is_last us) is.each
     ∙ ap (λ b. make paragraph each b us) (last ∙ ap (λ n. k + 1 == n) count) ∙ ap (make paragraph each (k + 1 == length xs)) units-are ∙ sym found
 
--- all units of a list, as a row of them
-pub whole_row_is : (us : List Unit) → row_units us (record { start = 0; stop = length us }) ≡ us
-whole_row_is us = let all : length us - 0 ≡ length us = omega arith in ap (λ k. take k us) all ∙ take-length us
-
--- the glyphs of a row of a layout, by its parts
-pub glyphs-are : (class : ℕ → Class) (mirror : ℕ → Option ℕ) (gs : List Glyph) (w : ℕ) (body : List ℕ) (paragraph : ℕ) (us : List Unit) (levels : List ℕ)
-    (l : LayoutState) (parts : RowParts) (r : BodyRow) → gs ≡ draw class mirror w body paragraph us levels → w ≡ l.w → body ≡ l.body
-    → paragraph ≡ l.paragraph → us ≡ parts.units.items → levels ≡ parts.levels.items → row_of_parts l parts ≡ r → gs ≡ row_glyphs class mirror l.w r
-glyphs-are class mirror gs w body paragraph us levels l parts r drawn ew eb ep eu el er =
-    drawn ∙ ap (λ n. draw class mirror n body paragraph us levels) ew ∙ ap (λ b. draw class mirror l.w b paragraph us levels) eb
-    ∙ ap (λ p. draw class mirror l.w l.body p us levels) ep ∙ ap (λ vs. draw class mirror l.w l.body l.paragraph vs levels) eu
-    ∙ ap (draw class mirror l.w l.body l.paragraph parts.units.items) el ∙ ap (row_glyphs class mirror l.w) er
-
 units-at : (us : List Unit) (rs : List Row) (k : ℕ) → units_in us (slice_get rs k) ≡ get_or (map (row_units us) rs) k []
 units-at us [] k = refl
 units-at us (r ∷ rs) zero = refl
@@ -78,6 +63,16 @@ units-at us (r ∷ rs) (suc k) = units-at us rs k
 -- the units of a row, by its number
 pub units-of-row : (class : ℕ → Class) (w : ℕ) (body : List ℕ) (k : ℕ) → units_of_row class w body k ≡ get_or (rows_units class w body) k []
 units-of-row class w body k = let us = units class w body in units-at us (wrap class w body us) k
+
+-- the glyphs of a row of a layout, by its number
+pub glyphs-are : (class : ℕ → Class) (mirror : ℕ → Option ℕ) (bracket : ℕ → Option (Side × ℕ)) (gs : List Glyph) (l : LayoutState) (k : ℕ)
+    → IsLayoutBy class bracket l → k < length l.starts → gs ≡ draw_numbered class mirror l.w l.body l.paragraph l.each k
+    → gs ≡ row_glyphs class mirror l.w (row_by class bracket l k)
+glyphs-are class mirror bracket gs l k is h drawn =
+    let us = units_of_row class l.w l.body k in
+    drawn
+    ∙ ap (row_glyphs class mirror l.w)
+    (row-is l class bracket k us (row_levels class l.body l.paragraph l.each us) (k + 1 == length l.starts) is h (units-of-row class l.w l.body k) refl refl)
 
 -- each row has the level of the paragraph
 pub row_level : (l : LayoutState) (class : ℕ → Class) (bracket : ℕ → Option (Side × ℕ)) (k : ℕ) → IsLayoutBy class bracket l → k < length l.starts

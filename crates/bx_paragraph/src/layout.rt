@@ -12,12 +12,12 @@ ghost use Rattle.bx_paragraph.specs.RowParts.{row_of_parts};
 ghost use Rattle.bx_paragraph.specs.Slots.{AreReordered, row_slots};
 
 use crate::error::ParagraphError;
-use crate::row_parts::{RowParts, whole_row};
+use crate::row_parts::RowParts;
 use crate::slot::Slot;
 use crate::slots::row_slots;
 use bx_explicit::Base;
 use bx_resolve::{Levels, levels};
-use bx_rows::{RowPicture, RowStart, draw, row_levels_behind, row_starts, units_of_row};
+use bx_rows::{RowPicture, RowStart, row_levels_behind, row_picture, row_starts, units_of_row};
 use bx_ucd::BidiData;
 use std::alloc::Global;
 use std::marker::Model;
@@ -231,17 +231,9 @@ impl ParagraphLayout {
         ensures widths { IfOk result (λ p. All (λ g. run_width (cow_str_bytes g.text) ≡ g.columns) p.glyphs.items) }
         ensures columns { IfOk result (λ p. sum_by (λ g. g.columns) p.glyphs.items ≡ self.now.w) }
     {
-        let parts = self.row(row, source)?;
-        let picture = draw(
-            *parts.units.allocator(),
-            self.body(),
-            &parts.units,
-            whole_row(&parts.units),
-            &parts.levels,
-            self.level(),
-            source,
-            self.width(),
-        )?;
+        let alloc = *self.starts.allocator();
+        let body = self.body.as_str();
+        let picture = row_picture(alloc, body, &self.starts, row, &self.levels, source, self.w)?;
         Ok(picture)
     }
 }

@@ -267,7 +267,7 @@ chars-are class w body us here vs starts k d s after part e start some =
 
 -- ---- the columns of a row's units, taken by themselves
 
-whole : (us : List Unit) → row_units us (record { start = 0; stop = length us }) ≡ us
+pub whole : (us : List Unit) → row_units us (record { start = 0; stop = length us }) ≡ us
 whole us = let n : length us - 0 ≡ length us = omega arith in ap (λ m. take m us) n ∙ take-length us
 
 columns-in : (w : ℕ) (us : List Unit) (rows : List Row) (k : ℕ) (o : Option Row) → All (IsRowOf w us) rows → slice_get rows k ≡ o

@@ -106,7 +106,7 @@ tells-either : (class : ℕ → Class) (w n : ℕ) (text other : List ℕ) (b : 
 tells-either class w n text other true e h = own-from (chars other) n (face class w other) (tells class w (chars other)) e
 tells-either class w n text other false e h = h
 
-tells-shown : (class : ℕ → Class) (mirror : ℕ → Option ℕ) (w n odd : ℕ) (text : List ℕ) → Tells (chars text) (Own n)
+pub tells-shown : (class : ℕ → Class) (mirror : ℕ → Option ℕ) (w n odd : ℕ) (text : List ℕ) → Tells (chars text) (Own n)
     → Tells (chars (elim odd [ zero ↦ text | suc _ ↦ mirror_image_within class mirror w n text ])) (Own n)
 tells-shown class mirror w n zero text h = h
 tells-shown class mirror w n (suc k) text h = tells-either class w n text (mirror_image mirror text) (is_own n (face class w (mirror_image mirror text))) refl h
@@ -151,7 +151,7 @@ text-one text n false e h = All-cons IsOneGlyph (glyph text n false) [] (whole-o
 ascii-byte : (b : ℕ) → is_ascii_printable b ≡ true → b < 128
 ascii-byte b h = grind (arith, nat_tests)
 
-ascii-bytes : (bs : List ℕ) → are_ascii_printable bs ≡ true → IsAscii bs
+pub ascii-bytes : (bs : List ℕ) → are_ascii_printable bs ≡ true → IsAscii bs
 ascii-bytes [] h i = omega arith
 ascii-bytes (b ∷ bs) h zero = ascii-byte b (and_parts (is_ascii_printable b) (are_ascii_printable bs) h).0
 ascii-bytes (b ∷ bs) h (suc i) = ascii-bytes bs (and_parts (is_ascii_printable b) (are_ascii_printable bs) h).1 i

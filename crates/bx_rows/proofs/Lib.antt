@@ -8,6 +8,7 @@ pub mod Pivots
 pub mod Growth
 pub mod FromLevels
 pub mod FewLevels
+pub mod GlyphOrder
 pub mod OneRow
 pub mod Computed
 pub mod GlyphTexts
@@ -23,5 +24,9 @@ pub mod RowUnits
 pub mod EachRow
 pub mod NarrowSteps
 pub mod AsciiRuns
+pub mod Leveled
+pub mod PlainPictures
 mod Rows
 pub mod Unmirrored
+pub mod PlainRows
+pub mod PlainDrawn

@@ -89,7 +89,7 @@ fn push_text<'a>(
 }
 
 /// Whether a character of a text has a mirror.
-fn has_mirror<D: BidiData>(text: &str, source: &D) -> bool
+pub(crate) fn has_mirror<D: BidiData>(text: &str, source: &D) -> bool
     ensures { result ≡ false → mirror_image (D.mirror_of source.now) text.now ≡ text.now }
 {
     for c in text.chars() {
@@ -101,7 +101,11 @@ fn has_mirror<D: BidiData>(text: &str, source: &D) -> bool
 }
 
 /// A text with each character mirrored that has a mirror.
-fn mirror_image<D: BidiData>(alloc: Global, text: &str, source: &D) -> Result<String, AllocError>
+pub(crate) fn mirror_image<D: BidiData>(
+    alloc: Global,
+    text: &str,
+    source: &D,
+) -> Result<String, AllocError>
     ensures { IfOk result (λ t. string_bytes t ≡ mirror_image (D.mirror_of source.now) text.now) }
 {
     let mut other = String::new(alloc);
@@ -112,7 +116,7 @@ fn mirror_image<D: BidiData>(alloc: Global, text: &str, source: &D) -> Result<St
 }
 
 /// Whether a face is own text of so many columns.
-fn is_own(face: Face, n: u16) -> bool
+pub(crate) fn is_own(face: Face, n: u16) -> bool
     ensures { result ≡ is_own n face }
 {
     match face {

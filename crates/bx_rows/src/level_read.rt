@@ -61,7 +61,7 @@ fn read_class(found: &mut Vec<u8>, waiting: usize, class: Class, paragraph: u8) 
 /// Reads the first kept character of a unit, whose level is the unit's. Where no unit waits and it is the paragraph's level,
 /// its class is not asked for.
 #[inline(always)]
-fn read_first<D: BidiData>(
+pub(crate) fn read_first<D: BidiData>(
     found: &mut Vec<u8>,
     waiting: usize,
     c: char,
@@ -155,7 +155,7 @@ fn push_before(found: &mut Vec<u8>, waiting: usize, paragraph: u8) -> Result<usi
 
 /// The first level, and those behind it; none where no level is left.
 #[inline(always)]
-fn first_level(levels: &[Option<u8>]) -> (Option<u8>, &[Option<u8>])
+pub(crate) fn first_level(levels: &[Option<u8>]) -> (Option<u8>, &[Option<u8>])
     ensures first { result.0 ≡ get_or levels.now 0 None }
     ensures behind { result.1.now ≡ drop 1 levels.now }
 {

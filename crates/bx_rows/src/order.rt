@@ -115,7 +115,7 @@ fn numbers(alloc: Global, units: &VecDeque<(usize, u8)>) -> Result<Vec<usize>, A
 }
 
 /// The highest level up to which a pass for each level costs less than lists of runs.
-const FEW: u8 = 4;
+pub(crate) const FEW: u8 = 4;
 
 /// The numbers of units of a list.
 fn numbers_of(alloc: Global, units: &[(usize, u8)]) -> Result<Vec<usize>, AllocError>

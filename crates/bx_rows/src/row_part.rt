@@ -13,14 +13,14 @@ use bx_ucd::BidiData;
 use std::alloc::Global;
 
 /// The start of row `number`, if there is such a row.
-fn start_of(starts: &[RowStart], number: usize) -> Option<RowStart>
+pub(crate) fn start_of(starts: &[RowStart], number: usize) -> Option<RowStart>
     ensures { result ≡ slice_get starts.now number }
 {
     starts.get(number).copied()
 }
 
 /// How many units a row has at most.
-fn most_units(start: RowStart, next: Option<RowStart>, body: &str, w: u16) -> usize
+pub(crate) fn most_units(start: RowStart, next: Option<RowStart>, body: &str, w: u16) -> usize
     requires { IfSome next (λ n. start.units ≤ n.units) }
     ensures { result ≡ most_units w body.now start next }
 {

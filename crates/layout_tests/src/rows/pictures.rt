@@ -2,7 +2,7 @@
 use bx_cells::units;
 use bx_explicit::Base;
 use bx_resolve::levels;
-use bx_rows::{RowPicture, draw, row_levels, wrap};
+use bx_rows::{RowPicture, draw, row_levels, row_picture, row_starts, wrap};
 use bx_ucd::sample::{BRACKETS, CLASSES};
 use bx_ucd::{Tables, sample_tables};
 use std::alloc::{AllocError, Global};
@@ -53,6 +53,27 @@ fn pictures(
     Ok(text)
 }
 
+/// What the rows of a body show, each by its number.
+fn numbered_pictures(
+    alloc: Global,
+    tables: &Tables,
+    body: &str,
+    base: Base,
+    w: u16,
+) -> Result<String, Fail> {
+    let levels = levels(alloc, body, tables, base)?;
+    let starts = row_starts(alloc, body, tables, w)?;
+    let mut text = String::new(alloc);
+    for number in 0..starts.len() {
+        let picture = row_picture(alloc, body, &starts, number, &levels, tables, w)?;
+        if number > 0 {
+            text.push('|')?;
+        }
+        add_picture(&mut text, &picture)?;
+    }
+    Ok(text)
+}
+
 /// A body under a base in so many columns shows this.
 fn shows(
     rt: &impl Abort,
@@ -65,6 +86,8 @@ fn shows(
 ) -> Result<(), Fail> {
     let text = pictures(alloc, tables, body, base, w)?;
     assert_eq!(rt; text.as_str(), wanted, "of {body}");
+    let numbered = numbered_pictures(alloc, tables, body, base, w)?;
+    assert_eq!(rt; numbered.as_str(), wanted, "row by row of {body}");
     Ok(())
 }
 

@@ -1,0 +1,78 @@
+-- What a row of single characters shows: its glyphs are read, mirrored and put into visual order, and its blanks are added.
+use Rattle.std.proofs.Common.{◌≡◌, ℕ, ◌-◌, ◌≤◌, List, ◌++◌, map, length, take, drop, get_or, All, Option, Some, refl, sym, ap, ap₂, subst, ◌∙◌, arith}
+use Rattle.std.specs.List.{enumerate_from}
+use Rattle.std.specs.Prelude.{IfSome}
+use Rattle.std.specs.Str.{IsUtf8}
+use Rattle.std.proofs.lemmas.List.{length-map, take_at}
+use Rattle.bx_ucd.specs.declared.class.Class.{Class}
+use Rattle.bx_cells.specs.declared.unit.Unit.{Unit}
+use Rattle.bx_cells.specs.Units.{HasFace, units_from}
+use Rattle.bx_cells.proofs.Standing.{faces_if_taken}
+use Rattle.bx_rows.specs.declared.drawn.Drawn.{Drawn}
+use Rattle.bx_rows.specs.declared.start_search.RowStart.{RowStart}
+use Rattle.bx_rows.specs.PlainRows.{AreSingle, leveled_glyphs, single_glyph, single_units}
+use Rattle.bx_rows.specs.RowLevels.{row_levels}
+use Rattle.bx_rows.specs.RowPicture.{Glyph, blank, columns_used, draw, with_blanks}
+use Rattle.bx_rows.specs.RowStarts.{most_units, units_of_row}
+use Rattle.bx_rows.specs.Shown.{glyph_of}
+use Rattle.bx_rows.specs.VisualOrder.{visual}
+use Rattle.bx_rows.proofs.EachRow.{IsRowPart, row-alone, whole}
+use Rattle.bx_rows.proofs.PlainPictures.{columns-single, leveled-length, leveled-numbered, single-draw}
+
+-- the glyphs are as many as the characters
+singles-count : (class : ℕ → Class) (w : ℕ) (body : List ℕ) (at count : ℕ) (first : List Drawn) (s : AreSingle class w body at count first)
+    → length first ≡ length s.cs
+singles-count class w body at count first s = sym (length-map first glyph_of) ∙ ap length s.shown ∙ length-map s.cs single_glyph
+
+module _ (class : ℕ → Class) (w : ℕ) (body : List ℕ) (k count : ℕ) (start : RowStart) (next : Option RowStart) (us : List Unit) (u : IsUtf8 body)
+    (part : IsRowPart class w body us (units_of_row class w body k) start next) (many : count ≡ most_units w body start next) where
+  pub taken : take count (units_from class w body start.offset) ≡ units_of_row class w body k
+  taken = ap (λ n. take n (units_from class w body start.offset)) many ∙ part.units
+
+  pub faces : All (HasFace class w body) (units_of_row class w body k)
+  faces = faces_if_taken class w count body start.offset (units_of_row class w body k) u part.boundary (sym taken)
+
+  pub fits : columns_used w (units_of_row class w body k) ≤ w
+  fits =
+      let here = units_of_row class w body k in
+      subst (λ x. columns_used w x ≤ w) (whole here) (row-alone class w body k here refl).2
+
+  pub single-fits : (first : List Drawn) → AreSingle class w body start.offset count first → length first ≤ w
+  single-fits first s =
+      let within = fits in
+      let same = ap (columns_used w) (sym taken ∙ s.units) ∙ columns-single w start.offset s.cs in
+      omega (arith, within, same, singles-count class w body start.offset count first s)
+
+  -- what the steps make is what the row shows
+  pub drawn-single : (mirror : ℕ → Option ℕ) (paragraph n : ℕ) (each : List (Option ℕ)) (first : List Drawn) (two all : List Glyph) (found : List ℕ)
+      → AreSingle class w body start.offset count first → length found ≡ length first
+      → found ≡ row_levels class body paragraph each (units_of_row class w body k)
+      → ((cs : List ℕ) → map glyph_of first ≡ map single_glyph cs
+      → two ≡ map (λ j. get_or (leveled_glyphs class mirror w cs found) j blank) (visual found))
+      → n ≡ length first → all ≡ with_blanks paragraph (w - n) two
+      → all ≡ draw class mirror w body paragraph (units_of_row class w body k) (row_levels class body paragraph each (units_of_row class w body k))
+  drawn-single mirror paragraph n each first two all found s count_is levels ordered length_is blanks =
+      let here = units_of_row class w body k in
+      let own : here ≡ single_units start.offset s.cs = sym taken ∙ s.units in
+      let many_are = singles-count class w body start.offset count first s in
+      blanks ∙ ap₂ (λ m xs. with_blanks paragraph (w - m) xs) (length_is ∙ many_are) (ordered s.cs s.shown)
+      ∙ sym (single-draw class mirror w body paragraph start.offset s.cs s.rest found s.bytes (subst (All (HasFace class w body)) own faces)
+      (count_is ∙ many_are))
+      ∙ ap₂ (draw class mirror w body paragraph) (sym own) levels
+
+-- a list that is written back over one as long
+pub written : {A : Type 0} (n : ℕ) (new old : List A) → length new ≡ n → take n (new ++ drop (length new) old) ≡ new
+written n new old e = take_at new (drop (length new) old) n e
+
+-- the glyphs at their levels, put into visual order by their numbers
+pub arranged-are : (class : ℕ → Class) (mirror : ℕ → Option ℕ) (w : ℕ) (cs levels : List ℕ) (one two : List Glyph) → length levels ≡ length cs
+    → one ≡ leveled_glyphs class mirror w cs levels
+    → ((f : ℕ → Glyph) → one ≡ map (λ x. f x.0) (enumerate_from 0 levels) → two ≡ map f (visual levels))
+    → two ≡ map (λ k. get_or (leveled_glyphs class mirror w cs levels) k blank) (visual levels)
+arranged-are class mirror w cs levels one two e first ordered =
+    let leveled = leveled_glyphs class mirror w cs levels in
+    ordered (λ k. get_or leveled k blank) (first ∙ leveled-numbered leveled levels (leveled-length class mirror w cs levels e))
+
+-- what a clause says of a value that is there
+pub if_some : {A : Type 0} (P : A → Type 0) (o : Option A) (x : A) → o ≡ Some x → IfSome o P → P x
+if_some P o x e h = subst (λ y. IfSome y P) e h

@@ -1,0 +1,49 @@
+use Rattle.std.proofs.Common.{◌∙◌, false, ap, length, drop, arith, refl}
+use Rattle.std.proofs.lemmas.Str.{IsUtf8-past_char}
+use Rattle.bx_rows.specs.RowPicture.{glyph}
+use Rattle.bx_rows.proofs.PlainRows.{levels-are, none_if, pushed-length, read-more, units-single}
+use Rattle.bx_rows.proofs.plain_row.plain_row.Goals as goal
+use Rattle.bx_rows.proofs.plain_row.plain_row.Goals.{then-chars-test+else-not-is_empty, else-chars-test}
+
+pub chars-preserved : goal.chars-preserved
+chars-preserved g c =
+    let i = c.chars.invariant in
+    let e = c.in-Some.ensures.0 in
+    let pushed = c.in_ok-push.ensures.items in
+    let less = c.chars-test.true in
+    let counted = c.len.ensures in
+    record {
+      text = IsUtf8-past_char c.chars.rest.now c.in-Some.behind.now c.in-Some.c i.text e;
+      few = omega (arith, less, counted, pushed-length c.chars.glyphs.items c.push.new.self.items _ pushed);
+      read = read-more (g.D.BidiData.class_of c.args.source.now) c.args.w c.args.levels.now.paragraph c.args.body.now c.args.start.offset
+          (drop c.args.start.chars c.args.levels.now.each.items) c.chars.glyphs.items c.push.new.self.items c.chars.found.items c.read_first.new.found.items
+          c.chars.waiting c.in_ok-waiting.waiting c.chars.left.now c.first_level-level.result.1.now c.chars.rest.now c.in-Some.behind.now c.in-Some.c
+          c.in-Some-level.level _ c.first_level-level.result.0 i.read e (c.if-not-is_plain.ensures.begin refl) (c.if-not-is_plain.ensures.face refl) pushed
+          (ap (λ t. glyph t 1 false) c.in-Some.ensures.1) c.first_level-level.ensures.first c.first_level-level.ensures.behind c.in-Some-level.is
+          c.in_ok-waiting.ensures.within c.in_ok-waiting.ensures.levels;
+    }
+
+pub returns-clause-units : goal.returns-clause-units
+returns-clause-units g c =
+    let i = c.chars.invariant in
+    record {
+      cs = i.read.cs;
+      rest = c.chars.rest.now;
+      bytes = i.read.bytes;
+      units = units-single (g.D.BidiData.class_of c.args.source.now) c.args.w c.args.levels.now.paragraph c.args.body.now c.args.start.offset c.args.count
+          (drop c.args.start.chars c.args.levels.now.each.items) c.chars.glyphs.items c.chars.found.items c.chars.waiting c.chars.left.now c.chars.rest.now
+          c.utf8.body c.requires i.read (c.if-not-is_cluster_end.ensures refl) i.few
+          (elim c.chars-test.branch [
+            | then-chars-test+else-not-is_empty w ↦ (λ less. none_if (length c.chars.rest.now) w.if-not-is_empty.ensures)
+            | else-chars-test w ↦ (λ less. let counted = c.len.ensures in let test = w.chars-test.false in absurd (omega (arith, less, counted, test)))
+          ]);
+      shown = i.read.glyphs_are;
+    }
+
+pub returns-clause-levels : goal.returns-clause-levels
+unfolding returns-clause-units
+returns-clause-levels g c = λ us own before.
+    let i = c.chars.invariant in
+    levels-are (g.D.BidiData.class_of c.args.source.now) c.args.w c.args.levels.now.paragraph c.args.body.now c.args.start.offset c.args.count
+    c.args.start.chars c.args.levels.now.each.items c.chars.glyphs.items c.chars.found.items c.settle.new.found.items c.chars.waiting c.chars.left.now
+    c.chars.rest.now us c.utf8.body c.requires i.read (own ∙ (returns-clause-units g c).units) before c.settle.ensures.levels

@@ -1,0 +1,17 @@
+-- What is read of the row.
+use Rattle.std.proofs.Common.{◌≤◌, length, drop}
+use denote.Text.{Utf8}
+use denote.Shadow.{shadow}
+use Rattle.bx_rows.proofs.PlainRows.{IsReadTo}
+use Rattle.bx_rows.proofs.plain_row.plain_row.Given as goal
+
+abbrev pub invariant-chars : goal.invariant-chars
+invariant-chars g l = record {
+  text : shadow (Utf8 l.rest);
+  few : length l.glyphs.items ≤ l.count;
+  read : IsReadTo (g.D.BidiData.class_of l.source) l.w l.levels.paragraph l.body l.fn.start.offset (drop l.fn.start.chars l.levels.each.items) l.glyphs.items
+      l.found.items l.waiting l.left l.rest;
+}
+
+abbrev pub decreases-chars : goal.decreases-chars
+decreases-chars g l = length l.rest

@@ -1,0 +1,50 @@
+//! What a row of a body shows, by its number.
+ghost use Rattle.std.specs.Prelude.{◌≡◌, ◌<◌, All, IfOk, length, map, sum_by, true};
+ghost use Rattle.std.specs.Cow.{cow_str_bytes};
+ghost use Rattle.bx_terms.specs.Glyphs.{is_one_glyph, run_width};
+ghost use Rattle.bx_rows.specs.NumberedRows.{draw_numbered};
+ghost use Rattle.bx_rows.specs.RowStarts.{row_starts};
+ghost use Rattle.bx_rows.specs.Shown.{glyph_of};
+
+use crate::drawn::RowPicture;
+use crate::error::RowError;
+use crate::picture::draw;
+use crate::plain_picture::plain_picture;
+use crate::row::Row;
+use crate::row_part::units_of_row;
+use crate::start_search::RowStart;
+use crate::unit_levels::row_levels_behind;
+use bx_resolve::Levels;
+use bx_ucd::BidiData;
+use std::alloc::Global;
+
+/// What row `number` (from 0) of a body shows in a window of `w` columns, from left to right with its blanks, by where its
+/// rows begin and by its levels. No other row is read. It is refused only where memory runs out.
+pub fn row_picture<'a, D: BidiData>(
+    alloc: Global,
+    body: &'a str,
+    starts: &[RowStart],
+    number: usize,
+    levels: &Levels,
+    source: &D,
+    w: u16,
+) -> Result<RowPicture<'a>, RowError>
+    requires starts { starts.now ≡ row_starts (D.class_of source.now) w body.now }
+    requires number { number < length starts.now }
+    ensures picture { IfOk result (λ p. map glyph_of p.glyphs.items
+        ≡ draw_numbered (D.class_of source.now) (D.mirror_of source.now) w body.entry.now levels.now.paragraph levels.now.each.items number) }
+    ensures glyphs { IfOk result (λ p. All (λ g. is_one_glyph (cow_str_bytes g.text) ≡ true) p.glyphs.items) }
+    ensures widths { IfOk result (λ p. All (λ g. run_width (cow_str_bytes g.text) ≡ g.columns) p.glyphs.items) }
+    ensures columns { IfOk result (λ p. sum_by (λ g. g.columns) p.glyphs.items ≡ w) }
+{
+    if let Some(found) = plain_picture(alloc, body, starts, number, levels, source, w)? {
+        return Ok(found);
+    }
+    let units = units_of_row(alloc, body, starts, number, source, w)?;
+    let row = Row {
+        start: 0,
+        stop: units.len(),
+    };
+    let each = row_levels_behind(alloc, body, &units, starts[number].chars, levels, source)?;
+    draw(alloc, body, &units, row, &each, levels.paragraph, source, w)
+}

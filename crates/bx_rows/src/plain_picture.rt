@@ -1,0 +1,100 @@
+//! What a row shows in which each unit is one character of one column.
+ghost use Rattle.std.specs.Prelude.{◌≡◌, ◌≤◌, ◌<◌, ◌-◌, All, IfOk, IfSome, List, ℕ, length, map, slice_index_or, sum_by, true};
+ghost use Rattle.std.specs.Cow.{cow_str_bytes};
+ghost use Rattle.bx_terms.specs.Glyphs.{is_one_glyph, run_width};
+ghost use Rattle.bx_rows.specs.NumberedRows.{draw_numbered};
+ghost use Rattle.bx_rows.specs.PlainRows.{leveled_glyphs, single_glyph};
+ghost use Rattle.bx_rows.specs.RowPicture.{blank, with_blanks};
+ghost use Rattle.bx_rows.specs.RowStarts.{row_starts};
+ghost use Rattle.bx_rows.specs.Shown.{glyph_of};
+ghost use Rattle.bx_rows.specs.VisualOrder.{visual};
+
+use crate::drawn::{Drawn, RowPicture};
+use crate::error::RowError;
+use crate::few_levels::highest_level;
+use crate::glyph_order::order_glyphs;
+use crate::glyphs::push_blanks;
+use crate::mirrors::mirror_odd;
+use crate::order::FEW;
+use crate::plain_row::{PlainRow, plain_row};
+use crate::row_part::{most_units, start_of};
+use crate::start_search::RowStart;
+use bx_resolve::Levels;
+use bx_ucd::BidiData;
+use std::alloc::{AllocError, Global};
+
+/// Glyphs of one column each and a row's blanks: at the right in a paragraph of even level, else at the left.
+fn with_blanks<'a>(
+    alloc: Global,
+    glyphs: Vec<Drawn<'a>>,
+    paragraph: u8,
+    w: u16,
+) -> Result<Vec<Drawn<'a>>, AllocError>
+    requires { length glyphs.items ≤ w }
+    ensures { IfOk result (λ v. map glyph_of v.items ≡ with_blanks paragraph (w - length glyphs.entry.items) (map glyph_of glyphs.entry.items)) }
+{
+    let mut glyphs = glyphs;
+    let blanks = w - glyphs.len() as u16;
+    if paragraph % 2 == 0 {
+        push_blanks(&mut glyphs, blanks)?;
+        return Ok(glyphs);
+    }
+    let mut all = Vec::with_capacity(alloc, w as usize)?;
+    push_blanks(&mut all, blanks)?;
+    all.append(&mut glyphs)?;
+    Ok(all)
+}
+
+/// The glyphs of single characters, mirrored where their level is odd, in visual order.
+fn arranged<'a, D: BidiData>(
+    alloc: Global,
+    row: PlainRow<'a>,
+    source: &D,
+    w: u16,
+) -> Result<Vec<Drawn<'a>>, AllocError>
+    requires { length row.levels.items ≡ length row.glyphs.items }
+    ensures count { IfOk result (λ v. length v.items ≡ length row.entry.glyphs.items) }
+    ensures order { (cs : List ℕ) → map glyph_of row.entry.glyphs.items ≡ map single_glyph cs → IfOk result (λ v. map glyph_of v.items
+        ≡ map (λ k. slice_index_or (leveled_glyphs (D.class_of source.now) (D.mirror_of source.now) w cs row.entry.levels.items) k blank)
+        (visual row.entry.levels.items)) }
+{
+    let PlainRow {
+        mut glyphs,
+        mut levels,
+    } = row;
+    mirror_odd(&mut glyphs, alloc, &levels, source, w)?;
+    order_glyphs(&mut glyphs, &mut levels);
+    Ok(glyphs)
+}
+
+/// What row `number` of a body shows, where each of its units is one character of one column and no level of them is high;
+/// none of other rows, of which this tells nothing.
+pub(crate) fn plain_picture<'a, D: BidiData>(
+    alloc: Global,
+    body: &'a str,
+    starts: &[RowStart],
+    number: usize,
+    levels: &Levels,
+    source: &D,
+    w: u16,
+) -> Result<Option<RowPicture<'a>>, RowError>
+    requires starts { starts.now ≡ row_starts (D.class_of source.now) w body.now }
+    requires number { number < length starts.now }
+    ensures picture { IfOk result (λ o. IfSome o (λ p. map glyph_of p.glyphs.items
+        ≡ draw_numbered (D.class_of source.now) (D.mirror_of source.now) w body.entry.now levels.now.paragraph levels.now.each.items number)) }
+    ensures glyphs { IfOk result (λ o. IfSome o (λ p. All (λ g. is_one_glyph (cow_str_bytes g.text) ≡ true) p.glyphs.items)) }
+    ensures widths { IfOk result (λ o. IfSome o (λ p. All (λ g. run_width (cow_str_bytes g.text) ≡ g.columns) p.glyphs.items)) }
+    ensures columns { IfOk result (λ o. IfSome o (λ p. sum_by (λ g. g.columns) p.glyphs.items ≡ w)) }
+{
+    let start = starts[number];
+    let count = most_units(start, start_of(starts, number + 1), body, w);
+    let Some(row) = plain_row(alloc, body, start, count, levels, source, w)? else {
+        return Ok(None);
+    };
+    if highest_level(&row.levels) > FEW {
+        return Ok(None);
+    }
+    let glyphs = arranged(alloc, row, source, w)?;
+    let glyphs = with_blanks(alloc, glyphs, levels.paragraph, w)?;
+    Ok(Some(RowPicture { glyphs }))
+}

@@ -1,0 +1,116 @@
+//! The units of a row and their levels, read in one pass where each unit is one character of one column.
+ghost use Rattle.std.specs.Prelude.{◌≡◌, ◌≤◌, ◌<◌, ◌++◌, IfOk, IfSome, List, MatchOption, encode_utf8, length, take, true, false};
+ghost use Rattle.std.specs.Str.{IsCharBoundary};
+ghost use Rattle.bx_cells.specs.declared.unit.Face.TheVariants.{Own};
+ghost use Rattle.bx_cells.specs.declared.unit.Unit.{Unit};
+ghost use Rattle.bx_cells.specs.Simple.{begins};
+ghost use Rattle.bx_cells.specs.SimpleFace.{simple_face};
+ghost use Rattle.bx_cells.specs.Units.{units_from};
+ghost use Rattle.bx_rows.specs.PlainRows.{AreSingle, IsClusterEnd};
+ghost use Rattle.bx_rows.specs.RowLevels.{chars_before, row_levels};
+
+use crate::drawn::Drawn;
+use crate::glyphs::is_own;
+use crate::level_read::{first_level, read_first, settle};
+use crate::start_search::RowStart;
+use bx_cells::simple::{Simple, common_kind, simple_kind};
+use bx_cells::{first_char, simple_face};
+use bx_resolve::Levels;
+use bx_ucd::BidiData;
+use std::alloc::{AllocError, Global};
+use std::borrow::CowStr;
+
+/// How many units have room at once.
+const FIRST_ROOM: usize = 256;
+
+/// The glyphs of a row's units in the order of the text, none of them mirrored, and the units' levels.
+#[derive(Drop)]
+pub(crate) struct PlainRow<'a> {
+    pub(crate) glyphs: Vec<Drawn<'a>>,
+    pub(crate) levels: Vec<u8>,
+}
+
+/// Whether a character is a unit of one column of its own text wherever a unit begins behind it.
+#[inline(always)]
+fn is_plain<D: BidiData>(c: char, source: &D, w: u16) -> bool
+    ensures begin { result ≡ true → begins c ≡ true }
+    ensures face { result ≡ true → simple_face (D.class_of source.now) w c false ≡ Own 1 }
+{
+    let Simple::Begins(columns) = common_kind(c) else {
+        return false;
+    };
+    is_own(simple_face(c, columns, false, source, w), 1)
+}
+
+/// Whether a cluster ends before a text: that is empty, or begins with a character that begins a cluster.
+fn is_cluster_end(text: &str) -> bool
+    ensures { result ≡ true → IsClusterEnd text.now }
+{
+    let Some((c, _)) = first_char(text) else {
+        return true;
+    };
+    matches!(simple_kind(c), Simple::Begins(_))
+}
+
+/// The first character of a text, its bytes, and the text behind it.
+#[inline(always)]
+fn first_part(text: &str) -> Option<(char, &str, &str)>
+    ensures { MatchOption result (length text.now ≡ 0) (λ r. (text.now ≡ encode_utf8 r.0 ++ r.2.now) × (r.1.now ≡ encode_utf8 r.0) × (length r.2.now < length text.now)) }
+{
+    let (c, behind) = first_char(text)?;
+    Some((c, &text[..text.len() - behind.len()], behind))
+}
+
+/// The first units that a body has from where a row begins on, `count` of them or all if there are fewer, with their levels by
+/// L1; none where one of them is more than a character of one column, or where no level is kept for it.
+pub(crate) fn plain_row<'a, D: BidiData>(
+    alloc: Global,
+    body: &'a str,
+    start: RowStart,
+    count: usize,
+    levels: &Levels,
+    source: &D,
+    w: u16,
+) -> Result<Option<PlainRow<'a>>, AllocError>
+    requires { IsCharBoundary body.now start.offset }
+    ensures units { IfOk result (λ o. IfSome o (λ r. AreSingle (D.class_of source.now) w body.entry.now start.offset count r.glyphs.items)) }
+    ensures count { IfOk result (λ o. IfSome o (λ r. length r.levels.items ≡ length r.glyphs.items)) }
+    ensures levels { IfOk result (λ o. IfSome o (λ r. (us : List Unit) → us ≡ take count (units_from (D.class_of source.now) w body.entry.now start.offset)
+        → (0 < length us → start.chars ≡ chars_before body.entry.now us)
+        → r.levels.items ≡ row_levels (D.class_of source.now) body.entry.now levels.now.paragraph levels.now.each.items us)) }
+{
+    let each = levels.each.as_slice();
+    let mut glyphs = Vec::with_capacity(alloc, count.min(FIRST_ROOM))?;
+    let mut found = Vec::with_capacity(alloc, count.min(FIRST_ROOM))?;
+    let mut rest = &body[start.offset..];
+    let mut left = &each[start.chars.min(each.len())..];
+    let mut waiting = 0;
+    'chars: while glyphs.len() < count && !rest.is_empty() {
+        let Some((c, text, behind)) = first_part(rest) else {
+            return Ok(None);
+        };
+        if !is_plain(c, source, w) {
+            return Ok(None);
+        }
+        let (level, after) = first_level(left);
+        let Some(level) = level else {
+            return Ok(None);
+        };
+        glyphs.push(Drawn {
+            text: CowStr::Borrowed(text),
+            columns: 1,
+            negative: false,
+        })?;
+        waiting = read_first(&mut found, waiting, c, level, levels.paragraph, source)?;
+        rest = behind;
+        left = after;
+    }
+    if !is_cluster_end(rest) {
+        return Ok(None);
+    }
+    settle(&mut found, waiting, levels.paragraph);
+    Ok(Some(PlainRow {
+        glyphs,
+        levels: found,
+    }))
+}
