@@ -1,4 +1,4 @@
--- Runs that are reversed in place, level by level, from the highest level down.
+-- Runs that are reversed where they stand, level by level, from the highest level down.
 use Rattle.std.proofs.Common.{◌≡◌, ℕ, zero, suc, ◌+◌, ◌-◌, max, ◌<◌, ◌≤◌, List, [], ◌∷◌, ◌++◌, length}
 use Rattle.std.proofs.Common.{get_or, take, drop, reverse, refl, sym, ap, ap₂, ◌∙◌, arith, append_assoc}
 use Rattle.std.proofs.lemmas.List.{append-nil, at_drop_more, reverse-append, take_more}
@@ -84,7 +84,7 @@ all_reversed n us i h k =
     let e : i ≡ length us = omega (arith, h, k) in
     ap (λ xs. take i us ++ reverse_runs n [] xs) (drop-end us i h) ∙ append-nil (take i us) ∙ Rattle.std.proofs.Common.take_all i us h
 
--- a run is turned round in place: what is done before and after, and the list now
+-- a run is turned round where it stands: what is done before and after, and the list now
 pub turned_round : (n : ℕ) (us new all : List (ℕ × ℕ)) (i stop : ℕ) → take stop new ≡ take i us ++ reverse (between i stop us) → drop stop new ≡ drop stop us
     → reverse_runs n [] (drop i us) ≡ reverse (between i stop us) ++ reverse_runs n [] (drop stop us) → reversed_from n us i ≡ all
     → reversed_from n new stop ≡ all

@@ -25,6 +25,7 @@ pub mod EachRow
 pub mod NarrowSteps
 pub mod AsciiRuns
 pub mod Leveled
+pub mod MirroredLetters
 pub mod PlainPictures
 mod Rows
 pub mod Unmirrored

@@ -1,6 +1,7 @@
 -- Rows of single characters: their units, and their levels.
 use Rattle.std.proofs.Common.{◌≡◌, ℕ, zero, suc, ◌+◌, ◌-◌, ◌<◌, ◌≤◌, ◌==◌, Bool, true, false, Some, None, Option, List, [], ◌∷◌, ◌++◌, map, length, take, drop}
-use Rattle.std.proofs.Common.{refl, sym, ap, ap₂, subst, ◌∙◌, inr, ⊎_elim, arith, get_or, append_assoc, append-nil, length-append, length-drop, encode_utf8, encode_utf8_all}
+use Rattle.std.proofs.Common.{refl, sym, ap, ap₂, subst, ◌∙◌, inr, ⊎_elim, arith, get_or}
+use Rattle.std.proofs.Common.{append_assoc, append-nil, length-append, length-drop, encode_utf8, encode_utf8_all}
 use Rattle.std.specs.Prelude.{flat_map}
 use Rattle.std.specs.List.{zip}
 use Rattle.std.proofs.lemmas.Bool.Decides.{nat_tests}
@@ -97,7 +98,8 @@ single-from class w body at (c ∷ cs) rest u b e a end =
     let whole = stop-is body at c behind b.0 first in
     first-single class w body at c behind u b first a.0.0 a.0.1 (end-before class w cs rest a.1 end)
     ∙ ap (λ x. record { start = at; stop = stop; face = Own 1 } ∷ x)
-    (single-from class w body stop cs rest u (open-boundary body at c false behind u b o stop whole) (open-left body at c false behind u b o stop whole) a.1 end)
+    (single-from class w body stop cs rest u (open-boundary body at c false behind u b o stop whole)
+    (open-left body at c false behind u b o stop whole) a.1 end)
 
 pub single-length : (at : ℕ) (cs : List ℕ) → length (single_units at cs) ≡ length cs
 single-length at [] = refl
@@ -140,7 +142,8 @@ chars-single class w body at (c ∷ cs) rest u b e a =
     let o = open-first body at c behind first a.0.0 in
     let stop = at + length (encode_utf8 c) in
     let whole = stop-is body at c behind b.0 first in
-    let more = chars-single class w body stop cs rest u (open-boundary body at c false behind u b o stop whole) (open-left body at c false behind u b o stop whole)
+    let more = chars-single class w body stop cs rest u (open-boundary body at c false behind u b o stop whole)
+    (open-left body at c false behind u b o stop whole)
     a.1 in
     let own = unit-chars body at c behind u b first in
     record {
@@ -204,7 +207,8 @@ pub read-more : (class : ℕ → Class) (w p : ℕ) (body : List ℕ) (at : ℕ)
     → simple_face class w c false ≡ Own 1 → new ≡ glyphs ++ d ∷ [] → glyph_of d ≡ single_glyph c → level ≡ get_or left 0 None → after ≡ drop 1 left
     → level ≡ Some l → next ≤ length found' → Reads p (class c) (found ++ l ∷ []) waiting found' next
     → IsReadTo class w p body at levels new found' next after behind
-read-more class w p body at levels glyphs new found found' waiting next left after rest behind c l d level i e begin face pushed shown first behind_is is within reads =
+read-more class w p body at levels glyphs new found found' waiting next left after rest behind c l d level i e begin face pushed shown first after_is is within
+    reads =
     record {
       cs = i.cs ++ c ∷ [];
       bytes = i.bytes ∙ ap (λ x. encode_utf8_all i.cs ++ x) e ∙ sym (append_assoc (encode_utf8_all i.cs) (encode_utf8 c) behind)
@@ -217,7 +221,7 @@ read-more class w p body at levels glyphs new found found' waiting next left aft
       levels_are = λ more counts.
           ap₂ (λ x y. levels_from p [] 0 0 x (zip (map class y) levels)) (ones-push i.cs c counts) (append_assoc i.cs (c ∷ []) more)
           ∙ i.levels_are (c ∷ more) (1 ∷ counts)
-          ∙ char-read class p false c more left after level found found' waiting next 0 counts first behind_is
+          ∙ char-read class p false c more left after level found found' waiting next 0 counts first after_is
           (char-first p l (class c) false level found found' waiting next refl is i.within reads)
           ∙ ap (λ o. Rattle.bx_rows.specs.LevelReads.unit_from (Rattle.std.specs.Prelude.is_some o) p found' next 0 counts (zip (map class more) after)) is;
     }

@@ -1,4 +1,4 @@
--- Glyphs and levels that are turned round in place, in step with a list of units.
+-- Glyphs and levels that are turned round where they stand, in step with a list of units.
 use Rattle.std.specs.Prelude.{◌≡◌, ℕ, List, ◌++◌, drop, map, reverse, take}
 use Rattle.std.specs.List.{between}
 use Rattle.bx_rows.specs.declared.drawn.Drawn.{Drawn}

@@ -5,7 +5,7 @@ use std::borrow::CowStr;
 /// A glyph of a row's picture.
 #[derive(Drop)]
 pub struct Drawn<'a> {
-    /// Its text: lent from the body, owned where it is mirrored, or a fixed text.
+    /// Its text: lent from the body, a fixed text, or owned, as a mirror image may be.
     pub text: CowStr<'a, Global>,
     /// Its columns, one or more.
     pub columns: u16,

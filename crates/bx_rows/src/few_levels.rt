@@ -1,4 +1,4 @@
-//! Visual order where few levels are met: the runs at each level are reversed in place, from the highest level down.
+//! Visual order where few levels are met: the runs at each level are reversed where they stand, from the highest level down.
 ghost use Rattle.std.specs.Prelude.{◌≡◌, ◌≤◌, ◌<◌, ◌++◌, [], IfOk, drop, length, reverse, slice_index_or, take};
 ghost use Rattle.std.specs.List.{between, enumerate_from};
 ghost use Rattle.bx_rows.specs.VisualOrder.{highest, reverse_runs};

@@ -1,4 +1,4 @@
-//! Visual order of glyphs that stand for a unit each: the runs at each level are reversed in place.
+//! Visual order of glyphs that stand for a unit each: the runs at each level are reversed where they stand.
 ghost use Rattle.std.specs.Prelude.{◌≡◌, ◌≤◌, ◌<◌, ◌++◌, ℕ, List, [], drop, length, map, reverse, slice_index_or, take};
 ghost use Rattle.std.specs.List.{between, enumerate_from};
 ghost use Rattle.bx_rows.specs.InStep.{IsInStep, turned};

@@ -28,7 +28,7 @@ fn letter_of<'a>(letters: &'a str, byte: u8) -> &'a str
 }
 
 /// A fixed text of one character from SPACE to TILDE.
-fn letter<'a>(byte: u8) -> &'a str
+pub(crate) fn letter<'a>(byte: u8) -> &'a str
     requires { is_ascii_printable byte ≡ true }
     ensures { result.now ≡ byte ∷ [] }
 {

@@ -43,7 +43,7 @@ pub(crate) fn settle(found: &mut Vec<u8>, waiting: usize, paragraph: u8)
 
 /// Reads a kept character of a class; gives the number of the first unit that waits then.
 #[inline(always)]
-fn read_class(found: &mut Vec<u8>, waiting: usize, class: Class, paragraph: u8) -> usize
+pub(crate) fn read_class(found: &mut Vec<u8>, waiting: usize, class: Class, paragraph: u8) -> usize
     requires { waiting ≤ length found.old.items }
     ensures within { result ≤ length found.new.items }
     ensures levels { Reads paragraph class found.old.items waiting found.new.items result }
@@ -61,7 +61,7 @@ fn read_class(found: &mut Vec<u8>, waiting: usize, class: Class, paragraph: u8) 
 /// Reads the first kept character of a unit, whose level is the unit's. Where no unit waits and it is the paragraph's level,
 /// its class is not asked for.
 #[inline(always)]
-pub(crate) fn read_first<D: BidiData>(
+fn read_first<D: BidiData>(
     found: &mut Vec<u8>,
     waiting: usize,
     c: char,

@@ -1,22 +1,23 @@
 //! The units of a row and their levels, read in one pass where each unit is one character of one column.
-ghost use Rattle.std.specs.Prelude.{◌≡◌, ◌≤◌, ◌<◌, ◌++◌, IfOk, IfSome, List, MatchOption, encode_utf8, length, take, true, false};
+ghost use Rattle.std.specs.Prelude.{◌≡◌, ◌≤◌, ◌<◌, ◌++◌, ◌∷◌, [], IfOk, IfSome, List, MatchOption, encode_utf8, length, take, true, false};
 ghost use Rattle.std.specs.Str.{IsCharBoundary};
 ghost use Rattle.bx_cells.specs.declared.unit.Face.TheVariants.{Own};
 ghost use Rattle.bx_cells.specs.declared.unit.Unit.{Unit};
 ghost use Rattle.bx_cells.specs.Simple.{begins};
 ghost use Rattle.bx_cells.specs.SimpleFace.{simple_face};
 ghost use Rattle.bx_cells.specs.Units.{units_from};
+ghost use Rattle.bx_rows.specs.LevelReads.{Reads};
 ghost use Rattle.bx_rows.specs.PlainRows.{AreSingle, IsClusterEnd};
 ghost use Rattle.bx_rows.specs.RowLevels.{chars_before, row_levels};
 
 use crate::drawn::Drawn;
 use crate::glyphs::is_own;
-use crate::level_read::{first_level, read_first, settle};
+use crate::level_read::{first_level, read_class, settle};
 use crate::start_search::RowStart;
 use bx_cells::simple::{Simple, common_kind, simple_kind};
 use bx_cells::{first_char, simple_face};
 use bx_resolve::Levels;
-use bx_ucd::BidiData;
+use bx_ucd::{BidiData, Class};
 use std::alloc::{AllocError, Global};
 use std::borrow::CowStr;
 
@@ -32,7 +33,7 @@ pub(crate) struct PlainRow<'a> {
 
 /// Whether a character is a unit of one column of its own text wherever a unit begins behind it.
 #[inline(always)]
-fn is_plain<D: BidiData>(c: char, source: &D, w: u16) -> bool
+pub(crate) fn is_plain<D: BidiData>(c: char, source: &D, w: u16) -> bool
     ensures begin { result ≡ true → begins c ≡ true }
     ensures face { result ≡ true → simple_face (D.class_of source.now) w c false ≡ Own 1 }
 {
@@ -40,6 +41,36 @@ fn is_plain<D: BidiData>(c: char, source: &D, w: u16) -> bool
         return false;
     };
     is_own(simple_face(c, columns, false, source, w), 1)
+}
+
+/// The class of such a character; none of others.
+#[inline(always)]
+fn plain_class<D: BidiData>(c: char, source: &D, w: u16) -> Option<Class>
+    ensures begin { IfSome result (λ k. begins c ≡ true) }
+    ensures face { IfSome result (λ k. simple_face (D.class_of source.now) w c false ≡ Own 1) }
+    ensures class { IfSome result (λ k. k ≡ D.class_of source.now c) }
+{
+    if !is_plain(c, source, w) {
+        return None;
+    }
+    Some(source.class(c))
+}
+
+/// Reads the only character of a unit, which is kept; gives the number of the first unit that waits then.
+#[inline(always)]
+fn read_only(
+    found: &mut Vec<u8>,
+    waiting: usize,
+    class: Class,
+    level: u8,
+    paragraph: u8,
+) -> Result<usize, AllocError>
+    requires { waiting ≤ length found.old.items }
+    ensures within { IfOk result (λ next. next ≤ length found.new.items) }
+    ensures levels { IfOk result (λ next. Reads paragraph class (found.old.items ++ level ∷ []) waiting found.new.items next) }
+{
+    found.push(level)?;
+    Ok(read_class(found, waiting, class, paragraph))
 }
 
 /// Whether a cluster ends before a text: that is empty, or begins with a character that begins a cluster.
@@ -55,7 +86,8 @@ fn is_cluster_end(text: &str) -> bool
 /// The first character of a text, its bytes, and the text behind it.
 #[inline(always)]
 fn first_part(text: &str) -> Option<(char, &str, &str)>
-    ensures { MatchOption result (length text.now ≡ 0) (λ r. (text.now ≡ encode_utf8 r.0 ++ r.2.now) × (r.1.now ≡ encode_utf8 r.0) × (length r.2.now < length text.now)) }
+    ensures { MatchOption result (length text.now ≡ 0) (λ r.
+        (text.now ≡ encode_utf8 r.0 ++ r.2.now) × (r.1.now ≡ encode_utf8 r.0) × (length r.2.now < length text.now)) }
 {
     let (c, behind) = first_char(text)?;
     Some((c, &text[..text.len() - behind.len()], behind))
@@ -89,9 +121,9 @@ pub(crate) fn plain_row<'a, D: BidiData>(
         let Some((c, text, behind)) = first_part(rest) else {
             return Ok(None);
         };
-        if !is_plain(c, source, w) {
+        let Some(class) = plain_class(c, source, w) else {
             return Ok(None);
-        }
+        };
         let (level, after) = first_level(left);
         let Some(level) = level else {
             return Ok(None);
@@ -101,7 +133,7 @@ pub(crate) fn plain_row<'a, D: BidiData>(
             columns: 1,
             negative: false,
         })?;
-        waiting = read_first(&mut found, waiting, c, level, levels.paragraph, source)?;
+        waiting = read_only(&mut found, waiting, class, level, levels.paragraph)?;
         rest = behind;
         left = after;
     }

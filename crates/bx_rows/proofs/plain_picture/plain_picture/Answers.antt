@@ -38,7 +38,9 @@ returns-clause-picture g c =
     let told = taken class c.args.w body c.args.number c.most_units-count.result _ c.start_of.result _ c.utf8.body part c.most_units-count.ensures in
     drawn-single class c.args.w body c.args.number c.most_units-count.result _ c.start_of.result _ c.utf8.body part c.most_units-count.ensures
     (g.D.BidiData.mirror_of c.args.source.now) c.args.levels.now.paragraph _ c.args.levels.now.each.items c.in-Some.row.glyphs.items _ _
-    c.in-Some.row.levels.items (if_some _ _ c.in-Some.row c.in-Some.is c.in_ok-row.ensures.units) (if_some _ _ c.in-Some.row c.in-Some.is c.in_ok-row.ensures.count) (if_some _ _ c.in-Some.row c.in-Some.is c.in_ok-row.ensures.levels here (sym told) part.chars)
+    c.in-Some.row.levels.items (if_some _ _ c.in-Some.row c.in-Some.is c.in_ok-row.ensures.units)
+    (if_some _ _ c.in-Some.row c.in-Some.is c.in_ok-row.ensures.count)
+    (if_some _ _ c.in-Some.row c.in-Some.is c.in_ok-row.ensures.levels here (sym told) part.chars)
     c.in_ok-glyphs.ensures.order c.in_ok-glyphs.ensures.count c.in_ok-glyphs-2.ensures
 
 pub returns-clause-glyphs : goal.returns-clause-glyphs

@@ -1,5 +1,6 @@
-use Rattle.std.proofs.Common.{◌∙◌, false, ap, length, drop, arith, refl}
+use Rattle.std.proofs.Common.{subst, ◌++◌, ◌∷◌, [], ◌∙◌, false, ap, length, drop, arith, refl}
 use Rattle.std.proofs.lemmas.Str.{IsUtf8-past_char}
+use Rattle.bx_rows.specs.LevelReads.{Reads}
 use Rattle.bx_rows.specs.RowPicture.{glyph}
 use Rattle.bx_rows.proofs.PlainRows.{levels-are, none_if, pushed-length, read-more, units-single}
 use Rattle.bx_rows.proofs.plain_row.plain_row.Goals as goal
@@ -16,11 +17,13 @@ chars-preserved g c =
       text = IsUtf8-past_char c.chars.rest.now c.in-Some.behind.now c.in-Some.c i.text e;
       few = omega (arith, less, counted, pushed-length c.chars.glyphs.items c.push.new.self.items _ pushed);
       read = read-more (g.D.BidiData.class_of c.args.source.now) c.args.w c.args.levels.now.paragraph c.args.body.now c.args.start.offset
-          (drop c.args.start.chars c.args.levels.now.each.items) c.chars.glyphs.items c.push.new.self.items c.chars.found.items c.read_first.new.found.items
+          (drop c.args.start.chars c.args.levels.now.each.items) c.chars.glyphs.items c.push.new.self.items c.chars.found.items c.read_only.new.found.items
           c.chars.waiting c.in_ok-waiting.waiting c.chars.left.now c.first_level-level.result.1.now c.chars.rest.now c.in-Some.behind.now c.in-Some.c
-          c.in-Some-level.level _ c.first_level-level.result.0 i.read e (c.if-not-is_plain.ensures.begin refl) (c.if-not-is_plain.ensures.face refl) pushed
+          c.in-Some-level.level _ c.first_level-level.result.0 i.read e c.in-Some-plain_class.ensures.begin c.in-Some-plain_class.ensures.face pushed
           (ap (λ t. glyph t 1 false) c.in-Some.ensures.1) c.first_level-level.ensures.first c.first_level-level.ensures.behind c.in-Some-level.is
-          c.in_ok-waiting.ensures.within c.in_ok-waiting.ensures.levels;
+          c.in_ok-waiting.ensures.within
+          (subst (λ k. Reads c.args.levels.now.paragraph k (c.chars.found.items ++ c.in-Some-level.level ∷ []) c.chars.waiting c.read_only.new.found.items
+          c.in_ok-waiting.waiting) c.in-Some-plain_class.ensures.class c.in_ok-waiting.ensures.levels);
     }
 
 pub returns-clause-units : goal.returns-clause-units

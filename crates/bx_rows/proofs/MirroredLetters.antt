@@ -1,0 +1,41 @@
+-- Texts of one character, and their mirror images.
+use Rattle.std.proofs.Common.{◌≡◌, ℕ, true, false, List, [], ◌∷◌, ◌++◌, map, length, refl, sym, ap, ◌∙◌, arith, append-nil, encode_utf8, chars, IsUtf8}
+use Rattle.std.specs.Prelude.{None, Option, encode_utf8_all, unwrap_or}
+use Rattle.std.specs.Cow.{cow_str_bytes}
+use Rattle.std.proofs.lemmas.Str.{chars-nil, chars_past_char, encodes-chars}
+use Rattle.bx_ucd.specs.declared.class.Class.{Class}
+use Rattle.bx_cells.specs.declared.unit.Face.TheVariants.{Own}
+use Rattle.bx_cells.specs.Faces.{face, face_of}
+use Rattle.bx_cells.specs.Simple.{begins}
+use Rattle.bx_cells.specs.SimpleFace.{simple_face}
+use Rattle.bx_cells.proofs.OpenCluster.{face-simple}
+use Rattle.bx_rows.specs.declared.drawn.Drawn.{Drawn}
+use Rattle.bx_rows.specs.RowPicture.{glyph, mirror_image, mirror_image_within}
+use Rattle.bx_rows.specs.Shown.{glyph_of}
+use Rattle.bx_rows.proofs.Unmirrored.{shown_if_same}
+
+none-left : (xs : List ℕ) → length xs ≡ 0 → xs ≡ []
+none-left [] h = refl
+none-left (x ∷ xs) h = absurd (omega (arith, h))
+
+-- a text whose first character has nothing behind it
+pub single : (text behind : List ℕ) (c : ℕ) → IsUtf8 text → text ≡ encode_utf8 c ++ behind → length behind ≡ 0 → chars text ≡ c ∷ []
+single text behind c u e z =
+    chars_past_char text behind c u e ∙ ap (λ x. c ∷ chars x) (none-left behind z) ∙ ap (λ x. c ∷ x) chars-nil
+
+-- the text of a character that begins is shown as the character is by itself
+pub single-face : (class : ℕ → Class) (w : ℕ) (text : List ℕ) (c : ℕ) → IsUtf8 text → text ≡ encode_utf8 c → begins c ≡ true
+    → simple_face class w c false ≡ Own 1 → face class w text ≡ Own 1
+single-face class w text c u e b f =
+    ap (face_of class w) (single text [] c u (e ∙ sym (append-nil (encode_utf8 c))) refl) ∙ face-simple class w c [] b refl ∙ f
+
+-- a glyph of one character that has no mirror is shown as it is
+pub single-same : (class : ℕ → Class) (mirror : ℕ → Option ℕ) (w : ℕ) (d : Drawn) (text : List ℕ) (c : ℕ) (m : Option ℕ) → text ≡ cow_str_bytes d.text
+    → IsUtf8 text → chars text ≡ c ∷ [] → m ≡ mirror c → m ≡ None
+    → glyph_of d ≡ glyph (mirror_image_within class mirror w 1 (cow_str_bytes d.text)) d.columns d.negative
+single-same class mirror w d text c m e u one asked none =
+    let f : ℕ → ℕ = λ x. unwrap_or (mirror x) x in
+    let own : f c ≡ c = ap (λ o. unwrap_or o c) (sym asked ∙ none) in
+    let image : mirror_image mirror text ≡ text =
+    ap (λ cs. encode_utf8_all (map f cs)) one ∙ ap (λ x. encode_utf8_all (x ∷ [])) own ∙ ap encode_utf8_all (sym one) ∙ encodes-chars text u in
+    ap (λ t. glyph t d.columns d.negative) (sym e ∙ shown_if_same class mirror w 1 text image ∙ ap (mirror_image_within class mirror w 1) e)
