@@ -1,5 +1,5 @@
 -- Rules one after another, as one run.
-use Rattle.std.proofs.Common.{append_assoc, ◌≡◌, ◌<◌, ◌+◌, ◌∙◌, ℕ, List, [], ◌∷◌, ◌++◌, length, get_or, set, drop, take, refl, ap, sym, subst, arith, map, Bool}
+use Rattle.std.proofs.Common.{append_assoc, ◌≡◌, ◌<◌, ◌-◌, ◌⊎◌, ⊎_elim, ◌+◌, ◌∙◌, ℕ, List, [], ◌∷◌, ◌++◌, length, get_or, set, drop, take, refl, ap, sym, subst, arith, map, Bool}
 use Rattle.std.proofs.Common.{true, false, Option, Some, None}
 use Rattle.std.specs.Prelude.{◌&&◌, MatchOption}
 use Rattle.std.proofs.lemmas.List.{at_drop_more, take_more, take_more_set, drop-set-lt}
@@ -263,6 +263,38 @@ settled_keep mark strong b p s ts i u v h e f g =
     ap (λ xs. take i ts ++ xs) step
     ∙ sym (append_assoc (take i ts) (t ∷ []) (go next_all out_all (t, u, t, false, v) rest))
     ∙ ap (λ xs. xs ++ go next_all out_all (t, u, t, false, v) rest) (sym (take_more ts i L h))
+
+-- whether an EN stands before a settled type is not asked
+settled_same : (mark strong b : Class) (p q : Bool) (s t : Class) (a : List Class) → is_settled t ≡ true
+    → go next_all out_all (mark, strong, b, p, s) (t ∷ a) ≡ go next_all out_all (mark, strong, b, q, s) (t ∷ a)
+settled_same mark strong b p q s t a e =
+    ap (λ x. x ∷ go next_all out_all (next_all (mark, strong, b, p, s) t a) a)
+    (sym (settled_out mark strong b p s t a e) ∙ settled_out mark strong b q s t a e)
+    ∙ ap (λ x. out_all (mark, strong, b, q, s) t a ∷ go next_all out_all x a)
+    (sym (settled_next mark strong b p s t a e) ∙ settled_next mark strong b q s t a e)
+
+pub settled_past : (mark strong b : Class) (p q : Bool) (s : Class) (ts : List Class) (i : ℕ) → i < length ts → is_settled (get_or ts i L) ≡ true
+    → go next_all out_all (mark, strong, b, p, s) (drop i ts) ≡ go next_all out_all (mark, strong, b, q, s) (drop i ts)
+settled_past mark strong b p q s ts i h e =
+    at_drop_more (go next_all out_all (mark, strong, b, p, s)) ts i L h
+    ∙ settled_same mark strong b p q s (get_or ts i L) (drop (i + 1) ts) e
+    ∙ sym (at_drop_more (go next_all out_all (mark, strong, b, q, s)) ts i L h)
+
+-- a settled type that is strong is L or R
+pub settled_strong : (s t : Class) → is_settled t ≡ true → side_next s t ≡ strong_next s t
+settled_strong s L e = refl
+settled_strong s R e = refl
+settled_strong s B e = refl
+settled_strong s S e = refl
+settled_strong s WS e = refl
+settled_strong s ON e = refl
+settled_strong s _ e = absurd (cc)
+
+-- where the type at an index is settled and the one that a walk has come to is not, the walk has gone on
+pub further : (ts : List Class) (i j : ℕ) → (j ≡ i) ⊎ (i < j) → is_settled (get_or ts i L) ≡ true → is_settled (get_or ts j L) ≡ false → j < length ts
+    → length ts - j < length ts - i
+further ts i j begins here there within =
+    ⊎_elim (λ e. absurd (cc (sym here, ap (λ k. is_settled (get_or ts k L)) (sym e), there))) (λ less. omega (arith, less)) begins
 
 -- any other type, step by step
 pub turn_write : (mark strong b : Class) (p : Bool) (s : Class) (ts r : List Class) (i : ℕ) (first second third fourth fifth sixth x m n side : Class)

@@ -16,3 +16,4 @@ pub mod PairTypes
 pub mod RightMarks
 pub mod RightLevels
 pub mod PlainLevels
+pub mod Mapped

@@ -1,6 +1,7 @@
 -- The levels of a text with no formatting characters, and of a plain one.
 use Rattle.std.proofs.Common.{◌≡◌, ◌<◌, ◌+◌, ◌∙◌, ℕ, zero, suc, List, [], ◌∷◌, ◌++◌, length, get_or, set, drop, map, replicate, refl, ap, sym, arith, Bool}
 use Rattle.std.proofs.Common.{true, false, Option, Some, None}
+use Rattle.std.specs.Prelude.{◌&&◌}
 use Rattle.std.proofs.lemmas.List.{at_drop_more, length-map}
 use Rattle.std.proofs.Math.Seq.{drop-length}
 use Rattle.bx_ucd.specs.declared.class.Class.{Class}
@@ -169,6 +170,21 @@ module _ (p : Class → Bool) where
 
   pub pass_stop : (cs : List Class) (i : ℕ) → i < length cs → p (get_or cs i L) ≡ false → all_pass p (drop i cs) ≡ false
   pass_stop cs i h e = at_drop_more (all_pass p) cs i L h ∙ pass_at p (get_or cs i L) (drop (i + 1) cs) false e
+
+  pass_and : (b : Bool) (r : Bool) → elim b [ true ↦ r | false ↦ false ] ≡ (b && r)
+  pass_and true r = refl
+  pass_and false r = refl
+
+  and_assoc : (a b r : Bool) → (a && (b && r)) ≡ ((a && b) && r)
+  and_assoc true b r = refl
+  and_assoc false b r = refl
+
+  -- a scan that goes on to the end
+  pub both_pass : (cs : List Class) (i : ℕ) (a : Bool) → i < length cs
+      → (a && all_pass p (drop i cs)) ≡ ((a && p (get_or cs i L)) && all_pass p (drop (i + 1) cs))
+  both_pass cs i a h =
+      let rest = all_pass p (drop (i + 1) cs) in
+      ap (λ r. a && r) (at_drop_more (all_pass p) cs i L h ∙ pass_and (p (get_or cs i L)) rest) ∙ and_assoc a (p (get_or cs i L)) rest
 
   pub pass_all : (cs : List Class) → all_pass p (drop (length cs) cs) ≡ true
   pass_all cs = rw drop-length

@@ -1,7 +1,7 @@
 //! The rules for neutral types and the implicit levels.
 ghost use Rattle.std.specs.Prelude.{◌≡◌, ◌≤◌, ◌+◌, IfOk};
 ghost use Rattle.bx_explicit.specs.Stack.{max_depth};
-ghost use Rattle.bx_resolve.specs.Neutral.{side_of, side, agreed, n1, n2, n2_at, implicit_at, implicit};
+ghost use Rattle.bx_resolve.specs.Neutral.{side_of, side, agreed, n1, n2, n2_at, is_en_or_an, rise_even, rise_odd, implicit_at, implicit};
 
 use bx_ucd::Class;
 use bx_ucd::class::is_neutral;
@@ -109,22 +109,44 @@ pub fn n1_n2(types: &mut [Class], sos: Class, eos: Class, embedding: Class)
     }
 }
 
+/// Whether a type is EN or AN.
+#[inline(always)]
+fn is_en_or_an(t: Class) -> bool
+    ensures { result ≡ is_en_or_an t }
+{
+    let is_european = matches!(t, Class::EN);
+    let is_arabic = matches!(t, Class::AN);
+    is_european | is_arabic
+}
+
+/// By how much an even level rises (I1). It is told with no branch, as is the next, so that many levels are written at once.
+#[inline(always)]
+fn rise_even(t: Class) -> u8
+    ensures { result ≡ rise_even t }
+{
+    let is_right = matches!(t, Class::R);
+    u8::from(is_right) + 2 * u8::from(is_en_or_an(t))
+}
+
+/// By how much an odd level rises (I2).
+#[inline(always)]
+fn rise_odd(t: Class) -> u8
+    ensures { result ≡ rise_odd t }
+{
+    let is_left = matches!(t, Class::L);
+    u8::from(is_left | is_en_or_an(t))
+}
+
 /// I1 and I2: the level of a character.
+#[inline(always)]
 pub fn implicit_at(level: u8, t: Class) -> u8
     requires { level ≤ max_depth }
     ensures { result ≡ implicit_at level t }
 {
     if level % 2 == 0 {
-        match t {
-            Class::R => level + 1,
-            Class::AN | Class::EN => level + 2,
-            _ => level,
-        }
+        level + rise_even(t)
     } else {
-        match t {
-            Class::L | Class::EN | Class::AN => level + 1,
-            _ => level,
-        }
+        level + rise_odd(t)
     }
 }
 

@@ -38,11 +38,25 @@ fn is_from_right(class: Class) -> bool
     }
 }
 
-/// Whether the explicit rules have nothing to do with a class.
+/// Whether the explicit rules have nothing to do with a class. Each test is of one range, so that many classes are told at
+/// once.
 fn is_unformatted(class: Class) -> bool
     ensures { result ≡ is_unformatted class }
 {
-    is_plain(class) || matches!(class, Class::R | Class::AL | Class::AN)
+    let is_neutral = matches!(class, Class::BN);
+    let is_formatting = matches!(
+        class,
+        Class::LRE
+            | Class::LRO
+            | Class::RLE
+            | Class::RLO
+            | Class::PDF
+            | Class::LRI
+            | Class::RLI
+            | Class::FSI
+            | Class::PDI
+    );
+    !(is_neutral | is_formatting)
 }
 
 /// Whether all classes leave a text from left to right as it is.
@@ -84,15 +98,14 @@ pub fn are_from_right(classes: &[Class]) -> bool
     true
 }
 
-/// Whether the explicit rules have nothing to do with any of the classes.
-#[tactic(auto, using(crate::proofs::PlainLevels::pass_more, crate::proofs::PlainLevels::pass_stop, crate::proofs::PlainLevels::pass_all))]
+/// Whether the explicit rules have nothing to do with any of the classes. The scan goes on to the end, since most texts pass.
+#[tactic(auto, using(crate::proofs::PlainLevels::both_pass, crate::proofs::PlainLevels::pass_all))]
 pub fn are_unformatted(classes: &[Class]) -> bool
     ensures { result ≡ all_pass is_unformatted classes.now }
 {
+    let mut all = true;
     for class in classes {
-        if !is_unformatted(*class) {
-            return false;
-        }
+        all &= is_unformatted(*class);
     }
-    true
+    all
 }

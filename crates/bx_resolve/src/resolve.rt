@@ -21,15 +21,26 @@ use bx_ucd::class::direction;
 use bx_ucd::{BidiData, Class};
 use std::alloc::{AllocError, Global};
 
+/// Writes the levels of resolved types in a sequence of a level.
+#[tactic(auto, using(crate::proofs::Mapped::mapped_more, crate::proofs::Mapped::mapped_all))]
+fn write_found(each: &mut [Option<u8>], types: &[Class], level: u8)
+    requires level { level ≤ max_depth }
+    requires count { length each.old ≡ length types.now }
+    ensures { each.new ≡ map (λ t. Some (implicit_at level t)) types.now }
+{
+    for i in 0..types.len() {
+        each[i] = Some(implicit_at(level, types[i]));
+    }
+}
+
 /// The levels of resolved types in a sequence of a level, each found.
 fn found_levels(alloc: Global, types: &[Class], level: u8) -> Result<Vec<Option<u8>>, AllocError>
     requires { level ≤ max_depth }
     ensures { IfOk result (λ v. v.items ≡ map (λ t. Some (implicit_at level t)) types.now) }
 {
-    types
-        .iter()
-        .map(|t| Some(implicit_at(level, *t)))
-        .collect(alloc)
+    let mut each = vec![in alloc; Some(level); types.len()]?;
+    write_found(each.as_mut_slice(), types, level);
+    Ok(each)
 }
 
 /// The levels of a text from right to left without L: I2 asks for the types after W7 alone, since numbers count as R in N0
@@ -38,10 +49,7 @@ fn levels_from_right(alloc: Global, classes: &mut [Class]) -> Result<Vec<Option<
     ensures { IfOk result (λ v. v.items ≡ map (λ t. Some (implicit_at 1 t)) (weak Class.R classes.old)) }
 {
     weak_in_one_pass(classes, Class::R);
-    classes
-        .iter()
-        .map(|t| Some(implicit_at(1, *t)))
-        .collect(alloc)
+    found_levels(alloc, classes, 1)
 }
 
 /// The levels of a paragraph body of a level that has no formatting characters, and so is one sequence.

@@ -29,6 +29,17 @@ pub struct Scratch {
     pub search: PairSearch,
 }
 
+/// Writes which types are NSM.
+#[tactic(auto, using(crate::proofs::Mapped::mapped_more, crate::proofs::Mapped::mapped_all))]
+fn mark_each(marks: &mut [bool], types: &[Class])
+    requires { length marks.old ≡ length types.now }
+    ensures { marks.new ≡ map is_nsm types.now }
+{
+    for i in 0..types.len() {
+        marks[i] = matches!(types[i], Class::NSM);
+    }
+}
+
 /// Notes which types are NSM. The room grows to what is needed, and by a quarter at least.
 fn note_marks(marks: &mut Vec<bool>, types: &[Class]) -> Result<(), AllocError>
     ensures { OnOk result (marks.new.items ≡ map is_nsm types.now) }
@@ -38,9 +49,8 @@ fn note_marks(marks: &mut Vec<bool>, types: &[Class]) -> Result<(), AllocError>
     if types.len() > room {
         marks.reserve_exact(types.len().max(room.saturating_add(room / 4)))?;
     }
-    for t in types {
-        marks.push(matches!(*t, Class::NSM))?;
-    }
+    marks.resize(types.len(), false)?;
+    mark_each(marks.as_mut_slice(), types);
     Ok(())
 }
 

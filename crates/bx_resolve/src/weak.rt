@@ -366,7 +366,7 @@ fn is_number(t: Class) -> bool
     t == Class::EN
 }
 
-/// W1 to W7 in one pass.
+/// W1 to W7 in one pass. Types that are settled pass by themselves: of those only the last, and the last L or R, are kept.
 #[tactic(auto, using(crate::proofs::Fused::go_write, crate::proofs::Fused::weak_run, crate::proofs::Fused::known_after, crate::proofs::Fused::settled_keep))]
 pub fn weak_in_one_pass(types: &mut [Class], sos: Class)
     ensures { types.new ≡ weak sos types.old }
@@ -377,16 +377,20 @@ pub fn weak_in_one_pass(types: &mut [Class], sos: Class)
     let mut past = false;
     let mut side = sos;
     let mut known: Option<bool> = None;
-    for i in 0..types.len() {
+    let mut i = 0;
+    'types: while i < types.len() {
         let whole: &[Class] = &types[..];
         let t = whole[i];
         if is_settled(t) {
-            mark = t;
-            strong = strong_next(strong, t);
-            before = t;
             past = false;
-            side = side_next(side, t);
             known = None;
+            'settled: while i < types.len() && is_settled(types[i]) {
+                mark = types[i];
+                strong = side_next(strong, types[i]);
+                before = types[i];
+                side = side_next(side, types[i]);
+                i += 1;
+            }
         } else if is_number(t) {
             let third = number_after(strong);
             types[i] = after_w7(side, third);
@@ -394,6 +398,7 @@ pub fn weak_in_one_pass(types: &mut [Class], sos: Class)
             before = third;
             past = is_number(third);
             known = None;
+            i += 1;
         } else {
             let rest = &whole[i + 1..];
             let first = after_w1(mark, t);
@@ -407,6 +412,7 @@ pub fn weak_in_one_pass(types: &mut [Class], sos: Class)
             before = third;
             past = past_next(past, fourth);
             side = side_next(side, sixth);
+            i += 1;
         }
     }
 }
