@@ -7,7 +7,7 @@ use Rattle.std.proofs.Math.Seq.{drop-length}
 use Rattle.bx_ucd.specs.declared.class.Class.TheVariants.{L, R, AL, AN, EN, ES, ET, CS, B, S, WS, ON}
 use Rattle.bx_ucd.specs.declared.class.Class.{Class}
 use Rattle.bx_ucd.specs.Class.{is_neutral}
-use Rattle.bx_resolve.specs.Weak.{w1, w2, w3, w4, w5, w6, w7, weak, w3_at, w6_at, is_en, is_an, is_et, is_settled, number_after, beside, separator, is_en_past}
+use Rattle.bx_resolve.specs.Weak.{w1, w2, w3, w4, w5, w6, w7, weak, w3_at, w6_at, is_en, is_an, is_et, is_settled, beside, separator, is_en_past}
 use Rattle.bx_resolve.specs.Weak.{terminator_of}
 use Rattle.bx_resolve.specs.Turns.{rest_after_w3, after_w1, mark_next, after_w2, strong_next, ahead, after_w5, past_next, after_w7, side_next}
 use Rattle.bx_resolve.specs.Neutral.{n1, n2, n2_at}
@@ -264,22 +264,6 @@ settled_keep mark strong b p s ts i u v h e f g =
     ∙ sym (append_assoc (take i ts) (t ∷ []) (go next_all out_all (t, u, t, false, v) rest))
     ∙ ap (λ xs. xs ++ go next_all out_all (t, u, t, false, v) rest) (sym (take_more ts i L h))
 
--- whether an EN stands before a settled type is not asked
-settled_same : (mark strong b : Class) (p q : Bool) (s t : Class) (a : List Class) → is_settled t ≡ true
-    → go next_all out_all (mark, strong, b, p, s) (t ∷ a) ≡ go next_all out_all (mark, strong, b, q, s) (t ∷ a)
-settled_same mark strong b p q s t a e =
-    ap (λ x. x ∷ go next_all out_all (next_all (mark, strong, b, p, s) t a) a)
-    (sym (settled_out mark strong b p s t a e) ∙ settled_out mark strong b q s t a e)
-    ∙ ap (λ x. out_all (mark, strong, b, q, s) t a ∷ go next_all out_all x a)
-    (sym (settled_next mark strong b p s t a e) ∙ settled_next mark strong b q s t a e)
-
-pub settled_past : (mark strong b : Class) (p q : Bool) (s : Class) (ts : List Class) (i : ℕ) → i < length ts → is_settled (get_or ts i L) ≡ true
-    → go next_all out_all (mark, strong, b, p, s) (drop i ts) ≡ go next_all out_all (mark, strong, b, q, s) (drop i ts)
-settled_past mark strong b p q s ts i h e =
-    at_drop_more (go next_all out_all (mark, strong, b, p, s)) ts i L h
-    ∙ settled_same mark strong b p q s (get_or ts i L) (drop (i + 1) ts) e
-    ∙ sym (at_drop_more (go next_all out_all (mark, strong, b, q, s)) ts i L h)
-
 -- a settled type that is strong is L or R
 pub settled_strong : (s t : Class) → is_settled t ≡ true → side_next s t ≡ strong_next s t
 settled_strong s L e = refl
@@ -307,29 +291,3 @@ pub turn_write : (mark strong b : Class) (p : Bool) (s : Class) (ts r : List Cla
     ≡ take (i + 1) (set ts i x) ++ go next_all out_all (m, n, third, q, side) (drop (i + 1) (set ts i x))
 turn_write mark strong b p s ts r i first second third fourth fifth sixth x m n side q known h er e1 e2 e3 em en e4 ek e5 e6 e7 eq es =
     rw (e7, eq, es, e6, e5, ek, e4, em, en, e3, e2, e1, er) (go_write next_all out_all ts i (mark, strong, b, p, s) _ _ h refl refl)
-
--- an EN changes by the nearest strong type alone
-number_out : (mark strong b : Class) (p : Bool) (s t : Class) (a : List Class) → is_en t ≡ true
-    → after_w7 s (number_after strong) ≡ out_all (mark, strong, b, p, s) t a
-number_out mark AL b p s EN a e = refl
-number_out mark _ b p s EN a e = refl
-number_out mark strong b p s _ a e = absurd (cc)
-
-number_next : (mark strong b : Class) (p : Bool) (s t : Class) (a : List Class) → is_en t ≡ true
-    → (t, strong, number_after strong, is_en (number_after strong), s) ≡ next_all (mark, strong, b, p, s) t a
-number_next mark AL b p s EN a e = refl
-number_next mark _ b p s EN a e = refl
-number_next mark strong b p s _ a e = absurd (cc)
-
-pub number_write : (mark strong b : Class) (p : Bool) (s : Class) (ts : List Class) (i : ℕ) (x third : Class) (q : Bool) → i < length ts
-    → is_en (get_or ts i L) ≡ true
-    → third ≡ number_after strong → x ≡ after_w7 s third → q ≡ is_en third
-    → take i ts ++ go next_all out_all (mark, strong, b, p, s) (drop i ts)
-    ≡ take (i + 1) (set ts i x) ++ go next_all out_all (get_or ts i L, strong, third, q, s) (drop (i + 1) (set ts i x))
-number_write mark strong b p s ts i x third q h e f g k =
-    let t : Class = get_or ts i L in
-    let rest : List Class = drop (i + 1) ts in
-    let out : x ≡ out_all (mark, strong, b, p, s) t rest = g ∙ ap (after_w7 s) f ∙ number_out mark strong b p s t rest e in
-    let state : (t, strong, third, q, s) ≡ next_all (mark, strong, b, p, s) t rest =
-    ap (λ v. (t, strong, third, v, s)) k ∙ ap (λ v. (t, strong, v, is_en v, s)) f ∙ number_next mark strong b p s t rest e in
-    go_write next_all out_all ts i (mark, strong, b, p, s) x (t, strong, third, q, s) h out state

@@ -1,6 +1,6 @@
 -- Elements that are written one after another, each by another list's.
-use Rattle.std.proofs.Common.{◌≡◌, ◌<◌, ◌≤◌, ◌+◌, ◌∙◌, ℕ, List, [], ◌∷◌, ◌++◌, map, length, get_or, take, drop, set, ap, ap₂, sym, arith, take_all}
-use Rattle.std.proofs.lemmas.List.{map-append, take_at, take_more, take_more_set}
+use Rattle.std.proofs.Common.{◌≡◌, ◌<◌, ◌≤◌, ◌+◌, ◌∙◌, ℕ, List, [], ◌∷◌, ◌++◌, map, length, get_or, take, set, ap, ap₂, sym, arith, take_all}
+use Rattle.std.proofs.lemmas.List.{map-append, take_more, take_more_set}
 
 pub mapped_more : {A B : Type 0} (f : A → B) (ts : List A) (xs : List B) (i : ℕ) (d : A) (x : B) → i < length xs → i < length ts → x ≡ f (get_or ts i d)
     → take i xs ≡ map f (take i ts) → take (i + 1) (set xs i x) ≡ map f (take (i + 1) ts)
@@ -11,7 +11,3 @@ mapped_more f ts xs i d x h k e same =
 pub mapped_all : {A B : Type 0} (f : A → B) (ts : List A) (xs : List B) (i : ℕ) → length xs ≡ length ts → length ts ≤ i → take i xs ≡ map f (take i ts)
     → xs ≡ map f ts
 mapped_all f ts xs i e h same = sym (take_all i xs (omega arith)) ∙ same ∙ ap (map f) (take_all i ts h)
-
--- a list that is written back over one as long
-pub written_whole : {A : Type 0} (n : ℕ) (new old : List A) → length new ≡ n → take n (new ++ drop (length new) old) ≡ new
-written_whole n new old e = take_at new (drop (length new) old) n e
