@@ -43,7 +43,7 @@ fn is_from_right(class: Class) -> bool
 fn is_unformatted(class: Class) -> bool
     ensures { result ≡ is_unformatted class }
 {
-    let is_neutral = matches!(class, Class::BN);
+    let is_boundary = matches!(class, Class::BN);
     let is_formatting = matches!(
         class,
         Class::LRE
@@ -56,7 +56,7 @@ fn is_unformatted(class: Class) -> bool
             | Class::FSI
             | Class::PDI
     );
-    !(is_neutral | is_formatting)
+    !(is_boundary | is_formatting)
 }
 
 /// Whether all classes leave a text from left to right as it is.
