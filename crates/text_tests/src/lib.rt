@@ -3,12 +3,20 @@
 #![tactic(auto)]
 
 #[cfg(test)]
+mod counting;
+#[cfg(test)]
 mod paragraphs;
 #[cfg(test)]
 mod pieces;
+#[cfg(test)]
+mod scene;
+#[cfg(test)]
+mod steps;
 #[cfg(test)]
 mod store;
 #[cfg(test)]
 mod text;
 #[cfg(test)]
 mod utf8;
+#[cfg(test)]
+mod words;

@@ -1,0 +1,52 @@
+//! Data that counts what it is asked.
+
+use bx_ucd::{BidiData, Class, Side, Tables, UcdError, sample_tables};
+use std::alloc::Global;
+use std::cell::Cell;
+
+/// The small tables without mirrors, with a count of the questions for a class.
+#[derive(Drop)]
+pub(crate) struct Counting {
+    tables: Tables,
+    asked: Cell<u32>,
+}
+
+impl Counting {
+    pub(crate) fn new(alloc: Global) -> Result<Counting, UcdError> {
+        Ok(Counting {
+            tables: sample_tables(alloc)?,
+            asked: Cell::new(0),
+        })
+    }
+
+    /// How often a class was asked for since the last call of this.
+    pub(crate) fn questions(&self) -> u32 {
+        self.asked.replace(0)
+    }
+}
+
+impl BidiData for Counting {
+    ghost use Rattle.std.specs.Prelude.{None};
+
+    ghost class_of = { λ s c. ⟦<Tables as BidiData>⟧.class_of s.tables c };
+
+    ghost bracket_of = { λ s c. ⟦<Tables as BidiData>⟧.bracket_of s.tables c };
+
+    ghost mirror_of = { λ _ _. None };
+
+    ghost no_mirror_is_control = { λ _ _. tt };
+
+    fn class(&self, c: char) -> Class {
+        self.asked.set(self.asked.get().wrapping_add(1));
+        self.tables.class(c)
+    }
+
+    fn bracket(&self, c: char) -> Option<(Side, char)> {
+        self.tables.bracket(c)
+    }
+
+    fn mirror(&self, c: char) -> Option<char> {
+        let _ = c;
+        None
+    }
+}

@@ -1,0 +1,240 @@
+//! A text with its paragraphs.
+
+ghost use Rattle.std.specs.Prelude.{◌≡◌, ℕ, List, Some, IsUtf8};
+ghost use Rattle.bx_paras.specs.Paragraphs.{lengths};
+ghost use Rattle.bx_text.specs.Edits.{Leads};
+
+use crate::counting::Counting;
+use crate::words::{change_of, three_of};
+use bx_paras::Index;
+use bx_text::{Change, Text, TextError};
+use bx_ucd::BidiData;
+use std::alloc::Global;
+use std::marker::Model;
+use std::test::Fail;
+
+/// A text with its index, by what asks for classes.
+#[derive(Drop)]
+pub(crate) struct Scene {
+    alloc: Global,
+    text: Text,
+    index: Index,
+    source: Counting,
+    // of the last edit
+    answer: Result<Option<Change>, TextError>,
+}
+
+impl Model for Scene {
+    ghost use Rattle.std.specs.Prelude.{⊤, ◌≡◌};
+    ghost use Rattle.bx_paras.specs.Paragraphs.{lengths};
+
+    ghost Value = { ⊤ };
+
+    ghost view = { λ _. tt };
+
+    ghost invariant = { λ s. s.index.paragraphs ≡ lengths (⟦<Counting as BidiData>⟧.class_of s.source) s.text.edited.text };
+}
+
+/// Follows an edit for which room was made.
+fn follow<D: BidiData>(index: &mut Index, text: &Text, source: &D, change: &Change)
+    requires was { (old : List ℕ)
+        × IsUtf8 old
+        × (index.old.paragraphs ≡ lengths (D.class_of source.now) old)
+        × Leads old change.now text.now.edited.text }
+    requires room { index.old.room ≡ Some change.now.added }
+    ensures { index.new.paragraphs ≡ lengths (D.class_of source.now) text.now.edited.text }
+{
+    let _utf8 = text.len();
+    index.edited(text, source, change);
+}
+
+impl Scene {
+    /// A text that is so many times another, with no past and no future.
+    pub(crate) fn open(alloc: Global, part: &str, times: usize) -> Result<Scene, Fail> {
+        let mut text = String::new(alloc);
+        for _ in 0..times {
+            text.push_str(part)?;
+        }
+        let source = Counting::new(alloc)?;
+        let text = Text::open(alloc, text)?;
+        let index = Index::build(alloc, &text, &source)?;
+        Ok(Scene {
+            alloc,
+            text,
+            index,
+            source,
+            answer: Ok(None),
+        })
+    }
+
+    pub(crate) fn allocator(&self) -> Global {
+        self.alloc
+    }
+
+    /// Puts text in at an offset, where the cursor stands at one place before and at another after it.
+    pub(crate) fn insert(
+        &mut self,
+        at: usize,
+        before: usize,
+        after: usize,
+        added: &str,
+    ) -> Result<(), Fail> {
+        let _utf8 = self.text.len();
+        self.index.ready(added.len())?;
+        self.answer = match self.text.insert(at, added, before, after) {
+            Ok(change) => {
+                follow(&mut self.index, &self.text, &self.source, &change);
+                Ok(Some(change))
+            }
+            Err(error) => Err(error),
+        };
+        Ok(())
+    }
+
+    /// Takes out what stands between two offsets, with the cursor's places as for an insertion.
+    pub(crate) fn remove(
+        &mut self,
+        start: usize,
+        stop: usize,
+        before: usize,
+        after: usize,
+    ) -> Result<(), Fail> {
+        let _utf8 = self.text.len();
+        self.index.ready(0)?;
+        self.answer = match self.text.remove(start, stop, before, after) {
+            Ok(change) => {
+                follow(&mut self.index, &self.text, &self.source, &change);
+                Ok(Some(change))
+            }
+            Err(error) => Err(error),
+        };
+        Ok(())
+    }
+
+    /// Takes the latest edit back.
+    pub(crate) fn undo(&mut self) -> Result<(), Fail> {
+        let _utf8 = self.text.len();
+        if let Some(next) = self.text.next_undo() {
+            self.index.ready(next.added)?;
+        }
+        let found = self.text.undo()?;
+        if let Some(change) = found {
+            follow(&mut self.index, &self.text, &self.source, &change);
+        }
+        self.answer = Ok(found);
+        Ok(())
+    }
+
+    /// Makes the next edit again.
+    pub(crate) fn redo(&mut self) -> Result<(), Fail> {
+        let _utf8 = self.text.len();
+        if let Some(next) = self.text.next_redo() {
+            self.index.ready(next.added)?;
+        }
+        let found = self.text.redo()?;
+        if let Some(change) = found {
+            follow(&mut self.index, &self.text, &self.source, &change);
+        }
+        self.answer = Ok(found);
+        Ok(())
+    }
+
+    /// Whether the last edit was this change.
+    pub(crate) fn has_changed(&self, change: &str) -> Result<bool, Fail> {
+        Ok(self.answer == Ok(change_of(change)?))
+    }
+
+    /// Whether the last edit was refused for this cause.
+    pub(crate) fn is_refused(&self, cause: &str) -> bool {
+        match self.answer {
+            Ok(_) => false,
+            Err(TextError::NotABoundary) => cause == "boundary",
+            Err(TextError::TooLong) => cause == "long",
+            Err(TextError::OutOfMemory) => cause == "memory",
+        }
+    }
+
+    /// Whether an undo would be this change.
+    pub(crate) fn undoes(&self, change: &str) -> Result<bool, Fail> {
+        Ok(self.text.next_undo() == change_of(change)?)
+    }
+
+    /// Whether a redo would be this change.
+    pub(crate) fn redoes(&self, change: &str) -> Result<bool, Fail> {
+        Ok(self.text.next_redo() == change_of(change)?)
+    }
+
+    /// Whether the text is this one, read from each of its offsets.
+    pub(crate) fn holds(&self, text: &str) -> bool {
+        let bytes = text.as_bytes();
+        if self.text.len() != bytes.len() {
+            return false;
+        }
+        for at in 0..bytes.len() {
+            let rest = self.text.piece_at(at).unwrap_or("");
+            if rest.is_empty() || !bytes[at..].starts_with(rest.as_bytes()) {
+                return false;
+            }
+        }
+        true
+    }
+
+    /// Whether the text's pieces are these, with a bar between them.
+    pub(crate) fn is_in_pieces(&self, pieces: &str) -> bool {
+        let mut found = self.text.pieces();
+        for piece in pieces.split('|') {
+            if found.next() != Some(piece) {
+                return false;
+            }
+        }
+        found.next().is_none()
+    }
+
+    /// Whether the piece from an offset on is this.
+    pub(crate) fn has_piece(&self, at: usize, piece: &str) -> bool {
+        self.text.piece_at(at) == Some(piece)
+    }
+
+    /// Whether a copy of a range is this text.
+    pub(crate) fn copies(&self, start: usize, stop: usize, text: &str) -> Result<bool, Fail> {
+        Ok(self.text.copy_range(start, stop)?.as_str() == text)
+    }
+
+    /// Whether a copy of a range is refused, since it ends within a character or past the text.
+    pub(crate) fn refuses(&self, start: usize, stop: usize) -> bool {
+        matches!(
+            self.text.copy_range(start, stop),
+            Err(TextError::NotABoundary)
+        )
+    }
+
+    /// Whether the paragraphs are these, with a bar between them: where the body begins and ends, and the length of the
+    /// separator.
+    pub(crate) fn shows(&self, paragraphs: &str) -> Result<bool, Fail> {
+        let mut number: usize = 0;
+        for paragraph in paragraphs.split('|') {
+            let (start, stop, separator, _) = three_of(paragraph)?;
+            if number >= self.index.count()
+                || self.index.span(number) != (start, stop)
+                || self.index.separator(number) != separator
+            {
+                return Ok(false);
+            }
+            number = number.saturating_add(1);
+        }
+        Ok(number == self.index.count())
+    }
+
+    pub(crate) fn text(&self) -> &Text {
+        &self.text
+    }
+
+    pub(crate) fn index(&self) -> &Index {
+        &self.index
+    }
+
+    /// How often a class was asked for since the last call of this.
+    pub(crate) fn questions(&self) -> u32 {
+        self.source.questions()
+    }
+}
