@@ -69,8 +69,9 @@ fn insert<D: BidiData + Drop>(
     }
 }
 
-/// How many classes are asked for by an edit in a text of 1,000 paragraphs.
-fn questions_of_edit(alloc: Global, place: usize) -> Result<u32, Fail> {
+/// The column behind a letter that is put into a text of 1,000 paragraphs, and how many classes are asked for by that. It has
+/// one way out once the document stands, since each would be a proof of what is dropped there.
+fn column_and_questions(alloc: Global, place: usize) -> Result<(u16, u32), Fail> {
     let text = paragraphs(alloc, 1000)?;
     let questions = Cell::new(0);
     let tables = Counting {
@@ -78,16 +79,15 @@ fn questions_of_edit(alloc: Global, place: usize) -> Result<u32, Fail> {
         questions: &questions,
     };
     let mut document = document_of(alloc, text.as_str(), tables, 80, Base::Auto)?;
-    let at_opening = questions.get();
-    if insert(&mut document, text.as_str(), place)? != 2 {
-        return Err(Fail::new("another column"));
-    }
-    Ok(questions.get().saturating_sub(at_opening))
+    questions.set(0);
+    let column = insert(&mut document, text.as_str(), place);
+    column.map(|column| (column, questions.get()))
 }
 
 #[test]
 fn an_edit_asks_for_few_classes(rt: HostRuntime) -> Result<(), Fail> {
-    let questions = questions_of_edit(rt.alloc(), 1500)?;
+    let (column, questions) = column_and_questions(rt.alloc(), 1500)?;
+    assert_eq!(rt; column, 2);
     assert!(rt; 0 < questions && questions < 100, "{questions} questions");
     Ok(())
 }

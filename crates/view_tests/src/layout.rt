@@ -73,7 +73,20 @@ fn add_steps<D: BidiData>(
     Ok(())
 }
 
-/// The rows of a text: slots, places and steps of each.
+/// The rows of a layout: slots, places and steps of each.
+fn rows_in<D: BidiData>(alloc: Global, layout: &ParagraphLayout, source: &D) -> Result<String, Fail>
+    requires { IsLayoutBy (D.class_of source.now) (D.bracket_of source.now) layout.now }
+{
+    let mut line = String::new(alloc);
+    for row in 0..layout.row_count() {
+        add_slots(&mut line, alloc, layout, row, source)?;
+        add_places(&mut line, alloc, layout, row, source)?;
+        add_steps(&mut line, alloc, layout, row, source)?;
+    }
+    Ok(line)
+}
+
+/// The rows of a text. It has one way out once the layout stands, since each would be a proof of what is dropped there.
 fn account_of_rows<D: BidiData>(
     alloc: Global,
     text: &str,
@@ -86,13 +99,7 @@ fn account_of_rows<D: BidiData>(
     }
     let body = String::from_str(alloc, text)?;
     let layout = ParagraphLayout::of(alloc, body, source, w, base)?;
-    let mut line = String::new(alloc);
-    for row in 0..layout.row_count() {
-        add_slots(&mut line, alloc, &layout, row, source)?;
-        add_places(&mut line, alloc, &layout, row, source)?;
-        add_steps(&mut line, alloc, &layout, row, source)?;
-    }
-    Ok(line)
+    rows_in(alloc, &layout, source)
 }
 
 #[test]
@@ -124,13 +131,14 @@ fn hebrew_and_a_number(rt: HostRuntime) -> Result<(), Fail> {
 }
 
 /// What is told of a layout as a whole, and what its row of an offset shows.
-fn account_of_picture<D: BidiData>(
+fn picture_in<D: BidiData>(
     alloc: Global,
+    layout: &ParagraphLayout,
     source: &D,
     offset: usize,
-) -> Result<String, Fail> {
-    let body = String::from_str(alloc, "\u{5d0} (b")?;
-    let layout = ParagraphLayout::of(alloc, body, source, 9, Base::Rtl)?;
+) -> Result<String, Fail>
+    requires { IsLayoutBy (D.class_of source.now) (D.bracket_of source.now) layout.now }
+{
     let (w, level, len) = (layout.width(), layout.level(), layout.body().len());
     let is_rtl = layout.base() == Base::Rtl;
     let mut line = format!(in alloc; "{w} {level} {len} {is_rtl}:")?;
@@ -139,6 +147,17 @@ fn account_of_picture<D: BidiData>(
         line.push_str(glyph.text.as_str())?;
     }
     Ok(line)
+}
+
+/// The same of a body under a base from right to left.
+fn account_of_picture<D: BidiData>(
+    alloc: Global,
+    source: &D,
+    offset: usize,
+) -> Result<String, Fail> {
+    let body = String::from_str(alloc, "\u{5d0} (b")?;
+    let layout = ParagraphLayout::of(alloc, body, source, 9, Base::Rtl)?;
+    picture_in(alloc, &layout, source, offset)
 }
 
 #[test]

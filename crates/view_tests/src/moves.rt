@@ -1,6 +1,7 @@
 //! Worked rows: the moves of the cursor, and the place and column that each leads to.
 
 use crate::scene::{Scene, base_of, text_of};
+use bx_explicit::Base;
 use bx_view::{Logical, Vertical, Visual};
 use std::alloc::Global;
 use std::process::Abort;
@@ -40,7 +41,7 @@ pub(crate) fn place_after(scene: &mut Scene<'_>, word: &str, place: usize) -> Re
 }
 
 /// The places that the words lead to, each with its column.
-fn places_of_moves(scene: &mut Scene<'_>, alloc: Global, words: &str) -> Result<String, Fail> {
+fn places_in(scene: &mut Scene<'_>, alloc: Global, words: &str) -> Result<String, Fail> {
     let mut line = String::new(alloc);
     let mut place = 0;
     for word in words.split(' ') {
@@ -54,6 +55,19 @@ fn places_of_moves(scene: &mut Scene<'_>, alloc: Global, words: &str) -> Result<
     Ok(line)
 }
 
+/// The same, of a text in so many columns. It has one way out once the scene stands, since each would be a proof of what is
+/// dropped there.
+fn places_of_moves(
+    alloc: Global,
+    text: &str,
+    w: u16,
+    base: Base,
+    words: &str,
+) -> Result<String, Fail> {
+    let mut scene = Scene::of(alloc, text, w, base)?;
+    places_in(&mut scene, alloc, words)
+}
+
 /// One line: its moves lead to its places.
 fn check_line(rt: &impl Abort, alloc: Global, line: &str) -> Result<(), Fail> {
     let mut fields = line.split('|');
@@ -63,8 +77,7 @@ fn check_line(rt: &impl Abort, alloc: Global, line: &str) -> Result<(), Fail> {
     let w: u16 = fields.next().ok_or("no columns")?.parse()?;
     let words = fields.next().ok_or("no moves")?;
     let wanted = fields.next().ok_or("no places")?;
-    let mut scene = Scene::of(alloc, text.as_str(), w, base)?;
-    let places = places_of_moves(&mut scene, alloc, words)?;
+    let places = places_of_moves(alloc, text.as_str(), w, base, words)?;
     assert_eq!(rt; places.as_str(), wanted, "{shows}");
     Ok(())
 }

@@ -25,12 +25,7 @@ fn page_after(scene: &mut Scene<'_>, word: &str, t: usize, place: usize) -> Resu
 }
 
 /// The places that the words lead to, each with where the rows that are shown begin.
-fn places_of_pages(
-    scene: &mut Scene<'_>,
-    alloc: Global,
-    t: usize,
-    words: &str,
-) -> Result<String, Fail> {
+fn places_in(scene: &mut Scene<'_>, alloc: Global, t: usize, words: &str) -> Result<String, Fail> {
     let mut line = String::new(alloc);
     let mut place = 0;
     let mut top = 0;
@@ -45,6 +40,13 @@ fn places_of_pages(
     Ok(line)
 }
 
+/// The same, of a text in five columns. It has one way out once the scene stands, since each would be a proof of what is
+/// dropped there.
+fn places_of_pages(alloc: Global, text: &str, t: usize, words: &str) -> Result<String, Fail> {
+    let mut scene = Scene::of(alloc, text, 5, Base::Auto)?;
+    places_in(&mut scene, alloc, t, words)
+}
+
 /// One line: its moves lead to its places.
 fn check_line(rt: &impl Abort, alloc: Global, line: &str) -> Result<(), Fail> {
     let mut fields = line.split('|');
@@ -53,8 +55,7 @@ fn check_line(rt: &impl Abort, alloc: Global, line: &str) -> Result<(), Fail> {
     let t: usize = fields.next().ok_or("no rows")?.parse()?;
     let words = fields.next().ok_or("no moves")?;
     let wanted = fields.next().ok_or("no places")?;
-    let mut scene = Scene::of(alloc, text.as_str(), 5, Base::Auto)?;
-    let places = places_of_pages(&mut scene, alloc, t, words)?;
+    let places = places_of_pages(alloc, text.as_str(), t, words)?;
     assert_eq!(rt; places.as_str(), wanted, "{shows}");
     Ok(())
 }
