@@ -2,7 +2,7 @@
 
 use crate::words::bytes_of;
 use bx_explicit::Base;
-use bx_session::{RunFault, Session, run, run_within};
+use bx_session::{End, RunFault, Session, run, run_within};
 use bx_store::MemoryStore;
 use bx_ucd::{Tables, sample_tables};
 use std::alloc::Global;
@@ -67,6 +67,14 @@ fn opened(alloc: Global, text: &str, width: u16) -> Result<Session<Tables>, Fail
     Ok(Session::open(alloc, bytes, tables, 1, width, Base::Auto)?)
 }
 
+/// Whether a run ended so.
+fn is_end(alloc: Global, found: Result<End, RunFault>, end: &str) -> bool {
+    match format!(in alloc; "{found:?}") {
+        Ok(found) => found.as_str() == end,
+        Err(_) => false,
+    }
+}
+
 /// How a run over keys ends, and whether exactly these bytes were written.
 fn ends(
     alloc: Global,
@@ -79,8 +87,8 @@ fn ends(
     let mut written = Vec::new(alloc);
     let mut store = MemoryStore::new(alloc, None);
     let found = run(&mut keys, &mut written, &mut store, &mut session);
-    let found = format!(in alloc; "{found:?}")?;
-    Ok(found.as_str() == end && written.as_slice() == output)
+    let is_end = is_end(alloc, found, end);
+    Ok(written.as_slice() == output && is_end)
 }
 
 /// How a run over a writer ends, and whether exactly these bytes are left.
@@ -96,14 +104,14 @@ fn leaves<W: Write>(
     Ok(found == Err(RunFault::WriteFault) && !session.changed() && session.pending() == output)
 }
 
-/// Whether a run over so many letters, with so many reads, ends with a fault, has put in `fed` of them before the text, and
+/// Whether a run over so many letters, with so many reads, ends with a fault, has put in as many of them before the text as `place` says, and
 /// has written all.
 fn breaks(
     alloc: Global,
     letters: usize,
     limit: u64,
     fault: RunFault,
-    fed: usize,
+    place: usize,
 ) -> Result<bool, Fail> {
     let mut session = opened(alloc, "ab", 8)?;
     let mut written = Vec::new(alloc);
@@ -113,10 +121,10 @@ fn breaks(
     let start = b"\x1b[0m\x1b[2J\x1b[1;1Hab\x1b[1;1H";
     Ok(
         found == Err(fault)
-            && session.place() == fed
+            && session.place() == place
             && session.pending().is_empty()
             && written.as_slice().starts_with(start)
-            && written.len() >= start.len().saturating_add(fed),
+            && written.len() >= start.len().saturating_add(place),
     )
 }
 

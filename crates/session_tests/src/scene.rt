@@ -29,12 +29,13 @@ impl Scene {
         let (base, text) = rest.split_once(' ').unwrap_or((rest, ""));
         let bytes = bytes_of(alloc, text)?;
         let tables = sample_tables(alloc)?;
+        let screen = Screen::new(alloc, height, width)?;
         let session = Session::open(alloc, bytes, tables, height, width, base_of(base))?;
         Ok(Scene {
             alloc,
             session,
             store: MemoryStore::new(alloc, None),
-            screen: Screen::new(alloc, height, width)?,
+            screen,
             height,
             width,
             answer: Ok(Status::Running),

@@ -8,7 +8,6 @@ use crate::words::{byte_of, from_hex, number_of};
 use bx_world::Step;
 use course::{Course, Opening};
 use std::alloc::Global;
-use std::process::Abort;
 use std::test::Fail;
 use vectors::SCHEDULES;
 
@@ -38,16 +37,21 @@ fn step_of(word: &str) -> Result<Step, Fail> {
     Ok(Step::Read(count.parse()?))
 }
 
-/// Takes the steps of a field.
-fn course_of(alloc: Global, given: &str) -> Result<Course, Fail> {
+/// What a field opens a world with, and the words of its steps.
+fn opening_of(alloc: Global, given: &str) -> Result<(Opening, &str), Fail> {
     let mut fields = given.split('|');
     let words = fields.next().ok_or("no opening")?;
     let file = fields.next().ok_or("no file")?;
-    let mut course = Course::new(Opening::of_hex(alloc, words, file)?)?;
-    for word in fields.next().ok_or("no steps")?.split(' ') {
+    let steps = fields.next().ok_or("no steps")?;
+    Ok((Opening::of_hex(alloc, words, file)?, steps))
+}
+
+/// Takes the steps of a field.
+fn take_all(course: &mut Course, steps: &str) -> Result<(), Fail> {
+    for word in steps.split(' ') {
         course.take(step_of(word)?)?;
     }
-    Ok(course)
+    Ok(())
 }
 
 /// Whether a session's place and mark of change are those of a field.
@@ -60,6 +64,17 @@ fn is_so(course: &Course, field: &str) -> Result<bool, Fail> {
 /// Whether bytes are those of a field.
 fn are_bytes(alloc: Global, bytes: &[u8], field: &str) -> Result<bool, Fail> {
     Ok(bytes == from_hex(alloc, field)?.as_slice())
+}
+
+/// Takes steps, and answers the first thing in which the course is not what it should be then, if any.
+fn fault_after(
+    alloc: Global,
+    course: &mut Course,
+    steps: &str,
+    wanted: &str,
+) -> Result<Option<&'static str>, Fail> {
+    take_all(course, steps)?;
+    fault_of(alloc, course, wanted)
 }
 
 /// The first thing in which a course is not what it should be, if any.
@@ -92,20 +107,23 @@ fn fault_of(
     Ok(None)
 }
 
-/// One schedule.
-fn check_schedule(rt: &impl Abort, alloc: Global, schedule: &str) -> Result<(), Fail> {
+/// The first thing in which a schedule is not as it should be, if any. It has one way out once its world is open, since each would be a proof of what is dropped there.
+fn fault_of_schedule(alloc: Global, schedule: &str) -> Result<Option<&'static str>, Fail> {
     let (given, wanted) = schedule.split_once('=').ok_or("no schedule")?;
-    let mut course = course_of(alloc, given)?;
-    let fault = fault_of(alloc, &mut course, wanted)?;
-    assert_eq!(rt; fault, None, "{schedule}");
-    Ok(())
+    let (opening, steps) = opening_of(alloc, given)?;
+    let mut course = Course::new(opening)?;
+    fault_after(alloc, &mut course, steps, wanted)
 }
 
 #[test]
 fn random_schedules(rt: HostRuntime) -> Result<(), Fail> {
     assert_eq!(rt; SCHEDULES.lines().count(), 12);
     for schedule in SCHEDULES.lines() {
-        check_schedule(&rt, rt.alloc(), schedule)?;
+        assert_eq!(rt;
+            fault_of_schedule(rt.alloc(), schedule)?,
+            None,
+            "{schedule}"
+        );
     }
     Ok(())
 }

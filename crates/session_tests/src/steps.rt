@@ -1,6 +1,6 @@
-//! The lines of a script, of which each is a word and what stands behind it:
+//! The lines of a scene. The first one says what it shows. Of the others each is a word and what stands behind it:
 //!
-//!     open ROWS COLUMNS auto|ltr|rtl TEXT     another scene; ␍ is CR, ␊ is LF
+//!     open ROWS COLUMNS auto|ltr|rtl TEXT     the scene; ␍ is CR, ␊ is LF
 //!     type CHARACTERS                         the bytes of the characters
 //!     bytes DIGITS                            bytes in hexadecimal
 //!     told ROWS COLUMNS                       a size is told
@@ -13,8 +13,6 @@
 //!     stored TEXT
 //!     answer running|ended|edit|paint|size    of the last byte or size
 //!     changed, unchanged, ended, running
-//!
-//! An empty line and one that begins with # say nothing.
 
 use crate::scene::Scene;
 use crate::words::{from_hex, number_of, two_of};
@@ -23,9 +21,7 @@ use std::test::Fail;
 
 /// Does what a line says: whether its word is one that does something.
 fn does(scene: &mut Scene, word: &str, rest: &str) -> Result<bool, Fail> {
-    if word == "open" {
-        *scene = Scene::open(scene.allocator(), rest)?;
-    } else if word == "type" {
+    if word == "type" {
         scene.feed(rest.as_bytes());
     } else if word == "bytes" {
         let bytes = from_hex(scene.allocator(), rest)?;
@@ -47,7 +43,7 @@ fn sizes(scene: &mut Scene, word: &str, rest: &str) -> Result<bool, Fail> {
     } else if word == "failing" {
         scene.fail_at(number_of(rest)?);
     } else {
-        return Ok(word.is_empty() || word.starts_with('#'));
+        return Ok(false);
     }
     Ok(true)
 }
@@ -106,15 +102,29 @@ fn passes(scene: &mut Scene, line: &str) -> Result<bool, Fail> {
     holds(scene, word, rest)
 }
 
-/// Plays a script. Its first line that is not so is a failure.
-pub(crate) fn play(alloc: Global, script: &str) -> Result<(), Fail> {
-    let mut scene = Scene::open(alloc, "1 1 auto")?;
-    let mut number: u32 = 0;
-    for line in script.lines() {
-        number = number.saturating_add(1);
-        if !passes(&mut scene, line)? {
-            return Err(Fail::new(format_args!("line {number}: {line:?}")));
+/// Plays lines. The first that is not so is a failure.
+fn play_lines(scene: &mut Scene, name: &str, lines: &str) -> Result<(), Fail> {
+    for line in lines.lines() {
+        if !passes(scene, line)? {
+            return Err(Fail::new(format_args!("{name}: {line:?}")));
         }
+    }
+    Ok(())
+}
+
+/// Plays a scene. It has one way out once the scene is open, since each would be a proof of what is dropped there.
+fn play_scene(alloc: Global, scene: &str) -> Result<(), Fail> {
+    let (name, rest) = scene.split_once('\n').ok_or("no name")?;
+    let (opening, lines) = rest.split_once('\n').ok_or("no lines")?;
+    let words = opening.strip_prefix("open ").ok_or("no opening")?;
+    let mut scene = Scene::open(alloc, words)?;
+    play_lines(&mut scene, name, lines)
+}
+
+/// Plays scenes with an empty line between them.
+pub(crate) fn play(alloc: Global, scenes: &str) -> Result<(), Fail> {
+    for scene in scenes.split("\n\n") {
+        play_scene(alloc, scene)?;
     }
     Ok(())
 }

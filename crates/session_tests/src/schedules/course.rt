@@ -182,16 +182,26 @@ impl Course {
     /// Whether another world that takes all the steps by one call answers the same and is alike, with the same bytes kept, and
     /// whether both hold this text, which a session that has ended does not tell. Saves of which nothing is noted end the course.
     pub(crate) fn is_played(&mut self, text: &[u8]) -> Result<bool, Fail> {
-        let alloc = self.opening.alloc;
         let mut world = self.opening.world()?;
         let mut store = self.opening.store();
-        let answers = world.play(&self.steps, &mut store)?;
+        self.is_played_by(&mut world, &mut store, text)
+    }
+
+    /// The same, of a world and a store that are as at the opening.
+    fn is_played_by(
+        &mut self,
+        world: &mut World<Tables>,
+        store: &mut MemoryStore,
+        text: &[u8],
+    ) -> Result<bool, Fail> {
+        let alloc = self.opening.alloc;
+        let answers = world.play(&self.steps, store)?;
         if answers.as_slice() != self.answers.as_slice()
-            || !are_alike(&world, &self.world)
+            || !are_alike(world, &self.world)
             || store.contents() != self.store.contents()
         {
             return Ok(false);
         }
-        Ok(holds(alloc, &mut world, text)? && holds(alloc, &mut self.world, text)?)
+        Ok(holds(alloc, world, text)? && holds(alloc, &mut self.world, text)?)
     }
 }
