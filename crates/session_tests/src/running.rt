@@ -104,8 +104,8 @@ fn leaves<W: Write>(
     Ok(found == Err(RunFault::WriteFault) && !session.changed() && session.pending() == output)
 }
 
-/// Whether a run over so many letters, with so many reads, ends with a fault, has put in as many of them before the text as `place` says, and
-/// has written all.
+/// Whether a run over so many letters, with so many reads, ends with a fault, has put in as many of them before the text as
+/// `place` says, and has written all.
 fn breaks(
     alloc: Global,
     letters: usize,
