@@ -1,10 +1,13 @@
 //! Each call with ample memory: worked rows and outside values.
+ghost use Rattle.std.specs.Prelude.{All};
+ghost use Rattle.bx_cells.specs.Units.{StandsIn};
+
 mod pictures;
 mod vectors;
 
 use bx_cells::{Face, Unit, units};
 use bx_explicit::Base;
-use bx_resolve::levels;
+use bx_resolve::{Levels, levels};
 use bx_rows::{Row, RowStart, has_one_row, row_levels, row_starts, units_of_row, visual, wrap};
 use bx_ucd::{Tables, sample_tables};
 use std::alloc::Global;
@@ -35,6 +38,15 @@ fn base_of(field: &str) -> Base {
     }
 }
 
+/// What a line tells of rows, each with a bar before it but the first.
+#[derive(Drop)]
+struct Shown {
+    // of the units of each row
+    levels: String,
+    // the units' numbers in visual order
+    orders: String,
+}
+
 /// Adds a number, after a blank where one stands before it in its row.
 fn add_number(text: &mut String, alloc: Global, number: usize, is_first: bool) -> Result<(), Fail> {
     if !is_first {
@@ -44,43 +56,86 @@ fn add_number(text: &mut String, alloc: Global, number: usize, is_first: bool) -
     Ok(())
 }
 
+impl Shown {
+    fn add_levels(&mut self, alloc: Global, levels: &[u8]) -> Result<(), Fail> {
+        for (i, level) in levels.iter().enumerate() {
+            add_number(&mut self.levels, alloc, usize::from(*level), i == 0)?;
+        }
+        Ok(())
+    }
+
+    fn add_order(&mut self, alloc: Global, order: &[usize]) -> Result<(), Fail> {
+        for (i, number) in order.iter().enumerate() {
+            add_number(&mut self.orders, alloc, *number, i == 0)?;
+        }
+        Ok(())
+    }
+
+    fn add_row(
+        &mut self,
+        alloc: Global,
+        body: &str,
+        found: &[Unit],
+        row: Row,
+        levels: &Levels,
+        tables: &Tables,
+    ) -> Result<(), Fail>
+        requires { All (StandsIn body.now) found.now }
+    {
+        if row.start > row.stop || row.stop > found.len() {
+            return Err("a row past the units".into());
+        }
+        if row.start > 0 {
+            self.levels.push('|')?;
+            self.orders.push('|')?;
+        }
+        let each = row_levels(alloc, body, found, row, levels, tables)?;
+        self.add_levels(alloc, &each)?;
+        self.add_order(alloc, &visual(alloc, &each)?)
+    }
+
+    fn add_rows(
+        &mut self,
+        alloc: Global,
+        body: &str,
+        found: &[Unit],
+        rows: &[Row],
+        levels: &Levels,
+        tables: &Tables,
+    ) -> Result<(), Fail>
+        requires { All (StandsIn body.now) found.now }
+    {
+        for row in rows {
+            self.add_row(alloc, body, found, *row, levels, tables)?;
+        }
+        Ok(())
+    }
+
+    /// The rows of a body in so many columns.
+    fn of(alloc: Global, body: &str, tables: &Tables, base: Base, w: u16) -> Result<Shown, Fail> {
+        let mut shown = Shown {
+            levels: String::new(alloc),
+            orders: String::new(alloc),
+        };
+        let found = units(alloc, body, tables, w)?;
+        let rows = wrap(alloc, body, &found, tables, w)?;
+        let levels = levels(alloc, body, tables, base)?;
+        shown.add_rows(alloc, body, &found, &rows, &levels, tables)?;
+        Ok(shown)
+    }
+}
+
 /// One line of the outside values.
 fn check_line(rt: &impl Abort, alloc: Global, tables: &Tables, line: &str) -> Result<(), Fail> {
     let mut fields = line.split('\t');
     let body = text_of(alloc, fields.next().ok_or("no text")?)?;
     let base = base_of(fields.next().ok_or("no base")?);
     let w: u16 = fields.next().ok_or("no columns")?.parse()?;
-    let found = units(alloc, body.as_str(), tables, w)?;
-    let rows = wrap(alloc, body.as_str(), &found, tables, w)?;
-    let levels = levels(alloc, body.as_str(), tables, base)?;
-    let mut all_levels = String::new(alloc);
-    let mut all_orders = String::new(alloc);
-    for row in &rows {
-        if row.start > row.stop || row.stop > found.len() {
-            return Err("a row past the units".into());
-        }
-        if row.start > 0 {
-            all_levels.push('|')?;
-            all_orders.push('|')?;
-        }
-        let each = row_levels(alloc, body.as_str(), &found, *row, &levels, tables)?;
-        for (i, level) in each.iter().enumerate() {
-            add_number(&mut all_levels, alloc, usize::from(*level), i == 0)?;
-        }
-        for (i, number) in visual(alloc, &each)?.iter().enumerate() {
-            add_number(&mut all_orders, alloc, *number, i == 0)?;
-        }
-    }
-    assert_eq!(rt;
-        all_levels.as_str(),
-        fields.next().ok_or("no levels")?,
-        "in {line}"
-    );
-    assert_eq!(rt;
-        all_orders.as_str(),
-        fields.next().ok_or("no order")?,
-        "in {line}"
-    );
+    let levels = fields.next().ok_or("no levels")?;
+    let orders = fields.next().ok_or("no order")?;
+    let shown = Shown::of(alloc, body.as_str(), tables, base, w)?;
+    assert_eq!(rt; shown.levels.as_str(), levels, "in {line}");
+    assert_eq!(rt; shown.orders.as_str(), orders, "in {line}");
     Ok(())
 }
 
