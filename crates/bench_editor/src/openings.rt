@@ -16,8 +16,11 @@ fn once<R: CpuClock + AllocGlobal>(
     let tables = files.tables(rt.alloc())?;
     let start = rt.thread_cpu_time()?;
     let typist = Typist::open(rt.alloc(), copy, tables)?;
-    let end = rt.thread_cpu_time()?;
-    Ok((typist.traffic().sent, end.saturating_sub(start)))
+    let end = rt.thread_cpu_time();
+    let sent = typist.traffic().sent;
+    // It is closed here, so that only one way out closes it.
+    drop(typist);
+    Ok((sent, end?.saturating_sub(start)))
 }
 
 /// What opening a text some times gives, and the time that this took.

@@ -1,11 +1,45 @@
 //! Rounds of keys, in the middle of a text.
 
-use crate::outcome::{Measurement, Outcome};
+use crate::outcome::{Measurement, Outcome, Traffic};
 use crate::table_files::TableFiles;
 use crate::task::Task;
 use crate::typist::Typist;
 use anyhow::Result;
-use std::time::CpuClock;
+use std::time::{CpuClock, Duration};
+
+/// Goes to the middle of a text of so many bytes, and does the task some times: the time that they took.
+fn rounds<R: CpuClock>(
+    rt: &R,
+    typist: &mut Typist,
+    task: Task,
+    wanted: Measurement,
+    length: usize,
+) -> Result<Duration> {
+    typist.go_to_middle(length)?;
+    let start = rt.thread_cpu_time()?;
+    for round in 0..wanted.times {
+        task.press(typist, wanted.script, round)?;
+    }
+    let end = rt.thread_cpu_time()?;
+    Ok(end.saturating_sub(start))
+}
+
+/// What the rounds of a task sent and stored, and the time that they took. It has one way out once the typist is there,
+/// since each would be a proof of what is dropped there.
+fn measured<R: CpuClock + AllocGlobal>(
+    rt: &R,
+    files: &TableFiles,
+    task: Task,
+    wanted: Measurement,
+    text: String,
+) -> Result<(Traffic, Duration)> {
+    let length = text.len();
+    let tables = files.tables(rt.alloc())?;
+    let mut typist = Typist::open(rt.alloc(), text.into_bytes(), tables)?;
+    let time = rounds(rt, &mut typist, task, wanted, length);
+    let traffic = typist.traffic();
+    time.map(|time| (traffic, time))
+}
 
 /// What a task gives that is done some times, and the time that this took.
 pub(crate) fn run<R: CpuClock + AllocGlobal>(
@@ -15,17 +49,9 @@ pub(crate) fn run<R: CpuClock + AllocGlobal>(
     wanted: Measurement,
     name: &str,
 ) -> Result<Outcome> {
-    let alloc = rt.alloc();
-    let text = wanted.script.text(alloc, wanted.bytes)?;
+    let text = wanted.script.text(rt.alloc(), wanted.bytes)?;
     let length = text.len();
-    let mut typist = Typist::open(alloc, text.into_bytes(), files.tables(alloc)?)?;
-    typist.go_to_middle(length)?;
-    let start = rt.thread_cpu_time()?;
-    for round in 0..wanted.times {
-        task.press(&mut typist, wanted.script, round)?;
-    }
-    let end = rt.thread_cpu_time()?;
-    let time = end.saturating_sub(start);
-    let outcome = Outcome::new(alloc, name, length, typist.traffic(), time, wanted.times)?;
+    let (traffic, time) = measured(rt, files, task, wanted, text)?;
+    let outcome = Outcome::new(rt.alloc(), name, length, traffic, time, wanted.times)?;
     Ok(outcome)
 }
