@@ -37,7 +37,10 @@ pub fn edit<R: Read, W: Write, S: Store>(
     let tables = Tables::read(alloc, classes, brackets, mirroring)?;
     let bytes = file.unwrap_or(Vec::new(alloc));
     let mut session = Session::open(alloc, bytes, tables, rows, cols, direction)?;
-    match run(reader, writer, store, &mut session)? {
+    let end = run(reader, writer, store, &mut session);
+    // Here, since each way out would be a proof of what is dropped there.
+    drop(session);
+    match end? {
         End::InputEnded { changed: true } => Err(ProgramFault::Unsaved),
         End::InputEnded { changed: false } | End::Quit => Ok(()),
     }

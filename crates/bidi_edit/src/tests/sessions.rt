@@ -128,23 +128,35 @@ fn are_bytes(alloc: Global, bytes: &[u8], field: &str) -> Result<bool, Fail> {
     Ok(bytes == from_hex(alloc, field)?.as_slice())
 }
 
-/// One recorded session.
-fn check_session(rt: &impl Abort, alloc: Global, session: &str) -> Result<(), Fail> {
+/// The first thing in which a session is not what it should be, if any.
+fn fault_of(
+    alloc: Global,
+    written: &mut Vec<u8>,
+    store: &mut MemoryStore,
+    session: &str,
+) -> Result<Option<&'static str>, Fail> {
     let (given, wanted) = session.split_once('=').ok_or("no session")?;
-    let mut written = Vec::new(alloc);
-    let mut store = MemoryStore::new(alloc, None);
-    let line = Given::of_fields(alloc, given)?.run(alloc, &mut written, &mut store)?;
     let (output, rest) = wanted.split_once('|').ok_or("no output")?;
     let (fault, saved) = rest.split_once('|').ok_or("no fault")?;
-    assert!(rt;
-        are_bytes(alloc, written.as_slice(), output)?,
-        "the output of {session}"
-    );
-    assert!(rt; line.as_str() == fault, "the fault of {session}");
-    assert!(rt;
-        saved.is_empty() || are_bytes(alloc, store.contents(), saved)?,
-        "the bytes that {session} saves"
-    );
+    let line = Given::of_fields(alloc, given)?.run(alloc, written, store)?;
+    if line.as_str() != fault {
+        return Ok(Some("fault"));
+    }
+    if !are_bytes(alloc, written, output)? {
+        return Ok(Some("output"));
+    }
+    if !saved.is_empty() && !are_bytes(alloc, store.contents(), saved)? {
+        return Ok(Some("saved"));
+    }
+    Ok(None)
+}
+
+/// One recorded session.
+fn check_session(rt: &impl Abort, alloc: Global, session: &str) -> Result<(), Fail> {
+    let mut written = Vec::new(alloc);
+    let mut store = MemoryStore::new(alloc, None);
+    let fault = fault_of(alloc, &mut written, &mut store, session)?;
+    assert_eq!(rt; fault, None, "{session}");
     Ok(())
 }
 
