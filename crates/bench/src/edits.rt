@@ -155,128 +155,144 @@ fn fresh<R: AllocGlobal>(rt: &R, bytes: usize) -> Result<Text> {
     Ok(text)
 }
 
-/// A text after some edits, and the time of the last of them.
-fn edited<R: CpuClock + AllocGlobal>(
-    rt: &R,
-    offsets: Offsets,
-    bytes: usize,
-    turns: usize,
-) -> Result<(Text, Duration)> {
-    let mut text = fresh(rt, bytes)?;
-    let edits = Edits::new(rt.alloc(), offsets, bytes, turns)?;
+/// Makes edits, and answers the time of the last of them.
+fn edited<R: CpuClock>(rt: &R, text: &mut Text, edits: &Edits, turns: usize) -> Result<Duration> {
     let unmeasured = turns.saturating_sub(MEASURED);
-    edits.make(&mut text, 0, unmeasured)?;
+    edits.make(text, 0, unmeasured)?;
     let start = rt.thread_cpu_time()?;
-    edits.make(&mut text, unmeasured, turns)?;
+    edits.make(text, unmeasured, turns)?;
     let end = rt.thread_cpu_time()?;
-    Ok((text, end.saturating_sub(start)))
+    Ok(end.saturating_sub(start))
 }
 
-/// A text after some edits.
-fn after_edits<R: AllocGlobal>(
-    rt: &R,
-    offsets: Offsets,
-    bytes: usize,
-    turns: usize,
-) -> Result<Text> {
-    let mut text = fresh(rt, bytes)?;
-    Edits::new(rt.alloc(), offsets, bytes, turns)?.make(&mut text, 0, turns)?;
-    Ok(text)
-}
-
-/// A text after some edits, the last of them taken back, and the time that this took.
-fn undone<R: CpuClock + AllocGlobal>(
-    rt: &R,
-    offsets: Offsets,
-    bytes: usize,
-    turns: usize,
-) -> Result<(Text, Duration)> {
-    let mut text = after_edits(rt, offsets, bytes, turns)?;
+/// Takes the latest edits back, and answers the time that this took.
+fn undone<R: CpuClock>(rt: &R, text: &mut Text, edits: &Edits, turns: usize) -> Result<Duration> {
+    edits.make(text, 0, turns)?;
     let start = rt.thread_cpu_time()?;
     for _ in 0..MEASURED {
         text.undo()?;
     }
     let end = rt.thread_cpu_time()?;
-    Ok((text, end.saturating_sub(start)))
+    Ok(end.saturating_sub(start))
 }
 
-/// A text after scattered edits that were all taken back and one edit more, and the time that this one took.
-fn forgotten<R: CpuClock + AllocGlobal>(
+/// Takes edits back and makes one more, and answers the time that this one took.
+fn forgotten<R: CpuClock>(
     rt: &R,
-    bytes: usize,
+    text: &mut Text,
+    edits: &Edits,
     turns: usize,
-) -> Result<(Text, Duration)> {
-    let mut text = after_edits(rt, Offsets::Scattered, bytes, turns)?;
+) -> Result<Duration> {
+    edits.make(text, 0, turns)?;
     for _ in 0..turns {
         text.undo()?;
     }
     let start = rt.thread_cpu_time()?;
-    write_at(&mut text, 0)?;
+    write_at(text, 0)?;
     let end = rt.thread_cpu_time()?;
-    Ok((text, end.saturating_sub(start)))
+    Ok(end.saturating_sub(start))
 }
 
-/// A text after some scattered edits, and the time that a copy of all of it took.
-fn copied<R: CpuClock + AllocGlobal>(
-    rt: &R,
-    bytes: usize,
-    turns: usize,
-) -> Result<(Text, Duration)> {
-    let text = after_edits(rt, Offsets::Scattered, bytes, turns)?;
+/// The time that a copy of all of a text takes after edits.
+fn copied<R: CpuClock>(rt: &R, text: &mut Text, edits: &Edits, turns: usize) -> Result<Duration> {
+    edits.make(text, 0, turns)?;
     let start = rt.thread_cpu_time()?;
     let _copy = text.copy_range(0, text.len())?;
     let end = rt.thread_cpu_time()?;
-    Ok((text, end.saturating_sub(start)))
+    Ok(end.saturating_sub(start))
 }
 
-/// A text as it is opened, and the time that this took.
-fn opened<R: CpuClock + AllocGlobal>(rt: &R, bytes: usize) -> Result<(Text, Duration)> {
-    let lines = lines(rt.alloc(), bytes)?;
-    let start = rt.thread_cpu_time()?;
-    let text = Text::open(rt.alloc(), lines)?;
-    let end = rt.thread_cpu_time()?;
-    Ok((text, end.saturating_sub(start)))
+/// What is measured.
+#[derive(Clone, Copy)]
+enum Task {
+    /// The last of the edits.
+    Edit,
+    /// Taking the latest edits back.
+    Undo,
+    /// A copy of the whole text.
+    Copy,
+    /// An edit after all others were taken back.
+    Forget,
 }
 
-/// What a task with so many edits takes.
-fn task<R: CpuClock + AllocGlobal>(
-    rt: &R,
-    name: &str,
-    bytes: usize,
-    turns: usize,
-) -> Result<(Text, Duration)> {
-    if name == "undo" {
-        undone(rt, Offsets::Scattered, bytes, turns)
-    } else if name == "unturn" {
-        undone(rt, Offsets::Turning, bytes, turns)
-    } else if name == "unrank" {
-        undone(rt, Offsets::Ranked, bytes, turns)
-    } else if name == "copy" {
-        copied(rt, bytes, turns)
-    } else if name == "forget" {
-        forgotten(rt, bytes, turns)
+/// The task of a word, and where its edits are made.
+fn task_of(word: &str) -> Result<(Task, Offsets)> {
+    if word == "undo" {
+        Ok((Task::Undo, Offsets::Scattered))
+    } else if word == "unturn" {
+        Ok((Task::Undo, Offsets::Turning))
+    } else if word == "unrank" {
+        Ok((Task::Undo, Offsets::Ranked))
+    } else if word == "copy" {
+        Ok((Task::Copy, Offsets::Scattered))
+    } else if word == "forget" {
+        Ok((Task::Forget, Offsets::Scattered))
     } else {
-        let offsets = Offsets::from_word(name).context("what to measure")?;
-        edited(rt, offsets, bytes, turns)
+        let offsets = Offsets::from_word(word).context("what to measure")?;
+        Ok((Task::Edit, offsets))
     }
 }
 
-/// The text that the words ask for, and the time of what is measured: opening the text, the last thousand edits, taking back
-/// the last thousand of them (`undo`, `unturn`, `unrank`), copying the whole text after scattered edits, or the first edit
-/// after all of the scattered ones were taken back (`forget`).
-fn measured<R: CpuClock + AllocGlobal>(rt: &R, words: &[String]) -> Result<(Text, Duration)> {
-    match words {
-        [open, bytes] if open.as_str() == "open" => opened(rt, number(bytes)?),
-        [name, bytes, turns] => task(rt, name.as_str(), number(bytes)?, number(turns)?),
-        _ => bail!("usage: bench text TASK BYTES [EDITS]"),
-    }
+/// Does a task with so many edits, and tells of the text in the end.
+fn outcome_of<R: CpuClock + AllocGlobal>(
+    rt: &R,
+    task: Task,
+    text: &mut Text,
+    edits: &Edits,
+    turns: usize,
+) -> Result<Outcome> {
+    let time = match task {
+        Task::Edit => edited(rt, text, edits, turns)?,
+        Task::Undo => undone(rt, text, edits, turns)?,
+        Task::Copy => copied(rt, text, edits, turns)?,
+        Task::Forget => forgotten(rt, text, edits, turns)?,
+    };
+    told(rt, text, time)
 }
 
-/// What the words ask for: how many bytes and pieces the text has in the end.
-pub(crate) fn run<R: CpuClock + AllocGlobal>(rt: &R, words: &[String]) -> Result<Outcome> {
-    let (text, time) = measured(rt, words)?;
+/// How many bytes and pieces a text has.
+fn told<R: AllocGlobal>(rt: &R, text: &Text, time: Duration) -> Result<Outcome> {
     let bytes = text.len();
     let pieces = text.pieces().count();
     let line = format!(in rt.alloc(); "{bytes} bytes in {pieces} pieces")?;
     Ok(Outcome { line, time })
+}
+
+/// What a task with a text of so many bytes and so many edits gives. It has one way out once the text is open, since each
+/// would be a proof of what is dropped there.
+fn after_opening<R: CpuClock + AllocGlobal>(
+    rt: &R,
+    name: &str,
+    bytes: usize,
+    turns: usize,
+) -> Result<Outcome> {
+    let (task, offsets) = task_of(name)?;
+    let edits = Edits::new(rt.alloc(), offsets, bytes, turns)?;
+    let mut text = fresh(rt, bytes)?;
+    outcome_of(rt, task, &mut text, &edits, turns)
+}
+
+/// What opening a text of so many bytes gives.
+fn opened<R: CpuClock + AllocGlobal>(rt: &R, bytes: usize) -> Result<Outcome> {
+    let lines = lines(rt.alloc(), bytes)?;
+    let start = rt.thread_cpu_time()?;
+    let text = Text::open(rt.alloc(), lines)?;
+    told_since(rt, &text, start)
+}
+
+/// How many bytes and pieces a text has, and the time since it was begun.
+fn told_since<R: CpuClock + AllocGlobal>(rt: &R, text: &Text, start: Duration) -> Result<Outcome> {
+    let end = rt.thread_cpu_time()?;
+    told(rt, text, end.saturating_sub(start))
+}
+
+/// What the words ask for: how many bytes and pieces the text has in the end, and the time of what is measured: opening the
+/// text, the last thousand edits, taking back the last thousand of them (`undo`, `unturn`, `unrank`), copying the whole text
+/// after scattered edits, or the first edit after all of the scattered ones were taken back (`forget`).
+pub(crate) fn run<R: CpuClock + AllocGlobal>(rt: &R, words: &[String]) -> Result<Outcome> {
+    match words {
+        [open, bytes] if open.as_str() == "open" => opened(rt, number(bytes)?),
+        [name, bytes, turns] => after_opening(rt, name.as_str(), number(bytes)?, number(turns)?),
+        _ => bail!("usage: bench text TASK BYTES [EDITS]"),
+    }
 }

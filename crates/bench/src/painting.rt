@@ -148,16 +148,21 @@ impl Work {
             Task::Blank => Ok(Grid::blank(alloc, 24, 80)?.columns().len()),
         }
     }
+
+    /// Does a task some times: how many bytes or columns that makes or reads in all.
+    fn often(&mut self, alloc: Global, task: Task, times: usize) -> Result<u64> {
+        let mut sum: u64 = 0;
+        for _ in 0..times {
+            sum = sum.wrapping_add(self.once(alloc, task)? as u64);
+        }
+        Ok(sum)
+    }
 }
 
 /// How many bytes or columns a task that is done some times makes or reads.
 fn sum(alloc: Global, task: Task, script: Script, times: usize) -> Result<u64> {
     let mut work = Work::new(alloc, script)?;
-    let mut sum: u64 = 0;
-    for _ in 0..times {
-        sum = sum.wrapping_add(work.once(alloc, task)? as u64);
-    }
-    Ok(sum)
+    work.often(alloc, task, times)
 }
 
 /// What the words ask for: how many bytes or columns there were in all, and the time of making the pictures and of the task.

@@ -144,6 +144,22 @@ fn follow<D: BidiData>(text: &mut Text, index: &mut Index, source: &D, task: Tas
     Ok(index.count())
 }
 
+/// How many paragraphs there are in the end, and the times until the index was built and until the end.
+fn ended<R: CpuClock, D: BidiData>(
+    rt: &R,
+    text: &mut Text,
+    index: &mut Index,
+    source: &D,
+    task: Task,
+) -> Result<(usize, Duration, Duration)>
+    requires { index.old.paragraphs ≡ lengths (D.class_of source.now) text.old.edited.text }
+{
+    let built = rt.thread_cpu_time()?;
+    let count = follow(text, index, source, task)?;
+    let end = rt.thread_cpu_time()?;
+    Ok((count, built, end))
+}
+
 /// How many paragraphs there are in the end, and the time of the build or of what follows it.
 fn measured<R: CpuClock + AllocGlobal>(
     rt: &R,
@@ -153,14 +169,11 @@ fn measured<R: CpuClock + AllocGlobal>(
     let tables = sample_tables(rt.alloc())?;
     let start = rt.thread_cpu_time()?;
     let mut index = Index::build(rt.alloc(), text, &tables)?;
-    let built = rt.thread_cpu_time()?;
-    let count = follow(text, &mut index, &tables, task)?;
-    let end = rt.thread_cpu_time()?;
-    let time = match task {
-        Task::Build => built.saturating_sub(start),
-        _ => end.saturating_sub(built),
-    };
-    Ok((count, time))
+    let ended = ended(rt, text, &mut index, &tables, task);
+    ended.map(|(count, built, end)| match task {
+        Task::Build => (count, built.saturating_sub(start)),
+        _ => (count, end.saturating_sub(built)),
+    })
 }
 
 /// What is measured, and the numbers of a text, by the words.
@@ -179,11 +192,16 @@ fn asked(words: &[String]) -> Result<(Task, usize, usize)> {
     Ok((task, number(bytes)?, number(line)?))
 }
 
+/// What is measured of a text.
+fn outcome_of<R: CpuClock + AllocGlobal>(rt: &R, text: &mut Text, task: Task) -> Result<Outcome> {
+    let (count, time) = measured(rt, text, task)?;
+    let line = format!(in rt.alloc(); "{count} paragraphs")?;
+    Ok(Outcome { line, time })
+}
+
 /// What the words ask for: how many paragraphs there are in the end, and the time of the build or of the edits.
 pub(crate) fn run<R: CpuClock + AllocGlobal>(rt: &R, words: &[String]) -> Result<Outcome> {
     let (task, bytes, line) = asked(words)?;
     let mut text = Text::open(rt.alloc(), lines(rt.alloc(), bytes, line)?)?;
-    let (count, time) = measured(rt, &mut text, task)?;
-    let line = format!(in rt.alloc(); "{count} paragraphs")?;
-    Ok(Outcome { line, time })
+    outcome_of(rt, &mut text, task)
 }

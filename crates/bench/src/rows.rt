@@ -90,19 +90,20 @@ fn once<D: BidiData>(
     }
 }
 
-/// What the words ask for: a count of all that was shown, and the time that it took.
-pub(crate) fn run<R: CpuClock + AllocGlobal>(rt: &R, words: &[String]) -> Result<Outcome> {
-    let [task, text, count, times] = words else {
-        bail!("usage: bench rows TASK TEXT LETTERS TIMES");
-    };
-    let tables = sample_tables(rt.alloc())?;
-    let body = letters(rt.alloc(), words_of(text.as_str()), number(count)?)?;
-    let layout = ParagraphLayout::of(rt.alloc(), body, &tables, 80, Base::Auto)?;
-    let times = number(times)?;
+/// Does a task some times: a count of all that was shown, and the time that it took.
+fn rounds<R: CpuClock + AllocGlobal, D: BidiData>(
+    rt: &R,
+    task: &str,
+    layout: &ParagraphLayout,
+    source: &D,
+    times: usize,
+) -> Result<Outcome>
+    requires { IsLayoutBy (D.class_of source.now) (D.bracket_of source.now) layout.now }
+{
     let start = rt.thread_cpu_time()?;
     let mut sum: usize = 0;
     for _ in 0..times {
-        sum = sum.wrapping_add(once(rt.alloc(), task.as_str(), &layout, &tables)?);
+        sum = sum.wrapping_add(once(rt.alloc(), task, layout, source)?);
     }
     let end = rt.thread_cpu_time()?;
     let line = format!(in rt.alloc(); "{sum}")?;
@@ -110,4 +111,16 @@ pub(crate) fn run<R: CpuClock + AllocGlobal>(rt: &R, words: &[String]) -> Result
         line,
         time: end.saturating_sub(start),
     })
+}
+
+/// What the words ask for.
+pub(crate) fn run<R: CpuClock + AllocGlobal>(rt: &R, words: &[String]) -> Result<Outcome> {
+    let [task, text, count, times] = words else {
+        bail!("usage: bench rows TASK TEXT LETTERS TIMES");
+    };
+    let times = number(times)?;
+    let tables = sample_tables(rt.alloc())?;
+    let body = letters(rt.alloc(), words_of(text.as_str()), number(count)?)?;
+    let layout = ParagraphLayout::of(rt.alloc(), body, &tables, 80, Base::Auto)?;
+    rounds(rt, task.as_str(), &layout, &tables, times)
 }
