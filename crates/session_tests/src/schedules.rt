@@ -19,21 +19,21 @@ fn size_of(word: &str) -> Result<(u16, u16), Fail> {
 
 /// The step of a word.
 fn step_of(word: &str) -> Result<Step, Fail> {
-    if let Some(byte) = word.strip_prefix("B") {
+    if let Some(byte) = word.strip_prefix("b") {
         return Ok(Step::Byte(byte_of(byte.as_bytes())?));
     }
-    if let Some(size) = word.strip_prefix("W") {
+    if let Some(size) = word.strip_prefix("w") {
         let (height, width) = size_of(size)?;
         return Ok(Step::Window(height, width));
     }
-    if let Some(size) = word.strip_prefix("T") {
+    if let Some(size) = word.strip_prefix("t") {
         let (height, width) = size_of(size)?;
         return Ok(Step::Told(height, width));
     }
-    if let Some(count) = word.strip_prefix("S") {
+    if let Some(count) = word.strip_prefix("s") {
         return Ok(Step::Send(count.parse()?));
     }
-    let count = word.strip_prefix("R").ok_or("no step")?;
+    let count = word.strip_prefix("r").ok_or("no step")?;
     Ok(Step::Read(count.parse()?))
 }
 
@@ -107,7 +107,8 @@ fn fault_of(
     Ok(None)
 }
 
-/// The first thing in which a schedule is not as it should be, if any. It has one way out once its world is open, since each would be a proof of what is dropped there.
+/// The first thing in which a schedule is not as it should be, if any. It has one way out once its world is open, since each
+/// would be a proof of what is dropped there.
 fn fault_of_schedule(alloc: Global, schedule: &str) -> Result<Option<&'static str>, Fail> {
     let (given, wanted) = schedule.split_once('=').ok_or("no schedule")?;
     let (opening, steps) = opening_of(alloc, given)?;
