@@ -1,90 +1,10 @@
-//! A screen that reads what a painter would send.
+//! Sizes, columns and the texts of glyphs.
 
-ghost use Rattle.std.specs.Prelude.{◌≡◌, OnOk};
-ghost use Rattle.bx_grid.specs.Picture.{IsWithin};
-
-use bx_grid::{Cell, Column, GlyphText, Grid, GridError, Picture, Screen};
-use bx_terms::{ascii_glyph, is_glyph, run_width};
+use crate::pictures::picture_of;
+use bx_grid::{Column, GlyphText, Grid, GridError, Screen};
+use bx_terms::{ascii_glyph, run_width};
 use std::alloc::Global;
 use std::test::Fail;
-
-/// Puts a glyph. Whether the text is one, with room for it, is asked when the test runs, so that no proof computes widths.
-pub(crate) fn put(grid: &mut Grid, cell: Cell, text: &str, negative: bool) -> Result<(), Fail>
-    requires { IsWithin grid.old.height grid.old.width cell.line cell.column }
-    ensures height { OnOk result (grid.new.height ≡ grid.old.height) }
-    ensures width { OnOk result (grid.new.width ≡ grid.old.width) }
-{
-    if !is_glyph(text) || !grid.has_room(cell, run_width(text)) {
-        return Err(Fail::new("no glyph, or no room for it"));
-    }
-    grid.put(cell, text, negative)?;
-    Ok(())
-}
-
-/// The row `ab` of five columns, with the cursor on its first.
-fn picture_of_ab(alloc: Global) -> Result<Picture, Fail> {
-    let mut grid = Grid::blank(alloc, 1, 5)?;
-    put(&mut grid, Cell { line: 1, column: 1 }, "a", false)?;
-    put(&mut grid, Cell { line: 1, column: 2 }, "b", false)?;
-    Ok(Picture::new(grid, Cell { line: 1, column: 1 }))
-}
-
-#[test]
-fn shows_what_was_painted(rt: HostRuntime) -> Result<(), Fail> {
-    let picture = picture_of_ab(rt.alloc())?;
-    let mut screen = Screen::new(rt.alloc(), 1, 5)?;
-    assert!(rt; !screen.shows(&picture));
-    screen.read(b"\x1b[0m\x1b[2J\x1b[1;1Hab\x1b[1;1H")?;
-    assert!(rt; screen.shows(&picture));
-    Ok(())
-}
-
-#[test]
-fn a_run_is_half_read_until_the_next_byte(rt: HostRuntime) -> Result<(), Fail> {
-    let picture = picture_of_ab(rt.alloc())?;
-    let mut screen = Screen::new(rt.alloc(), 1, 5)?;
-    screen.read(b"\x1b[0m\x1b[2J\x1b[1;1Hab")?;
-    assert!(rt; !screen.shows(&picture));
-    screen.read(b"\x1b[1;1H")?;
-    assert!(rt; screen.shows(&picture));
-    Ok(())
-}
-
-#[test]
-fn sequences_are_cut_anywhere(rt: HostRuntime) -> Result<(), Fail> {
-    let picture = picture_of_ab(rt.alloc())?;
-    let bytes = b"\x1b[0m\x1b[2J\x1b[1;1Hab\x1b[1;1H";
-    for cut in 0..bytes.len() {
-        let mut screen = Screen::new(rt.alloc(), 1, 5)?;
-        screen.read(&bytes[..cut])?;
-        assert!(rt; !screen.shows(&picture), "after {cut} bytes");
-        screen.read(&bytes[cut..])?;
-        assert!(rt; screen.shows(&picture), "cut at {cut}");
-    }
-    Ok(())
-}
-
-#[test]
-fn a_negative_rendition_shows_no_picture(rt: HostRuntime) -> Result<(), Fail> {
-    let picture = picture_of_ab(rt.alloc())?;
-    let mut screen = Screen::new(rt.alloc(), 1, 5)?;
-    screen.read(b"\x1b[0m\x1b[2J\x1b[1;1Hab\x1b[1;1H\x1b[7m")?;
-    assert!(rt; !screen.shows(&picture));
-    screen.read(b"\x1b[m")?;
-    assert!(rt; screen.shows(&picture));
-    Ok(())
-}
-
-#[test]
-fn nothing_is_known_after_a_window_change(rt: HostRuntime) -> Result<(), Fail> {
-    let picture = picture_of_ab(rt.alloc())?;
-    let mut screen = Screen::new(rt.alloc(), 1, 5)?;
-    screen.read(b"\x1b[0m\x1b[2J\x1b[1;1Hab\x1b[1;1H")?;
-    screen.window(1, 5)?;
-    assert!(rt; !screen.shows(&picture));
-    assert_eq!(rt; screen.window(0, 5), Err(GridError::SizeOutOfRange));
-    Ok(())
-}
 
 #[test]
 fn sizes_out_of_range(rt: HostRuntime) -> Result<(), Fail> {
@@ -120,91 +40,34 @@ fn a_blank_is_a_space_in_normal_rendition(rt: HostRuntime) -> Result<(), Fail> {
     Ok(())
 }
 
-/// A row of four columns, with an `x` in its second.
-fn picture_of_x(alloc: Global) -> Result<Picture, Fail> {
-    let mut grid = Grid::blank(alloc, 1, 4)?;
-    put(&mut grid, Cell { line: 1, column: 2 }, "x", false)?;
-    Ok(Picture::new(grid, Cell { line: 1, column: 1 }))
+/// Whether a column is the half of U+4E16 with this number, from 0.
+fn is_half(alloc: Global, column: &Column, offset: u16) -> Result<bool, Fail> {
+    let half = Column::Glyph {
+        text: GlyphText::from_str(alloc, "\u{4E16}")?,
+        columns: 2,
+        offset,
+        negative: false,
+    };
+    Ok(column.same(&half))
 }
 
-#[test]
-fn a_wide_glyph_takes_two_columns(rt: HostRuntime) -> Result<(), Fail> {
-    let picture = picture_of_x(rt.alloc())?;
-    let mut screen = Screen::new(rt.alloc(), 1, 4)?;
-    // U+4E16, and an x on its second column
-    screen.read(b"\x1b[0m\x1b[2J\x1b[1;1H\xE4\xB8\x96\x1b[1;2Hx\x1b[1;1H")?;
-    assert!(rt; !screen.shows(&picture), "its first column is unknown");
-    screen.read(b" \x1b[1;1H")?;
-    assert!(rt; screen.shows(&picture));
-    Ok(())
-}
-
-#[test]
-fn half_a_character_is_broken_off(rt: HostRuntime) -> Result<(), Fail> {
-    let picture = picture_of_x(rt.alloc())?;
-    let mut screen = Screen::new(rt.alloc(), 1, 4)?;
-    screen.read(b"\x1b[0m\x1b[2J\x1b[1;2Hx\x1b[1;1H")?;
-    assert!(rt; screen.shows(&picture));
-    screen.read(b"\xE4\xB8")?;
-    assert!(rt; !screen.shows(&picture));
-    screen.read(b"\x1b[0m\x1b[1;1H")?;
-    assert!(rt; !screen.shows(&picture), "all is unknown");
-    Ok(())
-}
-
-/// A row of four columns that begins with U+4E16.
-fn picture_of_wide(alloc: Global) -> Result<Picture, Fail> {
-    let mut grid = Grid::blank(alloc, 1, 4)?;
-    put(&mut grid, Cell { line: 1, column: 1 }, "\u{4E16}", false)?;
-    Ok(Picture::new(grid, Cell { line: 1, column: 1 }))
-}
-
-#[test]
-fn shows_a_wide_glyph(rt: HostRuntime) -> Result<(), Fail> {
-    let picture = picture_of_wide(rt.alloc())?;
-    let mut screen = Screen::new(rt.alloc(), 1, 4)?;
-    screen.read(b"\x1b[0m\x1b[2J\x1b[1;1H\xE4\xB8\x96\x1b[1;1H")?;
-    assert!(rt; screen.shows(&picture));
-    screen.read(b"\x1b[1;2H \x1b[1;1H")?;
-    assert!(rt; !screen.shows(&picture), "a blank on its second column");
-    Ok(())
+/// Whether a row of four columns begins with both halves of U+4E16, behind which all is blank.
+fn begins_wide(alloc: Global, columns: &[Column]) -> Result<bool, Fail> {
+    let [first, second, third, fourth] = columns else {
+        return Ok(false);
+    };
+    Ok(
+        is_half(alloc, first, 0)?
+            && is_half(alloc, second, 1)?
+            && third.is_blank()
+            && fourth.is_blank(),
+    )
 }
 
 #[test]
 fn a_wide_glyph_stands_in_two_columns(rt: HostRuntime) -> Result<(), Fail> {
-    let picture = picture_of_wide(rt.alloc())?;
-    let columns = picture.grid().columns();
-    assert_eq!(rt; columns.len(), 4);
-    for index in 0..2 {
-        let half = Column::Glyph {
-            text: GlyphText::from_str(rt.alloc(), "\u{4E16}")?,
-            columns: 2,
-            offset: index as u16,
-            negative: false,
-        };
-        assert!(rt; columns[index].same(&half), "column {index}");
-        assert!(rt; columns[index + 2].is_blank());
-    }
-    Ok(())
-}
-
-/// A row of four columns: `e` with U+0301, a negative `I`, and U+4E16.
-fn picture_of_three(alloc: Global, marked: bool) -> Result<Picture, Fail> {
-    let mut grid = Grid::blank(alloc, 1, 4)?;
-    put(&mut grid, Cell { line: 1, column: 3 }, "\u{4E16}", false)?;
-    put(&mut grid, Cell { line: 1, column: 1 }, "e\u{301}", false)?;
-    put(&mut grid, Cell { line: 1, column: 2 }, "I", marked)?;
-    Ok(Picture::new(grid, Cell { line: 1, column: 1 }))
-}
-
-#[test]
-fn shows_a_letter_with_its_mark_and_a_negative_one(rt: HostRuntime) -> Result<(), Fail> {
-    let picture = picture_of_three(rt.alloc(), true)?;
-    let mut screen = Screen::new(rt.alloc(), 1, 4)?;
-    screen.read(b"\x1b[0m\x1b[2J\x1b[1;1He\xCC\x81\x1b[7m\x1b[1;2HI")?;
-    screen.read(b"\x1b[0m\x1b[1;3H\xE4\xB8\x96\x1b[1;1H")?;
-    assert!(rt; screen.shows(&picture));
-    assert!(rt; !screen.shows(&picture_of_three(rt.alloc(), false)?));
+    let picture = picture_of(rt.alloc(), 4, 1, "\u{4e16}")?;
+    assert!(rt; begins_wide(rt.alloc(), picture.grid().columns())?);
     Ok(())
 }
 

@@ -1,0 +1,117 @@
+//! Two pictures, and a screen.
+
+use crate::pictures::picture_of;
+use bx_grid::{GridError, Picture, Screen};
+use bx_paint::{changes, whole};
+use std::alloc::Global;
+use std::mem::replace;
+use std::test::Fail;
+
+/// What is painted, and a screen of its size.
+#[derive(Drop)]
+pub(crate) struct Scene {
+    alloc: Global,
+    before: Picture,
+    picture: Picture,
+    screen: Screen,
+}
+
+/// What leads from one picture to another. Whether the sizes agree is asked when the test runs.
+fn changes_of(alloc: Global, old: &Picture, new: &Picture) -> Result<Vec<u8>, Fail> {
+    let (before, after) = (old.grid(), new.grid());
+    if before.height() != after.height() || before.width() != after.width() {
+        return Err(Fail::new("two sizes"));
+    }
+    Ok(changes(alloc, old, new)?)
+}
+
+/// Whether a screen that is new reads these parts one after another, and shows a picture after the last alone.
+fn shows_at_last(
+    alloc: Global,
+    picture: &Picture,
+    first: &[u8],
+    last: &[u8],
+) -> Result<bool, Fail> {
+    let grid = picture.grid();
+    let mut screen = Screen::new(alloc, grid.height(), grid.width())?;
+    screen.read(first)?;
+    let is_early = screen.shows(picture);
+    screen.read(last)?;
+    Ok(!is_early && screen.shows(picture))
+}
+
+impl Scene {
+    /// A picture of one row, by its columns, the cursor's column and its glyphs, and a screen of which nothing is known.
+    pub(crate) fn open(
+        alloc: Global,
+        columns: u16,
+        column: u16,
+        glyphs: &str,
+    ) -> Result<Scene, Fail> {
+        let before = picture_of(alloc, columns, column, glyphs)?;
+        let picture = picture_of(alloc, columns, column, glyphs)?;
+        let screen = Screen::new(alloc, 1, columns)?;
+        Ok(Scene {
+            alloc,
+            before,
+            picture,
+            screen,
+        })
+    }
+
+    /// Another picture of as many columns.
+    pub(crate) fn repaint(&mut self, column: u16, glyphs: &str) -> Result<(), Fail> {
+        let columns = self.picture.grid().width();
+        let picture = picture_of(self.alloc, columns, column, glyphs)?;
+        self.before = replace(&mut self.picture, picture);
+        Ok(())
+    }
+
+    /// The screen reads bytes.
+    pub(crate) fn read(&mut self, bytes: &[u8]) -> Result<(), GridError> {
+        self.screen.read(bytes)
+    }
+
+    /// The screen has another size.
+    pub(crate) fn window(&mut self, rows: u16, columns: u16) -> Result<(), GridError> {
+        self.screen.window(rows, columns)
+    }
+
+    /// Whether the screen shows the picture.
+    pub(crate) fn shows(&self) -> bool {
+        self.screen.shows(&self.picture)
+    }
+
+    /// Whether exactly these bytes paint the picture whole.
+    pub(crate) fn is_whole(&self, bytes: &[u8]) -> Result<bool, Fail> {
+        let painting = whole(self.alloc, &self.picture)?;
+        Ok(painting.as_slice() == bytes)
+    }
+
+    /// Whether exactly these bytes lead from the picture before to this one.
+    pub(crate) fn are_changes(&self, bytes: &[u8]) -> Result<bool, Fail> {
+        let painting = changes_of(self.alloc, &self.before, &self.picture)?;
+        Ok(painting.as_slice() == bytes)
+    }
+
+    /// Whether the screen, which reads how the picture before is painted whole, shows that one, and this one once it has
+    /// read what leads to it.
+    pub(crate) fn follows(&mut self) -> Result<bool, Fail> {
+        let painting = whole(self.alloc, &self.before)?;
+        self.screen.read(painting.as_slice())?;
+        let has_begun = self.screen.shows(&self.before);
+        let painting = changes_of(self.alloc, &self.before, &self.picture)?;
+        self.screen.read(painting.as_slice())?;
+        Ok(has_begun && self.screen.shows(&self.picture))
+    }
+
+    /// Whether a new screen shows the picture once it has read these bytes to the end, wherever they are cut.
+    pub(crate) fn shows_when_cut(&self, bytes: &[u8]) -> Result<bool, Fail> {
+        for cut in 0..bytes.len() {
+            if !shows_at_last(self.alloc, &self.picture, &bytes[..cut], &bytes[cut..])? {
+                return Ok(false);
+            }
+        }
+        Ok(true)
+    }
+}
