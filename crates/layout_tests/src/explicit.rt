@@ -1,7 +1,45 @@
 //! The worked examples, and each call once with ample memory.
-use bx_explicit::{Base, Kept, SequenceWalk, base_level, explicit, paragraph_level, sequences};
+use bx_explicit::{
+    Base, Explicit, Kept, Sequence, SequenceWalk, base_level, explicit, paragraph_level, sequences,
+};
 use bx_ucd::Class;
+use std::alloc::Global;
 use std::test::Fail;
+
+/// Adds a sequence: the indexes that are told of it, its level and its ends.
+fn add_sequence(
+    shown: &mut String,
+    alloc: Global,
+    indexes: &[usize],
+    level: u8,
+    ends: (Class, Class),
+) -> Result<(), Fail> {
+    let (sos, eos) = ends;
+    let row = format!(in alloc; "{indexes:?} {level} {sos:?} {eos:?};")?;
+    shown.push_str(row.as_str())?;
+    Ok(())
+}
+
+/// The sequences as a line shows them.
+fn shown(alloc: Global, found: &[Sequence]) -> Result<String, Fail> {
+    let mut shown = String::new(alloc);
+    for s in found {
+        add_sequence(
+            &mut shown,
+            alloc,
+            s.indexes(),
+            s.level(),
+            (s.sos(), s.eos()),
+        )?;
+    }
+    Ok(shown)
+}
+
+/// What the public call finds, as a line shows it.
+fn shown_sequences(alloc: Global, explicit: &Explicit) -> Result<String, Fail> {
+    let found = sequences(alloc, explicit)?;
+    shown(alloc, &found)
+}
 
 #[test]
 fn isolates_nest(rt: HostRuntime) -> Result<(), Fail> {
@@ -17,13 +55,7 @@ fn isolates_nest(rt: HostRuntime) -> Result<(), Fail> {
     assert_eq!(rt; paragraph_level(&classes), 0);
     assert_eq!(rt; base_level(&classes, Base::Auto), 0);
     let explicit = explicit(rt.alloc(), &classes, 0)?;
-    let found = sequences(rt.alloc(), &explicit)?;
-    let mut shown = String::new(rt.alloc());
-    for s in &found {
-        let (indexes, level) = (s.indexes(), s.level());
-        let row = format!(in rt.alloc(); "{indexes:?} {level} {:?} {:?};", s.sos(), s.eos())?;
-        shown.push_str(row.as_str())?;
-    }
+    let shown = shown_sequences(rt.alloc(), &explicit)?;
     assert_eq!(rt;
         shown.as_str(),
         "[0, 5, 6] 0 L L;[1, 3, 4] 1 R R;[2] 2 L L;"
@@ -48,20 +80,30 @@ fn removed_characters_and_bases(rt: HostRuntime) -> Result<(), Fail> {
     Ok(())
 }
 
+/// Adds the next sequence of a walk, if there is one.
+fn add_next(shown: &mut String, alloc: Global, walk: &mut SequenceWalk<'_>) -> Result<(), Fail> {
+    if !walk.advance()? {
+        shown.push('.')?;
+        return Ok(());
+    }
+    let (level, ends) = (walk.level(), (walk.sos(), walk.eos()));
+    add_sequence(shown, alloc, walk.firsts(), level, ends)
+}
+
+/// The first three steps of a walk, as a line shows them; a full stop where there is no further sequence.
+fn add_three(shown: &mut String, alloc: Global, walk: &mut SequenceWalk<'_>) -> Result<(), Fail> {
+    for _ in 0..3 {
+        add_next(shown, alloc, walk)?;
+    }
+    Ok(())
+}
+
 #[test]
 fn an_isolate_comes_before_what_is_around_it(rt: HostRuntime) -> Result<(), Fail> {
-    let classes = [Class::RLI, Class::R, Class::PDI];
-    let explicit = explicit(rt.alloc(), &classes, 0)?;
+    let explicit = explicit(rt.alloc(), &[Class::RLI, Class::R, Class::PDI], 0)?;
     let mut walk = SequenceWalk::new(rt.alloc(), &explicit);
     let mut shown = String::new(rt.alloc());
-    for _ in 0..2 {
-        assert!(rt; walk.advance()?);
-        let (level, sos, eos) = (walk.level(), walk.sos(), walk.eos());
-        let firsts = walk.firsts();
-        let row = format!(in rt.alloc(); "{firsts:?} {level} {sos:?} {eos:?};")?;
-        shown.push_str(row.as_str())?;
-    }
-    assert!(rt; !walk.advance()?);
-    assert_eq!(rt; shown.as_str(), "[1] 1 R R;[0, 2] 0 L L;");
+    add_three(&mut shown, rt.alloc(), &mut walk)?;
+    assert_eq!(rt; shown.as_str(), "[1] 1 R R;[0, 2] 0 L L;.");
     Ok(())
 }

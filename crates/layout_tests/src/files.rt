@@ -1,132 +1,114 @@
 //! Worked rows of the three files, printed texts, and Unicode's own lines.
 
+use crate::words::two_of;
 use bx_ucd::{BidiData, Cause, Class, Side, Tables, UcdError, UcdFile};
 use std::alloc::{AllocError, Global};
 use std::test::Fail;
 
-/// The answer of `class` through the trait.
-fn class_of<D: BidiData>(source: &D, c: char) -> Class {
-    source.class(c)
+/// A text in which U+240A stands for LF and U+240D for CR.
+fn with_ends(alloc: Global, words: &str) -> Result<String, AllocError> {
+    let mut text = String::new(alloc);
+    for c in words.chars() {
+        text.push(match c {
+            '\u{240a}' => '\n',
+            '\u{240d}' => '\r',
+            _ => c,
+        })?;
+    }
+    Ok(text)
 }
 
-/// The answer of `bracket` through the trait.
-fn bracket_of<D: BidiData>(source: &D, c: char) -> Option<(Side, char)> {
-    source.bracket(c)
-}
-
-/// The answer of `mirror` through the trait.
-fn mirror_of<D: BidiData>(source: &D, c: char) -> Option<char> {
-    source.mirror(c)
-}
-
-/// What is refused, and on which line.
-fn refusal(alloc: Global, files: [&[u8]; 3]) -> Option<(UcdFile, u64, Cause)> {
-    match Tables::read(alloc, files[0], files[1], files[2]) {
-        Ok(_) => None,
-        Err(e) => Some((e.file, e.line, e.cause)),
+/// What is said of three files: that they are accepted, or what is refused.
+fn verdict(
+    alloc: Global,
+    classes: &[u8],
+    brackets: &[u8],
+    mirroring: &[u8],
+) -> Result<String, AllocError> {
+    match Tables::read(alloc, classes, brackets, mirroring) {
+        Ok(_) => String::from_str(alloc, "accepted"),
+        Err(error) => format!(in alloc; "{error}"),
     }
 }
 
-/// What is refused of the class file alone.
-fn class_refusal(alloc: Global, bytes: &[u8]) -> Option<(UcdFile, u64, Cause)> {
-    refusal(alloc, [bytes, b"", b""])
+/// Whether three files are told so.
+fn are(
+    alloc: Global,
+    classes: &str,
+    brackets: &str,
+    mirroring: &str,
+    wanted: &str,
+) -> Result<bool, AllocError> {
+    let classes = with_ends(alloc, classes)?;
+    let brackets = with_ends(alloc, brackets)?;
+    let mirroring = with_ends(alloc, mirroring)?;
+    let said = verdict(
+        alloc,
+        classes.as_bytes(),
+        brackets.as_bytes(),
+        mirroring.as_bytes(),
+    )?;
+    Ok(said.as_str() == wanted)
 }
 
-/// What is refused of the bracket file alone.
-fn bracket_refusal(alloc: Global, bytes: &[u8]) -> Option<(UcdFile, u64, Cause)> {
-    refusal(alloc, [b"", bytes, b""])
+/// Whether what a line says is so.
+fn is_so(alloc: Global, line: &str) -> Result<bool, AllocError> {
+    let (_shows, classes, rest) = two_of(line);
+    let (brackets, mirroring, wanted) = two_of(rest);
+    are(alloc, classes, brackets, mirroring, wanted)
 }
 
-/// What is refused of the mirroring file alone.
-fn mirroring_refusal(alloc: Global, bytes: &[u8]) -> Option<(UcdFile, u64, Cause)> {
-    refusal(alloc, [b"", b"", bytes])
-}
+/// A line each: what it shows, the three files, with ␊ for LF and ␍ for CR, and what is said of them.
+const FILES: &str = "\
+no lines\t\t\t\taccepted\n\
+one field of two\t0041\t\t\tclasses line 1: bad line\n\
+a code past the last\t110000 ; L\t\t\tclasses line 1: bad code\n\
+a bad code is told before an unknown class\t110000 ; Q\t\t\tclasses line 1: bad code\n\
+a code of three digits\t041 ; L\t\t\tclasses line 1: bad code\n\
+a range that ends before it begins\t0042..0041 ; L\t\t\tclasses line 1: bad range\n\
+a bad range is told before an unknown class\t0042..0041 ; Q\t\t\tclasses line 1: bad range\n\
+an unknown class\t0041 ; Q\t\t\tclasses line 1: unknown value\n\
+an empty line is counted\t\u{240a}0041\t\t\tclasses line 2: bad line\n\
+surrogates have classes\tD800..DFFF ; L\t\t\taccepted\n\
+a surrogate is no bracket\t\tD800; 0028; o\t\tbrackets line 1: bad code\n\
+two fields of three\t\t0028; 0029\t\tbrackets line 1: bad line\n\
+an unknown side\t\t0028; 0029; x\t\tbrackets line 1: unknown value\n\
+a control as a mirror\t\t\t0028; 001B\tmirroring line 1: control in mirror\n\
+either end of a line\t0041 ; R # x\u{240d}\u{240a}0042 ; L\t\t\taccepted\n\
+the first file is told\t# L\u{240a}0041 ; L\u{240a}041 ; L\u{240a}\t0028\t0028\tclasses line 3: bad code\n\
+and then the second\t0041 ; L\u{240a}\t# o\u{240a}0028\t0028\tbrackets line 2: bad line\n\
+one byte of a line\t0\t\t\tclasses line 1: bad line\n\
+two bytes\t00\t\t\tclasses line 1: bad line\n\
+three bytes\t004\t\t\tclasses line 1: bad line\n\
+a whole code\t0041\t\t\tclasses line 1: bad line\n\
+a blank behind it\t0041 \t\t\tclasses line 1: bad line\n\
+an empty class\t0041 ;\t\t\tclasses line 1: unknown value\n\
+a blank for a class\t0041 ; \t\t\tclasses line 1: unknown value\n\
+a whole line\t0041 ; R\t\t\taccepted";
 
-/// A refusal on the first line of the class file.
-fn in_classes(cause: Cause) -> Option<(UcdFile, u64, Cause)> {
-    Some((UcdFile::Classes, 1, cause))
-}
-
-/// A refusal on the first line of the bracket file.
-fn in_brackets(cause: Cause) -> Option<(UcdFile, u64, Cause)> {
-    Some((UcdFile::Brackets, 1, cause))
+#[test]
+fn files_and_their_refusals(rt: HostRuntime) -> Result<(), Fail> {
+    for line in FILES.lines() {
+        assert!(rt; is_so(rt.alloc(), line)?, "{line}");
+    }
+    Ok(())
 }
 
 #[test]
-fn first_failing_check_of_a_class_line(rt: HostRuntime) {
-    assert_eq!(rt;
-        class_refusal(rt.alloc(), b"0041"),
-        in_classes(Cause::BadLine)
-    );
-    assert_eq!(rt;
-        class_refusal(rt.alloc(), b"110000 ; L"),
-        in_classes(Cause::BadCode)
-    );
-    assert_eq!(rt;
-        class_refusal(rt.alloc(), b"110000 ; Q"),
-        in_classes(Cause::BadCode)
-    );
-    assert_eq!(rt;
-        class_refusal(rt.alloc(), b"041 ; L"),
-        in_classes(Cause::BadCode)
-    );
-    assert_eq!(rt;
-        class_refusal(rt.alloc(), b"0042..0041 ; L"),
-        in_classes(Cause::BadRange)
-    );
-    assert_eq!(rt;
-        class_refusal(rt.alloc(), b"0042..0041 ; Q"),
-        in_classes(Cause::BadRange)
-    );
-    assert_eq!(rt;
-        class_refusal(rt.alloc(), b"0041 ; Q"),
-        in_classes(Cause::UnknownValue)
-    );
+fn a_comment_of_any_bytes(rt: HostRuntime) -> Result<(), Fail> {
+    let said = verdict(rt.alloc(), b"0041 ; R # \xff\r\n0042 ; L", b"", b"")?;
+    assert_eq!(rt; said.as_str(), "accepted");
+    Ok(())
 }
 
-#[test]
-fn empty_line_is_counted(rt: HostRuntime) {
-    let refused = class_refusal(rt.alloc(), b"\n0041");
-    assert_eq!(rt; refused, Some((UcdFile::Classes, 2, Cause::BadLine)));
+/// The answers for a character, through the trait.
+fn answers<D: BidiData>(source: &D, c: char) -> (Class, Option<(Side, char)>, Option<char>) {
+    (source.class(c), source.bracket(c), source.mirror(c))
 }
 
-#[test]
-fn surrogates_in_the_class_file_alone(rt: HostRuntime) {
-    assert_eq!(rt; class_refusal(rt.alloc(), b"D800..DFFF ; L"), None);
-    assert_eq!(rt;
-        bracket_refusal(rt.alloc(), b"D800; 0028; o"),
-        in_brackets(Cause::BadCode)
-    );
-}
-
-#[test]
-fn fields_and_side_of_a_bracket_line(rt: HostRuntime) {
-    assert_eq!(rt;
-        bracket_refusal(rt.alloc(), b"0028; 0029"),
-        in_brackets(Cause::BadLine)
-    );
-    assert_eq!(rt;
-        bracket_refusal(rt.alloc(), b"0028; 0029; x"),
-        in_brackets(Cause::UnknownValue)
-    );
-}
-
-#[test]
-fn control_as_a_mirror(rt: HostRuntime) {
-    let refused = mirroring_refusal(rt.alloc(), b"0028; 001B");
-    assert_eq!(rt;
-        refused,
-        Some((UcdFile::Mirroring, 1, Cause::ControlInMirror))
-    );
-}
-
-#[test]
-fn comment_of_any_bytes_and_either_line_end(rt: HostRuntime) {
-    assert_eq!(rt; class_refusal(rt.alloc(), b"0041 ; R # \xff"), None);
-    assert_eq!(rt;
-        class_refusal(rt.alloc(), b"0041 ; R # \xff\r\n0042 ; L"),
-        None
-    );
+/// The answer of `class` through the trait.
+fn class_of<D: BidiData>(source: &D, c: char) -> Class {
+    answers(source, c).0
 }
 
 #[test]
@@ -153,65 +135,29 @@ fn brackets_and_mirrors_by_the_last_line(rt: HostRuntime) -> Result<(), Fail> {
     let brackets = b"0028; 0029; o\n0029; 0028; c\n0028; 005D; o\n";
     let mirroring = b"0028; 005B\n0028; 0029\n";
     let tables = Tables::read(rt.alloc(), b"", brackets, mirroring)?;
-    assert_eq!(rt; bracket_of(&tables, '('), Some((Side::Opener, ']')));
-    assert_eq!(rt; bracket_of(&tables, ')'), Some((Side::Closer, '(')));
-    assert_eq!(rt; bracket_of(&tables, 'a'), None);
-    assert_eq!(rt; mirror_of(&tables, '('), Some(')'));
-    assert_eq!(rt; mirror_of(&tables, ')'), None);
+    let opener = Some((Side::Opener, ']'));
+    assert_eq!(rt; answers(&tables, '('), (Class::L, opener, Some(')')));
+    let closer = Some((Side::Closer, '('));
+    assert_eq!(rt; answers(&tables, ')'), (Class::L, closer, None));
+    assert_eq!(rt; answers(&tables, 'a'), (Class::L, None, None));
     Ok(())
 }
 
-#[test]
-fn prefixes_of_a_line(rt: HostRuntime) {
-    let line = b"0041 ; R";
-    for end in 0..9usize {
-        let refused = class_refusal(rt.alloc(), &line[..end]);
-        let wanted = match end {
-            0 | 8 => None,
-            6 | 7 => in_classes(Cause::UnknownValue),
-            _ => in_classes(Cause::BadLine),
-        };
-        assert_eq!(rt; refused, wanted, "{end} bytes");
-    }
+/// So many digits, and then other bytes.
+fn digits(alloc: Global, count: usize, rest: &[u8]) -> Result<Vec<u8>, AllocError> {
+    let mut line = vec![in alloc; b'0'; count]?;
+    line.extend_from_slice(rest)?;
+    Ok(line)
 }
 
 #[test]
 fn million_digits(rt: HostRuntime) -> Result<(), Fail> {
-    let mut line = vec![in rt.alloc(); b'0'; 1_000_000]?;
-    assert_eq!(rt;
-        class_refusal(rt.alloc(), &line),
-        in_classes(Cause::BadLine)
-    );
-    line.extend_from_slice(b" ; L")?;
-    assert_eq!(rt;
-        class_refusal(rt.alloc(), &line),
-        in_classes(Cause::BadCode)
-    );
-    Ok(())
-}
-
-#[test]
-fn first_file_with_a_bad_line_is_told(rt: HostRuntime) {
-    let refused = refusal(rt.alloc(), [b"# L\n0041 ; L\n041 ; L\n", b"0028", b"0028"]);
-    assert_eq!(rt; refused, Some((UcdFile::Classes, 3, Cause::BadCode)));
-    let refused = refusal(rt.alloc(), [b"0041 ; L\n", b"# o\n0028", b"0028"]);
-    assert_eq!(rt; refused, Some((UcdFile::Brackets, 2, Cause::BadLine)));
-}
-
-#[test]
-fn texts_of_causes(rt: HostRuntime) -> Result<(), Fail> {
-    let texts = [
-        (Cause::BadLine, "bad line"),
-        (Cause::BadCode, "bad code"),
-        (Cause::BadRange, "bad range"),
-        (Cause::UnknownValue, "unknown value"),
-        (Cause::ControlInMirror, "control in mirror"),
-        (Cause::OutOfMemory, "out of memory"),
-    ];
-    for (cause, text) in texts {
-        let printed = format!(in rt.alloc(); "{cause}")?;
-        assert_eq!(rt; printed.as_str(), text);
-    }
+    let line = digits(rt.alloc(), 1_000_000, b"")?;
+    let said = verdict(rt.alloc(), &line, b"", b"")?;
+    assert_eq!(rt; said.as_str(), "classes line 1: bad line");
+    let line = digits(rt.alloc(), 1_000_000, b" ; L")?;
+    let said = verdict(rt.alloc(), &line, b"", b"")?;
+    assert_eq!(rt; said.as_str(), "classes line 1: bad code");
     Ok(())
 }
 
@@ -223,13 +169,11 @@ fn text_of(alloc: Global, file: UcdFile, line: u64, cause: Cause) -> Result<Stri
 
 #[test]
 fn texts_of_errors(rt: HostRuntime) -> Result<(), Fail> {
-    let text = text_of(rt.alloc(), UcdFile::Classes, 7, Cause::BadRange)?;
-    assert_eq!(rt; text.as_str(), "classes line 7: bad range");
-    let text = text_of(rt.alloc(), UcdFile::Brackets, 1, Cause::BadLine)?;
-    assert_eq!(rt; text.as_str(), "brackets line 1: bad line");
-    let text = text_of(rt.alloc(), UcdFile::Mirroring, 12, Cause::ControlInMirror)?;
-    assert_eq!(rt; text.as_str(), "mirroring line 12: control in mirror");
+    let text = text_of(rt.alloc(), UcdFile::Mirroring, 12, Cause::UnknownValue)?;
+    assert_eq!(rt; text.as_str(), "mirroring line 12: unknown value");
     let text = text_of(rt.alloc(), UcdFile::Classes, 0, Cause::OutOfMemory)?;
+    assert_eq!(rt; text.as_str(), "out of memory");
+    let text = format!(in rt.alloc(); "{}", Cause::OutOfMemory)?;
     assert_eq!(rt; text.as_str(), "out of memory");
     Ok(())
 }

@@ -2,49 +2,32 @@
 mod rows;
 mod vectors;
 
+use crate::words::{base_of, field_of, spelled_out, text_of, two_of};
 use bx_explicit::Base;
-use bx_resolve::{Levels, levels, levels_by_rules};
+use bx_resolve::{levels, levels_by_rules};
 use bx_ucd::{Tables, sample_tables};
 use rows::ROWS;
 use std::alloc::Global;
-use std::process::Abort;
 use std::test::Fail;
 use vectors::VECTORS;
 
-/// The text of a field of hexadecimal codes.
-fn text_of(alloc: Global, field: &str) -> Result<String, Fail> {
-    let mut text = String::new(alloc);
-    for code in field.split(' ') {
-        if code != "-" {
-            let code = u32::from_str_radix(code, 16)?;
-            text.push(char::from_u32(code).ok_or("no character")?)?;
-        }
+/// Adds a level, or an `x` for a character that has none.
+fn add_level(text: &mut String, alloc: Global, level: Option<u8>) -> Result<(), Fail> {
+    if !text.is_empty() {
+        text.push(' ')?;
     }
-    Ok(text)
-}
-
-/// The base that a field names.
-fn base_of(field: &str) -> Base {
-    if field == "ltr" {
-        Base::Ltr
-    } else if field == "rtl" {
-        Base::Rtl
-    } else {
-        Base::Auto
+    match level {
+        Some(level) => text.push_str(format!(in alloc; "{level}")?.as_str())?,
+        None => text.push('x')?,
     }
+    Ok(())
 }
 
 /// The levels as a line shows them.
 fn shown(alloc: Global, each: &[Option<u8>]) -> Result<String, Fail> {
     let mut text = String::new(alloc);
     for level in each {
-        if !text.is_empty() {
-            text.push(' ')?;
-        }
-        match *level {
-            Some(level) => text.push_str(format!(in alloc; "{level}")?.as_str())?,
-            None => text.push('x')?,
-        }
+        add_level(&mut text, alloc, *level)?;
     }
     if text.is_empty() {
         text.push('-')?;
@@ -59,17 +42,13 @@ fn agree(alloc: Global, tables: &Tables, body: &str, base: Base) -> Result<bool,
     Ok(found.paragraph == by_rules.paragraph && found.each.as_slice() == by_rules.each.as_slice())
 }
 
-/// Both bodies give the same under each base.
-fn check_agreement(
-    rt: &impl Abort,
-    alloc: Global,
-    tables: &Tables,
-    body: &str,
-) -> Result<(), Fail> {
-    for base in [Base::Auto, Base::Ltr, Base::Rtl] {
-        assert!(rt; agree(alloc, tables, body, base)?, "in {body:?} {base:?}");
-    }
-    Ok(())
+/// Whether both bodies give the same under each base.
+fn agree_always(alloc: Global, tables: &Tables, body: &str) -> Result<bool, Fail> {
+    Ok(
+        agree(alloc, tables, body, Base::Auto)?
+            && agree(alloc, tables, body, Base::Ltr)?
+            && agree(alloc, tables, body, Base::Rtl)?,
+    )
 }
 
 /// The paragraph's level and the characters' as a line shows them.
@@ -83,17 +62,44 @@ fn shown_by_rules(
     Ok((by_rules.paragraph, shown(alloc, &by_rules.each)?))
 }
 
-/// One line of the outside values.
-fn check_line(rt: &impl Abort, alloc: Global, tables: &Tables, line: &str) -> Result<(), Fail> {
-    let mut fields = line.split('\t');
-    let body = text_of(alloc, fields.next().ok_or("no characters")?)?;
-    let base = base_of(fields.next().ok_or("no base")?);
-    let paragraph: u8 = fields.next().ok_or("no paragraph level")?.parse()?;
-    let each = fields.next().ok_or("no levels")?;
-    let (level, levels) = shown_by_rules(alloc, tables, body.as_str(), base)?;
-    assert_eq!(rt; level, paragraph, "in {line}");
-    assert_eq!(rt; levels.as_str(), each, "in {line}");
-    check_agreement(rt, alloc, tables, body.as_str())
+/// Whether a body under a base has this paragraph level and these levels, or, behind `..`, these levels at its end.
+fn has_levels(
+    alloc: Global,
+    tables: &Tables,
+    body: &str,
+    base: Base,
+    wanted: &str,
+) -> Result<bool, Fail> {
+    let (paragraph, each) = field_of(wanted);
+    let (level, found) = shown_by_rules(alloc, tables, body, base)?;
+    if level != paragraph.parse::<u8>()? {
+        return Ok(false);
+    }
+    if let Some(end) = each.strip_prefix("..") {
+        return Ok(found.as_str().ends_with(end));
+    }
+    Ok(found.as_str() == spelled_out(alloc, each)?.as_str())
+}
+
+/// Whether what a line says is so, and both bodies agree.
+fn is_so(alloc: Global, tables: &Tables, line: &str) -> Result<bool, Fail> {
+    let (codes, base, wanted) = two_of(line);
+    let body = text_of(alloc, codes)?;
+    Ok(
+        has_levels(alloc, tables, body.as_str(), base_of(base), wanted)?
+            && agree_always(alloc, tables, body.as_str())?,
+    )
+}
+
+/// The first line that is not so is a failure. Lines that are named have a field in front that says what they show.
+fn check(alloc: Global, tables: &Tables, lines: &str, are_named: bool) -> Result<(), Fail> {
+    for line in lines.lines() {
+        let row = if are_named { field_of(line).1 } else { line };
+        if !is_so(alloc, tables, row)? {
+            return Err(Fail::new(line));
+        }
+    }
+    Ok(())
 }
 
 /// A character of each class but B.
@@ -103,123 +109,44 @@ const SAMPLES: [char; 22] = [
     '\u{2069}',
 ];
 
-#[test]
-fn both_bodies_agree_on_three_characters(rt: HostRuntime) -> Result<(), Fail> {
-    let tables = sample_tables(rt.alloc())?;
+/// Three characters.
+fn three(alloc: Global, a: char, b: char, c: char) -> Result<String, Fail> {
+    let mut body = String::new(alloc);
+    body.push(a)?;
+    body.push(b)?;
+    body.push(c)?;
+    Ok(body)
+}
+
+/// Whether both bodies agree on all texts of three characters.
+fn agree_on_three(alloc: Global, tables: &Tables) -> Result<bool, Fail> {
     for a in SAMPLES {
         for b in SAMPLES {
             for c in SAMPLES {
-                let mut body = String::new(rt.alloc());
-                body.push(a)?;
-                body.push(b)?;
-                body.push(c)?;
-                check_agreement(&rt, rt.alloc(), &tables, body.as_str())?;
+                if !agree_always(alloc, tables, three(alloc, a, b, c)?.as_str())? {
+                    return Ok(false);
+                }
             }
         }
     }
+    Ok(true)
+}
+
+#[test]
+fn both_bodies_agree_on_three_characters(rt: HostRuntime) -> Result<(), Fail> {
+    let tables = sample_tables(rt.alloc())?;
+    assert!(rt; agree_on_three(rt.alloc(), &tables)?);
     Ok(())
 }
 
 #[test]
 fn levels_of_random_texts(rt: HostRuntime) -> Result<(), Fail> {
     let tables = sample_tables(rt.alloc())?;
-    for line in VECTORS.lines() {
-        check_line(&rt, rt.alloc(), &tables, line)?;
-    }
-    Ok(())
+    check(rt.alloc(), &tables, VECTORS, false)
 }
 
 #[test]
 fn worked_rows(rt: HostRuntime) -> Result<(), Fail> {
     let tables = sample_tables(rt.alloc())?;
-    for row in ROWS.lines() {
-        let (_shows, line) = row.split_once('\t').ok_or("no row")?;
-        check_line(&rt, rt.alloc(), &tables, line)?;
-    }
-    Ok(())
-}
-
-/// Adds a character some times.
-fn add(body: &mut String, c: char, times: usize) -> Result<(), Fail> {
-    for _ in 0..times {
-        body.push(c)?;
-    }
-    Ok(())
-}
-
-/// The levels by both bodies, which agree.
-fn levels_by_both(
-    rt: &impl Abort,
-    alloc: Global,
-    tables: &Tables,
-    body: &str,
-) -> Result<Levels, Fail> {
-    check_agreement(rt, alloc, tables, body)?;
-    Ok(levels(alloc, body, tables, Base::Auto)?)
-}
-
-#[test]
-fn isolates_never_closed(rt: HostRuntime) -> Result<(), Fail> {
-    let tables = sample_tables(rt.alloc())?;
-    let mut body = String::new(rt.alloc());
-    add(&mut body, '\u{2067}', 1000)?;
-    add(&mut body, 'a', 1)?;
-    let levels = levels_by_both(&rt, rt.alloc(), &tables, body.as_str())?;
-    assert_eq!(rt; levels.paragraph, 0);
-    assert_eq!(rt; levels.each.last().copied(), Some(Some(126)));
-    Ok(())
-}
-
-#[test]
-fn pdis_that_close_nothing(rt: HostRuntime) -> Result<(), Fail> {
-    let tables = sample_tables(rt.alloc())?;
-    let mut body = String::new(rt.alloc());
-    add(&mut body, '\u{2069}', 1000)?;
-    add(&mut body, 'a', 1)?;
-    let levels = levels_by_both(&rt, rt.alloc(), &tables, body.as_str())?;
-    let zeros = vec![in rt.alloc(); Some(0); 1001]?;
-    assert_eq!(rt; levels.each.as_slice(), zeros.as_slice());
-    Ok(())
-}
-
-#[test]
-fn embeddings_at_the_limit(rt: HostRuntime) -> Result<(), Fail> {
-    let tables = sample_tables(rt.alloc())?;
-    let mut body = String::new(rt.alloc());
-    add(&mut body, '\u{202b}', 63)?;
-    add(&mut body, 'a', 1)?;
-    let levels = levels_by_both(&rt, rt.alloc(), &tables, body.as_str())?;
-    assert_eq!(rt; levels.each.last().copied(), Some(Some(126)));
-    let mut body = String::new(rt.alloc());
-    add(&mut body, '\u{202b}', 64)?;
-    add(&mut body, '\u{202c}', 1)?;
-    add(&mut body, 'a', 1)?;
-    let levels = levels_by_both(&rt, rt.alloc(), &tables, body.as_str())?;
-    assert_eq!(rt; levels.each.last().copied(), Some(Some(126)));
-    Ok(())
-}
-
-/// `a`, some openers, a Hebrew letter, as many closers, and another.
-fn nested_brackets(alloc: Global, depth: usize) -> Result<String, Fail> {
-    let mut body = String::new(alloc);
-    add(&mut body, 'a', 1)?;
-    add(&mut body, '(', depth)?;
-    add(&mut body, '\u{5d0}', 1)?;
-    add(&mut body, ')', depth)?;
-    add(&mut body, '\u{5d0}', 1)?;
-    Ok(body)
-}
-
-#[test]
-fn brackets_at_the_limit(rt: HostRuntime) -> Result<(), Fail> {
-    let tables = sample_tables(rt.alloc())?;
-    let body = nested_brackets(rt.alloc(), 63)?;
-    let levels = levels_by_both(&rt, rt.alloc(), &tables, body.as_str())?;
-    assert_eq!(rt; levels.each.get(63).copied(), Some(Some(0)));
-    assert_eq!(rt; levels.each.get(65).copied(), Some(Some(0)));
-    let body = nested_brackets(rt.alloc(), 64)?;
-    let levels = levels_by_both(&rt, rt.alloc(), &tables, body.as_str())?;
-    assert_eq!(rt; levels.each.get(64).copied(), Some(Some(0)));
-    assert_eq!(rt; levels.each.get(66).copied(), Some(Some(1)));
-    Ok(())
+    check(rt.alloc(), &tables, ROWS, true)
 }

@@ -14,3 +14,5 @@ mod files;
 mod levels;
 #[cfg(test)]
 mod rows;
+#[cfg(test)]
+mod words;

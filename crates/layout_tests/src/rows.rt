@@ -5,6 +5,7 @@ ghost use Rattle.bx_cells.specs.Units.{StandsIn};
 mod pictures;
 mod vectors;
 
+use crate::words::{base_of, field_of, text_of, two_of};
 use bx_cells::{Face, Unit, units};
 use bx_explicit::Base;
 use bx_resolve::{Levels, levels};
@@ -14,29 +15,6 @@ use std::alloc::Global;
 use std::process::Abort;
 use std::test::Fail;
 use vectors::VECTORS;
-
-/// The text of a field of hexadecimal codes.
-fn text_of(alloc: Global, field: &str) -> Result<String, Fail> {
-    let mut text = String::new(alloc);
-    for code in field.split(' ') {
-        if code != "-" {
-            let code = u32::from_str_radix(code, 16)?;
-            text.push(char::from_u32(code).ok_or("no character")?)?;
-        }
-    }
-    Ok(text)
-}
-
-/// The base that a field names.
-fn base_of(field: &str) -> Base {
-    if field == "ltr" {
-        Base::Ltr
-    } else if field == "rtl" {
-        Base::Rtl
-    } else {
-        Base::Auto
-    }
-}
 
 /// What a line tells of rows, each with a bar before it but the first.
 #[derive(Drop)]
@@ -111,41 +89,69 @@ impl Shown {
         Ok(())
     }
 
-    /// The rows of a body in so many columns.
-    fn of(alloc: Global, body: &str, tables: &Tables, base: Base, w: u16) -> Result<Shown, Fail> {
-        let mut shown = Shown {
-            levels: String::new(alloc),
-            orders: String::new(alloc),
-        };
+    /// Adds the rows of a body in so many columns.
+    fn add_body(
+        &mut self,
+        alloc: Global,
+        body: &str,
+        tables: &Tables,
+        base: Base,
+        w: u16,
+    ) -> Result<(), Fail> {
         let found = units(alloc, body, tables, w)?;
         let rows = wrap(alloc, body, &found, tables, w)?;
         let levels = levels(alloc, body, tables, base)?;
-        shown.add_rows(alloc, body, &found, &rows, &levels, tables)?;
-        Ok(shown)
+        self.add_rows(alloc, body, &found, &rows, &levels, tables)
+    }
+
+    /// Whether these are the levels and the orders.
+    fn is(&self, levels: &str, orders: &str) -> bool {
+        self.levels.as_str() == levels && self.orders.as_str() == orders
     }
 }
 
-/// One line of the outside values.
-fn check_line(rt: &impl Abort, alloc: Global, tables: &Tables, line: &str) -> Result<(), Fail> {
-    let mut fields = line.split('\t');
-    let body = text_of(alloc, fields.next().ok_or("no text")?)?;
-    let base = base_of(fields.next().ok_or("no base")?);
-    let w: u16 = fields.next().ok_or("no columns")?.parse()?;
-    let levels = fields.next().ok_or("no levels")?;
-    let orders = fields.next().ok_or("no order")?;
-    let shown = Shown::of(alloc, body.as_str(), tables, base, w)?;
-    assert_eq!(rt; shown.levels.as_str(), levels, "in {line}");
-    assert_eq!(rt; shown.orders.as_str(), orders, "in {line}");
+/// Whether the rows of a body in so many columns have these levels and orders.
+fn has_rows(
+    alloc: Global,
+    tables: &Tables,
+    body: &str,
+    base: Base,
+    w: u16,
+    wanted: &str,
+) -> Result<bool, Fail> {
+    let mut shown = Shown {
+        levels: String::new(alloc),
+        orders: String::new(alloc),
+    };
+    shown.add_body(alloc, body, tables, base, w)?;
+    let (levels, orders) = field_of(wanted);
+    Ok(shown.is(levels, orders))
+}
+
+/// Whether what a line says is so.
+fn is_so(alloc: Global, tables: &Tables, line: &str) -> Result<bool, Fail> {
+    let (codes, base, rest) = two_of(line);
+    let (w, wanted) = field_of(rest);
+    let w: u16 = w.parse()?;
+    let body = text_of(alloc, codes)?;
+    has_rows(alloc, tables, body.as_str(), base_of(base), w, wanted)
+}
+
+/// The first line that is not so is a failure. Lines that are named have a field in front that says what they show.
+fn check(alloc: Global, tables: &Tables, lines: &str, are_named: bool) -> Result<(), Fail> {
+    for line in lines.lines() {
+        let row = if are_named { field_of(line).1 } else { line };
+        if !is_so(alloc, tables, row)? {
+            return Err(Fail::new(line));
+        }
+    }
     Ok(())
 }
 
 #[test]
 fn rows_of_random_texts(rt: HostRuntime) -> Result<(), Fail> {
     let tables = sample_tables(rt.alloc())?;
-    for line in VECTORS.lines() {
-        check_line(&rt, rt.alloc(), &tables, line)?;
-    }
-    Ok(())
+    check(rt.alloc(), &tables, VECTORS, false)
 }
 
 /// Worked rows: what each shows, and a line in the form of the outside values.
@@ -164,11 +170,7 @@ a text from right to left\t0061 0020 05D0 05D1 0020 0062\trtl\t6\t2 1 1 1 1 2\t5
 #[test]
 fn worked_rows(rt: HostRuntime) -> Result<(), Fail> {
     let tables = sample_tables(rt.alloc())?;
-    for row in ROWS.lines() {
-        let (_shows, line) = row.split_once('\t').ok_or("no row")?;
-        check_line(&rt, rt.alloc(), &tables, line)?;
-    }
-    Ok(())
+    check(rt.alloc(), &tables, ROWS, true)
 }
 
 #[test]
@@ -214,13 +216,19 @@ fn where_rows_begin(rt: HostRuntime) -> Result<(), Fail> {
     Ok(())
 }
 
+/// The units of the second of a body's two rows in seven columns.
+fn units_of_second_row(alloc: Global, tables: &Tables, body: &str) -> Result<Vec<Unit>, Fail> {
+    let starts = row_starts(alloc, body, tables, 7)?;
+    if starts.len() != 2 {
+        return Err("not two rows".into());
+    }
+    Ok(units_of_row(alloc, body, &starts, 1, tables, 7)?)
+}
+
 #[test]
 fn units_of_the_last_row(rt: HostRuntime) -> Result<(), Fail> {
     let tables = sample_tables(rt.alloc())?;
-    let body = "ab cd e\u{301}f";
-    let starts = row_starts(rt.alloc(), body, &tables, 7)?;
-    assert_eq!(rt; starts.len(), 2);
-    let own = units_of_row(rt.alloc(), body, &starts, 1, &tables, 7)?;
+    let own = units_of_second_row(rt.alloc(), &tables, "ab cd e\u{301}f")?;
     let wanted = [
         Unit {
             start: 6,

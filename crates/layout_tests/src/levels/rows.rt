@@ -1,6 +1,7 @@
 //! Worked examples of the rules.
 
-/// A line each: what it shows, the characters in hexadecimal, the base, the paragraph level, and a level each.
+/// A line each: what it shows, the characters in hexadecimal, the base, the paragraph level, and a level each. What stands before
+/// a `*` and a count stands so often, and behind `..` are the last levels alone.
 pub const ROWS: &str = "\
 right to left in left to right\t0061 0020 05D0 05D1 0020 0062\tauto\t0\t0 0 1 1 0 0\n\
 the same from right to left\t0061 0020 05D0 05D1 0020 0062\trtl\t1\t2 1 1 1 1 2\n\
@@ -17,4 +18,10 @@ a plus between Arabic numbers\t0627 0031 002B 0032\tauto\t1\t1 2 1 2\n\
 a mark follows its bracket\t05D0 0020 0061 0028 0062 0029 0301 0020 05D1\tauto\t1\t1 1 2 2 2 2 2 1 1\n\
 a mark under an override does not\t202B 0061 0028 0062 0029 202C 202E 0301 202C\tauto\t0\tx 2 2 2 2 x x 1 x\n\
 an Arabic number counts as right\t0661 0020 05D0\tltr\t0\t2 1 1\n\
-no characters\t-\tauto\t0\t-";
+no characters\t-\tauto\t0\t-\n\
+isolates that nothing ends\t2067*1000 0061\tauto\t0\t.. 126\n\
+ends of no isolate\t2069*1000 0061\tauto\t0\t0*1001\n\
+as many embeddings as there are levels\t202B*63 0061\tauto\t0\tx*63 126\n\
+the end of an embedding that has no level\t202B*64 202C 0061\tauto\t0\tx*65 126\n\
+as many brackets as are kept\t0061 0028*63 05D0 0029*63 05D0\tauto\t0\t0*64 1 0*63 1\n\
+more brackets than are kept\t0061 0028*64 05D0 0029*64 05D0\tauto\t0\t0*65 1*66";

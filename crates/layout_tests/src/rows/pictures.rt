@@ -1,4 +1,5 @@
 //! What rows show, on the call itself: `_` is a blank, `*` stands behind a mark in negative image, `|` between rows.
+use crate::words::{base_of, field_of, two_of, with_tabs};
 use bx_cells::units;
 use bx_explicit::Base;
 use bx_resolve::levels;
@@ -6,7 +7,6 @@ use bx_rows::{RowPicture, draw, row_levels, row_picture, row_starts, wrap};
 use bx_ucd::sample::{BRACKETS, CLASSES};
 use bx_ucd::{Tables, sample_tables};
 use std::alloc::{AllocError, Global};
-use std::process::Abort;
 use std::test::Fail;
 
 /// Adds what a row shows, from left to right.
@@ -74,101 +74,72 @@ fn numbered_pictures(
     Ok(text)
 }
 
-/// A body under a base in so many columns shows this.
+/// Whether a body under a base in so many columns shows this, its rows one after another and each by its number.
 fn shows(
-    rt: &impl Abort,
     alloc: Global,
     tables: &Tables,
     body: &str,
     base: Base,
     w: u16,
     wanted: &str,
-) -> Result<(), Fail> {
-    let text = pictures(alloc, tables, body, base, w)?;
-    assert_eq!(rt; text.as_str(), wanted, "of {body}");
-    let numbered = numbered_pictures(alloc, tables, body, base, w)?;
-    assert_eq!(rt; numbered.as_str(), wanted, "row by row of {body}");
-    Ok(())
+) -> Result<bool, Fail> {
+    Ok(
+        pictures(alloc, tables, body, base, w)?.as_str() == wanted
+            && numbered_pictures(alloc, tables, body, base, w)?.as_str() == wanted,
+    )
 }
 
-/// Bodies with no base of their own, the columns of the window, and what their rows show.
-const PICTURES: [(&str, u16, &str); 23] = [
-    ("a \u{5d0}\u{5d1} b", 6, "a_\u{5d1}\u{5d0}_b"),
-    ("\u{5d0}\u{5d1} 12", 8, "___12_\u{5d1}\u{5d0}"),
-    (
-        "\u{5d0}\u{5d1} (a) \u{5d2}",
-        8,
-        "\u{5d2}_(a)_\u{5d1}\u{5d0}",
-    ),
-    (
-        "a \u{5d0}\u{5d1} \u{5d2}",
-        5,
-        "a_\u{5d1}\u{5d0}_|\u{5d2}____",
-    ),
-    ("a\u{2067}\u{5d1}\u{2069}c", 5, "aI*\u{5d1}P*c"),
-    ("a\u{2067}\u{5d1}\u{2069}!1", 6, "aI*\u{5d1}P*!1"),
-    (
-        "\u{2068}\u{2066}a\u{2069}\u{5d1}\u{2069}c",
-        7,
-        "f*\u{5d1}P*ai*P*c",
-    ),
-    ("ab\u{4e16}", 3, "ab_|\u{4e16}_"),
-    ("ab\u{4e16}", 1, "a|b|#*"),
-    ("\u{5d0}\t\u{5d1}", 16, "_______\u{5d1}_______\u{5d0}"),
-    (
-        "a\u{5d1}((\u{5d2})\u{5d0}d)",
-        9,
-        "a\u{5d1}((\u{5d2})\u{5d0}d)",
-    ),
-    ("\u{627}1,2", 8, "____1,2\u{627}"),
-    ("\u{627}1+2", 8, "____2+1\u{627}"),
-    ("a\tb", 4, "a___|b___"),
-    ("a\tb", 8, "a_______|b_______"),
-    ("\u{5d0}(\u{5d1}", 3, "\u{5d1})\u{5d0}"),
-    ("\u{1}", 2, "?*_"),
-    ("\u{301}", 2, "~*_"),
-    ("", 3, "___"),
-    ("ab cd ef", 7, "ab_cd__|ef_____"),
-    ("abcdef", 4, "abcd|ef__"),
-    ("ab cd", 2, "ab|__|cd"),
-    (
-        "a\u{202b}\u{5d0}\u{2066}\u{2069}\u{202c}",
-        7,
-        "aE*\u{5d0}i*P*p*_",
-    ),
-];
+/// A base, the columns of the window, a body in which U+2409 is a tab, and what its rows show.
+const PICTURES: &str = "\
+auto\t6\ta \u{5d0}\u{5d1} b\ta_\u{5d1}\u{5d0}_b\n\
+auto\t8\t\u{5d0}\u{5d1} 12\t___12_\u{5d1}\u{5d0}\n\
+auto\t8\t\u{5d0}\u{5d1} (a) \u{5d2}\t\u{5d2}_(a)_\u{5d1}\u{5d0}\n\
+auto\t5\ta \u{5d0}\u{5d1} \u{5d2}\ta_\u{5d1}\u{5d0}_|\u{5d2}____\n\
+auto\t5\ta\u{2067}\u{5d1}\u{2069}c\taI*\u{5d1}P*c\n\
+auto\t6\ta\u{2067}\u{5d1}\u{2069}!1\taI*\u{5d1}P*!1\n\
+auto\t7\t\u{2068}\u{2066}a\u{2069}\u{5d1}\u{2069}c\tf*\u{5d1}P*ai*P*c\n\
+auto\t3\tab\u{4e16}\tab_|\u{4e16}_\n\
+auto\t1\tab\u{4e16}\ta|b|#*\n\
+auto\t16\t\u{5d0}\u{2409}\u{5d1}\t_______\u{5d1}_______\u{5d0}\n\
+auto\t9\ta\u{5d1}((\u{5d2})\u{5d0}d)\ta\u{5d1}((\u{5d2})\u{5d0}d)\n\
+auto\t8\t\u{627}1,2\t____1,2\u{627}\n\
+auto\t8\t\u{627}1+2\t____2+1\u{627}\n\
+auto\t4\ta\u{2409}b\ta___|b___\n\
+auto\t8\ta\u{2409}b\ta_______|b_______\n\
+auto\t3\t\u{5d0}(\u{5d1}\t\u{5d1})\u{5d0}\n\
+auto\t2\t\u{1}\t?*_\n\
+auto\t2\t\u{301}\t~*_\n\
+auto\t3\t\t___\n\
+auto\t7\tab cd ef\tab_cd__|ef_____\n\
+auto\t4\tabcdef\tabcd|ef__\n\
+auto\t2\tab cd\tab|__|cd\n\
+auto\t7\ta\u{202b}\u{5d0}\u{2066}\u{2069}\u{202c}\taE*\u{5d0}i*P*p*_\n\
+rtl\t6\ta \u{5d0}\u{5d1} b\tb_\u{5d1}\u{5d0}_a\n\
+ltr\t8\t\u{5d0}\u{5d1} 12\t12_\u{5d1}\u{5d0}___";
 
-#[test]
-fn pictures_of_worked_rows(rt: HostRuntime) -> Result<(), Fail> {
-    let tables = sample_tables(rt.alloc())?;
-    for (body, w, wanted) in &PICTURES {
-        shows(&rt, rt.alloc(), &tables, body, Base::Auto, *w, wanted)?;
+/// Whether what a line says is so.
+fn is_so(alloc: Global, tables: &Tables, line: &str) -> Result<bool, Fail> {
+    let (base, w, rest) = two_of(line);
+    let (body, wanted) = field_of(rest);
+    let w: u16 = w.parse()?;
+    let body = with_tabs(alloc, body)?;
+    shows(alloc, tables, body.as_str(), base_of(base), w, wanted)
+}
+
+/// The first line that is not so is a failure.
+fn check(alloc: Global, tables: &Tables, lines: &str) -> Result<(), Fail> {
+    for line in lines.lines() {
+        if !is_so(alloc, tables, line)? {
+            return Err(Fail::new(line));
+        }
     }
     Ok(())
 }
 
 #[test]
-fn pictures_under_a_base(rt: HostRuntime) -> Result<(), Fail> {
+fn pictures_of_worked_rows(rt: HostRuntime) -> Result<(), Fail> {
     let tables = sample_tables(rt.alloc())?;
-    shows(
-        &rt,
-        rt.alloc(),
-        &tables,
-        "a \u{5d0}\u{5d1} b",
-        Base::Rtl,
-        6,
-        "b_\u{5d1}\u{5d0}_a",
-    )?;
-    shows(
-        &rt,
-        rt.alloc(),
-        &tables,
-        "\u{5d0}\u{5d1} 12",
-        Base::Ltr,
-        8,
-        "12_\u{5d1}\u{5d0}___",
-    )?;
-    Ok(())
+    check(rt.alloc(), &tables, PICTURES)
 }
 
 /// Adds a text some times.
@@ -189,74 +160,80 @@ fn in_brackets(alloc: Global, times: usize, closer: &str) -> Result<String, Allo
     Ok(text)
 }
 
+/// What so many pairs of brackets within each other show in 140 columns.
+fn shown_in_brackets(alloc: Global, tables: &Tables, times: usize) -> Result<String, Fail> {
+    let body = in_brackets(alloc, times, ")")?;
+    pictures(alloc, tables, body.as_str(), Base::Auto, 140)
+}
+
 /// Whether so many pairs of brackets within each other show this in 140 columns, with the letters and the blanks.
 fn brackets_show(alloc: Global, tables: &Tables, times: usize, closer: &str) -> Result<bool, Fail> {
-    let body = in_brackets(alloc, times, ")")?;
-    let shown = pictures(alloc, tables, body.as_str(), Base::Auto, 140)?;
     let mut wanted = in_brackets(alloc, times, closer)?;
-    push_times(
-        &mut wanted,
-        "_",
-        137usize.saturating_sub(times.saturating_mul(2)),
-    )?;
-    Ok(shown.as_str() == wanted.as_str())
+    let blanks = 137usize.saturating_sub(times.saturating_mul(2));
+    push_times(&mut wanted, "_", blanks)?;
+    Ok(shown_in_brackets(alloc, tables, times)?.as_str() == wanted.as_str())
 }
 
 #[test]
 fn brackets_that_fill_their_stack(rt: HostRuntime) -> Result<(), Fail> {
     let tables = sample_tables(rt.alloc())?;
-    assert_eq!(rt; brackets_show(rt.alloc(), &tables, 63, ")")?, true);
-    assert_eq!(rt; brackets_show(rt.alloc(), &tables, 64, "(")?, true);
+    assert!(rt;
+        brackets_show(rt.alloc(), &tables, 63, ")")? && brackets_show(rt.alloc(), &tables, 64, "(")?
+    );
     Ok(())
 }
 
-/// Whether so many embeddings before a letter are so many marks before it in 70 columns.
+/// So many embeddings before a letter.
+fn embeddings(alloc: Global, times: usize) -> Result<String, AllocError> {
+    let mut text = String::new(alloc);
+    push_times(&mut text, "\u{202b}", times)?;
+    text.push('a')?;
+    Ok(text)
+}
+
+/// So many marks of an embedding before a letter, in 70 columns.
+fn marks(alloc: Global, times: usize) -> Result<String, AllocError> {
+    let mut text = String::new(alloc);
+    push_times(&mut text, "E*", times)?;
+    text.push('a')?;
+    push_times(&mut text, "_", 69usize.saturating_sub(times))?;
+    Ok(text)
+}
+
+/// Whether so many embeddings before a letter are so many marks before it.
 fn embeddings_show(alloc: Global, tables: &Tables, times: usize) -> Result<bool, Fail> {
-    let mut body = String::new(alloc);
-    push_times(&mut body, "\u{202b}", times)?;
-    body.push('a')?;
-    let mut wanted = String::new(alloc);
-    push_times(&mut wanted, "E*", times)?;
-    wanted.push('a')?;
-    push_times(&mut wanted, "_", 69usize.saturating_sub(times))?;
+    let body = embeddings(alloc, times)?;
     let shown = pictures(alloc, tables, body.as_str(), Base::Auto, 70)?;
-    Ok(shown.as_str() == wanted.as_str())
+    Ok(shown.as_str() == marks(alloc, times)?.as_str())
 }
 
 #[test]
 fn embeddings_that_fill_their_stack(rt: HostRuntime) -> Result<(), Fail> {
     let tables = sample_tables(rt.alloc())?;
-    assert_eq!(rt; embeddings_show(rt.alloc(), &tables, 63)?, true);
+    assert!(rt; embeddings_show(rt.alloc(), &tables, 63)?);
     Ok(())
 }
 
 #[test]
-fn mirrored_only_where_as_wide(rt: HostRuntime) -> Result<(), Fail> {
-    let classes = CLASSES.as_bytes();
-    let wide = Tables::read(rt.alloc(), classes, BRACKETS.as_bytes(), b"0028; 4E16\n")?;
-    shows(
-        &rt,
+fn a_wider_mirror_is_not_taken(rt: HostRuntime) -> Result<(), Fail> {
+    let mirroring = b"0028; 4E16\n";
+    let tables = Tables::read(
         rt.alloc(),
-        &wide,
-        "\u{5d0}(\u{5d1}",
-        Base::Auto,
-        3,
-        "\u{5d1}(\u{5d0}",
+        CLASSES.as_bytes(),
+        BRACKETS.as_bytes(),
+        mirroring,
     )?;
-    let narrow = Tables::read(
+    check(
         rt.alloc(),
-        b"4E16 ; R\n0301 ; NSM\n",
-        b"",
-        b"4E16; 0061\n0301; 0062\n",
-    )?;
-    shows(
-        &rt,
-        rt.alloc(),
-        &narrow,
-        "\u{4e16}\u{301}",
-        Base::Auto,
-        2,
-        "ab",
-    )?;
-    Ok(())
+        &tables,
+        "auto\t3\t\u{5d0}(\u{5d1}\t\u{5d1}(\u{5d0}",
+    )
+}
+
+#[test]
+fn a_mirror_of_several_glyphs(rt: HostRuntime) -> Result<(), Fail> {
+    let classes = b"4E16 ; R\n0301 ; NSM\n";
+    let mirroring = b"4E16; 0061\n0301; 0062\n";
+    let tables = Tables::read(rt.alloc(), classes, b"", mirroring)?;
+    check(rt.alloc(), &tables, "auto\t2\t\u{4e16}\u{301}\tab")
 }
