@@ -1,4 +1,4 @@
-//! Worked rows of the three files, printed texts, and Unicode's own lines.
+//! Worked rows of the three files: what is refused, how it is told, and what accepted lines answer.
 
 use crate::words::two_of;
 use bx_ucd::{BidiData, Cause, Class, Side, Tables, UcdError, UcdFile};

@@ -25,7 +25,7 @@ fn changes_of(alloc: Global, old: &Picture, new: &Picture) -> Result<Vec<u8>, Fa
     Ok(changes(alloc, old, new)?)
 }
 
-/// Whether a screen that is new reads these parts one after another, and shows a picture after the last alone.
+/// Whether a new screen that reads two parts shows a picture behind the second, and not before.
 fn shows_at_last(
     alloc: Global,
     picture: &Picture,
