@@ -152,19 +152,30 @@ fn passes(scene: &mut Scene, line: &str) -> Result<bool, Fail> {
     Ok(does(scene, word, rest)? || is_so(scene, word, rest)?)
 }
 
-/// Plays a scene. Its first line that is not so is a failure.
-fn play_scene(alloc: Global, scene: &str) -> Result<(), Fail> {
-    let (name, rest) = scene.split_once('\n').ok_or("no name")?;
-    let (opening, lines) = rest.split_once('\n').ok_or("no lines")?;
-    let words = opening.strip_prefix("open ").ok_or("no opening")?;
-    let (times, part) = number_of(words)?;
-    let mut scene = Scene::open(alloc, text_of(alloc, part)?.as_str(), times)?;
+/// Plays lines. The first that is not so is a failure.
+fn play_lines(scene: &mut Scene, name: &str, lines: &str) -> Result<(), Fail> {
     for line in lines.lines() {
-        if !passes(&mut scene, line)? {
+        if !passes(scene, line)? {
             return Err(Fail::new(format_args!("{name}: {line:?}")));
         }
     }
     Ok(())
+}
+
+/// A text that is so many times another.
+fn scene_of(alloc: Global, words: &str) -> Result<Scene, Fail> {
+    let (times, part) = number_of(words)?;
+    let part = text_of(alloc, part)?;
+    Scene::open(alloc, part.as_str(), times)
+}
+
+/// Plays a scene. It has one way out once the scene is open, since each would be a proof of what is dropped there.
+fn play_scene(alloc: Global, scene: &str) -> Result<(), Fail> {
+    let (name, rest) = scene.split_once('\n').ok_or("no name")?;
+    let (opening, lines) = rest.split_once('\n').ok_or("no lines")?;
+    let words = opening.strip_prefix("open ").ok_or("no opening")?;
+    let mut scene = scene_of(alloc, words)?;
+    play_lines(&mut scene, name, lines)
 }
 
 /// Plays scenes with an empty line between them.
