@@ -150,8 +150,3 @@ fn push_key(keys: &mut Vec<Key>, key: Option<Key>) -> Result<(), AllocError>
         None => Ok(()),
     }
 }
-
-#[cfg(test)]
-mod tests;
-#[cfg(test)]
-mod vectors;

@@ -94,10 +94,16 @@ fn files_and_their_refusals(rt: HostRuntime) -> Result<(), Fail> {
     Ok(())
 }
 
+/// Whether a class file is accepted.
+fn is_accepted(alloc: Global, classes: &[u8]) -> Result<bool, AllocError> {
+    let said = verdict(alloc, classes, b"", b"")?;
+    Ok(said.as_str() == "accepted")
+}
+
 #[test]
 fn a_comment_of_any_bytes(rt: HostRuntime) -> Result<(), Fail> {
-    let said = verdict(rt.alloc(), b"0041 ; R # \xff\r\n0042 ; L", b"", b"")?;
-    assert_eq!(rt; said.as_str(), "accepted");
+    assert!(rt; is_accepted(rt.alloc(), b"0041 ; R # \xff")?);
+    assert!(rt; is_accepted(rt.alloc(), b"0041 ; R # \xff\r\n0042 ; L")?);
     Ok(())
 }
 

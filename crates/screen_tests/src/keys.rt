@@ -1,0 +1,216 @@
+//! The keys of inputs: random ones, and worked rows.
+
+ghost use Rattle.std.specs.Prelude.{◌<◌, IfSome};
+
+mod bytes;
+mod vectors;
+
+use bx_keys::{Decoder, Key};
+use std::alloc::{AllocError, Global};
+use std::process::Abort;
+use std::test::Fail;
+use vectors::VECTORS;
+
+/// What a key is called; an insert and a size have numbers behind it.
+fn name_of(key: Key) -> &'static str {
+    match key {
+        Key::Insert(_) => "insert",
+        Key::Size(_, _) => "size",
+        Key::Erase => "erase",
+        Key::Delete => "delete",
+        Key::Back => "back",
+        Key::Forward => "forward",
+        Key::Up => "up",
+        Key::Down => "down",
+        Key::Right => "right",
+        Key::Left => "left",
+        Key::RowHome => "row_home",
+        Key::RowEnd => "row_end",
+        Key::PageUp => "page_up",
+        Key::PageDown => "page_down",
+        Key::Save => "save",
+        Key::Quit => "quit",
+        Key::Undo => "undo",
+        Key::Redo => "redo",
+        Key::Repaint => "repaint",
+        Key::Direction => "direction",
+    }
+}
+
+/// Writes the numbers of a key.
+fn write_numbers(words: &mut String, alloc: Global, key: Key) -> Result<(), AllocError> {
+    let numbers = match key {
+        Key::Insert(c) => format!(in alloc; "/{:04X}", c as u32)?,
+        Key::Size(rows, columns) => format!(in alloc; "/{rows}/{columns}")?,
+        _ => String::new(alloc),
+    };
+    words.push_str(numbers.as_str())
+}
+
+/// Keys, in words.
+fn words_of(alloc: Global, keys: &[Key]) -> Result<String, AllocError> {
+    let mut words = String::new(alloc);
+    for key in keys {
+        if !words.is_empty() {
+            words.push(' ')?;
+        }
+        words.push_str(name_of(*key))?;
+        write_numbers(&mut words, alloc, *key)?;
+    }
+    Ok(words)
+}
+
+/// The keys of an input, in words, and the decoder behind it.
+fn decoding(alloc: Global, input: &[u8]) -> Result<(String, Decoder), AllocError> {
+    let mut decoder = Decoder::new();
+    let keys = decoder.feed_all(alloc, input)?;
+    Ok((words_of(alloc, keys.as_slice())?, decoder))
+}
+
+fn hex_digit(byte: u8) -> Option<u8>
+    ensures { IfSome result (λ digit. digit < 16) }
+{
+    match byte {
+        b'0'..=b'9' => Some(byte - b'0'),
+        b'a'..=b'f' => Some(byte - b'a' + 10),
+        _ => None,
+    }
+}
+
+/// The byte of two digits in hexadecimal.
+fn byte_of(pair: &[u8]) -> Option<u8> {
+    match pair {
+        [high, low] => Some(hex_digit(*high)? * 16 + hex_digit(*low)?),
+        _ => None,
+    }
+}
+
+/// The bytes of a field in hexadecimal.
+fn from_hex(alloc: Global, hex: &str) -> Result<Vec<u8>, Fail> {
+    let mut bytes = Vec::new(alloc);
+    for pair in hex.as_bytes().chunks(2) {
+        bytes.push(byte_of(pair).ok_or("no byte")?)?;
+    }
+    Ok(bytes)
+}
+
+/// Whether an input has these keys, and the same waits behind it as behind the rest alone, which has none.
+fn is_met(alloc: Global, input: &[u8], keys: &str, rest: &[u8]) -> Result<bool, AllocError> {
+    let (found, decoder) = decoding(alloc, input)?;
+    let (none, waiting) = decoding(alloc, rest)?;
+    Ok(found.as_str() == keys && none.is_empty() && decoder == waiting)
+}
+
+/// Whether a line of `VECTORS` is met.
+fn is_line_met(alloc: Global, line: &str) -> Result<bool, Fail> {
+    let mut fields = line.split('|');
+    let (Some(input), Some(keys), Some(rest)) = (fields.next(), fields.next(), fields.next()) else {
+        return Err(Fail::from("a line has three fields"));
+    };
+    let input = from_hex(alloc, input)?;
+    let rest = from_hex(alloc, rest)?;
+    let is_met = is_met(alloc, input.as_slice(), keys, rest.as_slice());
+    Ok(is_met?)
+}
+
+#[test]
+fn random_inputs_have_the_model_s_keys(rt: HostRuntime) -> Result<(), Fail> {
+    assert_eq!(rt; VECTORS.lines().count(), 150);
+    for line in VECTORS.lines() {
+        assert!(rt; is_line_met(rt.alloc(), line)?, "at {line}");
+    }
+    Ok(())
+}
+
+/// The keys of each input, in words.
+fn keys_are(rt: &impl Abort, alloc: Global, rows: &[(&[u8], &str)]) -> Result<(), Fail> {
+    for (input, keys) in rows {
+        let (words, _) = decoding(alloc, input)?;
+        assert_eq!(rt; words.as_str(), *keys, "at {input:?}");
+    }
+    Ok(())
+}
+
+#[test]
+fn escape_begins_afresh_within_a_sequence(rt: HostRuntime) -> Result<(), Fail> {
+    keys_are(
+        &rt,
+        rt.alloc(),
+        &[
+            (b"\x1B[3\x1B[C", "right"),
+            (b"\x1B\x1B[C", "right"),
+            (b"\x1B[4~", "row_end"),
+        ],
+    )
+}
+
+#[test]
+fn a_breaking_byte_is_read_afresh(rt: HostRuntime) -> Result<(), Fail> {
+    keys_are(
+        &rt,
+        rt.alloc(),
+        &[
+            (b"\xE0A", "insert/0041"),
+            (b"\xD7x", "insert/0078"),
+            (b"\x1B[3\x0A", "insert/000A"),
+        ],
+    )
+}
+
+#[test]
+fn other_sequences_give_no_key(rt: HostRuntime) -> Result<(), Fail> {
+    keys_are(
+        &rt,
+        rt.alloc(),
+        &[
+            (b"\x1BOC", ""),
+            (b"\x1BOCx", "insert/0078"),
+            (b"\x1B[99z", ""),
+            (b"\x1B[ A", ""),
+            (b"\x1B(Bx", "insert/0078"),
+        ],
+    )
+}
+
+#[test]
+fn a_size_has_sides_from_1_to_500(rt: HostRuntime) -> Result<(), Fail> {
+    keys_are(
+        &rt,
+        rt.alloc(),
+        &[
+            (b"\x1B[8;2;10t", "size/2/10"),
+            (b"8\x1B[8;2;10t", "insert/0038 size/2/10"),
+            (b"\x1B[8;500;500t", "size/500/500"),
+            (b"\x1B[8;002;010t", "size/2/10"),
+            (b"\x1B[8;0;5t", ""),
+            (b"\x1B[8;501;5t", ""),
+            (b"\x1B[8;0002;5t", ""),
+            (b"\x1B[8;2;2;2t", ""),
+        ],
+    )
+}
+
+#[test]
+fn a_long_sequence_is_read_to_its_end(rt: HostRuntime) -> Result<(), Fail> {
+    keys_are(
+        &rt,
+        rt.alloc(),
+        &[
+            (
+                b"\x1B[000000000000000000000000000000000000000001~x",
+                "insert/0078",
+            ),
+            (b"\x1B((((((((((((((((((((((((Bx", "insert/0078"),
+        ],
+    )
+}
+
+#[test]
+fn a_sequence_comes_in_three_reads(rt: HostRuntime) -> Result<(), Fail> {
+    let mut decoder = Decoder::new();
+    assert_eq!(rt; decoder.feed_all(rt.alloc(), b"\x1B")?.len(), 0);
+    assert_eq!(rt; decoder.feed_all(rt.alloc(), b"[")?.len(), 0);
+    let keys = decoder.feed_all(rt.alloc(), b"D")?;
+    assert_eq!(rt; keys.as_slice(), [Key::Left].as_slice());
+    Ok(())
+}
