@@ -41,20 +41,31 @@ fn sum(alloc: Global, tables: &Tables, body: &str, times: usize) -> Result<u64> 
     Ok(sum_of(&last.each))
 }
 
-/// What the words ask for: the sum of the levels, and the time of finding them.
-pub(crate) fn run<R: CpuClock + AllocGlobal>(rt: &R, words: &[String]) -> Result<Outcome> {
-    let [pattern, count, times] = words else {
-        bail!("usage: bench levels PATTERN CHARACTERS TIMES");
-    };
-    let tables = tables(rt.alloc())?;
-    let body = text(rt.alloc(), pattern.as_str(), number(count)?)?;
-    let times = number(times)?;
+/// The sum of the levels of a text, and the time of finding them.
+fn outcome_of<R: CpuClock + AllocGlobal>(
+    rt: &R,
+    tables: &Tables,
+    body: &str,
+    times: usize,
+) -> Result<Outcome> {
     let start = rt.thread_cpu_time()?;
-    let sum = sum(rt.alloc(), &tables, body.as_str(), times)?;
+    let sum = sum(rt.alloc(), tables, body, times)?;
     let end = rt.thread_cpu_time()?;
     let line = format!(in rt.alloc(); "{sum}")?;
     Ok(Outcome {
         line,
         time: end.saturating_sub(start),
     })
+}
+
+/// What the words ask for: the sum of the levels, and the time of finding them. What it holds is held with one way out, since
+/// each would be a proof of what is dropped there.
+pub(crate) fn run<R: CpuClock + AllocGlobal>(rt: &R, words: &[String]) -> Result<Outcome> {
+    let [pattern, count, times] = words else {
+        bail!("usage: bench levels PATTERN CHARACTERS TIMES");
+    };
+    let times = number(times)?;
+    let body = text(rt.alloc(), pattern.as_str(), number(count)?)?;
+    let tables = tables(rt.alloc())?;
+    outcome_of(rt, &tables, body.as_str(), times)
 }

@@ -7,7 +7,7 @@ ghost use Rattle.std.specs.Prelude.{◌≡◌, OnOk};
 ghost use Rattle.bx_paras.specs.Paragraphs.{lengths};
 
 use crate::outcome::{Outcome, number};
-use anyhow::{Result, bail};
+use anyhow::{Context, Result, bail};
 use bx_paras::Index;
 use bx_text::Text;
 use bx_ucd::{BidiData, sample_tables};
@@ -176,19 +176,25 @@ fn measured<R: CpuClock + AllocGlobal>(
     })
 }
 
+/// The task of a name, with how many edits it makes where it makes some.
+fn task_of(name: &str, edits: Option<usize>) -> Option<Task> {
+    match edits {
+        None if name == "build" => Some(Task::Build),
+        None if name == "walk" => Some(Task::Walk),
+        Some(edits) if name == "edit" => Some(Task::Edit(edits)),
+        Some(edits) if name == "restore" => Some(Task::Restore(edits)),
+        _ => None,
+    }
+}
+
 /// What is measured, and the numbers of a text, by the words.
 fn asked(words: &[String]) -> Result<(Task, usize, usize)> {
-    let (task, bytes, line) = match words {
-        [task, bytes, line] if task.as_str() == "build" => (Task::Build, bytes, line),
-        [task, bytes, line] if task.as_str() == "walk" => (Task::Walk, bytes, line),
-        [task, bytes, line, edits] if task.as_str() == "edit" => {
-            (Task::Edit(number(edits)?), bytes, line)
-        }
-        [task, bytes, line, edits] if task.as_str() == "restore" => {
-            (Task::Restore(number(edits)?), bytes, line)
-        }
+    let (name, bytes, line, edits) = match words {
+        [name, bytes, line] => (name, bytes, line, None),
+        [name, bytes, line, edits] => (name, bytes, line, Some(number(edits)?)),
         _ => bail!("usage: bench paragraphs build|edit|restore|walk BYTES LINE [EDITS]"),
     };
+    let task = task_of(name.as_str(), edits).context("what to measure")?;
     Ok((task, number(bytes)?, number(line)?))
 }
 

@@ -119,8 +119,8 @@ pub(crate) fn run<R: CpuClock + AllocGlobal>(rt: &R, words: &[String]) -> Result
         bail!("usage: bench rows TASK TEXT LETTERS TIMES");
     };
     let times = number(times)?;
-    let tables = sample_tables(rt.alloc())?;
     let body = letters(rt.alloc(), words_of(text.as_str()), number(count)?)?;
+    let tables = sample_tables(rt.alloc())?;
     let layout = ParagraphLayout::of(rt.alloc(), body, &tables, 80, Base::Auto)?;
     rounds(rt, task.as_str(), &layout, &tables, times)
 }

@@ -151,6 +151,24 @@ fn sum(alloc: Global, task: Task, text: &str, tables: &Tables, times: usize) -> 
     Ok(sum)
 }
 
+/// How many bytes, units or rows there were in all, and the time of the task.
+fn outcome_of<R: CpuClock + AllocGlobal>(
+    rt: &R,
+    task: Task,
+    text: &str,
+    tables: &Tables,
+    times: usize,
+) -> Result<Outcome> {
+    let start = rt.thread_cpu_time()?;
+    let sum = sum(rt.alloc(), task, text, tables, times)?;
+    let end = rt.thread_cpu_time()?;
+    let line = format!(in rt.alloc(); "{sum}")?;
+    Ok(Outcome {
+        line,
+        time: end.saturating_sub(start),
+    })
+}
+
 /// What the words ask for: how many bytes, units or rows there were in all, and the time of the task.
 pub(crate) fn run<R: CpuClock + AllocGlobal>(rt: &R, words: &[String]) -> Result<Outcome> {
     let [task, text_name, bytes, times] = words else {
@@ -158,15 +176,8 @@ pub(crate) fn run<R: CpuClock + AllocGlobal>(rt: &R, words: &[String]) -> Result
     };
     let task = Task::named(task.as_str()).context("no such task")?;
     let (words, least) = words_of(text_name.as_str()).context("no such text")?;
-    let tables = sample_tables(rt.alloc())?;
-    let text = text(rt.alloc(), words, least, number(bytes)?)?;
     let times = number(times)?;
-    let start = rt.thread_cpu_time()?;
-    let sum = sum(rt.alloc(), task, text.as_str(), &tables, times)?;
-    let end = rt.thread_cpu_time()?;
-    let line = format!(in rt.alloc(); "{sum}")?;
-    Ok(Outcome {
-        line,
-        time: end.saturating_sub(start),
-    })
+    let text = text(rt.alloc(), words, least, number(bytes)?)?;
+    let tables = sample_tables(rt.alloc())?;
+    outcome_of(rt, task, text.as_str(), &tables, times)
 }

@@ -1,5 +1,5 @@
 //! The rows of a text, drawn one below another.
-ghost use Rattle.std.specs.Prelude.{◌≡◌, ℕ, ◌+◌, ◌-◌, ◌<◌, ◌≤◌, ◌++◌, ◌*◌, IfOk, OnErr, OnOk, if◌then◌else◌, length, nat_le, replicate, drop, take};
+ghost use Rattle.std.specs.Prelude.{◌≡◌, ℕ, ◌+◌, ◌-◌, ◌<◌, ◌≤◌, ◌++◌, ◌*◌, IfOk, IsErrOf, OnErr, OnOk, if◌then◌else◌, length, nat_le, replicate, drop, take};
 ghost use Rattle.bx_grid.specs.Columns.{blank};
 ghost use Rattle.bx_paras.specs.Paragraphs.{lengths};
 ghost use Rattle.bx_view.specs.Cursor.{OfRow, StandsOn, rows_by};
@@ -38,6 +38,7 @@ fn draw_anew<D: BidiData>(
         OnOk result (grid.new ≡ with_row grid.old row (row_columns (⟦<D as Answers>⟧.data tables.now) layout.now.w r))) }
     ensures filled { OfRow (D.class_of tables.now) (D.bracket_of tables.now) layout.now text.now.edited.text at (λ r.
         OnOk result (length (row_columns (⟦<D as Answers>⟧.data tables.now) layout.now.w r) ≡ layout.now.w)) }
+    ensures memory { OnErr result (IsErrOf result DocumentError.OutOfMemory) }
 {
     let picture = layout.picture(text, tables, at)?;
     put_row(grid, row, &picture)?;
@@ -69,6 +70,7 @@ fn draw_row<D: BidiData>(
     ensures filled { OfRow (D.class_of tables.now) (D.bracket_of tables.now) layout.now text.now.edited.text at (λ r.
         OnOk result (length (row_columns (⟦<D as Answers>⟧.data tables.now) layout.now.w r) ≡ layout.now.w)) }
     ensures cache { AreDrawnBy (⟦<D as Answers>⟧.data tables.now) cache.new }
+    ensures memory { OnErr result (IsErrOf result DocumentError.OutOfMemory) }
 {
     let _columns = grid.columns();
     let (body, number) = layout.row_in_body(text, tables, at);
@@ -125,6 +127,7 @@ pub(crate) fn draw_rows<D: BidiData>(
         → row_of (rows_by (D.class_of tables.now) (D.bracket_of tables.now) layout.old text.now.edited.text) place < k + count
         → IfOk result (λ n. n ≡ row_of (rows_by (D.class_of tables.now) (D.bracket_of tables.now) layout.old text.now.edited.text) place - k) }
     ensures cache { AreDrawnBy (⟦<D as Answers>⟧.data tables.now) cache.new }
+    ensures memory { OnErr result (IsErrOf result DocumentError.OutOfMemory) }
 {
     let _utf8 = text.len();
     let _columns = grid.columns();

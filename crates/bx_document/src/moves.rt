@@ -1,5 +1,5 @@
 //! The cursor's moves.
-ghost use Rattle.std.specs.Prelude.{◌≡◌, IfOk, IsCharBoundary};
+ghost use Rattle.std.specs.Prelude.{◌≡◌, IfOk, IsCharBoundary, IsErrOf, OnErr};
 ghost use Rattle.bx_view.specs.Moves.{page, row_end, row_home, step_logical, step_visual, vertical};
 ghost use Rattle.bx_document.specs.Document.{rows};
 
@@ -18,6 +18,7 @@ impl<D: BidiData + Drop> Document<D> {
         ensures same { self.new ≡ self.old }
         ensures place { IfOk result (λ o. o ≡ step_logical (rows (⟦<D as Answers>⟧.data self.old.tables) self.old.document) way place) }
         ensures boundary { IfOk result (λ o. IsCharBoundary self.old.document.content.text o) }
+        ensures memory { OnErr result (IsErrOf result DocumentError.OutOfMemory) }
     {
         let place = self
             .layout
@@ -34,6 +35,7 @@ impl<D: BidiData + Drop> Document<D> {
         ensures same { self.new ≡ self.old }
         ensures place { IfOk result (λ o. o ≡ step_visual self.old.document.w (rows (⟦<D as Answers>⟧.data self.old.tables) self.old.document) side place) }
         ensures boundary { IfOk result (λ o. IsCharBoundary self.old.document.content.text o) }
+        ensures memory { OnErr result (IsErrOf result DocumentError.OutOfMemory) }
     {
         let place = self
             .layout
@@ -49,6 +51,7 @@ impl<D: BidiData + Drop> Document<D> {
         ensures same { self.new ≡ self.old }
         ensures place { IfOk result (λ o. o ≡ vertical self.old.document.w (rows (⟦<D as Answers>⟧.data self.old.tables) self.old.document) way place) }
         ensures boundary { IfOk result (λ o. IsCharBoundary self.old.document.content.text o) }
+        ensures memory { OnErr result (IsErrOf result DocumentError.OutOfMemory) }
     {
         let place = self
             .layout
@@ -65,6 +68,7 @@ impl<D: BidiData + Drop> Document<D> {
         ensures same { self.new ≡ self.old }
         ensures place { IfOk result (λ o. o ≡ page self.old.document.w (rows (⟦<D as Answers>⟧.data self.old.tables) self.old.document) way t place) }
         ensures boundary { IfOk result (λ o. IsCharBoundary self.old.document.content.text o) }
+        ensures memory { OnErr result (IsErrOf result DocumentError.OutOfMemory) }
     {
         let place = self
             .layout
@@ -79,6 +83,7 @@ impl<D: BidiData + Drop> Document<D> {
         ensures same { self.new ≡ self.old }
         ensures place { IfOk result (λ o. o ≡ row_home (rows (⟦<D as Answers>⟧.data self.old.tables) self.old.document) place) }
         ensures boundary { IfOk result (λ o. IsCharBoundary self.old.document.content.text o) }
+        ensures memory { OnErr result (IsErrOf result DocumentError.OutOfMemory) }
     {
         let place = self
             .layout
@@ -93,6 +98,7 @@ impl<D: BidiData + Drop> Document<D> {
         ensures same { self.new ≡ self.old }
         ensures place { IfOk result (λ o. o ≡ row_end (rows (⟦<D as Answers>⟧.data self.old.tables) self.old.document) place) }
         ensures boundary { IfOk result (λ o. IsCharBoundary self.old.document.content.text o) }
+        ensures memory { OnErr result (IsErrOf result DocumentError.OutOfMemory) }
     {
         let place = self
             .layout

@@ -1,5 +1,5 @@
 //! The rows that are shown, and where the cursor stands among them.
-ghost use Rattle.std.specs.Prelude.{◌≡◌, ◌+◌, ◌-◌, ◌<◌, ◌≤◌, ◌++◌, ◌*◌, IfOk, OnOk, replicate};
+ghost use Rattle.std.specs.Prelude.{◌≡◌, ◌+◌, ◌-◌, ◌<◌, ◌≤◌, ◌++◌, ◌*◌, IfOk, IsErrOf, OnErr, OnOk, replicate};
 ghost use Rattle.bx_grid.specs.Columns.{blank};
 ghost use Rattle.bx_view.specs.TextRows.{cell_of};
 ghost use Rattle.bx_view.specs.Top.{follow};
@@ -24,6 +24,7 @@ impl<D: BidiData + Drop> Document<D> {
         ensures same { self.new ≡ self.old }
         ensures top { IfOk result (λ o. o ≡ follow (rows (⟦<D as Answers>⟧.data self.old.tables) self.old.document) top place t) }
         ensures among { IfOk result (λ o. IsAmong (rows (⟦<D as Answers>⟧.data self.old.tables) self.old.document) o place t) }
+        ensures memory { OnErr result (IsErrOf result DocumentError.OutOfMemory) }
     {
         let _utf8 = self.text.len();
         let _side = self.layout.width();
@@ -40,6 +41,7 @@ impl<D: BidiData + Drop> Document<D> {
         ensures same { self.new ≡ self.old }
         ensures cell { IfOk result (λ column. column ≡ cell_of self.old.document.w (rows (⟦<D as Answers>⟧.data self.old.tables) self.old.document) place) }
         ensures inside { IfOk result (λ column. (1 ≤ column) × (column ≤ self.old.document.w)) }
+        ensures memory { OnErr result (IsErrOf result DocumentError.OutOfMemory) }
     {
         let _utf8 = self.text.len();
         let _side = self.layout.width();
@@ -64,6 +66,7 @@ impl<D: BidiData + Drop> Document<D> {
     pub fn unit_number(&mut self, place: usize) -> Result<usize, DocumentError>
         ensures same { self.new ≡ self.old }
         ensures number { IfOk result (λ n. n ≡ unit_number (D.class_of self.old.tables) self.old.document.w self.old.document.content.text place) }
+        ensures memory { OnErr result (IsErrOf result DocumentError.OutOfMemory) }
     {
         let number = self
             .layout
@@ -93,6 +96,7 @@ impl<D: BidiData + Drop> Document<D> {
         }) }
         ensures row { IfOk result (λ n. n ≡ rows_above (⟦<D as Answers>⟧.data self.old.tables) self.old.document top place) }
         ensures among { IfOk result (λ n. n < count) }
+        ensures memory { OnErr result (IsErrOf result DocumentError.OutOfMemory) }
     {
         let at = self
             .layout

@@ -3,6 +3,8 @@
 ghost use Rattle.std.specs.Prelude.{◌≡◌};
 
 use bx_pieces::{Buffer, Piece, Pieces, Spares};
+use std::alloc::AllocError;
+use std::mem;
 use std::test::Fail;
 
 fn piece(start: usize, len: usize) -> Piece
@@ -19,8 +21,8 @@ fn piece(start: usize, len: usize) -> Piece
 #[test]
 fn a_piece_is_cut_in_two(rt: HostRuntime) -> Result<(), Fail> {
     let mut spares = Spares::new(rt.alloc());
-    spares.fill(2)?;
-    assert_eq!(rt; spares.count(), 2);
+    spares.fill(3)?;
+    assert_eq!(rt; spares.count(), 3);
     let pieces = Pieces::of(piece(10, 5), &mut spares);
     assert_eq!(rt; pieces.len(), 5);
     let (first, rest) = pieces.cut(2, &mut spares);
@@ -31,9 +33,15 @@ fn a_piece_is_cut_in_two(rt: HostRuntime) -> Result<(), Fail> {
     assert_eq!(rt; whole.len(), 5);
     assert_eq!(rt; whole.holding(2), Some((piece(12, 3), 0)));
     assert_eq!(rt; Pieces::new().len(), 0);
-    spares.fill(1)?;
     assert_eq!(rt; Pieces::of(piece(10, 0), &mut spares).depth(), 0);
     Ok(())
+}
+
+/// Adds a piece of five bytes, where a spare tree is left and the others have few bytes.
+fn add_five(pieces: &mut Pieces, spares: &mut Spares, start: usize) {
+    if spares.count() > 0 && pieces.len() < 15 {
+        pieces.push(piece(start, 5), spares);
+    }
 }
 
 #[test]
@@ -42,10 +50,7 @@ fn a_piece_that_goes_on_makes_the_last_one_longer(rt: HostRuntime) -> Result<(),
     spares.fill(3)?;
     let mut pieces = Pieces::new();
     for start in [10usize, 15, 30] {
-        spares.fill(1)?;
-        if pieces.len() < 15 {
-            pieces.push(piece(start, 5), &mut spares);
-        }
+        add_five(&mut pieces, &mut spares, start);
     }
     assert_eq!(rt; pieces.len(), 15);
     assert_eq!(rt; pieces.holding(7), Some((piece(10, 10), 7)));
@@ -53,22 +58,37 @@ fn a_piece_that_goes_on_makes_the_last_one_longer(rt: HostRuntime) -> Result<(),
     Ok(())
 }
 
+/// Joins a thousand pieces of three bytes to none. The others are the caller's, since each way out would be a proof of what
+/// is dropped there.
+fn join_a_thousand(pieces: &mut Pieces, spares: &mut Spares) -> Result<(), AllocError> {
+    for i in 0..1000u16 {
+        spares.fill(1)?;
+        let next = Pieces::of(piece(i as usize * 3, 3), spares);
+        if pieces.len() < 3000 {
+            *pieces = mem::replace(pieces, Pieces::new()).join(next);
+        }
+    }
+    Ok(())
+}
+
+/// Whether each byte stands in the piece of three bytes that it was joined in.
+fn are_in_order(pieces: &Pieces) -> bool {
+    for i in 0..3000usize {
+        if pieces.holding(i) != Some((piece(i / 3 * 3, 3), i % 3)) {
+            return false;
+        }
+    }
+    true
+}
+
 #[test]
 fn many_pieces_stay_in_order(rt: HostRuntime) -> Result<(), Fail> {
     let mut spares = Spares::new(rt.alloc());
     let mut pieces = Pieces::new();
-    for i in 0..1000u16 {
-        spares.fill(1)?;
-        let next = Pieces::of(piece(i as usize * 3, 3), &mut spares);
-        if pieces.len() < 3000 {
-            pieces = pieces.join(next);
-        }
-    }
+    join_a_thousand(&mut pieces, &mut spares)?;
     assert_eq!(rt; pieces.len(), 3000);
     // A list would be 1000 deep.
     assert_eq!(rt; pieces.depth(), 10);
-    for i in 0..3000usize {
-        assert_eq!(rt; pieces.holding(i), Some((piece(i / 3 * 3, 3), i % 3)));
-    }
+    assert!(rt; are_in_order(&pieces));
     Ok(())
 }
