@@ -135,14 +135,38 @@ fn inserts(code: u32) -> Effect {
     Effect::Ends(char::from_u32(code).map(Key::Insert))
 }
 
-/// Whether a byte was read to this effect, by the key that it gave and the decoder behind it.
-fn has_effect(effect: Effect, byte: u8, key: Option<Key>, decoder: &Decoder) -> bool {
+/// Whether a byte that stood alone was read to this effect, by the key that it gave and the decoder behind it.
+fn has_effect_alone(effect: Effect, key: Option<Key>, decoder: &Decoder) -> bool {
     match effect {
         Effect::Waits => key.is_none() && *decoder != Decoder::new(),
         Effect::Ends(wanted) => key == wanted && *decoder == Decoder::new(),
+        Effect::ReadAfresh => false,
+    }
+}
+
+/// Whether a decoder is one that has read a byte alone.
+fn has_read_alone(decoder: &Decoder, byte: u8) -> bool {
+    let mut alone = Decoder::new();
+    let _key = alone.feed(byte);
+    *decoder == alone
+}
+
+/// Whether a byte behind a beginning was read to this effect. One that waits is waited for with the beginning, and one that is
+/// read afresh is read as the table of single bytes says.
+fn has_effect(
+    effect: Effect,
+    before: &Decoder,
+    byte: u8,
+    key: Option<Key>,
+    decoder: &Decoder,
+) -> bool {
+    match effect {
+        Effect::Waits => has_effect_alone(effect, key, decoder)
+            && decoder != before
+            && !has_read_alone(decoder, byte),
+        Effect::Ends(_) => has_effect_alone(effect, key, decoder),
         Effect::ReadAfresh => {
-            let mut fresh = Decoder::new();
-            key == fresh.feed(byte) && *decoder == fresh
+            has_effect_alone(effect_alone(byte), key, decoder) && has_read_alone(decoder, byte)
         }
     }
 }
@@ -164,7 +188,7 @@ fn every_byte_alone(rt: HostRuntime) {
         let mut decoder = Decoder::new();
         let key = decoder.feed(byte);
         assert!(rt;
-            has_effect(effect_alone(byte), byte, key, &decoder),
+            has_effect_alone(effect_alone(byte), key, &decoder),
             "at {byte:02X}"
         );
     }
@@ -179,7 +203,7 @@ fn every_byte_after_each_beginning(rt: HostRuntime) -> Result<(), Fail> {
             let key = decoder.feed(byte);
             let effect = effect_after(beginning, byte);
             assert!(rt;
-                has_effect(effect, byte, key, &decoder),
+                has_effect(effect, &before, byte, key, &decoder),
                 "at {beginning:?} {byte:02X}"
             );
         }
