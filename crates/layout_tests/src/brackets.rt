@@ -1,8 +1,55 @@
-//! Each call once with ample memory.
+//! Worked pairs, and each call once with ample memory.
 
+use crate::words::{text_of, two_of};
 use bx_brackets::{PairSearch, pairs, resolve_pairs};
-use bx_ucd::{Class, sample_tables};
+use bx_ucd::{Class, Tables, sample_tables};
+use std::alloc::Global;
 use std::test::Fail;
+
+/// Brackets of which two pairs are canonically equivalent.
+const BRACKETS: &str = "\
+0028; 0029; o
+0029; 0028; c
+005B; 005D; o
+005D; 005B; c
+2329; 232A; o
+232A; 2329; c
+3008; 3009; o
+3009; 3008; c
+";
+
+/// A line each: what it shows, characters in hexadecimal, all of type ON, and the pairs.
+const PAIRS: &str = "\
+a closer of another kind stands inside\t0061 0028 0062 005D 0063 0029\t[(1, 5)]
+as many openers as are kept\t0028 0029 0028*63 0029\t[(0, 1), (64, 65)]
+one opener more ends the search\t0028 0029 0028*64 0029\t[(0, 1)]
+canonically equivalent brackets\t2329 3009\t[(0, 1)]";
+
+/// The pairs of characters of type ON, as a line shows them.
+fn shown(alloc: Global, tables: &Tables, codes: &str) -> Result<String, Fail> {
+    let text = text_of(alloc, codes)?;
+    let chars = text.chars().collect::<Vec<char>>(alloc)?;
+    let types = vec![in alloc; Class::ON; chars.len()]?;
+    let found = pairs(alloc, &chars, &types, tables)?;
+    Ok(format!(in alloc; "{:?}", found.as_slice())?)
+}
+
+/// The first line that is not so is a failure.
+fn check(alloc: Global, tables: &Tables) -> Result<(), Fail> {
+    for line in PAIRS.lines() {
+        let (_shows, codes, wanted) = two_of(line);
+        if shown(alloc, tables, codes)?.as_str() != wanted {
+            return Err(Fail::new(line));
+        }
+    }
+    Ok(())
+}
+
+#[test]
+fn worked_pairs(rt: HostRuntime) -> Result<(), Fail> {
+    let tables = Tables::read(rt.alloc(), b"", BRACKETS.as_bytes(), b"")?;
+    check(rt.alloc(), &tables)
+}
 
 #[test]
 fn pairs_and_their_types(rt: HostRuntime) -> Result<(), Fail> {

@@ -1,8 +1,9 @@
 //! The worked examples, and each call once with ample memory.
+use crate::words::{text_of, two_of};
 use bx_explicit::{
     Base, Explicit, Kept, Sequence, SequenceWalk, base_level, explicit, paragraph_level, sequences,
 };
-use bx_ucd::Class;
+use bx_ucd::{BidiData, Class, Tables, sample_tables};
 use std::alloc::Global;
 use std::test::Fail;
 
@@ -41,25 +42,59 @@ fn shown_sequences(alloc: Global, explicit: &Explicit) -> Result<String, Fail> {
     shown(alloc, &found)
 }
 
+/// A line each: what it shows, characters of the classes in hexadecimal, and the sequences of a paragraph of level 0: their
+/// indexes, level and ends.
+const SEQUENCES: &str = "\
+an isolate\t0061 2067 05D1 2069 0021 0031\t[0, 1, 3, 4, 5] 0 L L;[2] 1 R R;\n\
+isolates nest\t2068 2066 0061 2069 05D1 2069 0063\t[0, 5, 6] 0 L L;[1, 3, 4] 1 R R;[2] 2 L L;\n\
+as many embeddings as there are levels\t202B*63 0061\t[63] 125 R R;\n\
+one more and its end\t202B*64 202C 0061\t[65] 125 R R;\n\
+an isolate that has no level\t202B*63 2067 202B 202C 2069 0061\t[63, 66, 67] 125 R R;\n\
+embeddings of both directions\t202B.202A*62 202B 0061\t[125] 125 R R;\n\
+the same and one that has no level\t202B.202A*62 202B 202A 0061\t[126] 125 R R;";
+
+/// The classes of characters that are told in hexadecimal.
+fn classes_of(alloc: Global, tables: &Tables, codes: &str) -> Result<Vec<Class>, Fail> {
+    let text = text_of(alloc, codes)?;
+    let mut classes = Vec::new(alloc);
+    for c in text.chars() {
+        classes.push(tables.class(c))?;
+    }
+    Ok(classes)
+}
+
+/// Whether the sequences are those that a line says.
+fn has_sequences(alloc: Global, tables: &Tables, line: &str) -> Result<bool, Fail> {
+    let (_shows, codes, wanted) = two_of(line);
+    let classes = classes_of(alloc, tables, codes)?;
+    let explicit = explicit(alloc, &classes, 0)?;
+    let shown = shown_sequences(alloc, &explicit)?;
+    Ok(shown.as_str() == wanted)
+}
+
+/// The first line that is not so is a failure.
+fn check(alloc: Global, tables: &Tables) -> Result<(), Fail> {
+    for line in SEQUENCES.lines() {
+        if !has_sequences(alloc, tables, line)? {
+            return Err(Fail::new(line));
+        }
+    }
+    Ok(())
+}
+
 #[test]
-fn isolates_nest(rt: HostRuntime) -> Result<(), Fail> {
-    let classes = [
-        Class::FSI,
-        Class::LRI,
-        Class::L,
-        Class::PDI,
-        Class::R,
-        Class::PDI,
-        Class::L,
-    ];
+fn worked_sequences(rt: HostRuntime) -> Result<(), Fail> {
+    let tables = sample_tables(rt.alloc())?;
+    check(rt.alloc(), &tables)
+}
+
+#[test]
+fn paragraph_levels(rt: HostRuntime) -> Result<(), Fail> {
+    assert_eq!(rt; paragraph_level(&[]), 0);
+    // in the isolate stands an R that does not count
+    let classes = [Class::RLI, Class::R, Class::PDI, Class::L];
     assert_eq!(rt; paragraph_level(&classes), 0);
     assert_eq!(rt; base_level(&classes, Base::Auto), 0);
-    let explicit = explicit(rt.alloc(), &classes, 0)?;
-    let shown = shown_sequences(rt.alloc(), &explicit)?;
-    assert_eq!(rt;
-        shown.as_str(),
-        "[0, 5, 6] 0 L L;[1, 3, 4] 1 R R;[2] 2 L L;"
-    );
     Ok(())
 }
 

@@ -12,22 +12,24 @@ fn often(word: &str) -> Result<(&str, usize), Fail> {
     }
 }
 
-/// Puts a character some times.
-fn push_times(text: &mut String, c: char, times: usize) -> Result<(), AllocError> {
-    for _ in 0..times {
-        text.push(c)?;
+/// Puts the characters of codes in hexadecimal that have a full stop between two.
+fn push_codes(text: &mut String, codes: &str) -> Result<(), Fail> {
+    for code in codes.split('.') {
+        let code = u32::from_str_radix(code, 16)?;
+        text.push(char::from_u32(code).ok_or("no character")?)?;
     }
     Ok(())
 }
 
-/// Puts characters of a code in hexadecimal; `-` is none.
+/// Puts the characters of a word: `0061.0062*3` is three times both. `-` is none.
 fn push_code(text: &mut String, word: &str) -> Result<(), Fail> {
     if word == "-" {
         return Ok(());
     }
-    let (code, times) = often(word)?;
-    let code = u32::from_str_radix(code, 16)?;
-    push_times(text, char::from_u32(code).ok_or("no character")?, times)?;
+    let (codes, times) = often(word)?;
+    for _ in 0..times {
+        push_codes(text, codes)?;
+    }
     Ok(())
 }
 

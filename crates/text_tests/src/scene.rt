@@ -71,6 +71,12 @@ impl Scene {
         self.alloc
     }
 
+    /// Makes room for an insertion of so many bytes.
+    pub(crate) fn ready(&mut self, bytes: usize) -> Result<(), Fail> {
+        self.text.ready(bytes)?;
+        Ok(())
+    }
+
     /// Puts text in at an offset, where the cursor stands at one place before and at another after it.
     pub(crate) fn insert(
         &mut self,

@@ -3,6 +3,7 @@
 //!     open COUNT TEXT                         so many times this text; ␍ is CR, ␊ is LF
 //!     insert OFFSET BEFORE AFTER TEXT         the cursor's places before and after it
 //!     remove START STOP BEFORE AFTER
+//!     ready BYTES                             room for an insertion of so many bytes is made
 //!     scatter COUNT                           so many insertions of a letter, here and there
 //!     undo [COUNT]
 //!     redo [COUNT]
@@ -38,6 +39,8 @@ fn does(scene: &mut Scene, word: &str, rest: &str) -> Result<bool, Fail> {
         let (start, stop, rest) = two_of(rest)?;
         let (before, after, _) = two_of(rest)?;
         scene.remove(start, stop, before, after)?;
+    } else if word == "ready" {
+        scene.ready(number_of(rest)?.0)?;
     } else if word == "forget" {
         scene.questions();
     } else {

@@ -11,6 +11,9 @@ fn edits(rt: HostRuntime) -> Result<(), Fail> {
 an edit is undone and made again
 open 1 xab
 undoes none
+ready 2
+text xab
+undoes none
 insert 1 1 3 yz
 change 1 0 2 3
 text xyzab
