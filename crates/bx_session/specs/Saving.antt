@@ -2,7 +2,7 @@
 use Rattle.std.specs.Prelude.{◌≡◌, ℕ, Bool, true, false, List, Option, Some, None, option_map, Result, Ok, Err}
 use Rattle.bx_keys.specs.declared.key.Key.{Key}
 use Rattle.bx_grid.specs.Picture.{is_size}
-use Rattle.bx_store.specs.Stores.{HasRisen}
+use Rattle.bx_store.specs.Stores.{one_more}
 use Rattle.bx_editor.specs.Data.{Data}
 use Rattle.bx_editor.specs.Keys.{is_edit_or_move, is_save}
 use Rattle.bx_session.specs.declared.status.Status.{Status}
@@ -22,10 +22,10 @@ store_state contents failures store = record { contents = contents store; failur
 abbrev pub with_text : List ℕ → StoreState → StoreState
 with_text text store = record store { contents = option_map (λ _. text) store.contents }
 
--- a save that succeeds leaves the text; one that fails leaves what was there, and the failures rise
+-- a save that succeeds leaves the text; one that fails leaves what was there, and one call more failed
 abbrev pub SaveEnds : Bool → List ℕ → StoreState → StoreState → Type 0
 SaveEnds true text old new = new ≡ with_text text old
-SaveEnds false text old new = (new.contents ≡ old.contents) × HasRisen old.failures new.failures
+SaveEnds false text old new = (new.contents ≡ old.contents) × (new.failures ≡ one_more old.failures)
 
 abbrev pub is_save_key : Option Key → Bool
 is_save_key None = false

@@ -1,7 +1,7 @@
 //! A text on its way to a store.
 
 ghost use Rattle.std.specs.Prelude.{◌≡◌, true, OnErr, OnOk};
-ghost use Rattle.bx_store.specs.Stores.{HasRisen, with_bytes};
+ghost use Rattle.bx_store.specs.Stores.{one_more, with_bytes};
 ghost use Rattle.bx_session.specs.Saving.{store_state, with_text};
 
 use bx_store::{Store, StoreFault};
@@ -14,7 +14,7 @@ fn put_pieces<S: Store>(pieces: Slices<'_>, store: &mut S) -> Result<(), StoreFa
     ensures draft { OnOk result (S.draft store.new ≡ with_bytes pieces.entry (S.draft store.old)) }
     ensures stored { S.contents store.new ≡ S.contents store.old }
     ensures no_failure { OnOk result (S.failure_count store.new ≡ S.failure_count store.old) }
-    ensures failure { OnErr result (HasRisen (S.failure_count store.old) (S.failure_count store.new)) }
+    ensures failure { OnErr result (S.failure_count store.new ≡ one_more (S.failure_count store.old)) }
 {
     for piece in pieces {
         store.put(piece.as_bytes())?;
@@ -28,7 +28,7 @@ fn put_pieces<S: Store>(pieces: Slices<'_>, store: &mut S) -> Result<(), StoreFa
 pub fn save_pieces<S: Store>(pieces: Slices<'_>, store: &mut S) -> Result<(), StoreFault>
     ensures ok { OnOk result (store_state S.contents S.failure_count store.new ≡ with_text pieces.entry (store_state S.contents S.failure_count store.old)) }
     ensures stored { OnErr result (S.contents store.new ≡ S.contents store.old) }
-    ensures failure { OnErr result (HasRisen (S.failure_count store.old) (S.failure_count store.new)) }
+    ensures failure { OnErr result (S.failure_count store.new ≡ one_more (S.failure_count store.old)) }
 {
     store.begin()?;
     put_pieces(pieces, store)?;

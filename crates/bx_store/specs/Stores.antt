@@ -1,17 +1,13 @@
 -- What a store tells of the bytes that it has, and how it counts its failures.
-use Rattle.std.specs.Prelude.{ℕ, suc, ◌-◌, ◌^◌, ◌<◌, ◌==◌, Bool, true, false, List, [], ◌++◌, min, Option, Some, None, option_map}
+use Rattle.std.specs.Prelude.{ℕ, suc, ◌-◌, ◌^◌, ◌==◌, Bool, true, false, List, [], ◌++◌, min, Option, Some, None, option_map}
 
 -- the greatest count of failures or calls: there it stays
 abbrev pub greatest : ℕ
 greatest = 2 ^ 64 - 1
 
--- one more, up to the greatest
+-- a count that has risen by one, up to the greatest
 abbrev pub one_more : ℕ → ℕ
 one_more count = min greatest (suc count)
-
--- a count of failures after a call that failed
-abbrev pub HasRisen : ℕ → ℕ → Type 0
-HasRisen old new = old < greatest → old < new
 
 -- an empty draft, and one with more bytes behind it, where a store tells its bytes
 abbrev pub no_bytes : Option (List ℕ) → Option (List ℕ)

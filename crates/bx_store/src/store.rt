@@ -23,10 +23,10 @@ impl From<io::Error> for StoreFault {
 
 /// Where a text is saved. A save is `begin`, `put` for each piece of the text, and `commit`. What is stored changes by a
 /// `commit` that answers Ok alone, and is then the pieces since the last `begin`, joined. A call that answers a fault ends the
-/// save, and the count of failures rises in it, unless it is the greatest u64.
+/// save, and the count of failures rises by one in it and in no other, unless it is the greatest u64.
 pub trait Store {
     ghost use Rattle.std.specs.Prelude.{◌≡◌, ℕ, Bool, true, List, Option, OnOk, OnErr};
-    ghost use Rattle.bx_store.specs.Stores.{HasRisen, no_bytes, with_bytes};
+    ghost use Rattle.bx_store.specs.Stores.{no_bytes, one_more, with_bytes};
 
     /// What is stored, where the store tells its bytes.
     ghost contents: { Self → Option (List ℕ) };
@@ -46,7 +46,7 @@ pub trait Store {
         ensures draft { OnOk result (draft self.new ≡ no_bytes (contents self.old)) }
         ensures stored { contents self.new ≡ contents self.old }
         ensures no_failure { OnOk result (failure_count self.new ≡ failure_count self.old) }
-        ensures failure { OnErr result (HasRisen (failure_count self.old) (failure_count self.new)) };
+        ensures failure { OnErr result (failure_count self.new ≡ one_more (failure_count self.old)) };
 
     /// Puts the next bytes.
     fn put(&mut self, bytes: &[u8]) -> Result<(), StoreFault>
@@ -55,7 +55,7 @@ pub trait Store {
         ensures draft { OnOk result (draft self.new ≡ with_bytes bytes.now (draft self.old)) }
         ensures stored { contents self.new ≡ contents self.old }
         ensures no_failure { OnOk result (failure_count self.new ≡ failure_count self.old) }
-        ensures failure { OnErr result (HasRisen (failure_count self.old) (failure_count self.new)) };
+        ensures failure { OnErr result (failure_count self.new ≡ one_more (failure_count self.old)) };
 
     /// Ends the save: what was put is what is stored.
     fn commit(&mut self) -> Result<(), StoreFault>
@@ -63,7 +63,7 @@ pub trait Store {
         ensures stored { OnOk result (contents self.new ≡ draft self.old) }
         ensures not_stored { OnErr result (contents self.new ≡ contents self.old) }
         ensures no_failure { OnOk result (failure_count self.new ≡ failure_count self.old) }
-        ensures failure { OnErr result (HasRisen (failure_count self.old) (failure_count self.new)) };
+        ensures failure { OnErr result (failure_count self.new ≡ one_more (failure_count self.old)) };
 
     /// How many calls answered a fault, up to the greatest u64.
     fn failures(&self) -> u64
