@@ -31,8 +31,9 @@ fn program<'a, R: Read, W: Write>(
     let classes = table_of(rt, options.classes)?;
     let brackets = table_of(rt, options.brackets)?;
     let mirroring = table_of(rt, options.mirroring)?;
-    let file = text_of(rt, options.file)?;
+    // before the reading, so that what another program changes in between is seen at the first save
     let mut store = FileStore::new(rt, rt.alloc(), options.file)?;
+    let file = text_of(rt, options.file)?;
     edit(
         rt.alloc(),
         reader,

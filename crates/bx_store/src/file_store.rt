@@ -2,106 +2,119 @@
 ghost use Rattle.std.specs.Prelude.{◌≡◌};
 ghost use Rattle.bx_store.specs.Stores.{one_more};
 
+use crate::draft::Draft;
 use crate::store::{Store, StoreFault};
+use crate::target::{find, is_unchanged, target_of};
 use std::alloc::Global;
-use std::fs::{OpenFile, OpenOptions};
-use std::io::{self, ErrorKind, Write};
+use std::fs::Metadata;
+use std::io::{self, ErrorKind};
+use std::os::fd::AsFd;
 use std::rt::Files;
 
-/// A file that is written beside the one that it will replace.
+/// A store that is a file of a file system, and tells nothing of its bytes. What is put goes to a draft, a file beside it, whose
+/// name is the file's and `.bx`, or `.bx1` to `.bx9` where that is there; a commit has the system put its bytes on the disk, and
+/// then gives it the file's name, so that at every moment the file has its old bytes or its new ones. It is written with the
+/// file's owner, group and permissions, and read by no one else before. Where the file is a link, what it points to is replaced,
+/// and the link stays.
+///
+/// A save of a file that another program changed since the store last saw it is a fault, once: the next save replaces it.
 #[derive(Drop)]
-struct Draft<F: Write + OpenFile + Drop> {
-    file: F,
-    path: String,
-    target: String,
-}
-
-/// A store that is a file of a file system, and tells nothing of its bytes. What is put goes to a file beside it, whose name is
-/// the file's and `.bx`; a commit has the system put its bytes on the disk, and then gives it the file's name, so that at every
-/// moment the file has its old bytes or its new ones. It is written with the file's permissions. Where the file is a link, what
-/// it points to is replaced, and the link stays.
-#[derive(Drop)]
-pub struct FileStore<'a, R: Files> {
+pub struct FileStore<'a, R: Files>
+where
+    R::File: AsFd,
+{
     files: &'a R,
     path: String,
+    /// The file as it was last seen; None where it never was.
+    seen: Option<Metadata>,
     draft: Option<Draft<R::File>>,
     failures: u64,
 }
 
-/// What a path leads to, where links are followed; the path itself where nothing is there.
-fn target_of<R: Files>(files: &R, alloc: Global, path: &str) -> io::Result<String> {
-    match files.canonicalize(alloc, path) {
-        Ok(target) => {
-            let target = target.as_path().to_str().ok_or(ErrorKind::InvalidData)?;
-            Ok(String::from_str(alloc, target)?)
-        }
-        Err(error) if error.kind() == ErrorKind::NotFound => Ok(String::from_str(alloc, path)?),
-        Err(error) => Err(error),
-    }
-}
-
-/// Gives a new file the permissions of the one that it will replace, if there is one.
-fn take_permissions<R: Files>(files: &R, file: &R::File, target: &str) -> io::Result<()> {
-    match files.metadata(target) {
-        Ok(metadata) => file.set_permissions(metadata.permissions()),
-        Err(error) if error.kind() == ErrorKind::NotFound => Ok(()),
-        Err(error) => Err(error),
-    }
-}
-
-/// Opens a file beside the one that a path leads to. What an earlier save left there goes.
-fn begin_beside<R: Files>(files: &R, alloc: Global, path: &str) -> io::Result<Draft<R::File>> {
-    let target = target_of(files, alloc, path)?;
-    let mut path = String::with_capacity(alloc, target.len() + 3)?;
-    path.push_str(target.as_str())?;
-    path.push_str(".bx")?;
-    // where nothing was left there is nothing to remove
-    let _ = files.remove_file(path.as_str());
-    let file = files.open_file(
-        OpenOptions::new().write(true).create_new(true),
-        path.as_str(),
-    )?;
-    if let Err(error) = take_permissions(files, &file, target.as_str()) {
-        // the fault is told already
-        let _ = files.remove_file(path.as_str());
-        return Err(error);
-    }
-    Ok(Draft { file, path, target })
-}
-
-/// Puts what was written on the disk, and gives it the name of the file that it replaces.
-fn replace<R: Files>(files: &R, draft: &Draft<R::File>) -> io::Result<()> {
-    draft.file.sync_all()?;
-    files.rename(draft.path.as_str(), draft.target.as_str())
-}
-
-impl<'a, R: Files> FileStore<'a, R> {
-    /// A store that is the file of a path.
+impl<'a, R: Files> FileStore<'a, R>
+where
+    R::File: AsFd,
+{
+    /// A store that is the file of a path, as it is now: what changes from here on is a change by another program.
     ///
     /// Errors: a fault where there is no memory for the path.
     pub fn new(files: &'a R, alloc: Global, path: &str) -> Result<Self, StoreFault> {
         Ok(FileStore {
             files,
             path: String::from_str(alloc, path)?,
+            // what cannot be looked at was not seen
+            seen: find(files, path).unwrap_or(None),
             draft: None,
             failures: 0,
         })
+    }
+
+    /// Looks whether the file is as it was last seen, or gone; what is there now is seen.
+    fn look(&mut self) -> io::Result<()>
+        ensures { self.new.failures ≡ self.old.failures }
+    {
+        let Some(found) = find(self.files, self.path.as_str())? else {
+            return Ok(());
+        };
+        if !found.is_file() {
+            return Err(ErrorKind::InvalidInput.into());
+        }
+        let is_known = match &self.seen {
+            Some(seen) => is_unchanged(seen, &found),
+            None => false,
+        };
+        self.seen = Some(found);
+        if is_known {
+            Ok(())
+        } else {
+            Err(ErrorKind::AlreadyExists.into())
+        }
+    }
+
+    /// Opens a draft beside the file.
+    fn open_draft(&mut self) -> io::Result<Draft<R::File>>
+        ensures { self.new.failures ≡ self.old.failures }
+    {
+        self.look()?;
+        let alloc = *self.path.allocator();
+        let target = target_of(self.files, alloc, self.path.as_str())?;
+        Draft::beside(self.files, alloc, target, self.seen.as_ref())
+    }
+
+    /// Gives a draft the place of the file, if that is still as it was seen.
+    fn replace_by(&mut self, draft: &Draft<R::File>) -> io::Result<()>
+        ensures { self.new.failures ≡ self.old.failures }
+    {
+        draft.sync()?;
+        self.look()?;
+        draft.replace(self.files)?;
+        self.seen = draft.metadata().ok();
+        Ok(())
+    }
+
+    /// Takes away a draft that was begun, if there is one.
+    fn remove_draft(&mut self)
+        ensures { self.new.failures ≡ self.old.failures }
+    {
+        if let Some(draft) = self.draft.take() {
+            draft.remove(self.files);
+        }
     }
 
     /// Notes a call that failed, and takes away what it leaves.
     fn fail(&mut self) -> StoreFault
         ensures { self.new.failures ≡ one_more self.old.failures }
     {
-        if let Some(draft) = self.draft.take() {
-            // the fault is told already
-            let _ = self.files.remove_file(draft.path.as_str());
-        }
+        self.remove_draft();
         self.failures = self.failures.saturating_add(1);
         StoreFault
     }
 }
 
-impl<'a, R: Files> Store for FileStore<'a, R> {
+impl<'a, R: Files> Store for FileStore<'a, R>
+where
+    R::File: AsFd,
+{
     ghost use Rattle.std.specs.Prelude.{None, is_some};
 
     ghost contents = { λ _. None };
@@ -113,7 +126,8 @@ impl<'a, R: Files> Store for FileStore<'a, R> {
     ghost failure_count = { λ s. s.failures };
 
     fn begin(&mut self) -> Result<(), StoreFault> {
-        match begin_beside(self.files, *self.path.allocator(), self.path.as_str()) {
+        self.remove_draft();
+        match self.open_draft() {
             Ok(draft) => {
                 self.draft = Some(draft);
                 Ok(())
@@ -124,7 +138,7 @@ impl<'a, R: Files> Store for FileStore<'a, R> {
 
     fn put(&mut self, bytes: &[u8]) -> Result<(), StoreFault> {
         match &mut self.draft {
-            Some(draft) => match draft.file.write_all(bytes) {
+            Some(draft) => match draft.put(bytes) {
                 Ok(()) => Ok(()),
                 Err(_) => Err(self.fail()),
             },
@@ -134,7 +148,7 @@ impl<'a, R: Files> Store for FileStore<'a, R> {
 
     fn commit(&mut self) -> Result<(), StoreFault> {
         match self.draft.take() {
-            Some(draft) => match replace(self.files, &draft) {
+            Some(draft) => match self.replace_by(&draft) {
                 Ok(()) => Ok(()),
                 Err(_) => {
                     self.draft = Some(draft);

@@ -43,40 +43,79 @@ fn the_call_that_fails_keeps_what_was_stored(rt: HostRuntime) -> Result<(), Fail
     Ok(())
 }
 
+/// A file's bytes, and its permissions in 9 bits.
+fn file_at(rt: &HostRuntime, path: &str) -> Result<(Vec<u8>, u32), Fail> {
+    let mode = fs::metadata(rt, path)?.permissions().mode();
+    Ok((fs::read(rt, path)?, mode & 0o777))
+}
+
 #[test]
 fn a_file_is_made_and_replaced(rt: HostRuntime) -> Result<(), Fail> {
     let path = path_of(&rt, "new")?;
     let mut store = FileStore::new(&rt, rt.alloc(), path.as_str())?;
     save(&mut store, b"a", b"b")?;
     let first = fs::read(&rt, path.as_path())?;
-    fs::set_permissions(&rt, path.as_path(), fs::Permissions::from_mode(0o640))?;
     save(&mut store, b"c", b"")?;
     let second = fs::read(&rt, path.as_path())?;
-    let mode = fs::metadata(&rt, path.as_path())?.permissions().mode();
     fs::remove_file(&rt, path.as_path())?;
     assert_eq!(rt; first.as_slice(), b"ab".as_slice());
     assert_eq!(rt; second.as_slice(), b"c".as_slice());
-    assert_eq!(rt; mode & 0o777, 0o640);
     assert_eq!(rt; store.failures(), 0);
     Ok(())
 }
 
 #[test]
-fn a_link_stays_and_nothing_is_left_beside_it(rt: HostRuntime) -> Result<(), Fail> {
+fn a_change_by_another_program_is_told_once(rt: HostRuntime) -> Result<(), Fail> {
+    let path = path_of(&rt, "changed")?;
+    fs::write(&rt, path.as_path(), b"old")?;
+    let mut store = FileStore::new(&rt, rt.alloc(), path.as_str())?;
+    fs::write(&rt, path.as_path(), b"theirs")?;
+    fs::set_permissions(&rt, path.as_path(), fs::Permissions::from_mode(0o640))?;
+    let first = save(&mut store, b"ours", b"");
+    let kept = file_at(&rt, path.as_str())?;
+    let second = save(&mut store, b"ours", b"");
+    let replaced = file_at(&rt, path.as_str())?;
+    fs::remove_file(&rt, path.as_path())?;
+    let third = save(&mut store, b"again", b"");
+    let made_again = file_at(&rt, path.as_str())?;
+    fs::remove_file(&rt, path.as_path())?;
+    assert_eq!(rt; (first, second, third), (Err(StoreFault), Ok(()), Ok(())));
+    assert_eq!(rt; (kept.0.as_slice(), kept.1), (b"theirs".as_slice(), 0o640));
+    assert_eq!(rt;
+        (replaced.0.as_slice(), replaced.1),
+        (b"ours".as_slice(), 0o640)
+    );
+    assert_eq!(rt;
+        (made_again.0.as_slice(), made_again.1),
+        (b"again".as_slice(), 0o640)
+    );
+    assert_eq!(rt; store.failures(), 1);
+    Ok(())
+}
+
+#[test]
+fn a_link_stays_and_files_beside_it_stay(rt: HostRuntime) -> Result<(), Fail> {
     let path = path_of(&rt, "behind")?;
     let link = path_of(&rt, "link")?;
     let beside = path_of(&rt, "behind.bx")?;
-    fs::write(&rt, path.as_path(), b"old")?;
-    fs::write(&rt, beside.as_path(), b"left by an earlier save")?;
+    let draft = path_of(&rt, "behind.bx1")?;
+    fs::write(&rt, beside.as_path(), b"of the user")?;
     std::os::unix::fs::symlink(&rt, path.as_path(), link.as_path())?;
     let mut store = FileStore::new(&rt, rt.alloc(), link.as_str())?;
+    // what the link names is made, and then replaced
     save(&mut store, b"new", b"")?;
+    let made = fs::read(&rt, path.as_path())?;
+    save(&mut store, b"newer", b"")?;
     let text = fs::read(&rt, path.as_path())?;
     let stays = fs::symlink_metadata(&rt, link.as_path())?.is_symlink();
-    let is_left = fs::metadata(&rt, beside.as_path()).is_ok();
-    fs::remove_file(&rt, path.as_path())?;
-    fs::remove_file(&rt, link.as_path())?;
-    assert_eq!(rt; text.as_slice(), b"new".as_slice());
+    let users = fs::read(&rt, beside.as_path())?;
+    let is_left = fs::metadata(&rt, draft.as_path()).is_ok();
+    for file in [&path, &link, &beside] {
+        fs::remove_file(&rt, file.as_path())?;
+    }
+    assert_eq!(rt; made.as_slice(), b"new".as_slice());
+    assert_eq!(rt; text.as_slice(), b"newer".as_slice());
+    assert_eq!(rt; users.as_slice(), b"of the user".as_slice());
     assert!(rt; stays);
     assert!(rt; !is_left);
     Ok(())
@@ -88,5 +127,28 @@ fn a_folder_that_is_not_there_takes_no_file(rt: HostRuntime) -> Result<(), Fail>
     let mut store = FileStore::new(&rt, rt.alloc(), path.as_str())?;
     assert_eq!(rt; save(&mut store, b"a", b""), Err(StoreFault));
     assert_eq!(rt; store.failures(), 1);
+    Ok(())
+}
+
+#[test]
+fn a_draft_takes_the_place_of_no_file(rt: HostRuntime) -> Result<(), Fail> {
+    let path = path_of(&rt, "beset")?;
+    fs::write(&rt, path.as_path(), b"old")?;
+    let mut store = FileStore::new(&rt, rt.alloc(), path.as_str())?;
+    for ending in ["", "1", "2", "3", "4", "5", "6", "7", "8", "9"] {
+        let beside = format!(in rt.alloc(); "{}.bx{ending}", path.as_str())?;
+        fs::write(&rt, beside.as_str(), ending.as_bytes())?;
+    }
+    let outcome = save(&mut store, b"new", b"");
+    let text = fs::read(&rt, path.as_path())?;
+    fs::remove_file(&rt, path.as_path())?;
+    for ending in ["", "1", "2", "3", "4", "5", "6", "7", "8", "9"] {
+        let beside = format!(in rt.alloc(); "{}.bx{ending}", path.as_str())?;
+        let users = fs::read(&rt, beside.as_str())?;
+        fs::remove_file(&rt, beside.as_str())?;
+        assert_eq!(rt; users.as_slice(), ending.as_bytes());
+    }
+    assert_eq!(rt; outcome, Err(StoreFault));
+    assert_eq!(rt; text.as_slice(), b"old".as_slice());
     Ok(())
 }

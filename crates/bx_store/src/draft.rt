@@ -1,0 +1,152 @@
+//! What is being saved, in a file beside the one that it will replace.
+
+use crate::target::folder_of;
+use std::alloc::Global;
+use std::fs::{Metadata, OpenFile, OpenOptions, Permissions};
+use std::io::{self, ErrorKind, Write};
+use std::os::fd::AsFd;
+use std::os::unix::fs::{MetadataExt, OpenOptionsExt, PermissionsExt, fchown};
+use std::rt::Files;
+
+/// What the names of a draft add to the file's, in the order in which they are tried.
+const ENDINGS: [&str; 10] = [
+    ".bx", ".bx1", ".bx2", ".bx3", ".bx4", ".bx5", ".bx6", ".bx7", ".bx8", ".bx9",
+];
+
+/// The permissions of a draft from its first moment: no one but its owner reads what may be secret.
+const OWNERS_ALONE: u32 = 0o600;
+
+/// The permissions of a file that is made where none was, of which the system takes away what the user's mask says.
+const NEW_FILE: u32 = 0o666;
+
+/// A file that is written beside the one that it will replace.
+#[derive(Drop)]
+pub struct Draft<F: Write + OpenFile + AsFd + Drop> {
+    file: F,
+    path: String,
+    target: String,
+}
+
+/// Makes the first file beside another whose name is free. What has one of the names is the user's, or was left by a save that
+/// was cut off, and stays.
+fn make_beside<R: Files>(
+    files: &R,
+    alloc: Global,
+    target: &str,
+    mode: u32,
+) -> io::Result<(R::File, String)> {
+    for ending in ENDINGS {
+        let path = format!(in alloc; "{target}{ending}")?;
+        let file = OpenOptions::new()
+            .write(true)
+            .create_new(true)
+            .mode(mode)
+            .open(files, path.as_str());
+        match file {
+            Ok(file) => return Ok((file, path)),
+            Err(error) if error.kind() == ErrorKind::AlreadyExists => {}
+            Err(error) => return Err(error),
+        }
+    }
+    Err(ErrorKind::AlreadyExists.into())
+}
+
+/// Gives a new file an owner and a group, and answers whether it has the group. Who is not root may be refused either.
+fn take_owner<F: OpenFile + AsFd>(file: &F, old: &Metadata) -> io::Result<bool> {
+    let new = file.metadata()?;
+    let is_root = new.uid() == 0;
+    let mut has_group = true;
+    if new.gid() != old.gid() {
+        let answer = fchown(file, None, Some(old.gid()));
+        has_group = answer.is_ok();
+        if is_root {
+            answer?;
+        }
+    }
+    if new.uid() != old.uid() {
+        let answer = fchown(file, Some(old.uid()), None);
+        if is_root {
+            answer?;
+        }
+    }
+    Ok(has_group)
+}
+
+/// Permissions in which a group that is not the file's own may do what all others may.
+fn without_group(mode: u32) -> u32 {
+    let others = mode & 0o007;
+    (mode & !0o070) | (others << 3)
+}
+
+/// Gives a new file the owner, the group and the permissions of the one that it will replace.
+fn take_place<F: OpenFile + AsFd>(file: &F, old: &Metadata) -> io::Result<()> {
+    let has_group = take_owner(file, old)?;
+    let mode = if has_group {
+        old.mode()
+    } else {
+        without_group(old.mode())
+    };
+    file.set_permissions(Permissions::from_mode(mode & 0o7777))
+}
+
+/// Puts a folder on the disk, so that a name in it is there after a crash.
+fn sync_folder<R: Files>(files: &R, folder: &str) -> io::Result<()> {
+    OpenOptions::new()
+        .read(true)
+        .open(files, folder)?
+        .sync_all()
+}
+
+impl<F: Write + OpenFile + AsFd + Drop> Draft<F> {
+    /// An empty draft beside a file, with the owner and the permissions of what was last there, if anything was.
+    pub fn beside<R: Files<File = F>>(
+        files: &R,
+        alloc: Global,
+        target: String,
+        old: Option<&Metadata>,
+    ) -> io::Result<Self> {
+        let mode = if old.is_some() {
+            OWNERS_ALONE
+        } else {
+            NEW_FILE
+        };
+        let (file, path) = make_beside(files, alloc, target.as_str(), mode)?;
+        let draft = Draft { file, path, target };
+        if let Some(old) = old {
+            if let Err(error) = take_place(&draft.file, old) {
+                draft.remove(files);
+                return Err(error);
+            }
+        }
+        Ok(draft)
+    }
+
+    /// Puts the next bytes.
+    pub fn put(&mut self, bytes: &[u8]) -> io::Result<()> {
+        self.file.write_all(bytes)
+    }
+
+    /// Puts what was written on the disk.
+    pub fn sync(&self) -> io::Result<()> {
+        self.file.sync_all()
+    }
+
+    /// Takes the place of the file that it replaces.
+    pub fn replace<R: Files<File = F>>(&self, files: &R) -> io::Result<()> {
+        files.rename(self.path.as_str(), self.target.as_str())?;
+        // the text is saved: all that a fault leaves open is what a crash of the machine leaves
+        let _ = sync_folder(files, folder_of(self.target.as_str()));
+        Ok(())
+    }
+
+    /// The file as it is now.
+    pub fn metadata(&self) -> io::Result<Metadata> {
+        self.file.metadata()
+    }
+
+    /// Takes away a draft that replaces nothing.
+    pub fn remove<R: Files<File = F>>(self, files: &R) {
+        // the fault that ended it is told already
+        let _ = files.remove_file(self.path.as_str());
+    }
+}
