@@ -1,8 +1,9 @@
 #!/bin/sh
 # Runs the launcher in tmux, under dash and bash: what it hands to a program that only records its input, and then the editor
-# itself in it, whose screen must be the one that the program alone makes for that size and those keys. It stands beside the gate,
-# and skips where there is no tmux and none can be installed from Debian's packages. With names after it only the checks run whose
-# names begin so. The last line counts; the status is 1 where one failed.
+# itself in it, whose screen must be the one that the program alone makes for that size and those keys. It stands beside the gate.
+# With names after it only the checks run whose names begin so. The last line counts; the status is 1 where one failed, and 77
+# where none did and not all could run: there is no tmux and none can be installed from Debian's packages, a shell is not there, or
+# the editor is not built.
 # shellcheck disable=SC2009 # the processes of one terminal, by their words
 set -u
 
@@ -13,7 +14,7 @@ if ! command -v tmux >/dev/null 2>&1; then
 fi
 if ! command -v tmux >/dev/null 2>&1; then
     echo "skipped: there is no tmux, and it could not be installed"
-    exit 0
+    exit 77
 fi
 
 export LC_ALL=C.UTF-8
@@ -22,7 +23,7 @@ editor=$top/crates/bidi_edit/out/bidi_edit
 wanted="$*"
 folder=$(mktemp -d)
 socket="bx$$"
-passed=0 failed=0 tables='' is_flooded=''
+passed=0 failed=0 skipped='' tables='' is_flooded=''
 trap 'tmux -L "$socket" kill-server 2>/dev/null; rm -rf "$folder"' EXIT
 trap 'exit 1' HUP INT TERM
 mkdir "$folder/private" "$folder/files"
@@ -475,6 +476,7 @@ terminal -f /dev/null new-session -d -s keep -x 80 -y 24 'sleep 3600'
 for shell in dash bash; do
     if ! command -v "$shell" >/dev/null 2>&1; then
         echo "skipped: there is no $shell"
+        skipped=1
         continue
     fi
     check_recorder
@@ -483,7 +485,13 @@ for shell in dash bash; do
         check_editor
     else
         echo "skipped: the checks of the editor, since it is not built (./bidi-edit FILE builds it)"
+        skipped=1
     fi
 done
 echo "$passed passed, $failed failed"
-[ "$failed" = 0 ]
+[ "$failed" = 0 ] || exit 1
+if [ "$passed" = 0 ]; then
+    echo "skipped: no check has a name that begins so"
+    skipped=1
+fi
+[ -z "$skipped" ] || exit 77

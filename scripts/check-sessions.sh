@@ -1,20 +1,119 @@
 #!/bin/sh
-# Runs the program on recorded sessions, and prints how many of how many agree. The first word is the folder of the sessions: a
-# folder for each, and a script compare.py that takes the program and that folder. Further words go to compare.py, as
-# `--only 17` for one session or `--max 300` to see all that differ. It stands beside the gate.
+# check-sessions.sh SESSIONS [--only NUMBER] [--max COUNT]: runs the program on recorded sessions, and prints how many of how many
+# agree, byte by byte, in what is printed, in the status and in the file that is left; of a command line that is refused, only that
+# it is told is compared. Nothing else may be left. SESSIONS is a folder as sessions.sh says, or an archive of one. --only takes one
+# session, and --max says of how many that differ the differences are shown, 20 unless told. It stands beside the gate. The status
+# is 1 where one differs or there is none, and 77 where no sessions are given.
 set -eu
+export LC_ALL=C
 
-if [ $# = 0 ] || [ ! -f "$1/compare.py" ]; then
-    echo "usage: scripts/check-sessions.sh FOLDER [WORD..], where FOLDER has compare.py and the sessions" >&2
+top=$(cd "$(dirname "$0")/.." && pwd)
+# shellcheck source=scripts/sessions.sh
+. "$top/scripts/sessions.sh"
+
+usage() {
+    echo 'usage: scripts/check-sessions.sh SESSIONS [--only NUMBER] [--max COUNT]' >&2
     exit 2
-fi
-folder=$(readlink -f "$1")
-shift
+}
 
-cd "$(dirname "$0")/../crates/bidi_edit"
+# Notes a part of a session that differs.
+differ() { # WORDS
+    printf '    %s\n' "$1" >>"$scratch/differences"
+}
+
+# Compares a file that a run left with the one that is wanted; none is wanted where that one is not there.
+compare() { # NAME FOUND WANTED
+    if [ ! -f "$2" ] && [ ! -f "$3" ]; then
+        return
+    elif [ ! -f "$2" ]; then
+        differ "$1: there is none"
+    elif [ ! -f "$3" ]; then
+        differ "$1: there is one"
+    elif ! cmp -s "$2" "$3"; then
+        differ "$1: $(wc -c <"$2") bytes for $(wc -c <"$3"), and differs at $(cmp "$2" "$3" 2>&1 | sed 's/.*\(byte.*\)/\1/')"
+    fi
+}
+
+# Runs one session, and writes what differs.
+run_session() { # SESSION
+    place=$scratch/place
+    lay_out "$1" "$place"
+    status=0
+    (cd "$place" && with_words "$1" timeout 60 "$program" <"$1/keys" >"$scratch/stdout" 2>"$scratch/stderr") || status=$?
+    : >"$scratch/differences"
+    wanted=$(cat "$1/want.status")
+    [ "$status" = "$wanted" ] || differ "status: $status and not $wanted"
+    compare 'standard output' "$scratch/stdout" "$1/want.stdout"
+    if [ "$wanted" = 2 ]; then
+        [ -s "$scratch/stderr" ] || differ 'standard error: nothing is told'
+    else
+        compare 'standard error' "$scratch/stderr" "$1/want.stderr"
+    fi
+    compare 'the file' "$place/file" "$1/want.file"
+    for left in "$place"/* "$place"/.[!.]*; do
+        case $left in
+        "$place/file" | "$place/tables" | "$place/.[!.]*") ;;
+        *) differ "left: ${left##*/}" ;;
+        esac
+    done
+}
+
+# A number without the zeros before it.
+plain() { # NUMBER
+    printf '%s\n' "${1#"${1%%[!0]*}"}"
+}
+
+# Runs all sessions, and prints those that differ and how many agree.
+run_sessions() { # FOLDER
+    agreed=0 differing=0
+    list_sessions "$1" >"$scratch/list"
+    while IFS= read -r session; do
+        [ -z "$only" ] || [ "$(plain "${session##*/}")" = "$(plain "$only")" ] || continue
+        run_session "$session"
+        if [ ! -s "$scratch/differences" ]; then
+            agreed=$((agreed + 1))
+            continue
+        fi
+        differing=$((differing + 1))
+        [ "$differing" -le "$most" ] || continue
+        echo "session ${session##*/} differs:"
+        cat "$scratch/differences"
+        [ ! -f "$session/notes" ] || sed 's/^/    /' "$session/notes"
+    done <"$scratch/list"
+    echo "$agreed of $((agreed + differing)) sessions agree"
+    [ "$differing" = 0 ] && [ "$agreed" -gt 0 ]
+}
+
+if [ $# = 0 ]; then
+    echo 'skipped: no sessions are given (scripts/check-sessions.sh SESSIONS)'
+    exit 77
+fi
+sessions=$1 only='' most=20
+shift
+while [ $# -gt 1 ]; do
+    case $1:$2 in
+    *:*[!0-9]* | *:) usage ;;
+    --only:*) only=$2 ;;
+    --max:*) most=$2 ;;
+    *) usage ;;
+    esac
+    shift 2
+done
+[ $# = 0 ] || usage
+if ! [ -e "$sessions" ]; then
+    echo "skipped: $sessions is not there"
+    exit 77
+fi
+
+scratch=$(mktemp -d)
+trap 'rm -rf "$scratch"' EXIT
+trap 'exit 1' HUP INT TERM
+folder=$(sessions_of "$sessions" "$scratch")
+cd "$top/crates/bidi_edit"
 # without words the program only tells its usage, which shows that it was built
 if ! rt run 2>&1 | grep -q '^Usage: bidi_edit'; then
-    echo "the program was not built: see rt check" >&2
+    echo 'the program was not built: see rt check' >&2
     exit 1
 fi
-python3 "$folder/compare.py" out/bidi_edit "$folder" "$@"
+program=$PWD/out/bidi_edit
+run_sessions "$folder"

@@ -1,15 +1,15 @@
 #!/bin/sh
 # Runs the built program to each of its ends, and compares the exit status, the line on standard error and the saved file with what
 # the manual says. It stands beside the gate, whose tests call the functions behind `main` and not the program. The last line
-# counts; the status is 1 where one differs.
+# counts; the status is 1 where one differs, and 77 where the program is not built.
 set -u
 
 cd "$(dirname "$0")/.." || exit 1
 top=$(pwd)
 editor=$top/crates/bidi_edit/out/bidi_edit
 if ! [ -x "$editor" ]; then
-    echo "the program is not built: rt run in crates/bidi_edit builds it" >&2
-    exit 1
+    echo "skipped: the program is not built (rt run in crates/bidi_edit builds it)"
+    exit 77
 fi
 
 folder=$(mktemp -d)

@@ -1,7 +1,7 @@
 #!/bin/sh
 # Reads Unicode's own three files, as Debian's package unicode-data installs them, and compares what ucd_lookup answers for
-# characters from each kind of line with what it must answer for the excerpt. Says so and ends well where the package is not
-# installed. `--time` after it also tells the processor time of one reading.
+# characters from each kind of line with what it must answer for the excerpt. The status is 77 where the package is not installed.
+# `--time` after it also tells the processor time of one reading.
 set -eu
 
 folder=/usr/share/unicode
@@ -11,7 +11,7 @@ mirroring=$folder/BidiMirroring.txt
 for file in "$classes" "$brackets" "$mirroring"; do
     if [ ! -r "$file" ]; then
         echo "skipped: $file is not there (apt-get install unicode-data)"
-        exit 0
+        exit 77
     fi
 done
 

@@ -1,8 +1,9 @@
 #!/bin/sh
 # Runs unicode_suites on Unicode's own test suites, as Debian's package unicode-data installs them, and compares how many cases
-# agree with how many the files have. A folder after it is searched in place of the package's; files may be packed. Says so and
-# ends well where a file is not there.
+# agree with how many the files have, and of clusters with how many are known to agree. A folder after it is searched in place of
+# the package's; files may be packed. The status is 1 where a count is another one, and 77 where a file is not there.
 set -eu
+export LC_ALL=C
 
 folder=$(readlink -f "${1:-/usr/share/unicode}")
 scratch=$(mktemp -d)
@@ -24,7 +25,7 @@ set -- DerivedBidiClass.txt BidiBrackets.txt BidiMirroring.txt BidiCharacterTest
 for name in "$@"; do
     if ! unpack "$name"; then
         echo "skipped: $folder has no $name (apt-get install unicode-data)"
-        exit 0
+        exit 77
     fi
 done
 
@@ -39,10 +40,32 @@ status=0
 cat found
 [ "$status" = 0 ]
 
+# Wants a line among those that the program printed.
+want() { # LINE
+    grep -qxF "$1" found || {
+        echo "FAILS: there is no line '$1'"
+        status=1
+    }
+}
+
+# How many clusters of a file of another version than the code's agree: of 15.0.0 all but one, two U+2701 and a joiner between, which
+# are no longer one.
+known_clusters() { # VERSION
+    case $1 in
+    15.0.0) echo 601 ;;
+    *) echo "a count that this script names for $1" ;;
+    esac
+}
+
 characters=$(grep -c '^[0-9A-F]' BidiCharacterTest.txt)
 sequences=$(awk -F';' '/^[A-Z]/ { n += $2 % 2 + int($2 / 2) % 2 + int($2 / 4) % 2 } END { print n }' BidiTest.txt)
 clusters=$(grep -c '^÷' GraphemeBreakTest.txt)
-grep -qx "BidiCharacterTest: $characters of $characters agree" found
-grep -qx "BidiTest: $sequences of $sequences agree" found
-grep -q "^GraphemeBreakTest: .*of $clusters agree" found
-echo "unicode-data: $characters and $sequences cases agree"
+skipped=$(sed -n 's/^GraphemeBreakTest: \(skipped, the file is of [^ ]* and the code of [^ ]*; \).*/\1/p' found)
+version=$(sed -n '1s/^# GraphemeBreakTest-\(.*\)\.txt.*/\1/p' GraphemeBreakTest.txt)
+agreeing=$clusters
+[ -z "$skipped" ] || agreeing=$(known_clusters "$version")
+want "BidiCharacterTest: $characters of $characters agree"
+want "BidiTest: $sequences of $sequences agree"
+want "GraphemeBreakTest: $skipped$agreeing of $clusters agree"
+[ "$status" = 0 ] || exit 1
+echo "unicode-data: $characters and $sequences cases agree, and $agreeing of $clusters clusters"
