@@ -177,6 +177,7 @@ send_signal() { # SIGNAL PATTERN
 recorder=$folder/recorder/bin/bidi-edit
 mkdir -p "$folder/recorder/bin" "$folder/recorder/lib/bidi_edit" "$folder/recorder/share"
 cp "$top/bidi-edit" "$recorder"
+cp -R "$top/launcher" "$folder/recorder/lib/bidi_edit/launcher"
 cp -r "$top/data" "$folder/recorder/share/bidi_edit"
 cat >"$folder/recorder/lib/bidi_edit/bidi_edit" <<'END'
 #!/bin/sh

@@ -38,8 +38,10 @@ fi
 mkdir -p "$prefix/bin" "$prefix/lib/bidi_edit" "$prefix/share/bidi_edit" "$pages"
 # A running editor keeps its file, since what was there is removed and not written over.
 rm -f "$prefix/bin/bidi-edit" "$prefix/lib/bidi_edit/bidi_edit"
+rm -rf "$prefix/lib/bidi_edit/launcher"
 cp "$editor" "$prefix/lib/bidi_edit/bidi_edit"
 cp "$top/bidi-edit" "$prefix/bin/bidi-edit"
+cp -R "$top/launcher" "$prefix/lib/bidi_edit/launcher"
 cp "$top/data/DerivedBidiClass.txt" "$top/data/BidiBrackets.txt" "$top/data/BidiMirroring.txt" "$prefix/share/bidi_edit/"
 cp "$top/docs/bidi_edit.1" "$pages/bidi_edit.1"
 echo '.so man1/bidi_edit.1' >"$pages/bidi-edit.1"
