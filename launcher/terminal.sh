@@ -1,24 +1,124 @@
 # shellcheck shell=sh
-# shellcheck disable=SC2154,SC2317 # words that other parts give; traps call functions
+# shellcheck disable=SC2034,SC2154,SC2317 # words that other parts give and take; traps call functions
 # The terminal of a session, and its way back.
 
-folder='' program='' keys='' sizes='' is_shown=''
+folder='' program='' keys='' sizes='' outer='' is_running='' is_shown='' has_title=''
 
-# Whatever stands of the session ends, and the terminal is as it was. A second signal changes nothing then.
-put_back() {
-    trap '' HUP INT QUIT TERM WINCH TTOU
-    for process in $sizes $keys $program; do
+# ---- what the terminal is told
+
+# What the painter counts on: arrows as CSI, ASCII, letters that replace what they cover, rows from the window's top, no part that
+# scrolls by itself, a row's end that keeps a letter with its marks (tmux joins them to the letter before without autowrap), a
+# shown cursor, and rows from left to right as they are sent.
+modes='\033[?1l\033(B\017\033[4l\033[?6l\033[r\033[?7h\033[?25h\033[8l\033[1 k'
+# And what shells count on: a terminal that reorders does so again.
+end_modes='\033[0m\033[?25h\033[0 k\033[8h'
+
+# Whether this terminal keeps its title when asked, and gives it back. GNU screen does not, and hides what it runs in.
+keeps_titles() {
+    [ -z "${STY:-}" ] || return 1
+    case ${TMUX:+tmux}${TERM:-} in
+    tmux* | alacritty* | foot* | mlterm* | vte* | xterm-kitty) return 0 ;;
+    esac
+    [ -n "${XTERM_VERSION:-}${VTE_VERSION:-}" ]
+}
+
+# FILE's name without the control bytes, which would end a title or begin something else.
+title_name() {
+    case $file in
+    *[!\ -~]*) printf '%s' "${file##*/}" | LC_ALL=C tr '\n' '\001' | LC_ALL=C sed "s/$(printf '\302')[$(printf '\200')-$(printf '\237')]//g" | LC_ALL=C tr -d '\001-\037\177' ;;
+    *) printf '%s' "${file##*/}" ;;
+    esac
+}
+
+# The terminal that tmux shows this one in, if it can be written. It may reorder what tmux hands on.
+find_outer() {
+    [ -n "${TMUX:-}" ] || return 0
+    outer=$(timeout 1 tmux display-message -p '#{client_tty}') || outer=''
+    [ -c "$outer" ] && [ -w "$outer" ] || outer=''
+}
+
+# One that stands still is not waited for.
+tell_outer() { # SEQUENCE
+    # shellcheck disable=SC2016
+    [ -z "$outer" ] || timeout 1 sh -c 'printf "%b" "$0" >"$1"' "$1" "$outer"
+}
+
+# Raw, on the alternate screen, with the painter's modes. xterm's 1049 also keeps the cursor, 1047 leaves the one that is kept.
+set_terminal() { # SCREEN
+    stty raw -echo -iexten
+    printf '%b' "\033[?$1h$modes"
+}
+
+show() {
+    is_shown=1
+    find_outer
+    tell_outer '\033[8l'
+    set_terminal 1049
+    if keeps_titles; then
+        has_title=1
+        printf '\033[22;0t\033]2;%s - ^S save ^Q quit\a' "$(title_name)"
+    fi
+}
+
+hide() {
+    [ -n "$is_shown" ] || return 0
+    is_shown=''
+    printf '%b' "$end_modes"
+    [ -z "$has_title" ] || printf '\033[23;0t'
+    printf '\033[?1049l'
+    stty "$settings"
+    tell_outer '\033[8h'
+}
+
+# After a stop: the terminal as the editor needs it, and a told size, which has all painted anew.
+resume() {
+    [ -n "$is_shown" ] || return 0
+    set_terminal 1047
+    echo >&8
+}
+
+# ---- the end
+
+# The input's end has the program end by itself, unless it hangs: within 3 seconds, since a shell cannot wait for so long only.
+end_program() {
+    tries=60
+    while [ "$tries" -gt 0 ] && kill -s 0 "$program"; do
+        sleep 0.05
+        tries=$((tries - 1))
+    done
+    kill -s KILL "$program"
+    wait "$program"
+    status=$?
+    program=''
+}
+
+# The last process that was started may have no name yet.
+end_processes() {
+    [ -n "$is_running" ] || return 0
+    is_running=''
+    for process in $sizes $keys ${!:-}; do
+        [ "$process" != "$program" ] || continue
         kill -s KILL "$process"
         wait "$process"
     done
-    sizes='' keys='' program=''
-    if [ -n "$is_shown" ]; then
-        printf '\033[0m\033[8h\033[?1049l'
-        stty "$settings"
-        is_shown=''
-    fi
+    exec 4<&- 5>&- 6<&- 8<&- 9<&-
+    [ -z "$program" ] || end_program
+}
+
+# What the program said, and after a fault where the typed text is kept, if it is.
+tell_end() {
+    fault=$(cat "$folder/fault")
+    [ -z "$fault" ] || printf '%s\n' "$fault" >&7
+    [ "$status" = 0 ] || ! command -v tell_kept >/dev/null || tell_kept
+}
+
+# Whatever stands of the session ends, and the terminal is as it was. A second signal changes nothing then.
+put_back() {
+    trap '' HUP INT QUIT TERM WINCH CONT TTOU
+    end_processes
+    hide
     if [ -n "$folder" ]; then
-        [ ! -s "$folder/fault" ] || cat "$folder/fault" >&7
+        tell_end
         rm -rf -- "$folder"
         folder=''
     fi
@@ -31,6 +131,8 @@ end_by() { # SIGNAL NUMBER
     kill -s "$1" $$
     exit $((128 + $2))
 }
+
+# ---- the session
 
 # The window's sides, of which the editor takes 1 to 500; a terminal that knows none says 0.
 measure() {
@@ -55,6 +157,7 @@ send_sizes() {
 # Whatever ends this script from here on puts the terminal back.
 guard() {
     settings=$(stty -g) || fail 'the terminal tells no settings'
+    status=0
     trap put_back EXIT
     trap 'end_by HUP 1' HUP
     trap 'end_by INT 2' INT
@@ -66,24 +169,25 @@ guard() {
 # standard error, 8 and 9 the changes of the window. From here on the shell's own remarks are no one's concern.
 open_pipes() {
     folder=$(mktemp -d "${TMPDIR:-/tmp}/bidi-edit.XXXXXX") || exit 1
+    : >"$folder/fault"
     mkfifo "$folder/keys" "$folder/changes" || exit 1
     # shellcheck disable=SC2094
     exec 3<&0 4<>"$folder/keys" 5>"$folder/keys" 6<"$folder/keys" 7>&2 8<>"$folder/changes" 9<"$folder/changes" 2>/dev/null
     # The trap starts no process: one that a second signal met at its start would run the trap too.
     trap 'echo >&8' WINCH
+    trap resume CONT
 }
 
-show() {
-    is_shown=1
-    stty raw -echo -iexten
-    printf '\033[?1049h\033[?1l\033[8l'
-}
-
-# The program, what hands it the keys, and what tells it sizes.
+# The program, what hands it the keys, and what tells it sizes. A closed terminal tells all of them so, and the program is to end by
+# the end of its input.
 start_processes() {
+    is_running=1
     measure
-    "$editor" --rows "$rows" --cols "$cols" --direction "$direction" --classes "$classes" --brackets "$brackets" \
-        --mirroring "$mirroring" "$file" <&6 2>"$folder/fault" 3<&- 4<&- 5>&- 6<&- 7>&- 8<&- 9<&- &
+    {
+        trap '' HUP
+        exec "$editor" --rows "$rows" --cols "$cols" --direction "$direction" ${line:+--line "$line"} --classes "$classes" \
+            --brackets "$brackets" --mirroring "$mirroring" "$file"
+    } <&6 2>"$folder/fault" 3<&- 4<&- 5>&- 6<&- 7>&- 8<&- 9<&- &
     program=$!
     # A block of 512 bytes is written into a pipe whole on every system.
     dd bs=512 <&3 >&5 3<&- 4<&- 5>&- 6<&- 7>&- 8<&- 9<&- &
@@ -93,13 +197,19 @@ start_processes() {
     exec 4<&- 5>&- 6<&- 9<&-
 }
 
-# The program's end, in `status`. A wait that a change of the window ended says a number that is not the same everywhere.
+# Whether a wait's status says that this signal ended it, whose number is not the same everywhere.
+is_woken_by() { # SIGNAL NUMBER..
+    for number in $2 $3; do
+        [ "$status" != "$((128 + number))" ] || [ "$(kill -l "$number")" != "$1" ] || return 0
+    done
+    return 1
+}
+
+# The program's end, in `status`. A wait ends also where the window changed and where a stop was over.
 await_program() {
-    window_changed=156
-    [ "$(kill -l 20)" != WINCH ] || window_changed=148
     wait "$program"
     status=$?
-    while [ "$status" = "$window_changed" ]; do
+    while is_woken_by WINCH 28 20 || is_woken_by CONT 18 25; do
         wait "$program"
         status=$?
     done

@@ -1,13 +1,16 @@
 # shellcheck shell=sh
 # shellcheck disable=SC2034,SC2154 # words that other parts give and take
-# The command line: its words, the help, and how a refusal is told.
+# The command line: its words, the help, the version, and how a refusal is told.
 
-usage='usage: bidi-edit [--direction auto|ltr|rtl] FILE'
+version=1.0.0
+usage='usage: bidi-edit [--direction auto|ltr|rtl] [--line N | +N] [--force] FILE'
 
 help() {
     echo "$usage"
     cat <<'TEXT'
 Edits a text of any scripts, each paragraph in its own direction.
+--line N or +N begins at line N, --force opens also what cannot be saved, and
+--version tells the versions of the editor, its toolchain and Unicode's tables.
 
   Left Right Up Down    CSI D C A B   move as the screen shows
   Ctrl-B Ctrl-F         02 06         move back, forward as the text is stored
@@ -29,6 +32,20 @@ BIDI_EDIT_DATA names a folder of other Unicode files. Installed: man bidi_edit.
 TEXT
 }
 
+# The toolchain is the one that was noted when the editor was built, else the machine's.
+tell_version() {
+    find_tables
+    echo "bidi-edit $version"
+    if [ -r "${editor%/*}/kit" ]; then
+        kit=$(cat "${editor%/*}/kit")
+    else
+        kit=$(rt version 2>/dev/null) || kit=unknown
+    fi
+    echo "toolchain $kit"
+    unicode=$(sed -n '1s/^# DerivedBidiClass-\([0-9.]*[0-9]\).*/\1/p' "$classes")
+    echo "Unicode ${unicode:-unknown}"
+}
+
 refuse_words() { # CAUSE
     printf 'bidi-edit: %s\n%s\n' "$1" "$usage" >&2
     exit 2
@@ -44,40 +61,75 @@ fail() { # CAUSE
     exit 1
 }
 
-# Reads the command line into `direction` and `file`.
+# The program takes a line from 1, and goes to the last one where there are fewer; no text has more than these.
+take_line() { # NUMBER
+    line=$1
+    while [ "${line#0}" != "$line" ]; do line=${line#0}; done
+    [ ${#line} -le 8 ] || line=16777217
+    line=${line:-1}
+}
+
+# The place as other editors take it: +N, + for the last line, +N,COLUMN and +N:COLUMN, of which the column is passed over, as any
+# other command is.
+take_place() { # WORD
+    case $1 in
+    +) line=16777217 ;;
+    +[0-9]*)
+        place=${1#+}
+        place=${place%%[,:]*}
+        case $place in
+        *[!0-9]*) ;;
+        *) take_line "$place" ;;
+        esac
+        ;;
+    esac
+}
+
+# Reads the command line into `direction`, `line`, `is_forced` and `file`.
 read_words() { # WORD..
-    direction=auto
+    direction=auto line='' is_forced=''
     while [ $# -gt 0 ]; do
         case $1 in
         -h | --help)
             help
             exit 0
             ;;
-        --direction)
-            [ $# -gt 1 ] || refuse_words '--direction wants auto, ltr or rtl'
-            direction=$2
-            shift 2
+        --version)
+            tell_version
+            exit 0
             ;;
-        --direction=*)
-            direction=${1#*=}
+        --direction | --line)
+            [ $# -gt 1 ] || refuse_words "$1 wants a value"
+            take_option "$1" "$2"
             shift
             ;;
+        --direction=* | --line=*) take_option "${1%%=*}" "${1#*=}" ;;
+        --force) is_forced=1 ;;
+        # What callers say to other editors: no window of its own, no swap file, wait for the end.
+        -f | -n | -w | -nw | --nofork | --wait) ;;
         --)
             shift
             break
             ;;
         -?*) refuse_words "there is no option $1" ;;
+        +*) take_place "$1" ;;
         *) break ;;
         esac
+        shift
     done
-    case $direction in
-    auto | ltr | rtl) ;;
-    *) refuse_words "--direction wants auto, ltr or rtl, not $direction" ;;
-    esac
     [ $# = 1 ] || refuse_words 'one FILE is wanted'
     [ -n "$1" ] || refuse_words 'FILE has no name'
     case $1 in
-    -*) file=./$1 ;;
+    -* | +*) file=./$1 ;;
     *) file=$1 ;;
+    esac
+}
+
+take_option() { # NAME VALUE
+    case $1:$2 in
+    --direction:auto | --direction:ltr | --direction:rtl) direction=$2 ;;
+    --direction:*) refuse_words "--direction wants auto, ltr or rtl, not $2" ;;
+    --line: | --line:*[!0-9]*) refuse_words "--line wants a number, not $2" ;;
+    --line:*) take_line "$2" ;;
     esac
 }
