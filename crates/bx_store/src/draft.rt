@@ -89,14 +89,6 @@ fn take_place<F: OpenFile + AsFd>(file: &F, old: &Metadata) -> io::Result<()> {
     file.set_permissions(Permissions::from_mode(mode & 0o7777))
 }
 
-/// Puts a folder on the disk, so that a name in it is there after a crash.
-fn sync_folder<R: Files>(files: &R, folder: &str) -> io::Result<()> {
-    OpenOptions::new()
-        .read(true)
-        .open(files, folder)?
-        .sync_all()
-}
-
 impl<F: Write + OpenFile + AsFd + Drop> Draft<F> {
     /// An empty draft beside a file, with the owner and the permissions of what was last there, if anything was.
     pub fn beside<R: Files<File = F>>(
@@ -133,10 +125,15 @@ impl<F: Write + OpenFile + AsFd + Drop> Draft<F> {
 
     /// Takes the place of the file that it replaces.
     pub fn replace<R: Files<File = F>>(&self, files: &R) -> io::Result<()> {
-        files.rename(self.path.as_str(), self.target.as_str())?;
-        // the text is saved: all that a fault leaves open is what a crash of the machine leaves
-        let _ = sync_folder(files, folder_of(self.target.as_str()));
-        Ok(())
+        files.rename(self.path.as_str(), self.target.as_str())
+    }
+
+    /// Puts the folder on the disk, so that the new name is there after a crash of the machine.
+    pub fn sync_folder<R: Files<File = F>>(&self, files: &R) -> io::Result<()> {
+        OpenOptions::new()
+            .read(true)
+            .open(files, folder_of(self.target.as_str()))?
+            .sync_all()
     }
 
     /// The file as it is now.

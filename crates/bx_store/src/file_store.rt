@@ -89,6 +89,8 @@ where
         self.look()?;
         draft.replace(self.files)?;
         self.seen = draft.metadata().ok();
+        // the file is replaced, whatever comes of its folder
+        let _ = draft.sync_folder(self.files);
         Ok(())
     }
 
