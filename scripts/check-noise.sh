@@ -1,0 +1,235 @@
+#!/bin/sh
+# check-noise.sh [--quick]: runs the built program on noise and on extreme texts, and prints the processor time and the peak memory of
+# each run. It stands beside the gate. --quick takes a tenth of each. The last line counts; the status is 1 where a run hangs, ends
+# by a signal or with another status, paints another picture at its beginning or end, or saves another file, and 77 where the
+# program is not built or there is no python3, which measures.
+#
+# Noise: random bytes but Ctrl-Q, 1,024 at a time, over random characters. Then the window is made 1x1, Undo is pressed as often as a
+# byte of the noise can end an edit, and the text is saved, which must then be the one that was opened.
+#
+# Extreme texts, each of 16,777,216 bytes: one line, line feeds alone, one cluster, RLI alone, and pairs of brackets. The picture at
+# opening is known. Every move is made, the window and the direction change and come back, a letter is refused for the text is full
+# (but with --quick), the first unit is deleted, and a letter is put in its place and saved.
+set -eu
+export LC_ALL=C
+
+top=$(cd "$(dirname "$0")/.." && pwd)
+editor=$top/crates/bidi_edit/out/bidi_edit
+part=1
+case $#:${1:-} in
+0:) ;;
+1:--quick) part=10 ;;
+*)
+    echo 'usage: scripts/check-noise.sh [--quick]' >&2
+    exit 2
+    ;;
+esac
+if ! [ -x "$editor" ]; then
+    echo 'skipped: the program is not built (rt run in crates/bidi_edit builds it)'
+    exit 77
+fi
+if ! command -v python3 >/dev/null 2>&1; then
+    echo 'skipped: there is no python3'
+    exit 77
+fi
+
+folder=$(mktemp -d)
+trap 'rm -rf "$folder"' EXIT
+trap 'exit 1' HUP INT TERM
+cd "$folder"
+passed=0 failed=0
+
+# Seconds of processor time, and of the clock on a busy machine, after which a run hangs.
+most=3600 longest=21600
+
+# ---- texts and keys
+
+# Bytes from a generator whose numbers stay below 2 to the 46th, so that every awk gives the same.
+random='function next_number() { state = (state * 16807) % 2147483647; return state }
+    function below(count) { return int(next_number() / 2147483647 * count) }'
+
+# Random bytes, none of them Ctrl-Q.
+noise() { # COUNT
+    awk -v count="$1" -v state=1 "$random"'
+        BEGIN { while (n < count) { byte = below(256); if (byte != 17) { printf "%c", byte; n++ } } }'
+}
+
+# Random characters: of two one is any of Unicode, and the other of those that the rules tell apart.
+random_text() { # COUNT
+    awk -v count="$1" -v state=2 "$random"'
+        function put(code) {
+            if (code < 128) printf "%c", code
+            else if (code < 2048) printf "%c%c", 192 + int(code / 64), 128 + code % 64
+            else if (code < 65536) printf "%c%c%c", 224 + int(code / 4096), 128 + int(code / 64) % 64, 128 + code % 64
+            else printf "%c%c%c%c", 240 + int(code / 262144), 128 + int(code / 4096) % 64, 128 + int(code / 64) % 64, 128 + code % 64
+        }
+        BEGIN {
+            # letters, blanks, separators, numbers, brackets, Hebrew, Arabic, marks, joiners, controls of direction, wide ones
+            chosen = "97 90 32 9 10 13 48 53 44 46 43 45 37 36 40 41 91 93 60 62 1488 1489 1575 1576 1632 769 1425 8205 133 8232 8233"
+            chosen = chosen " 8234 8235 8236 8237 8238 8294 8295 8296 8297 19990 128512"
+            kinds = split(chosen, codes, " ")
+            while (n < count) {
+                code = below(2) ? codes[1 + below(kinds)] : below(1114112)
+                if (code < 55296 || code > 57343) { put(code); n++ }
+            }
+        }'
+}
+
+# A text over and over.
+repeated() { # TEXT BYTES
+    # yes is broken off by head
+    yes "$1" 2>/dev/null | tr -d '\n' | head -c "$2"
+}
+
+# So many times Undo.
+undone() { # COUNT
+    head -c "$1" /dev/zero | tr '\0' '\032'
+}
+
+# How many bytes of the noise can end an edit: they type, are the last of a character, erase or do an edit again.
+count_edits() { # FILE
+    tr -d -c '\010-\012\015\031\040-\277' <"$1" | wc -c
+}
+
+# ---- a run
+
+# Runs a command behind its words, and writes its status, its seconds of processor time and its most megabytes.
+cat >measure.py <<'END'
+import os, resource, sys
+
+seconds, told, command = int(sys.argv[1]), sys.argv[2], sys.argv[3:]
+child = os.fork()
+if child == 0:
+    resource.setrlimit(resource.RLIMIT_CPU, (seconds, seconds))
+    os.execvp(command[0], command)
+_, status, used = os.wait4(child, 0)
+with open(told, "w") as file:
+    print(os.waitstatus_to_exitcode(status), f"{used.ru_utime + used.ru_stime:.1f}", used.ru_maxrss // 1024, file=file)
+END
+
+# Runs the editor in a window on `text`, with `keys` as input, 1,024 bytes at a time. Its output goes to a command.
+run_editor() { # ROWS COLS COMMAND..
+    rows=$1 cols=$2
+    shift 2
+    dd if=keys bs=1024 2>/dev/null | python3 measure.py "$most" ended timeout -k 10 "$longest" "$editor" --rows "$rows" --cols "$cols" \
+        --classes "$top/data/DerivedBidiClass.txt" --brackets "$top/data/BidiBrackets.txt" \
+        --mirroring "$top/data/BidiMirroring.txt" text 2>told | "$@"
+}
+
+# A whole painting of a picture begins with this, and after it stands the cell of the cursor, where all is blank.
+cleared=$(printf '\033[0m\033[2J') first_cell=$(printf '\033[1;1H')
+
+# Keeps the first eight bytes and the last fourteen.
+keep_ends() {
+    head -c 8 >beginning
+    tail -c 14 >end
+}
+
+differ() { # WORDS
+    wrong="$wrong, $1"
+}
+
+# Says what the last run was, and that it did well or where it did not.
+report() { # NAME
+    read -r status seconds memory <ended
+    [ "$status" = 0 ] || differ "status $status: $(head -n 1 told)"
+    [ ! -e text.bx ] || differ 'text.bx is left'
+    if [ -z "$wrong" ]; then
+        passed=$((passed + 1))
+        echo "ok $1: $seconds s, $memory MB"
+    else
+        failed=$((failed + 1))
+        echo "FAILS $1: $seconds s, $memory MB$wrong"
+    fi
+}
+
+# Noise over the random text in a window of so many rows and columns.
+check_noise() { # ROWS COLS COUNT
+    wrong=''
+    cp characters text
+    noise "$3" >keys
+    edits=$(count_edits keys)
+    { printf '\033[8;1;1t' && undone "$edits" && printf '\023\021'; } >>keys
+    run_editor "$1" "$2" keep_ends
+    [ "$(cat beginning)" = "$cleared" ] || differ 'another beginning'
+    [ "$(cat end)" = "$cleared$first_cell" ] || differ 'another end'
+    cmp -s text characters || differ 'another file'
+    report "noise of $3 bytes in $1x$2"
+}
+
+# The end of the painting at opening in 24x80.
+opening_end() { # BEFORE
+    printf '\033[24;1H%b-\033[24;3H1:1\033[1;1H' "$1"
+}
+
+# The painting at opening of 23 rows that are each as the file `row`, with what changes how they look before and behind them.
+opening_of_rows() { # BEFORE BEHIND
+    printf '\033[0m\033[2J'
+    line=1
+    while [ "$line" -le 23 ]; do
+        printf '\033[%d;1H' "$line"
+        [ "$line" != 1 ] || printf '%b' "$1"
+        cat row
+        line=$((line + 1))
+    done
+    opening_end "$2"
+}
+
+# Every move, another window, each direction, all painted anew, and back to the start of the first row.
+moves() {
+    for _ in 1 2; do
+        printf '\033[F\033[B\033[C\033[D\033[A\006\002\033[6~\033[6~\033[H\033[5~\033[5~\033[H'
+    done
+    printf '\033[8;40;100t\033[F\033[6~\033[9~\033[F\033[6~\033[9~\033[F\033[5~\033[9~\014\033[8;24;80t'
+    printf '\033[5~\033[5~\033[5~\033[5~\033[5~\033[H'
+}
+
+# Opens `original`, whose first unit has so many bytes and whose opening is in `opening`, and puts an `x` in place of that unit.
+check_text() { # NAME BYTES
+    wrong=''
+    cp original text
+    # a text that is full takes no letter
+    { moves && { [ "$part" != 1 ] || printf 'x'; } && printf '\033[3~x' && moves && printf '\032\032\031\031\023\021'; } >keys
+    run_editor 24 80 cat >output
+    head -c "$(wc -c <opening)" output | cmp -s - opening || differ 'another picture at opening'
+    [ "$(tail -c 14 output)" = "$cleared$first_cell" ] || differ 'another end'
+    [ "$part" != 1 ] || grep -a -q full output || differ 'the text was not told to be full'
+    { printf 'x' && tail -c +"$(($2 + 1))" original; } | cmp -s - text || differ 'another file'
+    report "$1 of $(wc -c <original) bytes"
+    rm output
+}
+
+# ---- all runs
+
+random_text 100000 >characters
+check_noise 24 80 $((4000000 / part))
+check_noise 1 1 $((4000000 / part))
+check_noise 100 400 $((4000000 / part))
+check_noise 500 500 $((50000 / part))
+
+bytes=$((16777216 / part / 2 * 2))
+repeated a "$bytes" >original
+head -c 80 original >row
+opening_of_rows '' '' >opening
+check_text 'one line' 1
+
+head -c "$bytes" /dev/zero | tr '\0' '\n' >original
+{ printf '\033[0m\033[2J' && opening_end ''; } >opening
+check_text 'line feeds' 1
+
+{ printf '\303\251' && repeated "$(printf '\314\201')" $((bytes - 2)); } >original
+{ printf '\033[0m\033[2J\033[1;1H' && cat original && opening_end ''; } >opening
+check_text 'one cluster' "$bytes"
+
+{ repeated "$(printf '\342\201\247')" $((bytes / 3 * 3)) && printf '%.*s' $((bytes % 3)) aa; } >original
+repeated I 80 >row
+opening_of_rows '\033[7m' '\033[0m' >opening
+check_text 'RLI' 3
+
+repeated '()' "$bytes" >original
+head -c 80 original >row
+opening_of_rows '' '' >opening
+check_text 'pairs of brackets' 1
+
+echo "$passed passed, $failed failed"
+[ "$failed" = 0 ]
