@@ -61,12 +61,12 @@ fail() { # CAUSE
     exit 1
 }
 
-# The program takes a line from 1, and goes to the last one where there are fewer; no text has more than these.
+# The line to begin at, none where it is the first. No text has more lines than these, and the program takes the last it has.
 take_line() { # NUMBER
     line=$1
     while [ "${line#0}" != "$line" ]; do line=${line#0}; done
     [ ${#line} -le 8 ] || line=16777217
-    line=${line:-1}
+    [ "$line" != 1 ] || line=''
 }
 
 # The place as other editors take it: +N, + for the last line, +N,COLUMN and +N:COLUMN, of which the column is passed over, as any

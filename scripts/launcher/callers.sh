@@ -1,0 +1,113 @@
+# shellcheck shell=sh
+# shellcheck disable=SC2034,SC2154 # words that other parts give and take
+# Programs that call an editor, each with what it says: git, crontab, visudo and less.
+
+# An editor's name without blanks, as some callers take no others.
+make_wrapper() {
+    printf '#!/bin/sh\nexec %s "%s/bidi-edit" "$@"\n' "$shell" "$top" >"$folder/edit"
+    chmod +x "$folder/edit"
+    setup="export EDITOR='$folder/edit' VISUAL='$folder/edit' GIT_EDITOR='$folder/edit' HOME='$folder/home'"
+}
+
+# Runs a caller and not the launcher itself.
+start_caller() { # COMMAND
+    caller_shell=$shell
+    shell='sh'
+    start 12 70 -c "$1"
+    shell=$caller_shell
+}
+
+has_caller() { # NAME
+    command -v "$1" >/dev/null 2>&1 && return
+    skip "caller, $1" 'it is not installed'
+    return 1
+}
+
+check_git() {
+    has_caller git || return 0
+    git init -q repository
+    start_caller 'cd repository && git -c user.name=a -c user.email=a@b commit -q --allow-empty'
+    wait_for 50 shows 'Please enter the commit message'
+    type_keys -l 'שלום message'
+    type_keys C-s
+    wait_for 30 shows 'saved'
+    type_keys C-q
+    finish 'caller, git' 0 50
+    same 'caller, git: the commit' "$(git -C repository log --format=%s)" 'שלום message'
+    rm -rf repository
+}
+
+# The user's own table is not touched: where there is one, it is left alone.
+check_crontab() {
+    has_caller crontab || return 0
+    if crontab -l >/dev/null 2>&1; then
+        skip 'caller, crontab' 'the user has a table of their own'
+        return
+    fi
+    start_caller 'crontab -e'
+    wait_for 50 is_editing
+    # crontab knows a change by the second of it
+    sleep 1.1
+    type_keys -l '# שלום'
+    type_keys Enter C-s
+    wait_for 30 shows 'saved'
+    type_keys C-q
+    wait_for 50 has_ended
+    same 'caller, crontab: its status' "$(cat "$folder/status")" 0
+    same 'caller, crontab: the table' "$(crontab -l 2>/dev/null | head -n 1)" '# שלום'
+    terminal kill-session -t person
+    crontab -r
+}
+
+check_visudo() {
+    PATH=$PATH:/usr/sbin has_caller visudo || return 0
+    printf 'root ALL=(ALL:ALL) ALL\n' >sudoers
+    chmod 440 sudoers
+    # shellcheck disable=SC2016
+    start_caller 'PATH=$PATH:/usr/sbin; visudo -f sudoers'
+    wait_for 50 shows 'root ALL'
+    type_keys -l '# a comment'
+    type_keys Enter C-s
+    wait_for 30 shows 'saved'
+    type_keys C-q
+    wait_for 50 has_ended
+    same 'caller, visudo: its status' "$(cat "$folder/status")" 0
+    same 'caller, visudo: the file' "$(paste -s -d '|' sudoers)" '# a comment|root ALL=(ALL:ALL) ALL'
+    terminal kill-session -t person
+    rm -f sudoers
+}
+
+check_less() {
+    has_caller less || return 0
+    echo one >page
+    start_caller 'less page'
+    wait_for 50 shows END
+    type_keys v
+    wait_for 50 shows '- 1:1'
+    type_keys -l new
+    type_keys C-s
+    wait_for 30 shows saved
+    type_keys C-q
+    wait_for 50 shows_no saved
+    type_keys q
+    wait_for 50 has_ended
+    terminal kill-session -t person
+    same 'caller, less: the file' "$(cat page)" newone
+    rm -f page
+}
+
+shows_no() { # TEXT
+    ! shows "$1"
+}
+
+check_callers() {
+    asked caller && has_editor || return 0
+    mkdir "$folder/home"
+    make_wrapper
+    check_git
+    check_crontab
+    check_visudo
+    check_less
+    setup=''
+    rm -rf "${folder:?}/home"
+}

@@ -1,0 +1,201 @@
+# shellcheck shell=sh
+# shellcheck disable=SC2034,SC2154 # words that other parts give and take
+# The editor in the launcher, whose screen must be the one that the program alone makes for that size and those keys.
+
+has_editor() {
+    [ -x "$editor" ] || {
+        skip 'the editor' 'it is not built (./bidi-edit FILE builds it)'
+        return 1
+    }
+}
+
+# The screen that the program alone makes of a file and keys, in a window of this size.
+alone() { # ROWS COLS FILE KEYS
+    cp "$3" "$folder/files/alone" 2>/dev/null || rm -f "$folder/files/alone"
+    # shellcheck disable=SC2059 # the keys have escapes
+    printf "$4" | "$editor" --rows "$1" --cols "$2" --classes "$top/data/DerivedBidiClass.txt" --brackets "$top/data/BidiBrackets.txt" \
+        --mirroring "$top/data/BidiMirroring.txt" "$folder/files/alone" >"$folder/bytes" 2>/dev/null
+    rm -f "$folder/files/alone"
+    printf 'stty raw -echo; cat "%s/bytes"; exec sleep 600\n' "$folder" >"$folder/show"
+    terminal new-session -d -s alone -x "$2" -y "$1" "sh $folder/show" \; set -g status off
+    terminal resize-window -t alone -x "$2" -y "$1" 2>/dev/null
+    settled_screen alone
+    terminal kill-session -t alone
+}
+
+text='שלום: this note wraps at blanks, (abc) אבג 123 דהו.\nעברית first, and then English words.\n'
+
+# A file `note` of that text, and a copy of it.
+make_note() {
+    # shellcheck disable=SC2059
+    printf "$text" >note
+    cp note "$folder/opened"
+}
+
+check_edit() {
+    make_note
+    start 8 40 "$top/bidi-edit" note
+    same 'edit, opened' "$(settled_screen person)" "$(alone 8 40 "$folder/opened" '')"
+    type_keys -l 'new א '
+    type_keys Right Left C-f Right
+    typed='new א \033[C\033[D\006\033[C'
+    same 'edit, typed and moved' "$(settled_screen person)" "$(alone 8 40 "$folder/opened" "$typed")"
+    for size in '12 24' '7 60' '16 15'; do
+        resize "${size% *}" "${size#* }"
+        same "edit, resized to $size" "$(settled_screen person)" "$(alone "${size% *}" "${size#* }" "$folder/opened" "$typed")"
+    done
+    rows=16
+    type_keys C-s
+    sleep 0.5
+    type_keys C-q
+    finish 'edit, saved' 0 50
+    # shellcheck disable=SC2059
+    printf "new א $text" >"$folder/expected"
+    cmp note "$folder/expected" >"$folder/differs" 2>&1
+    report 'edit, the saved file' $? "$(cat "$folder/differs")"
+    same 'edit, files beside it' "$(ls)" note
+}
+
+check_quit() {
+    make_note
+    start 8 60 "$top/bidi-edit" note
+    type_keys x C-q
+    seen=$(settled_screen person)
+    same 'quit, once with changes' "$seen" "$(alone 8 60 "$folder/opened" 'x\021')"
+    has 'quit, its message' "$seen" 'unsaved: ^Q again'
+    type_keys C-q
+    finish 'quit, twice' 0 50
+    cmp note "$folder/opened" >/dev/null
+    report 'quit, the file is as before' $? 'it is not'
+}
+
+check_long_paste() {
+    rm -f new
+    start 24 80 "$top/bidi-edit" new
+    terminal load-buffer -b text "$folder/paste"
+    terminal paste-buffer -r -b text -t person
+    type_keys C-s
+    wait_for 1200 test -s new
+    type_keys C-q
+    finish 'long paste' 0 50
+    cmp new "$folder/paste" >"$folder/differs" 2>&1
+    report 'long paste, saved' $? "$(cat "$folder/differs")"
+    rm -f new
+}
+
+check_editor_end() {
+    make_note
+    start 8 60 "$top/bidi-edit" note
+    send_signal TERM '.*bidi_edit --rows'
+    finish 'end, the program killed' 143 50
+    for signal in TERM HUP; do
+        start 8 60 "$top/bidi-edit" note
+        type_keys x
+        wait_for 30 shows 'xשלום'
+        send_signal "$signal" "$shell .*/bidi-edit note"
+        finish "end, the launcher by $signal" "$((128 + $(signal_number "$signal")))" 50
+        has "end, the launcher by $signal: what is told" "$(cat "$folder/errors")" 'bidi_edit: input ended before saving'
+    done
+    cmp note "$folder/opened" >/dev/null
+    report 'end, the file is as before' $? 'it is not'
+}
+
+shows() { # TEXT
+    terminal capture-pane -p -t person | grep -q -F -e "$1"
+}
+
+check_files() {
+    start 8 60 "$top/bidi-edit" missing
+    type_keys C-q
+    finish 'file, missing' 0 50
+    test ! -e missing
+    report 'file, missing: none is made' $? 'there is one'
+    # what iconv takes and Unicode has not
+    printf 'a\364\220\200\200' >bytes
+    start 8 60 "$top/bidi-edit" bytes
+    finish 'file, not UTF-8' 1 50
+    same 'file, not UTF-8: the words' "$(cat "$folder/errors")" 'bidi_edit: not UTF-8 at byte 1'
+    rm -f bytes
+}
+
+# Opens at a line, where the program knows how.
+check_line() {
+    if ! "$editor" --help 2>&1 | grep -q -e '--line'; then
+        skip line 'the editor has no --line'
+        return
+    fi
+    awk 'BEGIN { for (i = 1; i <= 100; i++) print "line", i }' >note
+    for word in +50 --line=50; do
+        start 8 60 "$top/bidi-edit" "$word" note
+        has "line, by $word" "$(settled_screen person)" '- 50:1'
+        type_keys C-q
+        finish "line, by $word" 0 50
+    done
+}
+
+# A job that is stopped and taken up again is painted anew, and goes on.
+check_editor_stop() {
+    make_note
+    start_shell 8 50 "$top/bidi-edit" note
+    type_keys -l new
+    wait_for 30 shows 'new'
+    stop_and_take_up 'stop, the editor'
+    same 'stop, the editor is painted anew' "$(settled_screen person)" "$(alone 8 50 "$folder/opened" new)"
+    type_keys -l er
+    same 'stop, the editor goes on' "$(settled_screen person)" "$(alone 8 50 "$folder/opened" newer)"
+    type_keys C-q C-q
+    finish_shell 'stop, the editor' 0
+}
+
+check_install() {
+    sh "$top/scripts/install.sh" "$folder/prefix" >/dev/null
+    printf 'ab' >note
+    start 8 60 "$folder/prefix/bin/bidi-edit" note
+    same 'install, opened' "$(settled_screen person)" "$(alone 8 60 note '')"
+    type_keys C-q
+    finish install 0 50
+    sh "$top/scripts/install.sh" --uninstall "$folder/prefix" >/dev/null
+    same 'install, taken away' "$(find "$folder/prefix" -type f -o -type l)" ''
+}
+
+check_time() {
+    printf 'ab' >note
+    times_of_ten >"$folder/times"
+    same 'time, under 50 ms of processor time to start and end' "$(awk '{ print ($1 < 50 ? "under" : $0) }' "$folder/times")" under
+    echo "   $shell: $(cat "$folder/times") ms, launcher and editor, of ten runs that end at once"
+}
+
+# The mean processor time of ten runs, in thousandths of a second, by the shell's own count of its children.
+times_of_ten() {
+    {
+        echo "cd '$folder/files'"
+        for _ in 1 2 3 4 5 6 7 8 9 10; do echo "$shell '$top/bidi-edit' note"; done
+        echo "times >'$folder/counted'"
+        echo "exec sleep 600"
+    } >"$folder/run"
+    rm -f "$folder/counted"
+    terminal new-session -d -s person -x 80 -y 24 "bash $folder/run" \; set -g status off
+    for _ in 1 2 3 4 5 6 7 8 9 10; do
+        wait_for 50 is_editing
+        sleep 0.2
+        type_keys C-q
+        sleep 0.3
+    done
+    wait_for 50 test -s "$folder/counted"
+    terminal kill-session -t person
+    awk 'NR == 2 { n = split($0, part, "[ms ]+"); printf "%d\n", (part[1] * 60 + part[2] + part[3] * 60 + part[4]) * 1000 / 10 }' "$folder/counted"
+}
+
+check_editor() {
+    has_editor || return 0
+    ! asked edit || check_edit
+    ! asked quit || check_quit
+    ! asked long || check_long_paste
+    ! asked end || check_editor_end
+    ! asked file || check_files
+    ! asked line || check_line
+    ! asked stop || check_editor_stop
+    ! asked install || check_install
+    ! asked time || check_time
+    rm -f note
+}

@@ -1,0 +1,155 @@
+# shellcheck shell=sh
+# shellcheck disable=SC2034,SC2154 # words that other parts give and take
+# How a session ends, or stands still: signals to the launcher, to its program and to what hands on the keys.
+
+# The program is let end by the end of its input, so what was typed is with it.
+check_input_end() {
+    for signal in TERM HUP INT QUIT; do
+        start 24 80 "$recorder" f
+        wait_for 50 test -e "$folder/record"
+        type_keys -l typed
+        wait_for 50 has_recorded typed
+        send_signal "$signal" "$shell .*bin/bidi-edit"
+        finish "kill, the launcher by $signal" "$((128 + $(signal_number "$signal")))" 50
+        same "kill, the launcher by $signal: the program's input" "$(cat "$folder/record")" 'typed end'
+    done
+    start 24 80 "$recorder" f
+    wait_for 50 test -e "$folder/record"
+    type_keys -l typed
+    wait_for 50 has_recorded typed
+    terminal kill-session -t person
+    wait_for 50 has_recorded 'typed end'
+    same 'kill, the terminal: the program'"'"'s input' "$(cat "$folder/record")" 'typed end'
+    wait_for 50 test -z "$(ls -A "$folder/private")"
+    same 'kill, the terminal: files that stay' "$(ls -A "$folder/private")" ''
+    same 'kill, the terminal: processes that stay' "$(pgrep -f "$folder/recorder" | wc -l)" 0
+}
+
+check_hard_ends() {
+    for signal in TERM HUP; do
+        start 24 80 "$recorder" still
+        send_signal "$signal" "$shell .*bin/bidi-edit"
+        finish "kill, the launcher of a program that hangs by $signal" "$((128 + $(signal_number "$signal")))" 60
+    done
+    start 24 80 "$recorder" still
+    wait_for 50 test -s "$folder/words"
+    send_signal KILL 'sleep 1000'
+    finish 'kill, the program' 137 50
+    start 24 80 "$recorder" f
+    wait_for 50 test -e "$folder/record"
+    send_signal KILL "$key_reader"
+    finish 'kill, the reader of keys' 9 50
+    start 24 80 "$recorder" still
+    terminal load-buffer -b text "$folder/paste"
+    terminal paste-buffer -r -b text -t person
+    resize 20 70
+    sleep 0.3
+    send_signal TERM "$shell .*bin/bidi-edit"
+    is_flooded=1
+    finish 'kill, the launcher while the pipe is full' 143 60
+    is_flooded=''
+}
+
+# Where the sessions' part says that the text is kept, the launcher lets it say so.
+check_kept() {
+    if [ -e "$top/launcher/sessions.sh" ]; then
+        skip 'kept' 'the part of sessions has its own check'
+        return
+    fi
+    parts=$folder/recorder/lib/bidi_edit/launcher
+    cp "$parts/terminal.sh" "$folder/terminal.sh"
+    # shellcheck disable=SC2016
+    echo 'tell_kept() { echo "the text is kept ($status)" >&7; }' >>"$parts/terminal.sh"
+    start 24 80 "$recorder" f
+    wait_for 50 test -e "$folder/record"
+    send_signal TERM "$shell .*bin/bidi-edit"
+    finish 'kept' 143 50
+    has 'kept, told' "$(cat "$folder/errors")" 'the text is kept (9)'
+    cp "$folder/terminal.sh" "$parts/terminal.sh"
+}
+
+is_stopped() {
+    case $(ps -o stat= -p "$1") in T*) return 0 ;; *) return 1 ;; esac
+}
+
+has_told() { # BYTES
+    grep -a -q -F "$1" "$folder/record"
+}
+
+is_raw() {
+    case $(stty -a -F "$tty") in *-icanon*) return 0 ;; *) return 1 ;; esac
+}
+
+# An interactive shell, in which a job can be stopped and taken up again, and its first line.
+start_shell() { # ROWS COLS LAUNCHER WORD..
+    for file in ended status before after record words output; do rm -f "$folder/$file"; done
+    command="env -u BASH_ENV ENV= PS1='ready> ' TMPDIR='$folder/private' BX_RECORD='$folder/record' BX_WORDS='$folder/words'"
+    case $shell in
+    bash) command="$command bash --norc --noprofile -i" ;;
+    *) command="$command $shell -i" ;;
+    esac
+    rows=$1 cols=$2
+    open_person "$1" "$2" "cd '$folder/files'; exec $command"
+    shift 2
+    wait_for 50 shows 'ready>'
+    give_line "stty -g >$folder/before"
+    give_line "$shell $* 2>$folder/errors"
+    wait_for 50 is_editing
+}
+
+# A line of the shell's, ended by a line feed, since a stopped job leaves the terminal raw to a shell that does not care.
+give_line() { # LINE
+    type_keys -l "$1"
+    type_keys C-j
+}
+
+check_stop() {
+    start_shell 8 50 "$recorder" f
+    wait_for 50 test -e "$folder/record"
+    stop_and_take_up stop
+    wait_for 50 has_told '[8;8;50t'
+    same 'stop, the size is told again' "$(tr -d '\033' <"$folder/record")" '[8;8;50t'
+    has 'stop, the modes are set again' "$(written)" '^[[?1047h^[[?1l^[(B^O^[[4l^[[?6l^[[r^[[?7h^[[?25h^[[8l^[[1 k'
+    wait_for 20 is_raw
+    report 'stop, the terminal is raw again' $? "$(stty -a -F "$tty")"
+    type_keys C-q
+    finish_shell stop 7
+}
+
+# Stops the job as its shell does, gives the shell a line, and takes the job up again.
+stop_and_take_up() { # NAME
+    launcher=$(process_of "$shell .*bidi-edit")
+    kill -s STOP -- "-$(ps -o pgid= -p "$launcher" | tr -d ' ')"
+    wait_for 50 is_stopped "$launcher"
+    sleep 0.3
+    give_line 'echo the shell has it >said'
+    wait_for 30 test -s "$folder/files/said"
+    report "$1, the shell has the terminal" $? 'it takes no line'
+    rm -f "$folder/files/said"
+    give_line fg
+    sleep 0.3
+}
+
+is_over() {
+    ! is_editing
+}
+
+finish_shell() { # NAME STATUS
+    wait_for 50 is_over || report "$1, its end" 1 'it goes on'
+    give_line "echo \$? >$folder/status; stty -g >$folder/after; touch $folder/ended"
+    wait_for 50 has_ended
+    same "$1, status" "$(cat "$folder/status" 2>/dev/null)" "$2"
+    same "$1, the terminal's settings" "$(cat "$folder/after" 2>/dev/null)" "$(cat "$folder/before")"
+    same "$1, the terminal's modes" "$(modes_of person)" "0 0 0 $((rows - 1)) 1 1"
+    same "$1, files that stay" "$(ls -A "$folder/private")" ''
+    terminal kill-session -t person
+}
+
+check_ends() {
+    if asked kill; then
+        check_input_end
+        check_hard_ends
+    fi
+    ! asked kept || check_kept
+    ! asked stop || check_stop
+}

@@ -1,0 +1,161 @@
+# shellcheck shell=sh
+# shellcheck disable=SC2034,SC2154 # words that other parts give and take
+# The terminal as the painter counts on it, whatever another program left, and as it was at the end.
+
+# Each of these would spoil the picture, and lasts until it is taken back: inserting, origin, a part that scrolls, no autowrap, line
+# drawing letters, a hidden cursor.
+bad_modes='\033[4h\033[?6h\033[2;4r\033[?7l\033(0\033[?25l'
+
+check_modes() {
+    start 8 50 "$recorder" f
+    wait_for 50 test -e "$folder/record"
+    type_keys C-q
+    finish modes 7 50
+    has 'modes, told at the start' "$(written)" '^[[?1049h^[[?1l^[(B^O^[[4l^[[?6l^[[r^[[?7h^[[?25h^[[8l^[[1 k'
+    has 'modes, told at the end' "$(written)" '^[[0m^[[?25h^[[0 k^[[8h^[[23;0t^[[?1049l'
+}
+
+# A program that writes and never gets to the end of what it does, killed while it hides the cursor in negative image.
+check_killed_program() {
+    start 8 50 "$recorder" still
+    wait_for 50 test -s "$folder/words"
+    printf '\033[7m\033[?25l' >"$tty"
+    send_signal KILL 'sleep 1000'
+    finish 'modes, the program killed' 137 50
+}
+
+check_bad_modes() {
+    setup="printf '$bad_modes'"
+    printf 'abc שָׁלוֹם def\nsecond line\n\nfourth' >note
+    cp note "$folder/opened"
+    start 8 50 "$top/bidi-edit" note
+    same 'modes, whatever another program left' "$(settled_screen person)" "$(alone 8 50 "$folder/opened" '')"
+    same 'modes, whatever another program left: flags' "$(modes_of person)" '0 0 0 7 1 1'
+    type_keys C-q
+    finish 'modes, of another program' 0 50
+    setup=''
+    rm note
+}
+
+# A letter with marks in the last column, which tmux joins to the letter before it where autowrap is off.
+check_last_column() {
+    printf 'שָׁלוֹם' >note
+    cp note "$folder/opened"
+    setup="printf '\033[?7l'"
+    start 4 20 "$top/bidi-edit" note
+    has 'modes, marks in the last column' "$(settled_screen person)" 'שָׁ|'
+    type_keys C-q
+    finish 'modes, last column' 0 50
+    setup=''
+    rm note
+}
+
+# A terminal whose opening another program left so that reads do not wait.
+check_no_wait() {
+    if ! command -v perl >/dev/null 2>&1; then
+        skip 'nonblock' 'there is no perl to set it with'
+        return
+    fi
+    set_flag='perl -MFcntl -e "fcntl(STDIN, F_SETFL, fcntl(STDIN, F_GETFL, 0) | O_NONBLOCK)"'
+    cleanup='perl -MFcntl -e "fcntl(STDIN, F_SETFL, fcntl(STDIN, F_GETFL, 0) & ~O_NONBLOCK)"'
+    setup=$set_flag
+    start 8 50 "$recorder" f
+    wait_for 50 test -e "$folder/record"
+    sleep 0.3
+    type_keys -l keys
+    wait_for 30 has_recorded keys
+    same 'nonblock, keys of a terminal that does not wait' "$(cat "$folder/record" 2>/dev/null)" keys
+    type_keys C-q
+    finish nonblock 7 50
+    setup='' cleanup=''
+}
+
+# Other things as standard input and output, where there is a controlling terminal.
+check_redirections() {
+    for redirection in '</dev/null' '</dev/null >/dev/null' '<&-'; do
+        start 8 50 "$recorder" f
+        wait_for 50 test -e "$folder/record"
+        type_keys -l keys
+        wait_for 30 has_recorded keys
+        same "controlling, keys with $redirection" "$(cat "$folder/record" 2>/dev/null)" keys
+        type_keys C-q
+        finish "controlling, with $redirection" 7 50
+        has "controlling, the screen with $redirection" "$(written)" '^[[?1049h'
+    done
+    redirection=''
+}
+
+title() {
+    terminal display-message -p -t person '#{pane_title}'
+}
+
+check_title() {
+    setup="printf '\033]2;a title of before\007'"
+    start 8 50 "$recorder" "$(printf 'x\033]te\302\205x שם')"
+    same 'title' "$(title)" 'x]tex שם - ^S save ^Q quit'
+    type_keys C-q
+    wait_for 50 has_ended
+    same 'title, at the end' "$(title)" 'a title of before'
+    terminal kill-session -t person
+    setup='unset TMUX VTE_VERSION XTERM_VERSION; export TERM=linux'
+    start 8 50 "$recorder" f
+    wait_for 50 test -e "$folder/record"
+    type_keys C-q
+    finish 'title, elsewhere' 7 50
+    case $(written) in
+    *'^[]'* | *'22;0t'* | *'23;0t'*) report 'title, none where it might stay' 1 "$(written)" ;;
+    *) report 'title, none where it might stay' 0 '' ;;
+    esac
+    setup=''
+}
+
+# The terminal in which tmux shows its own, played by another tmux.
+check_outer() {
+    start 8 50 "$recorder" f
+    type_keys C-q
+    finish 'outer, none' 7 50
+    start_outer
+    start 8 50 "$recorder" f
+    wait_for 50 outer_has '^[[8l'
+    outer_has '^[[8l'
+    report 'outer, told' $? "$(cat -v "$folder/outer")"
+    outer_has '^[[8h'
+    same 'outer, not yet at the end' $? 1
+    type_keys C-q
+    wait_for 50 has_ended
+    wait_for 20 outer_has '^[[8h'
+    report 'outer, told at the end' $? "$(cat -v "$folder/outer")"
+    terminal kill-session -t person
+    terminal kill-session -t outer
+}
+
+# A client of the check's tmux, on the session that is always there.
+start_outer() {
+    rm -f "$folder/outer"
+    terminal new-session -d -s outer -x 60 -y 12 "sleep 0.5; env -u TMUX tmux -u -L $socket attach -t keep"
+    terminal pipe-pane -t outer "cat >'$folder/outer'"
+    wait_for 50 outer_is_attached
+}
+
+outer_is_attached() {
+    [ -n "$(terminal list-clients)" ]
+}
+
+outer_has() { # BYTES
+    cat -v "$folder/outer" | grep -q -F "$1"
+}
+
+check_terminal_modes() {
+    if asked modes; then
+        check_modes
+        check_killed_program
+        if has_editor; then
+            check_bad_modes
+            check_last_column
+        fi
+    fi
+    ! asked nonblock || check_no_wait
+    ! asked controlling || check_redirections
+    ! asked title || check_title
+    ! asked outer || check_outer
+}

@@ -1,0 +1,161 @@
+# shellcheck shell=sh
+# shellcheck disable=SC2034,SC2154 # words that other parts give and take
+# What the launcher hands to its program: words and input, seen by one that only records them.
+
+# Lies where an installed launcher looks for its program.
+make_recorder() {
+    recorder=$folder/recorder/bin/bidi-edit
+    mkdir -p "$folder/recorder/bin" "$folder/recorder/lib/bidi_edit" "$folder/recorder/share"
+    cp "$top/bidi-edit" "$recorder"
+    cp -R "$top/launcher" "$folder/recorder/lib/bidi_edit/launcher"
+    cp -r "$top/data" "$folder/recorder/share/bidi_edit"
+    echo 'a kit' >"$folder/recorder/lib/bidi_edit/kit"
+    cat >"$folder/recorder/lib/bidi_edit/bidi_edit" <<'TEXT'
+#!/bin/sh
+# Records its words, and its input until a reading ends in a byte 11. A FILE `still` is one that no key ends.
+printf '%s\n' "$@" >"$BX_WORDS"
+echo 'bidi_edit: a fault' >&2
+for file; do :; done
+[ "$file" != still ] || exec sleep 1000
+: >"$BX_RECORD"
+while dd bs=65536 count=1 2>/dev/null >"$BX_RECORD.part" && [ -s "$BX_RECORD.part" ]; do
+    tr -d '\021' <"$BX_RECORD.part" >>"$BX_RECORD"
+    [ "$(tail -c 1 "$BX_RECORD.part")" != "$(printf '\021')" ] || exit 7
+done
+echo ' end' >>"$BX_RECORD"
+exit 9
+TEXT
+    chmod +x "$folder/recorder/lib/bidi_edit/bidi_edit"
+    # 100,000 bytes, with no byte that ends the record
+    awk 'BEGIN { while (n < 100000) { line = sprintf("%d \327\220\327\221 word\n", i++); n += length(line); printf "%s", line } }' | head -c 100000 >"$folder/paste"
+}
+
+# The word after a word of the program's command line.
+word_after() {
+    grep -A 1 -x -e "$1" "$folder/words" | tail -n 1
+}
+
+has_recorded() { # BYTES
+    [ "$(tr -d '\033' <"$folder/record" 2>/dev/null)" = "$1" ]
+}
+
+check_words() {
+    start 23 77 "$recorder" --direction rtl 'a file'
+    type_keys C-q
+    finish words 7 50
+    same 'words, rows' "$(word_after --rows)" 23
+    same 'words, columns' "$(word_after --cols)" 77
+    same 'words, direction' "$(word_after --direction)" rtl
+    same 'words, file' "$(tail -n 1 "$folder/words")" 'a file'
+    same 'words, no line where none is asked for' "$(grep -c -x -e --line "$folder/words")" 0
+    same 'words, fault' "$(cat "$folder/errors")" 'bidi_edit: a fault'
+}
+
+# What the launcher's words before a FILE say of the line.
+line_of() { # NAME WANTED WORD..
+    name=$1 wanted_line=$2
+    shift 2
+    start 8 40 "$recorder" "$@"
+    wait_for 50 test -e "$folder/record"
+    type_keys C-q
+    wait_for 50 has_ended
+    same "$name" "$(grep -x -e --line "$folder/words" >/dev/null && word_after --line) $(tail -n 1 "$folder/words")" "$wanted_line"
+    terminal kill-session -t person
+}
+
+check_lines() {
+    line_of 'lines, +N' '7 f' +7 f
+    line_of 'lines, --line' '12 f' --line 12 f
+    line_of 'lines, --line=N' '12 f' --line=12 f
+    line_of 'lines, the first' ' f' +1 f
+    line_of 'lines, zeros' '8 f' +008 f
+    line_of 'lines, past any text' '16777217 f' +99999999999999999999 f
+    line_of 'lines, the last' '16777217 f' + f
+    line_of 'lines, with a column' '7 f' +7:3 f
+    line_of 'lines, as visudo says it' '7 f' +7 -- f
+    line_of 'lines, a pattern is passed over' ' f' '+/^$' f
+    line_of 'lines, words of other editors' ' f' -f -n -w -nw --nofork --wait f
+    line_of 'lines, a FILE with a plus' ' ./+7' -- +7
+}
+
+check_tables() {
+    tables=$top/data
+    start 24 80 "$recorder" f
+    wait_for 50 test -e "$folder/record"
+    type_keys C-q
+    finish tables 7 50
+    same 'tables, where BIDI_EDIT_DATA says' "$(word_after --classes)" "$top/data/DerivedBidiClass.txt"
+    tables=$folder/files
+    start 24 80 "$recorder" f
+    finish 'tables, none there' 1 50
+    same 'tables, none there: the words' "$(cat "$folder/errors")" \
+        "bidi-edit: BIDI_EDIT_DATA names $folder/files, which lacks DerivedBidiClass.txt, BidiBrackets.txt or BidiMirroring.txt"
+    tables=''
+}
+
+check_sizes() {
+    start 24 80 "$recorder" f
+    resize 30 100
+    sleep 0.4
+    resize 10 40
+    sleep 0.4
+    type_keys a C-q
+    rows=10
+    finish size 7 50
+    same 'size, each one told while nothing is typed' "$(tr -d '\033' <"$folder/record")" '[8;30;100t[8;10;40ta'
+    start 24 600 "$recorder" f
+    same 'size, a wide window' "$(wait_for 50 test -s "$folder/words" && word_after --cols)" 500
+    resize 20 700
+    sleep 0.4
+    type_keys C-q
+    rows=20
+    finish 'size, of a wide window' 7 50
+    same 'size, a wide window told' "$(tr -d '\033' <"$folder/record")" '[8;20;500t'
+}
+
+check_paste() {
+    start 24 80 "$recorder" f
+    terminal load-buffer -b text "$folder/paste"
+    terminal paste-buffer -r -b text -t person
+    for side in 11 12 13 14 15 16 17 18 19 20; do
+        resize "$side" 1"$side"
+        sleep 0.02
+    done
+    terminal paste-buffer -r -b text -t person
+    sleep 1
+    type_keys C-q
+    rows=20
+    finish paste 7 300
+    sed -e 's/\x1b\[8;[0-9]*;[0-9]*t//g' "$folder/record" >"$folder/typed"
+    cat "$folder/paste" "$folder/paste" >"$folder/twice"
+    cmp "$folder/typed" "$folder/twice" >"$folder/differs" 2>&1
+    report 'paste, 200000 bytes in order beside sizes' $? "$(cat "$folder/differs")"
+    same 'paste, the last size' "$(grep -a -o '\[8;[0-9]*;[0-9]*t' "$folder/record" | tail -n 1)" '[8;20;120t'
+    check_whole_keys
+}
+
+# Keys of several bytes that come whole stay whole.
+check_whole_keys() {
+    start 24 80 "$recorder" f
+    for side in 11 12 13 14 15 16 17 18 19 20 21 22 23 24 25; do
+        resize "$side" 50
+        type_keys -l א
+        resize "$side" 60
+        type_keys Right
+    done
+    sleep 0.5
+    type_keys C-q
+    rows=25
+    finish 'paste, keys' 7 50
+    same 'paste, keys between sizes' "$(sed -e 's/\x1b\[8;[0-9]*;[0-9]*t//g' "$folder/record" | tr -d '\033')" \
+        'א[Cא[Cא[Cא[Cא[Cא[Cא[Cא[Cא[Cא[Cא[Cא[Cא[Cא[Cא[C'
+}
+
+check_recorder() {
+    make_recorder
+    ! asked words || check_words
+    ! asked lines || check_lines
+    ! asked tables || check_tables
+    ! asked size || check_sizes
+    ! asked paste || check_paste
+}

@@ -1,0 +1,153 @@
+# shellcheck shell=sh
+# shellcheck disable=SC2034,SC2154 # words that other parts give and take
+# What is refused before the screen changes: one line each, on standard error alone.
+
+# Without a controlling terminal, so that nothing of it can change.
+refused() { # NAME WANTED WORD..
+    name=$1 refusal=$2
+    shift 2
+    setsid -w "$shell" "$top/bidi-edit" "$@" </dev/null >"$folder/output" 2>"$folder/errors"
+    same "$name" "$? $(head -n 1 "$folder/errors")" "$refusal"
+    same "$name: nothing else" "$(wc -c <"$folder/output") $(grep -c . "$folder/errors")" "0 $lines_told"
+}
+
+# As a user who is not root, for whom permissions hold.
+refused_to_user() { # NAME WANTED WORD..
+    name=$1 refusal=$2
+    shift 2
+    if [ "$(id -u)" = 0 ]; then
+        setsid -w setpriv --reuid 65534 --regid 65534 --clear-groups "$shell" "$top/bidi-edit" "$@" </dev/null >"$folder/output" 2>"$folder/errors"
+    else
+        setsid -w "$shell" "$top/bidi-edit" "$@" </dev/null >"$folder/output" 2>"$folder/errors"
+    fi
+    same "$name" "$? $(head -n 1 "$folder/errors")" "$refusal"
+}
+
+no_terminal='2 bidi-edit: there is no terminal: start the editor in one (ssh -t gives one to a command)'
+
+check_refused_words() {
+    lines_told=2
+    refused 'refused, no FILE' '2 bidi-edit: one FILE is wanted'
+    refused 'refused, two' '2 bidi-edit: one FILE is wanted' f g
+    refused 'refused, an option' '2 bidi-edit: there is no option --rows' --rows 5 f
+    refused 'refused, a direction' '2 bidi-edit: --direction wants auto, ltr or rtl, not up' --direction up f
+    refused 'refused, a line' '2 bidi-edit: --line wants a number, not 5x' --line 5x f
+    refused 'refused, no line' '2 bidi-edit: --line wants a value' --line
+    lines_told=1
+    refused 'refused, no terminal' "$no_terminal" f
+    TERM=dumb refused 'refused, a dumb terminal' '2 bidi-edit: the terminal is dumb (TERM=dumb) and moves no cursor: start the editor in another, or with TERM=xterm if it is none' f
+}
+
+check_told_words() {
+    "$shell" "$top/bidi-edit" --help >"$folder/output" 2>&1
+    same 'refused, not help' "$? $(head -c 6 "$folder/output")" '0 usage:'
+    same 'refused, not help: one screen' "$(awk 'length($0) > 80 || NR > 23 { n++ } END { print n + 0 }' "$folder/output")" 0
+    version=$(sed -n 's/^version=//p' "$top/launcher/words.sh")
+    same 'refused, not the version' "$(BIDI_EDIT_DATA=$top/data "$shell" "$recorder" --version | paste -s -d '|')" "bidi-edit $version|toolchain a kit|Unicode 15.0.0"
+    mkdir "$folder/newer"
+    for table in DerivedBidiClass BidiBrackets BidiMirroring; do echo "# $table-16.1.0.txt" >"$folder/newer/$table.txt"; done
+    same 'refused, not the version: of the tables' "$(BIDI_EDIT_DATA=$folder/newer "$shell" "$recorder" --version | tail -n 1)" 'Unicode 16.1.0'
+    rm -r "$folder/newer"
+}
+
+check_refused_places() {
+    mkdir f.d
+    refused 'checks, a folder' '1 bidi-edit: f.d is a folder: name a file in it' f.d
+    refused 'checks, a name of a folder' '1 bidi-edit: none/ is the name of a folder: name a file' none/
+    mkfifo pipe
+    kind='is no plain file but a device, pipe or socket: put what it gives into a file, and edit that'
+    refused 'checks, a pipe' "1 bidi-edit: pipe $kind" pipe
+    refused 'checks, a device' "1 bidi-edit: /dev/null $kind" /dev/null
+    handed='is what the caller handed over and no file: put it into a file, and edit that'
+    for name in /dev/stdin /dev/fd/0 /proc/self/fd/0; do
+        refused "checks, $name" "1 bidi-edit: $name $handed" "$name"
+    done
+    refused 'checks, a missing folder' '1 bidi-edit: none/deep is a folder that is not there: mkdir -p none/deep makes it' none/deep/f
+    : >plain
+    refused 'checks, a file as a folder' '1 bidi-edit: plain is no folder, so it has no files: name another' plain/f
+    ln -s loop loop
+    refused 'checks, a link to itself' '1 bidi-edit: loop is a link that leads nowhere: ls -l shows where to' loop
+    ln -s f.d/new dangling
+    refused 'checks, a link to a new file' "$no_terminal" dangling
+    rm -r f.d pipe plain loop dangling
+}
+
+# A name of so many bytes, in letters of two bytes and one of one where the number is odd.
+name_of() { # BYTES
+    awk -v count="$1" 'BEGIN { for (i = 0; i + 1 < count; i += 2) printf "\327\220"; if (i < count) printf "a" }'
+}
+
+check_refused_names() {
+    refused 'checks, a name of 252 bytes' "$no_terminal" "$(name_of 252)"
+    long=$(name_of 253)
+    refused 'checks, a name of 253 bytes' "1 bidi-edit: '$long' is a name of 253 bytes, too long to be saved: 252 are the most (the save needs 3 more), and --force opens it all the same" "$long"
+    refused 'checks, a name of 253 bytes, forced' "$no_terminal" --force "$long"
+    refused 'checks, control bytes in a name' "1 bidi-edit: \$'no\\012ne\\033' is a folder that is not there: mkdir -p \$'no\\012ne\\033' makes it" "$(printf 'no\nne\033/f')"
+    refused 'checks, blanks in a name' "1 bidi-edit: 'no one'\\''s' is a folder that is not there: mkdir -p 'no one'\\''s' makes it" "no one's/f"
+    refused 'checks, a name that is not UTF-8' "1 bidi-edit: 'f$(printf '\377')' has a name that is not UTF-8: mv gives it another" "f$(printf '\377')"
+}
+
+check_refused_texts() {
+    printf 'one\ntwo \377\n' >bytes
+    windows="iconv -f CP1255 -t UTF-8 may help if it is in Windows' Hebrew (CP1256: Arabic)"
+    refused 'checks, not UTF-8' "1 bidi-edit: bytes is not UTF-8 in line 2: $windows" bytes
+    printf 'one\ntwo\nthree \327' >bytes
+    refused 'checks, not UTF-8 at the end' "1 bidi-edit: bytes is not UTF-8 in line 3: $windows" bytes
+    printf '\377\376a\000' >bytes
+    refused 'checks, UTF-16' '1 bidi-edit: bytes is UTF-16 and not UTF-8: iconv -f UTF-16 -t UTF-8 may help' bytes
+    head -c 16777216 /dev/zero | tr '\000' a >bytes
+    refused 'checks, the longest' "$no_terminal" bytes
+    echo >>bytes
+    refused 'checks, too long' '1 bidi-edit: bytes has 16777217 bytes, and 16777216 are the most: split -C 16M cuts it at line ends' bytes
+    rm bytes
+}
+
+check_refused_access() {
+    mkdir closed locked open
+    echo text | tee closed/f locked/f open/f >open/g
+    chmod 000 open/g
+    chmod 444 open/f
+    chmod 777 open
+    chmod 666 locked/f
+    chmod 555 locked
+    chmod 700 closed
+    [ "$(id -u)" = 0 ] || chmod 000 closed
+    refused_to_user 'access, a closed folder' '1 bidi-edit: closed is a folder that is closed to you: its owner can open it by chmod a+x' closed/f
+    folder_told='1 bidi-edit: locked is a folder that you cannot write, so no save can be made: copy the file elsewhere; --force opens it all the same'
+    refused_to_user 'access, a folder that cannot be written' "$folder_told" locked/f
+    refused_to_user 'access, a new file in it' "$folder_told" locked/new
+    refused_to_user 'access, that folder, forced' "$no_terminal" --force locked/f
+    refused_to_user 'access, a write-protected file' '1 bidi-edit: open/f is write-protected: chmod u+w lets its owner write it, and --force opens it all the same' open/f
+    refused_to_user 'access, that file, forced' "$no_terminal" --force open/f
+    refused_to_user 'access, a file that cannot be read' '1 bidi-edit: open/g cannot be read by you: chmod u+r lets its owner read it' --force open/g
+    ln -s ../locked/f open/link
+    refused_to_user 'access, a link into that folder' "1 bidi-edit: $folder/files/${folder_told#*: }" open/link
+    chmod 700 closed locked
+    rm -rf closed locked open
+}
+
+check_leftovers() {
+    : >f
+    for name in f.bx f.bx9 f.bxx 'g h.bx2'; do : >"$name"; done
+    told='bidi-edit: perhaps left by a save that was killed; look at it, and remove what is not wanted:'
+    lines_told=2
+    refused 'leftovers' "2 $told f.bx f.bx9" f
+    ln -s 'g h' link
+    refused 'leftovers, beside what a link leads to' "2 $told '$folder/files/g h.bx2'" link
+    lines_told=1
+    rm -f f f.bx f.bx9 f.bxx 'g h.bx2' link
+}
+
+check_refusals() {
+    if asked refused; then
+        check_refused_words
+        check_told_words
+    fi
+    if asked checks; then
+        check_refused_places
+        check_refused_names
+        check_refused_texts
+    fi
+    ! asked access || check_refused_access
+    ! asked leftovers || check_leftovers
+}
