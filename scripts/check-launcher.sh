@@ -54,4 +54,5 @@ for shell in dash bash; do
     check_callers
 done
 echo "$passed passed, $failed failed, $skipped skipped"
-[ "$failed" = 0 ]
+[ "$failed" = 0 ] || exit 1
+[ "$passed" -gt 0 ] || exit 77
