@@ -1,0 +1,58 @@
+# Reads crates.txt, and then lines of `wc -l` for the sources below crates/, and writes a line for each crate that the `programs`
+# stand on, and for them: its name, what its proof may take in seconds, the same for the longest chain of crates that begins with
+# it, and the crates that it stands on. Those with the longest chain come first.
+#
+# The seconds are processor time with one job: on four cores of 2026 the libraries took 0.13 to 0.19 seconds for a line of source
+# (bx_grid 318 for 2,522 lines, bx_rows 420 for 2,344, bx_resolve 312 for 1,639), and the program 222 for 1,203; a crate of a few
+# lines takes 15.
+
+FILENAME == ARGV[1] {
+    sub(/#.*/, "")
+    if (match($0, /^[a-z0-9_]+/) == 0) next
+    name = substr($0, 1, RLENGTH)
+    sub(/^[^:]*:/, "")
+    uses[name] = $0
+    next
+}
+
+match($2, /crates\/[a-z0-9_]+\/src\//) {
+    name = substr($2, RSTART + 7, RLENGTH - 12)
+    lines[name] += $1
+}
+
+# Takes a crate, and all that it stands on.
+function want(name,    n, i, used) {
+    if (name in wanted) return
+    wanted[name] = 1
+    below[name] = ""
+    n = split(uses[name], used, " ")
+    for (i = 1; i <= n; i++)
+        if (used[i] in uses) {
+            want(used[i])
+            below[name] = below[name] " " used[i]
+            above[used[i]] = above[used[i]] " " name
+        }
+}
+
+function chain(name,    n, i, users, longest) {
+    if (name in chains) return chains[name]
+    n = split(above[name], users, " ")
+    for (i = 1; i <= n; i++)
+        if (chain(users[i]) > longest) longest = chain(users[i])
+    return chains[name] = seconds(name) + longest
+}
+
+function seconds(name) {
+    return name in built ? 2 : int(15 + 0.17 * lines[name])
+}
+
+END {
+    n = split(programs, names, " ")
+    for (i = 1; i <= n; i++) {
+        if (!(names[i] in uses)) exit
+        want(names[i])
+    }
+    n = split(already, names, " ")
+    for (i = 1; i <= n; i++) built[names[i]] = 1
+    for (name in wanted) print name, seconds(name), chain(name) below[name] | "sort -k3,3nr -k1,1"
+}

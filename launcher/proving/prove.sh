@@ -1,0 +1,300 @@
+#!/bin/sh
+# shellcheck disable=SC2317 # traps call functions
+# prove.sh TOP PROGRAM..: proves and builds these programs of the repository TOP, with the crates that they stand on, several at
+# once, and tells how far it is: on a terminal in one line that changes, else in a line for each crate. What is proved is kept
+# wherever it is stopped, and the next start goes on from there.
+#
+# rt keeps other commands out of all crates below the one that it proves. So each crate is proved in a tree of its own, whose files
+# are links to those of the repository, and its folder out is moved there and back. Where the kit's rt proves one of these crates
+# in the repository itself, this waits for it, and it for this.
+set -u
+
+parts=$(CDPATH='' cd -- "${0%/*}" && pwd)
+top=$(CDPATH='' cd -- "$1" && pwd) || exit 1
+shift
+programs=$*
+room=$top/out/proving
+
+say() { # WORDS
+    printf 'bidi-edit: %s\n' "$1" >&2
+}
+
+fail() { # CAUSE
+    say "$1"
+    exit 1
+}
+
+# ---- one crate, in a process of its own
+
+# Links where the file system has them, else copies.
+link() { # FOLDER TO
+    [ -d "$1" ] || return 0
+    mkdir -p "${2%/*}"
+    cp -Rl "$1" "$2" 2>/dev/null || { rm -rf "$2" && cp -R "$1" "$2"; }
+}
+
+# All crates below a crate, by the plan.
+all_below() { # CRATE
+    awk -v name="$1" '
+        { for (i = 4; i <= NF; i++) uses[$1] = uses[$1] " " $i }
+        function tell(crate,    n, i, used) {
+            n = split(uses[crate], used, " ")
+            for (i = 1; i <= n; i++) if (!(used[i] in told)) { told[used[i]] = 1; tell(used[i]); print used[i] }
+        }
+        END { tell(name) }' "$room/plan"
+}
+
+# The crate's tree: its own sources and work, and what those below it are and gave.
+make_tree() {
+    rm -rf "$tree"
+    mkdir -p "$tree/crates"
+    for each in $crate $(all_below "$crate"); do
+        grep -e "^${each}[ :]" "$top/crates.txt" >>"$tree/crates.txt"
+        for part in src specs proofs; do link "$top/crates/$each/$part" "$tree/crates/$each/$part"; done
+        [ "$each" = "$crate" ] || link "$top/crates/$each/out/rlib" "$tree/crates/$each/out/rlib"
+    done
+    [ ! -d "$top/crates/$crate/out" ] || mv "$top/crates/$crate/out" "$tree/crates/$crate/out"
+}
+
+# Puts a crate's work back to where it was taken from, and its tree away.
+bring_back() { # TREE CRATE
+    if [ -d "$1/crates/$2/out" ] && ! [ -e "$top/crates/$2/out" ]; then mv "$1/crates/$2/out" "$top/crates/$2/out"; fi
+    rm -rf "$1"
+}
+
+# The toolchain ends what it started when it ends itself.
+give_up() {
+    trap '' TERM
+    [ -z "$child" ] || { kill "$child" && wait "$child"; }
+    bring_back "$tree" "$crate"
+    exit 143
+} 2>/dev/null
+
+# Runs a command so that a signal ends the wait for it.
+await() { # COMMAND..
+    "$@" &
+    child=$!
+    wait "$child"
+    result=$?
+    child=''
+    return "$result"
+}
+
+# Proves a library, or builds a program, which rt then runs: here with no words and no input, and it may end as it likes.
+prove() { # JOBS NICENESS
+    cd "$tree/crates/$crate" || return 1
+    if ! [ -f src/main.rt ]; then
+        await nice -n "$2" rt lib --jobs "$1"
+    else
+        await nice -n "$2" rt run --jobs "$1"
+        [ -x "out/$crate" ] && [ -f "out/$crate.stamp" ]
+    fi
+}
+
+prove_one() { # CRATE JOBS NICENESS
+    crate=$1 tree=$room/$1.tree child=''
+    trap '' HUP INT QUIT
+    trap give_up TERM
+    exec 8<"$top/crates/$crate"
+    ! command -v flock >/dev/null || await flock 8
+    make_tree
+    prove "$2" "$3" 8<&-
+    result=$?
+    cd "$top" || exit 1
+    bring_back "$tree" "$crate"
+    echo "$result" >"$room/$crate.new" && mv "$room/$crate.new" "$room/$crate.ended"
+}
+
+# ---- all crates
+
+running='' # words NAME:PROCESS
+
+count() { # WORD..
+    echo $#
+}
+
+# How many crates at once: one for each processor, and for each 4 GB of memory that is free.
+find_lanes() {
+    cores=$(getconf _NPROCESSORS_ONLN 2>/dev/null || echo 1)
+    lanes=$(awk '/^MemAvailable:/ { print int($2 / 4000000) }' /proc/meminfo 2>/dev/null)
+    [ -n "$lanes" ] || lanes=1
+    [ "$lanes" -le "$cores" ] || lanes=$cores
+    [ "$lanes" -ge 1 ] || lanes=1
+}
+
+# The crates whose library or program stands from an earlier start.
+find_already() {
+    for stamp in "$top"/crates/*/out/rlib/stamp; do
+        [ ! -f "$stamp" ] || basename "${stamp%/out/rlib/stamp}"
+    done
+}
+
+make_plan() {
+    find "$top/crates" -path '*/src/*' -name '*.rt' -exec wc -l {} + |
+        awk -v programs="$programs" -v already="$(find_already | tr '\n' ' ')" -f "$parts/plan.awk" "$top/crates.txt" - >"$room/plan"
+    [ -s "$room/plan" ] || fail "$top/crates.txt names no crate $programs"
+}
+
+# What a start that was killed left: its trees hold work.
+take_room() {
+    if [ -f "$room/process" ] && kill -0 "$(cat "$room/process")" 2>/dev/null; then
+        fail "process $(cat "$room/process") is building the editor already: wait for it"
+    fi
+    for tree in "$room"/*.tree; do
+        [ -d "$tree" ] || continue
+        crate=$(basename "$tree" .tree)
+        # Where the crate is still being proved, that comes to its end first.
+        ! command -v flock >/dev/null || flock "$top/crates/$crate" true
+        bring_back "$tree" "$crate"
+    done
+    rm -rf "$room"
+    mkdir -p "$room" || exit 1
+    echo $$ >"$room/process"
+}
+
+leave_room() {
+    rm -rf "$room"
+    rmdir "$top/out" 2>/dev/null || :
+}
+
+is_ready() { # CRATE THAT IT STANDS ON ..
+    for each; do
+        [ -f "$room/$each.ended" ] || return 1
+    done
+}
+
+# Starts a crate. The longest chain is what all waits for, so its next crate gets the processors, up to the four that a proof can
+# use; one that nearly belongs to it gets two, and any other what these leave.
+start() { # CRATE SECONDS CHAIN
+    jobs=1 niceness=10
+    if [ "$3" = "$longest" ]; then jobs=$cores niceness=0
+    elif [ $(($3 + $2)) -ge "$longest" ]; then jobs=2 niceness=0
+    fi
+    [ "$jobs" -le 4 ] || jobs=4
+    prove_one "$1" "$jobs" "$niceness" </dev/null >"$room/$1.log" 2>&1 &
+    running="$running $1:$!"
+}
+
+start_ready() {
+    longest=''
+    while read -r crate seconds chain below; do
+        [ ! -f "$room/$crate.ended" ] || continue
+        [ -n "$longest" ] || longest=$chain
+        # shellcheck disable=SC2086 # words
+        [ "$(count $running)" -lt "$lanes" ] || break
+        # shellcheck disable=SC2086 # words
+        if ! [ -f "$room/$crate.log" ] && is_ready $below; then start "$crate" "$seconds" "$chain"; fi
+    done <"$room/plan"
+}
+
+# Takes those that ended off the list.
+collect() {
+    still=''
+    for each in $running; do
+        name=${each%:*}
+        if [ -f "$room/$name.ended" ]; then
+            [ "$(cat "$room/$name.ended")" = 0 ] || stop_at "$name"
+            tell_end "$name"
+        elif kill -0 "${each#*:}" 2>/dev/null; then
+            still="$still $each"
+        else
+            [ -f "$room/$name.ended" ] || stop_at "$name"
+            still="$still $each"
+        fi
+    done
+    running=$still
+}
+
+# ---- what is told
+
+# How many functions the work of each running crate holds proofs of, as its proofs are kept one by one.
+kept_proofs() {
+    for each in $running; do
+        name=${each%:*}
+        found=$(find "$room/$name.tree/crates/$name/out/incremental" -name '*.Proof.oantt' ! -name '*.TheImpl.*' 2>/dev/null | wc -l)
+        echo "$name $((found))"
+    done
+}
+
+progress() { # WORD=VALUE..
+    for each; do set -- "$@" -v "$each"; shift; done
+    awk -v room="$room" -v now="$(date +%s)" -v begun="$begun" -v cores="$cores" -v whole="$whole" -v kept="$(kept_proofs | tr '\n' ' ')" \
+        "$@" -f "$parts/progress.awk" "$room/plan"
+}
+
+width() {
+    size=$(stty size <&2 2>/dev/null) || size=''
+    cols=${size#* }
+    case $cols in '' | 0 | *[!0-9]*) cols=80 ;; esac
+}
+
+# One line, cut to the width of the terminal, over the one before.
+show() { # TEXT
+    width
+    printf '\r%-*.*s' "$((cols - 1))" "$((cols - 1))" "$1" >&2
+}
+
+tell() {
+    [ -z "$is_terminal" ] || show "$(progress)"
+}
+
+tell_end() { # CRATE
+    number=$((number + 1))
+    [ -n "$is_terminal" ] || say "$(progress ended="$1" number="$number")"
+}
+
+clear_line() {
+    [ -z "$is_terminal" ] || { show ''; printf '\r' >&2; }
+}
+
+# ---- the end
+
+end_all() {
+    trap '' HUP INT QUIT TERM
+    for each in $running; do kill "${each#*:}" 2>/dev/null; done
+    for each in $running; do wait "${each#*:}" 2>/dev/null; done
+    running=''
+    clear_line
+}
+
+stop_at() { # CRATE
+    end_all
+    log=${TMPDIR:-/tmp}/bidi-edit-$1.log
+    cp "$room/$1.log" "$log"
+    leave_room
+    fail "$1 could not be proved, and $log tells why; what is proved is kept"
+}
+
+stop_by() { # SIGNAL NUMBER
+    end_all
+    leave_room
+    say 'stopped: what is proved is kept, and the next start goes on from there'
+    trap - "$1"
+    kill -s "$1" $$
+    exit $((128 + $2))
+}
+
+command -v rt >/dev/null || fail "$programs: not built, and there is no rt to build with"
+is_terminal=''
+[ ! -t 2 ] || is_terminal=1
+take_room
+trap 'stop_by HUP 1' HUP
+trap 'stop_by INT 2' INT
+trap 'stop_by QUIT 3' QUIT
+trap 'stop_by TERM 15' TERM
+begun=$(date +%s) whole='' number=0
+find_lanes
+make_plan
+whole=$(progress asks=whole)
+say "proving and building the editor, this once: $(awk 'END { print NR }' "$room/plan") crates, up to $lanes at a time"
+say 'Ctrl-C stops it; what is proved is kept'
+while :; do
+    start_ready
+    [ -n "$running" ] || break
+    tell
+    sleep 1
+    collect
+done
+clear_line
+leave_room
+say "built, after $((($(date +%s) - begun + 30) / 60)) minutes"

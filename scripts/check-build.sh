@@ -1,0 +1,316 @@
+#!/bin/sh
+# check-build.sh [toolchain]: how the first start proves and builds, under dash and bash: order, what runs side by side, what is told on
+# a terminal and elsewhere, Ctrl-C and going on, a proof that fails, a start that was killed. It does so in a small repository of
+# four crates with a command that stands in for rt, and with the word `toolchain` once with the real one, which takes some minutes
+# on a busy machine. It stands beside the gate. The last line counts; the status is 1 where a check failed, and 77 where there is
+# neither dash nor bash, or no tmux.
+set -u
+
+top=$(cd "$(dirname "$0")/.." && pwd)
+prove=$top/launcher/proving/prove.sh
+folder=$(mktemp -d)
+socket="bb$$"
+passed=0 failed=0
+trap 'tmux -L "$socket" kill-server 2>/dev/null; rm -rf "$folder"' EXIT
+trap 'exit 1' HUP INT TERM
+export LC_ALL=C.UTF-8
+
+command -v tmux >/dev/null || {
+    echo 'skipped: there is no tmux'
+    exit 77
+}
+
+report() { # NAME STATUS DETAIL
+    if [ "$2" = 0 ]; then
+        passed=$((passed + 1))
+        echo "ok $shell $1"
+    else
+        failed=$((failed + 1))
+        echo "FAILS $shell $1: $3"
+    fi
+}
+
+same() { # NAME FOUND WANTED
+    if [ "$2" = "$3" ]; then report "$1" 0 ''; else report "$1" 1 "'$2', and not '$3'"; fi
+}
+
+like() { # NAME FOUND PATTERN
+    printf '%s\n' "$2" | grep -q -x -e "$3"
+    report "$1" $? "'$2', and not like '$3'"
+}
+
+# Waits for a command to succeed, a tenth of a second at a time.
+wait_for() { # TENTHS COMMAND..
+    tenths=$1
+    shift
+    while ! "$@"; do
+        tenths=$((tenths - 1))
+        [ "$tenths" -gt 0 ] || return 1
+        sleep 0.1
+    done
+}
+
+# ---- a small repository: a and b stand on nothing, c on a, and the program d on b and c
+
+make_tree() {
+    rm -rf "$folder/tree" "$folder/told"
+    mkdir -p "$folder/told"
+    for name in a b c d; do mkdir -p "$folder/tree/crates/$name/src"; done
+    for name in a b c; do awk 'BEGIN { for (i = 0; i < 300; i++) print "// a line" }' >"$folder/tree/crates/$name/src/lib.rt"; done
+    echo '// a line' >"$folder/tree/crates/d/src/main.rt"
+    mkdir -p "$folder/tree/crates/other/src"
+    printf '# NAME: what it stands on\nd: b c thiserror\nc: a\nb:\na:\nother: a\n' >"$folder/tree/crates.txt"
+}
+
+# Stands in for rt: a crate has ten functions, which take a tenth of a second each and are kept one by one. It notes when it began
+# and ended, and with how many; its own child lives as long as it does, as the toolchain's do. The crate named in `bad` fails.
+make_rt() {
+    mkdir -p "$folder/bin"
+    cat >"$folder/bin/rt" <<'END'
+#!/bin/sh
+name=$(basename "$PWD")
+mkdir -p out/incremental
+had=$(ls out/incremental | wc -l)
+echo "begin $name $1 $((had))" >>"$TOLD/log"
+echo "so far: 0 of 10 functions checked; the verdict comes last"
+while [ "$had" -lt 10 ]; do
+    sleep 0.1
+    had=$((had + 1))
+    : >"out/incremental/$had.Proof.oantt"
+    ! [ -f "$TOLD/slow" ] || sleep 1
+done
+if [ "$name" = "$(cat "$TOLD/bad" 2>/dev/null)" ]; then
+    echo 'fn x: not proved'
+    exit 1
+fi
+echo "logic=proved functions=10 sum=1"
+for below in ../*; do
+    [ "$below" = "../$name" ] || [ -f "$below/out/rlib/stamp" ] || echo "lacks $below" >>"$TOLD/log"
+done
+if [ -f src/main.rt ]; then
+    cp /bin/true "out/$name"
+    echo stamp >"out/$name.stamp"
+else
+    mkdir -p out/rlib
+    echo stamp >out/rlib/stamp
+fi
+echo "end $name" >>"$TOLD/log"
+! [ -f src/main.rt ] || exit 2
+END
+    chmod +x "$folder/bin/rt"
+}
+
+# Runs the script as a start does, with what it tells in `said` and its status in `status`.
+run() {
+    PATH=$folder/bin:$PATH TOLD=$folder/told timeout 120 "$shell" "$prove" "$folder/tree" d >"$folder/said" 2>&1
+    status=$?
+}
+
+# The same in a terminal of 100 columns, to be looked at.
+start() {
+    rm -f "$folder/status"
+    cat >"$folder/run" <<END
+trap : INT
+PATH='$folder/bin':\$PATH TOLD='$folder/told' $shell '$prove' '$folder/tree' $1
+echo \$? >'$folder/status'
+exec sleep 600
+END
+    tmux -u -L "$socket" -f /dev/null new-session -d -s person -x 100 -y 12 "sh '$folder/run'"
+}
+
+screen() {
+    tmux -L "$socket" capture-pane -p -t person | grep .
+}
+
+has_line() { # PATTERN
+    screen | grep -q -e "$1"
+}
+
+is_over() {
+    [ -s "$folder/status" ]
+}
+
+# The number of the line in the log.
+at() { # LINE
+    grep -n -x -e "$1" "$folder/told/log" | head -n 1 | cut -d : -f 1
+}
+
+before() { # NAME LINE LINE
+    [ "$(at "$2")" -lt "$(at "$3")" ] 2>/dev/null
+    report "$1" $? "$(paste -s -d '|' "$folder/told/log")"
+}
+
+nothing_left() { # NAME
+    same "$1, nothing stays beside the work" "$(find "$folder/tree" -name '*.tree' -o -path "$folder/tree/out")" ''
+}
+
+processes() {
+    pgrep -f "$folder/bin/rt" | wc -l
+}
+
+none_runs() {
+    [ "$(processes)" -eq 0 ]
+}
+
+# ---- the checks
+
+check_order() {
+    make_tree
+    run
+    same 'order, status' "$status" 0
+    before 'order, a crate waits for what it stands on' 'end a' 'begin c lib 0'
+    before 'order, the program waits for all' 'end c' 'begin d run 0'
+    if [ "$(getconf _NPROCESSORS_ONLN)" -gt 1 ] && [ "$(awk '/^MemAvailable:/ { print int($2 / 4000000) }' /proc/meminfo)" -gt 1 ]; then
+        before 'order, two at once' 'begin b lib 0' 'end a'
+    else
+        echo "skipped: $shell order, two at once (one processor, or too little memory)"
+    fi
+    same 'order, nothing lacks' "$(grep -c lacks "$folder/told/log")" 0
+    same 'order, no other crate' "$(grep -c begin "$folder/told/log")" 4
+    test -x "$folder/tree/crates/d/out/d" && test -f "$folder/tree/crates/a/out/rlib/stamp"
+    report 'order, what was built is in its place' $? "$(ls "$folder/tree/crates/d/out" 2>&1)"
+    nothing_left order
+    same 'lines, one a crate' "$(grep -c 'bidi-edit: crate [1-4] of 4, [a-d]: 10 functions proved; ' "$folder/said")" 4
+    same 'lines, the program is the last' "$(grep -c 'crate 4 of 4, d:' "$folder/said")" 1
+    same 'lines, no line is written over' "$(tr -d -c '\r' <"$folder/said" | wc -c)" 0
+}
+
+check_terminal() {
+    make_tree
+    : >"$folder/told/slow"
+    start d
+    wait_for 150 has_line '[1-9] of 10 functions proved'
+    like 'terminal, the line' "$(screen | tail -n 1)" \
+        'crate [1-4] of 4, [a-d]: [0-9]* of 10 functions proved; [0-9]* minutes* so far, about [0-9]* to go.*'
+    first=$(screen | tail -n 1)
+    sleep 3
+    same 'terminal, one line' "$(screen | grep -c '^crate ')" 1
+    [ "$(screen | tail -n 1)" != "$first" ]
+    report 'terminal, it changes' $? "$first"
+    tmux -L "$socket" send-keys -t person C-c
+    wait_for 50 is_over
+    same 'Ctrl-C, status' "$(cat "$folder/status" 2>/dev/null)" 130
+    like 'Ctrl-C, the words' "$(screen | tail -n 1)" 'bidi-edit: stopped: what is proved is kept, and the next start goes on from there'
+    wait_for 20 none_runs
+    same 'Ctrl-C, the toolchain is over' "$(processes)" 0
+    nothing_left 'Ctrl-C'
+    kept=$(find "$folder/tree/crates/a/out/incremental" -type f | wc -l)
+    tmux -L "$socket" kill-session -t person
+    rm -f "$folder/told/slow"
+    run
+    same 'going on, status' "$status" 0
+    [ "$kept" -gt 0 ] && grep -q "begin a lib $kept" "$folder/told/log"
+    report 'going on, with what was kept' $? "$(paste -s -d '|' "$folder/told/log")"
+}
+
+check_failure() {
+    make_tree
+    echo c >"$folder/told/bad"
+    run
+    same 'failure, status' "$status" 1
+    log=$(sed -n 's/.*c could not be proved, and \(.*\) tells why; what is proved is kept$/\1/p' "$folder/said")
+    grep -q 'fn x: not proved' "$log" 2>/dev/null
+    report 'failure, the log that it names' $? "$(tail -n 1 "$folder/said")"
+    rm -f "$log"
+    same 'failure, no program' "$(grep -c 'begin d' "$folder/told/log")" 0
+    test -f "$folder/tree/crates/a/out/rlib/stamp"
+    report 'failure, the others are kept' $? "$(ls "$folder/tree/crates/a")"
+    nothing_left failure
+    rm -f "$folder/told/bad"
+    run
+    same 'failure, mended' "$status" 0
+    PATH=$folder/bin:$PATH TOLD=$folder/told "$shell" "$prove" "$folder/tree" e >"$folder/said" 2>&1
+    same 'failure, a program that is not there' "$? $(grep -c 'names no crate e' "$folder/said")" '1 1'
+}
+
+check_killed() {
+    make_tree
+    : >"$folder/told/slow"
+    start d
+    wait_for 100 has_line '[1-9] of 10 functions proved'
+    run
+    same 'second start, status' "$status" 1
+    like 'second start, the words' "$(cat "$folder/said")" 'bidi-edit: process [0-9]* is building the editor already: wait for it'
+    kill -s KILL "$(cat "$folder/tree/out/proving/process")"
+    wait_for 20 is_over
+    rm -f "$folder/told/slow"
+    tmux -L "$socket" kill-session -t person
+    run
+    same 'killed, the next start' "$status" 0
+    nothing_left killed
+}
+
+# ---- the toolchain itself
+
+# Twenty functions of this run alone, so that nothing is taken over from elsewhere.
+small_crate() { # NAME WORDS
+    mkdir -p "$folder/tree/crates/$1/src"
+    {
+        printf '// %s\n#![tactic(auto)]\n\n%s' "$folder" "$2"
+        awk 'BEGIN { for (i = 0; i < 40; i++) printf "pub fn step_%d(x: u32) -> u32 {\n    if x < %d {\n        x + %d\n    } else {\n        x\n    }\n}\n\n", i, i + 1, i + 2 }'
+    } >"$folder/tree/crates/$1/src/lib.rt"
+}
+
+make_real_tree() {
+    rm -rf "$folder/tree"
+    mkdir -p "$folder/tree/crates/$d/src"
+    small_crate "$a" ''
+    small_crate "$b" ''
+    small_crate "$c" "$(printf 'use %s::step_0 as first;\n\npub fn both(x: u32) -> u32 {\n    first(x)\n}\n\n_' "$a" | sed 's/_$//')"
+    printf '#![tactic(auto)]\n\nuse std::io;\nuse %s::step_1;\nuse %s::both;\n\nfn main(rt: HostRuntime) -> io::Result<()> {\n    let x = both(3);\n    let y = step_1(x);\n    println!(rt; "{y}")?;\n    Ok(())\n}\n' \
+        "$b" "$c" >"$folder/tree/crates/$d/src/main.rt"
+    printf '%s: %s %s\n%s: %s\n%s:\n%s:\n' "$d" "$b" "$c" "$c" "$a" "$b" "$a" >"$folder/tree/crates.txt"
+}
+
+rattle_runs() {
+    pgrep -f "rattle.* --crate-name ($a|$b|$c|$d) " | wc -l
+}
+
+no_rattle_runs() {
+    [ "$(rattle_runs)" -eq 0 ]
+}
+
+check_toolchain() {
+    number=$(basename "$folder" | tr -d -c '[:alnum:]' | tr '[:upper:]' '[:lower:]')$shell
+    a=pa_$number b=pb_$number c=pc_$number d=pd_$number
+    make_real_tree
+    rm -f "$folder/bin/rt"
+    start "$d"
+    wait_for 3000 has_line '[1-9][0-9]* of [0-9]* functions proved'
+    tmux -L "$socket" send-keys -t person C-c
+    wait_for 100 is_over
+    same 'toolchain, Ctrl-C' "$(cat "$folder/status" 2>/dev/null)" 130
+    wait_for 50 no_rattle_runs
+    same 'toolchain, all its processes are over' "$(rattle_runs)" 0
+    kept=$(find "$folder/tree/crates/$a/out/incremental" -name '*.Proof.oantt' | wc -l)
+    [ "$kept" -gt 0 ]
+    report 'toolchain, proofs are kept' $? "$kept"
+    tmux -L "$socket" kill-session -t person
+    timeout 1800 "$shell" "$prove" "$folder/tree" "$d" >"$folder/said" 2>&1
+    same 'toolchain, going on' "$? $(grep -c 'functions proved' "$folder/said")" '0 4'
+    same 'toolchain, what the program prints' "$("$folder/tree/crates/$d/out/$d")" 3
+    # What stands in the repository is what rt itself takes for built there.
+    same 'toolchain, nothing is left to prove' \
+        "$( (cd "$folder/tree/crates/$d" && timeout 600 rt run 2>&1) | grep -c -e 'nothing has changed since the last proved build' -e '^fn ')" 1
+}
+
+make_rt
+ran=''
+for shell in dash bash; do
+    command -v "$shell" >/dev/null || continue
+    ran=1
+    if [ "${1:-}" = toolchain ]; then
+        check_toolchain
+    else
+        check_order
+        check_terminal
+        check_failure
+        check_killed
+    fi
+done
+[ -n "$ran" ] || {
+    echo 'skipped: there is neither dash nor bash'
+    exit 77
+}
+echo "$passed passed, $failed failed"
+[ "$failed" = 0 ]
