@@ -287,7 +287,7 @@ check_toolchain() {
     report 'toolchain, proofs are kept' $? "$kept"
     tmux -L "$socket" kill-session -t person
     timeout 1800 "$shell" "$prove" "$folder/tree" "$d" >"$folder/said" 2>&1
-    same 'toolchain, going on' "$? $(grep -c 'functions proved' "$folder/said")" '0 4'
+    same 'toolchain, going on' "$? $(grep -c ' proved; ' "$folder/said")" '0 4'
     same 'toolchain, what the program prints' "$("$folder/tree/crates/$d/out/$d")" 3
     # What stands in the repository is what rt itself takes for built there.
     same 'toolchain, nothing is left to prove' \

@@ -1,0 +1,230 @@
+#!/bin/sh
+# make-deb.sh [FOLDER]: makes bidi-edit_VERSION_amd64.deb and bidi-edit_VERSION_amd64.tar.gz, with the same tree, in FOLDER (out/ at the
+# top of the repository unless named): for those who have no toolchain. It refuses where no proved program stands there. Then it
+# tries both: lintian finds no error, the package is installed in a clean root folder, used there in tmux and removed, and so is
+# the tree of the tar file. The last line counts; the status is 1 where a check failed, and 77 where a tool is missing.
+set -eu
+
+top=$(cd "$(dirname "$0")/.." && pwd)
+version=$(sed -n 's/^version=//p' "$top/launcher/words.sh")
+name=bidi-edit_${version}_amd64
+folder=$(mktemp -d)
+socket="bd$$"
+passed=0 failed=0
+trap 'tmux -L "$socket" kill-server 2>/dev/null; rm -rf "$folder"' EXIT
+trap 'exit 1' HUP INT TERM
+umask 022
+export LC_ALL=C.UTF-8
+
+refuse() { # CAUSE
+    echo "make-deb.sh: $1" >&2
+    exit 1
+}
+
+need_tools() {
+    for tool in dpkg-deb dpkg lintian tmux gzip sha256sum; do
+        command -v "$tool" >/dev/null || {
+            echo "skipped: there is no $tool"
+            exit 77
+        }
+    done
+}
+
+# A program with the stamp that the toolchain writes behind a proved build, which ends with the program's sum.
+need_proved() { # PROGRAM
+    built=$top/crates/$1/out/$1
+    if ! [ -x "$built" ] || ! [ -f "$built.stamp" ]; then refuse "$built is not built and proved: ./bidi-edit FILE does it"; fi
+    case $(cat "$built.stamp") in
+    *"$(sha256sum <"$built" | cut -c 1-64)") ;;
+    *) refuse "$built is not what its stamp tells: rt run in crates/$1 builds it anew" ;;
+    esac
+}
+
+# ---- the tree
+
+# As install.sh lays it out, the manual pressed together as Debian has it.
+make_tree() { # FOLDER
+    sh "$top/scripts/install.sh" "$1" >/dev/null
+    gzip -9n "$1/share/man/man1/bidi_edit.1"
+    rm "$1/share/man/man1/bidi-edit.1"
+    ln -s bidi_edit.1.gz "$1/share/man/man1/bidi-edit.1.gz"
+    chmod -R u=rwX,go=rX "$1"
+}
+
+# The newest of the C library's versions that the program names.
+libc_version() {
+    grep -a -o 'GLIBC_[0-9][0-9.]*' "$1" | sed 's/GLIBC_//' | sort -u -V | tail -n 1
+}
+
+make_control() { # FOLDER MAINTAINER
+    cat >"$1/DEBIAN/control" <<END
+Package: bidi-edit
+Version: $version
+Architecture: amd64
+Maintainer: $2
+Installed-Size: $(du -s -k "$1/usr" | cut -f 1)
+Depends: libc6 (>= $(libc_version "$1/usr/lib/bidi_edit/bidi_edit"))
+Suggests: unicode-data
+Section: editors
+Priority: optional
+Description: editor for text in both directions, with a proved screen
+ A full-screen editor of plain text for the terminal. It shows mixed Hebrew,
+ Arabic and Latin text in the order of the Unicode Bidirectional Algorithm,
+ each row by itself. That its screen shows the text is proved.
+END
+    (cd "$1" && find usr -type f -exec md5sum {} +) >"$1/DEBIAN/md5sums"
+}
+
+make_documents() { # FOLDER MAINTAINER
+    documents=$1/usr/share/doc/bidi-edit
+    mkdir -p "$documents"
+    cat >"$documents/copyright" <<END
+bidi_edit, its launcher and its manual: Copyright $(date +%Y) the maintainers of bidi_edit, $2.
+They come from the repository bidi_edit, which has the terms of their use.
+
+The three files in /usr/share/bidi_edit are facts of the Unicode Character Database:
+Copyright 1991-$(date +%Y) Unicode, Inc. Unicode and the Unicode Logo are registered
+trademarks of Unicode, Inc. Terms of use: https://www.unicode.org/terms_of_use.html
+END
+    printf 'bidi-edit (%s) unstable; urgency=low\n\n  * Version %s.\n\n -- %s  %s\n' "$version" "$version" "$2" "$(date -R)" |
+        gzip -9n >"$documents/changelog.gz"
+}
+
+# The program stays byte for byte what the toolchain built.
+make_overrides() { # FOLDER
+    mkdir -p "$1/usr/share/lintian/overrides"
+    cat >"$1/usr/share/lintian/overrides/bidi-edit" <<'END'
+# the program is byte for byte the one that was built from what is proved
+bidi-edit: unstripped-binary-or-object
+END
+}
+
+make_package() {
+    package=$folder/package
+    maintainer=$(git -C "$top" log -1 --format='%an <%ae>' 2>/dev/null) || maintainer='bidi_edit maintainers <root@localhost>'
+    mkdir -p "$package/DEBIAN"
+    make_tree "$package/usr"
+    make_documents "$package" "$maintainer"
+    make_overrides "$package"
+    make_control "$package" "$maintainer"
+    chmod -R u=rwX,go=rX "$package"
+    dpkg-deb --root-owner-group --build "$package" "$target/$name.deb" >/dev/null
+}
+
+# The tree of /usr, to be unpacked anywhere.
+make_tar() {
+    mkdir "$folder/tar"
+    cp -R "$package/usr" "$folder/tar/bidi-edit-$version"
+    rm -rf "$folder/tar/bidi-edit-$version/share/lintian"
+    tar -C "$folder/tar" --owner=root --group=root --sort=name -czf "$target/$name.tar.gz" "bidi-edit-$version"
+}
+
+# ---- the checks
+
+report() { # NAME STATUS DETAIL
+    if [ "$2" = 0 ]; then
+        passed=$((passed + 1))
+        echo "ok $1"
+    else
+        failed=$((failed + 1))
+        echo "FAILS $1: $3"
+    fi
+}
+
+same() { # NAME FOUND WANTED
+    if [ "$2" = "$3" ]; then report "$1" 0 ''; else report "$1" 1 "'$2', and not '$3'"; fi
+}
+
+# Waits for a command to succeed, a tenth of a second at a time.
+wait_for() { # TENTHS COMMAND..
+    tenths=$1
+    shift
+    while ! "$@"; do
+        tenths=$((tenths - 1))
+        [ "$tenths" -gt 0 ] || return 1
+        sleep 0.1
+    done
+}
+
+has_line() { # TEXT
+    tmux -L "$socket" capture-pane -p -t person | grep -q -F -e "$1"
+}
+
+is_over() {
+    [ -s "$folder/status" ]
+}
+
+type_keys() {
+    tmux -L "$socket" send-keys -t person "$@"
+}
+
+# Opens a text in the editor of this tree, types a letter before it, saves and quits. Only the tree's own tables are there.
+use() { # NAME FOLDER
+    printf 'שלום world\n' >"$folder/note"
+    printf 'אשלום world\n' >"$folder/wanted"
+    rm -f "$folder/status"
+    cat >"$folder/run" <<END
+BIDI_EDIT_DATA='$2/share/bidi_edit' '$2/bin/bidi-edit' '$folder/note' 2>'$folder/errors'
+echo \$? >'$folder/status'
+exec sleep 600
+END
+    tmux -u -L "$socket" -f /dev/null new-session -d -s person -x 60 -y 8 "sh '$folder/run'"
+    wait_for 100 has_line '1:1' || :
+    type_keys א
+    wait_for 100 has_line '* 1:2' || :
+    type_keys C-s
+    wait_for 100 has_line '- 1:2' || :
+    type_keys C-q
+    wait_for 100 is_over || :
+    same "$1, used: the status" "$(cat "$folder/status" 2>/dev/null) $(cat "$folder/errors")" '0 '
+    cmp "$folder/note" "$folder/wanted" >"$folder/differs" 2>&1 && found=0 || found=1
+    report "$1, used: the saved text" "$found" "$(cat "$folder/differs")"
+    tmux -L "$socket" kill-session -t person
+    same "$1, the version" "$(BIDI_EDIT_DATA="$2/share/bidi_edit" "$2/bin/bidi-edit" --version | head -n 1)" "bidi-edit $version"
+}
+
+check_lintian() {
+    lintian --allow-root "$target/$name.deb" >"$folder/lintian" 2>&1 || :
+    same 'lintian, errors' "$(grep -c -e '^E:' -e '^lintian: ' "$folder/lintian")" 0
+    cat "$folder/lintian"
+}
+
+# A root folder with nothing but dpkg's own list, which lacks the C library.
+in_root() { # WORD..
+    dpkg --root="$folder/root" --force-not-root --force-depends --force-script-chrootless --log=/dev/null "$@" >"$folder/dpkg" 2>&1
+}
+
+check_package() {
+    mkdir -p "$folder/root/var/lib/dpkg/info" "$folder/root/var/lib/dpkg/updates"
+    : >"$folder/root/var/lib/dpkg/status"
+    in_root --install "$target/$name.deb" && found=0 || found=1
+    report 'package, installed' "$found" "$(cat "$folder/dpkg")"
+    same 'package, as dpkg tells' "$(in_root --status bidi-edit && sed -n 's/^Status: //p' "$folder/dpkg")" 'install ok installed'
+    use package "$folder/root/usr"
+    in_root --purge bidi-edit && found=0 || found=1
+    report 'package, removed' "$found" "$(cat "$folder/dpkg")"
+    same 'package, nothing stays' "$(find "$folder/root" -path "$folder/root/var" -prune -o ! -type d -print)" ''
+}
+
+check_tar() {
+    mkdir "$folder/unpacked"
+    tar -C "$folder/unpacked" -xzf "$target/$name.tar.gz"
+    use tar "$folder/unpacked/bidi-edit-$version"
+    same 'tar, the same tree' "$(cd "$folder/unpacked/bidi-edit-$version" && find . ! -type d | sort)" \
+        "$(cd "$package/usr" && find . ! -type d ! -path '*/lintian/*' | sort)"
+    rm -rf "$folder/unpacked"
+}
+
+need_tools
+need_proved bidi_edit
+[ ! -d "$top/crates/bidi_input" ] || need_proved bidi_input
+target=${1:-$top/out}
+mkdir -p "$target"
+make_package
+make_tar
+check_lintian
+check_package
+check_tar
+ls -l "$target/$name.deb" "$target/$name.tar.gz"
+echo "$passed passed, $failed failed"
+[ "$failed" = 0 ]
