@@ -14,6 +14,15 @@ top=$(cd "$(dirname "$0")/.." && pwd)
 file=$1 rows=$2 cols=$3
 shift 3
 [ $# -gt 0 ] || set -- "$top/bidi-edit"
+# It is meant from the folder where the caller stands.
+case $1 in
+/*) ;;
+*/*)
+    editor=$(cd "$(dirname -- "$1")" && pwd)/$(basename -- "$1")
+    shift
+    set -- "$editor" "$@"
+    ;;
+esac
 
 export LC_ALL=C.UTF-8
 folder=$(mktemp -d)
