@@ -1,0 +1,23 @@
+-- What goes out for a row of the table.
+use Rattle.std.proofs.Common.{◌≡◌, ◌≢◌, ℕ, Bool, true, false, nat_eq, List, [], ◌∷◌, ◌++◌, Option, Some, None, refl, ap, sym, ◌∙◌, arith}
+use Rattle.std.specs.Prelude.{slice_index, option_map}
+use Rattle.std.proofs.lemmas.Bool.Decides.{nat_tests}
+use Rattle.bx_bytes.specs.declared.fate.Fate.TheVariants.{Ends}
+use Rattle.bx_input.specs.Table.{Row, fate, row_of}
+use Rattle.bx_input.specs.Filter.{Outside, Step, step_to, step_by, ended, apart_from}
+use Rattle.bx_input.specs.Held.{becomes_of, BeginsByEscape}
+
+ended_by : (is_open : Bool) (r : Option Row) (bs : List ℕ) → option_map (λ (r : Row). r.becomes) r ≡ Some bs
+    → ended is_open r ≡ step_to (Outside [] false) (apart_from is_open bs)
+ended_by is_open None bs h = absurd (cc h)
+ended_by is_open (Some r) bs h = let e : r.becomes ≡ bs = cc h in rw e refl
+
+pub row_goes : (waiting : List ℕ) (is_open : Bool) (b : ℕ) (bs : List ℕ) → fate (waiting ++ b ∷ []) ≡ Ends
+    → becomes_of (waiting ++ b ∷ []) ≡ Some bs
+    → step_by (fate (waiting ++ b ∷ [])) waiting is_open b ≡ step_to (Outside [] false) (apart_from is_open bs)
+row_goes waiting is_open b bs h g = rw h (ended_by is_open (row_of (waiting ++ b ∷ [])) bs g)
+
+pub escape_apart : (is_open : Bool) (bs : List ℕ) → BeginsByEscape bs → apart_from is_open bs ≡ bs
+escape_apart is_open [] h = absurd (cc h)
+escape_apart true (b ∷ bs) h = let e : b ≡ 0x1B = h in rw e refl
+escape_apart false (b ∷ bs) h = refl

@@ -1,0 +1,87 @@
+-- What the filter does with a byte, and with input.
+use Rattle.std.specs.Prelude.{ℕ, Bool, true, false, not, ◌&&◌, ◌||◌, ◌==◌, List, [], ◌∷◌, ◌++◌, Option, Some, None, option_to_list, if◌then◌else◌}
+use Rattle.std.specs.Str.{bytes_eq}
+use Rattle.bx_bytes.specs.Pattern.{is_within}
+use Rattle.bx_bytes.specs.declared.fate.Fate.{Fate}
+use Rattle.bx_bytes.specs.declared.fate.Fate.TheVariants.{Waits, Ends, Breaks}
+use Rattle.bx_input.specs.Table.{Row, fate, row_of, paste_end}
+use Rattle.bx_input.specs.Paste.{pasted_byte, pasted_part, paste_fate}
+
+-- Bytes wait that begin what more than one byte decides. Outside a paste, a sequence that went out as it came may still be
+-- open: its last byte may not have come. Within one, the last byte may have been a CR.
+pub data State : Type 0 where
+  Outside : (waiting : List ℕ) (is_open : Bool) → State
+  Within : (waiting : List ℕ) (after_return : Bool) → State
+
+abbrev pub start : State
+start = Outside [] false
+
+-- the state after bytes, and what went out
+pub record Step : Type 0 where
+  pub state : State
+  pub output : List ℕ
+
+abbrev pub step_to : State → List ℕ → Step
+step_to state output = record { state = state; output = output }
+
+-- ---- outside a paste
+
+-- ESC begins a sequence whatever is open. Anything else would end what is open, so that a CAN, which has no key, ends it first.
+abbrev pub apart_from : Bool → List ℕ → List ℕ
+apart_from is_open [] = if is_open then 0x18 ∷ [] else []
+apart_from is_open (b ∷ bs) = if is_open && not (b == 0x1B) then 0x18 ∷ b ∷ bs else b ∷ bs
+
+-- the row's bytes go out, or a paste starts
+abbrev pub ended : Bool → Option Row → Step
+ended is_open None = step_to (Within [] false) (apart_from is_open [])
+ended is_open (Some r) = step_to (Outside [] false) (apart_from is_open r.becomes)
+
+abbrev pub is_empty : List ℕ → Bool
+is_empty [] = true
+is_empty (b ∷ bs) = false
+
+-- what waited goes out as it came, and the byte is read afresh
+abbrev pub broken : List ℕ → Bool → ℕ → Step
+broken waiting is_open b =
+    let was_open = is_open || not (is_empty waiting) in
+    if b == 0x1B then step_to (Outside (b ∷ []) was_open) waiting
+    else step_to (Outside [] (was_open && is_within 0x20 0x3F b)) (waiting ++ b ∷ [])
+
+abbrev pub step_by : Fate → List ℕ → Bool → ℕ → Step
+step_by Waits waiting is_open b = step_to (Outside (waiting ++ b ∷ []) is_open) []
+step_by Ends waiting is_open b = ended is_open (row_of (waiting ++ b ∷ []))
+step_by Breaks waiting is_open b = broken waiting is_open b
+
+-- ---- within a paste
+
+abbrev pub fresh_in_paste : Fate → Bool → ℕ → Step
+fresh_in_paste Waits after_return b = step_to (Within (b ∷ []) false) []
+fresh_in_paste _ after_return b = step_to (Within [] (b == 0x0D)) (pasted_byte after_return b)
+
+abbrev pub with_front : List ℕ → Step → Step
+with_front front s = step_to s.state (front ++ s.output)
+
+abbrev pub paste_step_by : Fate → List ℕ → Bool → ℕ → Step
+paste_step_by Waits waiting after_return b = step_to (Within (waiting ++ b ∷ []) false) []
+paste_step_by Ends waiting after_return b = step_to (if bytes_eq (waiting ++ b ∷ []) paste_end then start else Within [] false) []
+paste_step_by Breaks waiting after_return b = with_front (pasted_part waiting) (fresh_in_paste (paste_fate (b ∷ [])) after_return b)
+
+-- ---- a byte, and input
+
+abbrev pub step : State → ℕ → Step
+step (Outside waiting is_open) b = step_by (fate (waiting ++ b ∷ [])) waiting is_open b
+step (Within waiting after_return) b = paste_step_by (paste_fate (waiting ++ b ∷ [])) waiting after_return b
+
+-- what goes out of bytes, one after another
+abbrev pub run : State → List ℕ → Step
+run s [] = step_to s []
+run s (b ∷ bs) = with_front (step s b).output (run (step s b).state bs)
+
+-- what still waits goes out at the input's end
+abbrev pub at_end : State → List ℕ
+at_end (Outside waiting is_open) = waiting
+at_end (Within waiting after_return) = pasted_part waiting
+
+-- what goes out of all of an input
+abbrev pub filtered : List ℕ → List ℕ
+filtered bs = let all = run start bs in all.output ++ at_end all.state

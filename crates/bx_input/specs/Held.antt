@@ -1,0 +1,79 @@
+-- What the filter's types stand for.
+use Rattle.std.specs.Prelude.{◌≡◌, ◌≢◌, ℕ, true, false, slice_index, List, [], ◌∷◌, ◌++◌, codes, Option, Some, None, option_map, option_to_list}
+use Rattle.std.specs.Str.{bytes_eq}
+use Rattle.bx_bytes.specs.declared.fate.Fate.TheVariants.{Waits, Ends, Breaks}
+use Rattle.bx_input.specs.Table.{Row, csi, fate, row_of, paste_end}
+use Rattle.bx_input.specs.Paste.{paste_fate}
+use Rattle.bx_input.specs.Filter as spec
+use Rattle.bx_input.specs.Filter.{State, Step}
+use Rattle.bx_input.specs.declared.after.After.{After}
+use Rattle.bx_input.specs.declared.after.After.TheVariants as after
+use Rattle.bx_input.specs.declared.after.AfterInPaste.{AfterInPaste}
+use Rattle.bx_input.specs.declared.after.AfterInPaste.TheVariants as after_in_paste
+use Rattle.bx_input.specs.declared.output.Output.{Output}
+use Rattle.bx_input.specs.declared.beginning.Beginning.{Beginning}
+use Rattle.bx_input.specs.declared.beginning.Beginning.TheVariants as beginning
+use Rattle.bx_input.specs.declared.held.Held.{Held}
+use Rattle.bx_input.specs.declared.held.Held.TheVariants as held
+use Rattle.bx_input.specs.declared.place.Place.{Place}
+use Rattle.bx_input.specs.declared.place.Place.TheVariants as place
+
+-- the bytes that wait outside a paste
+abbrev pub begun : Beginning → List ℕ
+begun beginning.Nothing = []
+begun beginning.Escape = 0x1B ∷ []
+begun beginning.SingleShift = 0x1B ∷ 0x4F ∷ []
+begun beginning.Csi = csi []
+begun beginning.One = csi (codes "1")
+begun beginning.Twelve = csi (codes "12")
+begun beginning.OneAnd = csi (codes "1;")
+begun beginning.Shifted = csi (codes "1;2")
+begun beginning.Two = csi (codes "2")
+begun beginning.Twenty = csi (codes "20")
+begun beginning.TwoHundred = csi (codes "200")
+begun beginning.Seven = csi (codes "7")
+begun beginning.Eight = csi (codes "8")
+begun beginning.Bracket = csi (codes "[")
+
+-- the bytes that wait within a paste
+abbrev pub held_back : Held → List ℕ
+held_back held.Nothing = []
+held_back held.Lead = 0xC2 ∷ []
+held_back held.Escape = 0x1B ∷ []
+held_back held.Csi = csi []
+held_back held.Two = csi (codes "2")
+held_back held.Twenty = csi (codes "20")
+held_back held.TwoHundredOne = csi (codes "201")
+
+abbrev pub state_of : Place → State
+state_of (place.Outside waiting is_open) = spec.Outside (begun waiting) is_open
+state_of (place.Within waiting after_return) = spec.Within (held_back waiting) after_return
+
+-- the bytes that go out
+abbrev pub bytes_of : Output → List ℕ
+bytes_of output = output.before.now ++ option_to_list output.byte
+
+abbrev pub becomes_of : List ℕ → Option (List ℕ)
+becomes_of read = option_map (λ (r : Row). r.becomes) (row_of read)
+
+abbrev pub BeginsByEscape : List ℕ → Type 0
+BeginsByEscape bs = slice_index bs 0 ≡ 0x1B
+
+-- what a byte is said to make of what waited, with which it is these bytes
+abbrev pub Tells : After → List ℕ → Type 0
+Tells (after.Waits beginning) read = (fate read ≡ Waits) × (begun beginning ≡ read)
+Tells (after.Becomes bytes) read = (fate read ≡ Ends) × (becomes_of read ≡ Some bytes.now) × BeginsByEscape bytes.now
+Tells (after.Digit digit) read = (fate read ≡ Ends) × (becomes_of read ≡ Some (digit ∷ [])) × (digit ≢ 0x1B)
+Tells after.Pastes read = (fate read ≡ Ends) × (row_of read ≡ None)
+Tells after.Breaks read = fate read ≡ Breaks
+
+-- the same within a paste
+abbrev pub TellsInPaste : AfterInPaste → List ℕ → Type 0
+TellsInPaste (after_in_paste.Waits held) read = (paste_fate read ≡ Waits) × (held_back held ≡ read)
+TellsInPaste after_in_paste.Drops read = (paste_fate read ≡ Ends) × (bytes_eq read paste_end ≡ false)
+TellsInPaste after_in_paste.EndsPaste read = (paste_fate read ≡ Ends) × (bytes_eq read paste_end ≡ true)
+TellsInPaste after_in_paste.Breaks read = paste_fate read ≡ Breaks
+
+-- where the filter stands after a byte, and what goes out
+abbrev pub Goes : Place × Output → Step → Type 0
+Goes went s = (state_of went.0 ≡ s.state) × (bytes_of went.1 ≡ s.output)

@@ -1,0 +1,4 @@
+pub mod Filter
+pub mod Held
+pub mod Paste
+pub mod Table

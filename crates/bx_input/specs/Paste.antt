@@ -1,0 +1,45 @@
+-- The text of a paste.
+use Rattle.std.specs.Prelude.{ℕ, Bool, true, false, ◌&&◌, ◌||◌, ◌==◌, List, [], ◌∷◌, ◌++◌, flat_map, if◌then◌else◌}
+use Rattle.bx_bytes.specs.Fate.{fate_in}
+use Rattle.bx_bytes.specs.Pattern.{Piece, One, is_within}
+use Rattle.bx_bytes.specs.declared.fate.Fate.{Fate}
+use Rattle.bx_input.specs.Table.{exact, paste_end}
+
+-- of C0, or DELETE
+abbrev pub is_control_byte : ℕ → Bool
+is_control_byte b = is_within 0x00 0x1F b || b == 0x7F
+
+-- what a byte of a paste becomes: TAB passes, a new line is LF, and other control bytes are dropped. The LF of CR LF was
+-- written for the CR.
+abbrev pub pasted_byte : Bool → ℕ → List ℕ
+pasted_byte after_return b =
+    if b == 0x0D then 0x0A ∷ []
+    else if b == 0x0A then (if after_return then [] else 0x0A ∷ [])
+    else if b == 0x09 then 0x09 ∷ []
+    else if is_control_byte b then []
+    else b ∷ []
+
+-- two bytes are a control character of C1 in UTF-8
+abbrev pub is_c1 : ℕ → ℕ → Bool
+is_c1 b c = b == 0xC2 && is_within 0x80 0x9F c
+
+-- what a paste of these bytes becomes, after a CR or not
+abbrev pub pasted_after : Bool → List ℕ → List ℕ
+pasted_after after_return [] = []
+pasted_after after_return (b ∷ []) = pasted_byte after_return b
+pasted_after after_return (b ∷ c ∷ bs) =
+    if is_c1 b c then pasted_after false bs else pasted_byte after_return b ++ pasted_after (b == 0x0D) (c ∷ bs)
+
+abbrev pub pasted : List ℕ → List ℕ
+pasted bs = pasted_after false bs
+
+-- what more than one byte decides within a paste: its end, and the control characters of C1 in UTF-8
+abbrev pub paste_sequences : List (List Piece)
+paste_sequences = exact paste_end ∷ (One 0xC2 0xC2 ∷ One 0x80 0x9F ∷ []) ∷ []
+
+abbrev pub paste_fate : List ℕ → Fate
+paste_fate bs = fate_in paste_sequences bs
+
+-- what broke off becomes
+abbrev pub pasted_part : List ℕ → List ℕ
+pasted_part bs = flat_map (pasted_byte false) bs

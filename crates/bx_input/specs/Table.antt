@@ -1,0 +1,96 @@
+-- What terminals send for a key, and what the editor is sent in its place.
+use Rattle.std.specs.Prelude.{ℕ, List, [], ◌∷◌, ◌++◌, map, find, codes, Option}
+use Rattle.std.specs.Str.{bytes_eq}
+use Rattle.bx_bytes.specs.Fate.{fate_in}
+use Rattle.bx_bytes.specs.Pattern.{Piece, One}
+use Rattle.bx_bytes.specs.declared.fate.Fate.{Fate}
+use Rattle.bx_keys.specs.declared.key.Key.{Key}
+use Rattle.bx_keys.specs.declared.key.Key.TheVariants.{Insert, Up, Down, Right, Left, RowHome, RowEnd, Direction}
+
+-- a sequence of a terminal, the bytes that it becomes, and the editor's key for these
+pub record Row : Type 0 where
+  pub sequence : List ℕ
+  pub becomes : List ℕ
+  pub key : Key
+
+abbrev row : List ℕ → List ℕ → Key → Row
+row sequence becomes key = record { sequence = sequence; becomes = becomes; key = key }
+
+abbrev pub csi : List ℕ → List ℕ
+csi bs = 0x1B ∷ 0x5B ∷ bs
+
+abbrev pub ss3 : List ℕ → List ℕ
+ss3 bs = 0x1B ∷ 0x4F ∷ bs
+
+-- arrows, Home and End in the application mode of xterm, tmux, screen, rxvt and the Linux console
+abbrev application_keys : List Row
+application_keys =
+    row (ss3 (codes "A")) (csi (codes "A")) Up
+    ∷ row (ss3 (codes "B")) (csi (codes "B")) Down
+    ∷ row (ss3 (codes "C")) (csi (codes "C")) Right
+    ∷ row (ss3 (codes "D")) (csi (codes "D")) Left
+    ∷ row (ss3 (codes "H")) (csi (codes "H")) RowHome
+    ∷ row (ss3 (codes "F")) (csi (codes "F")) RowEnd
+    ∷ []
+
+-- Home and End of rxvt
+abbrev rxvt_keys : List Row
+rxvt_keys = row (csi (codes "7~")) (csi (codes "H")) RowHome ∷ row (csi (codes "8~")) (csi (codes "F")) RowEnd ∷ []
+
+-- the same keys with Shift, as xterm, tmux and screen send them
+abbrev shifted_keys : List Row
+shifted_keys =
+    row (csi (codes "1;2A")) (csi (codes "A")) Up
+    ∷ row (csi (codes "1;2B")) (csi (codes "B")) Down
+    ∷ row (csi (codes "1;2C")) (csi (codes "C")) Right
+    ∷ row (csi (codes "1;2D")) (csi (codes "D")) Left
+    ∷ row (csi (codes "1;2H")) (csi (codes "H")) RowHome
+    ∷ row (csi (codes "1;2F")) (csi (codes "F")) RowEnd
+    ∷ []
+
+-- F2, of xterm, tmux and screen; of rxvt and PuTTY; of the Linux console
+abbrev direction_keys : List Row
+direction_keys =
+    row (ss3 (codes "Q")) (csi (codes "9~")) Direction
+    ∷ row (csi (codes "12~")) (csi (codes "9~")) Direction
+    ∷ row (csi (codes "[B")) (csi (codes "9~")) Direction
+    ∷ []
+
+-- the keypad's digits in the application mode of a VT100, of xterm and of rxvt
+abbrev keypad_digits : List Row
+keypad_digits =
+    row (ss3 (codes "p")) (codes "0") (Insert 0x30)
+    ∷ row (ss3 (codes "q")) (codes "1") (Insert 0x31)
+    ∷ row (ss3 (codes "r")) (codes "2") (Insert 0x32)
+    ∷ row (ss3 (codes "s")) (codes "3") (Insert 0x33)
+    ∷ row (ss3 (codes "t")) (codes "4") (Insert 0x34)
+    ∷ row (ss3 (codes "u")) (codes "5") (Insert 0x35)
+    ∷ row (ss3 (codes "v")) (codes "6") (Insert 0x36)
+    ∷ row (ss3 (codes "w")) (codes "7") (Insert 0x37)
+    ∷ row (ss3 (codes "x")) (codes "8") (Insert 0x38)
+    ∷ row (ss3 (codes "y")) (codes "9") (Insert 0x39)
+    ∷ []
+
+abbrev pub rows : List Row
+rows = application_keys ++ (rxvt_keys ++ (shifted_keys ++ (direction_keys ++ keypad_digits)))
+
+-- the two marks that a terminal sets round a paste
+abbrev pub paste_start : List ℕ
+paste_start = csi (codes "200~")
+
+abbrev pub paste_end : List ℕ
+paste_end = csi (codes "201~")
+
+-- these bytes and no others
+abbrev pub exact : List ℕ → List Piece
+exact bs = map (λ b. One b b) bs
+
+-- what is known outside a paste
+abbrev pub sequences : List (List Piece)
+sequences = exact paste_start ∷ map (λ (r : Row). exact r.sequence) rows
+
+abbrev pub fate : List ℕ → Fate
+fate bs = fate_in sequences bs
+
+abbrev pub row_of : List ℕ → Option Row
+row_of bs = find (λ (r : Row). bytes_eq r.sequence bs) rows

@@ -1,0 +1,59 @@
+//! The beginnings of the table's sequences, and what a byte makes of them.
+
+ghost use Rattle.std.specs.Prelude.{◌≡◌, ◌∷◌, [], ◌++◌};
+ghost use Rattle.bx_input.specs.Held.{begun};
+
+/// The bytes that wait outside a paste.
+#[derive(Clone, Copy, PartialEq, Eq, Debug)]
+pub enum Beginning {
+    Nothing,
+    /// ESC
+    Escape,
+    /// ESC O
+    SingleShift,
+    /// CSI, that is ESC [
+    Csi,
+    /// CSI 1
+    One,
+    /// CSI 12
+    Twelve,
+    /// CSI 1;
+    OneAnd,
+    /// CSI 1;2
+    Shifted,
+    /// CSI 2
+    Two,
+    /// CSI 20
+    Twenty,
+    /// CSI 200
+    TwoHundred,
+    /// CSI 7
+    Seven,
+    /// CSI 8
+    Eight,
+    /// CSI [
+    Bracket,
+}
+
+impl Beginning {
+    pub fn bytes(self) -> &'static [u8]
+        ensures { result.now ≡ begun self }
+    {
+        match self {
+            Beginning::Nothing => b"",
+            Beginning::Escape => b"\x1b",
+            Beginning::SingleShift => b"\x1bO",
+            Beginning::Csi => b"\x1b[",
+            Beginning::One => b"\x1b[1",
+            Beginning::Twelve => b"\x1b[12",
+            Beginning::OneAnd => b"\x1b[1;",
+            Beginning::Shifted => b"\x1b[1;2",
+            Beginning::Two => b"\x1b[2",
+            Beginning::Twenty => b"\x1b[20",
+            Beginning::TwoHundred => b"\x1b[200",
+            Beginning::Seven => b"\x1b[7",
+            Beginning::Eight => b"\x1b[8",
+            Beginning::Bracket => b"\x1b[[",
+        }
+    }
+}

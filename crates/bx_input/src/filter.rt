@@ -1,0 +1,70 @@
+//! The filter itself, byte by byte.
+
+ghost use Rattle.std.specs.Prelude.{◌≡◌};
+ghost use Rattle.bx_input.specs.Filter as spec;
+ghost use Rattle.bx_input.specs.Held.{bytes_of};
+
+use crate::beginning::Beginning;
+use crate::output::Output;
+use crate::place::Place;
+use crate::step::{outside, within};
+use std::marker::Model;
+
+/// A filter between a terminal and the editor.
+#[derive(Drop, Debug)]
+pub struct Filter {
+    place: Place,
+}
+
+impl Model for Filter {
+    ghost use Rattle.bx_input.specs.Filter.{State};
+
+    ghost use Rattle.bx_input.specs.Held.{state_of};
+
+    ghost Value = { State };
+
+    ghost view = { λ f. state_of f.place };
+}
+
+impl Filter {
+    /// A filter at the start of its input.
+    pub fn new() -> Filter
+        ensures { result ≡ spec.start }
+    {
+        Filter {
+            place: Place::Outside {
+                waiting: Beginning::Nothing,
+                is_open: false,
+            },
+        }
+    }
+
+    /// Takes the next byte, and answers what goes out for it.
+    pub fn feed(&mut self, byte: u8) -> Output
+        ensures state { self.new ≡ (spec.step self.old byte).state }
+        ensures output { bytes_of result ≡ (spec.step self.old byte).output }
+    {
+        let (place, output) = match self.place {
+            Place::Outside { waiting, is_open } => outside(waiting, is_open, byte),
+            Place::Within {
+                waiting,
+                after_return,
+            } => within(waiting, after_return, byte),
+        };
+        self.place = place;
+        output
+    }
+
+    /// What still waits goes out, since the input is at its end. The filter is then at a start again.
+    pub fn finish(&mut self) -> Output
+        ensures state { self.new ≡ spec.start }
+        ensures output { bytes_of result ≡ spec.at_end self.old }
+    {
+        let before = match self.place {
+            Place::Outside { waiting, .. } => waiting.bytes(),
+            Place::Within { waiting, .. } => waiting.text(),
+        };
+        *self = Filter::new();
+        Output { before, byte: None }
+    }
+}

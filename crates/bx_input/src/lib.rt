@@ -1,0 +1,17 @@
+//! Between a terminal and the editor: what terminals send for keys becomes what the editor takes.
+//!
+//! Terminals send more than the editor's grammar of input has: arrows in application mode, the Home and End of rxvt, keys with
+//! Shift, F2, the keypad's digits, and pastes. `specs/Table.antt` has the table. All else passes as it came, also what is
+//! broken. A paste becomes text: of its control bytes only TAB and LF are left, so it can neither save nor quit nor move.
+#![tactic(auto)]
+
+mod after;
+mod beginning;
+mod filter;
+mod held;
+mod output;
+mod place;
+mod step;
+
+pub use filter::Filter;
+pub use output::Output;

@@ -1,0 +1,126 @@
+//! What goes out for a byte, and where the filter stands then.
+
+ghost use Rattle.std.specs.Prelude.{◌≡◌, ◌≢◌, false, ◌∷◌, [], ◌++◌, Some, option_to_list};
+ghost use Rattle.bx_input.specs.Filter as spec;
+ghost use Rattle.bx_input.specs.Filter.{apart_from, broken, fresh_in_paste, with_front};
+ghost use Rattle.bx_input.specs.Held.{begun, held_back, bytes_of, state_of, Goes};
+ghost use Rattle.bx_input.specs.Paste.{pasted_byte, pasted_part, paste_fate};
+
+use crate::after::{After, AfterInPaste, ESC, paste_after, sequence_after};
+use crate::beginning::Beginning;
+use crate::held::Held;
+use crate::output::Output;
+use crate::place::Place;
+
+const NOTHING: Output = Output {
+    before: b"",
+    byte: None,
+};
+
+const OUTSIDE: Place = Place::Outside {
+    waiting: Beginning::Nothing,
+    is_open: false,
+};
+
+/// A byte outside a paste.
+pub fn outside(waiting: Beginning, is_open: bool, byte: u8) -> (Place, Output)
+    ensures { Goes result (spec.step (spec.Outside (begun waiting) is_open) byte) }
+{
+    match sequence_after(waiting, byte) {
+        After::Waits(waiting) => (Place::Outside { waiting, is_open }, NOTHING),
+        After::Becomes(bytes) => (OUTSIDE, Output { before: bytes, byte: None }),
+        After::Digit(digit) => (OUTSIDE, apart(is_open, Some(digit))),
+        After::Pastes => (fresh_paste(false), apart(is_open, None)),
+        After::Breaks => broken_off(waiting, is_open, byte),
+    }
+}
+
+/// A digit or nothing, which a sequence that is open does not take.
+fn apart(is_open: bool, byte: Option<u8>) -> Output
+    requires { byte ≢ Some 0x1B }
+    ensures { bytes_of result ≡ apart_from is_open (option_to_list byte) }
+{
+    Output {
+        before: if is_open { b"\x18" } else { b"" },
+        byte,
+    }
+}
+
+/// A byte that begins nothing with those that wait.
+fn broken_off(waiting: Beginning, is_open: bool, byte: u8) -> (Place, Output)
+    ensures { Goes result (broken (begun waiting) is_open byte) }
+{
+    let was_open = is_open || waiting != Beginning::Nothing;
+    let before = waiting.bytes();
+    if byte == ESC {
+        let waiting = Beginning::Escape;
+        let place = Place::Outside {
+            waiting,
+            is_open: was_open,
+        };
+        (place, Output { before, byte: None })
+    } else {
+        let place = Place::Outside {
+            waiting: Beginning::Nothing,
+            is_open: was_open && 0x20 <= byte && byte <= 0x3F,
+        };
+        (place, Output { before, byte: Some(byte) })
+    }
+}
+
+fn fresh_paste(after_return: bool) -> Place
+    ensures { state_of result ≡ spec.Within [] after_return }
+{
+    Place::Within {
+        waiting: Held::Nothing,
+        after_return,
+    }
+}
+
+/// A byte within a paste.
+pub fn within(waiting: Held, after_return: bool, byte: u8) -> (Place, Output)
+    ensures { Goes result (spec.step (spec.Within (held_back waiting) after_return) byte) }
+{
+    match paste_after(waiting, byte) {
+        AfterInPaste::Waits(waiting) => (waits(waiting), NOTHING),
+        AfterInPaste::Drops => (fresh_paste(false), NOTHING),
+        AfterInPaste::EndsPaste => (OUTSIDE, NOTHING),
+        AfterInPaste::Breaks => broken_off_in_paste(waiting, after_return, byte),
+    }
+}
+
+fn waits(waiting: Held) -> Place
+    ensures { state_of result ≡ spec.Within (held_back waiting) false }
+{
+    Place::Within {
+        waiting,
+        after_return: false,
+    }
+}
+
+/// A byte that begins nothing with those that wait within a paste.
+fn broken_off_in_paste(waiting: Held, after_return: bool, byte: u8) -> (Place, Output)
+    ensures { Goes result (with_front (pasted_part (held_back waiting)) (fresh_in_paste (paste_fate (byte ∷ [])) after_return byte)) }
+{
+    let before = waiting.text();
+    match paste_after(Held::Nothing, byte) {
+        AfterInPaste::Waits(held) => (waits(held), Output { before, byte: None }),
+        _ => {
+            let byte_out = pasted(after_return, byte);
+            (fresh_paste(byte == b'\r'), Output { before, byte: byte_out })
+        }
+    }
+}
+
+/// What a byte of a paste becomes.
+fn pasted(after_return: bool, byte: u8) -> Option<u8>
+    ensures { option_to_list result ≡ pasted_byte after_return byte }
+{
+    match byte {
+        b'\r' => Some(b'\n'),
+        b'\n' if after_return => None,
+        b'\n' | b'\t' => Some(byte),
+        0x00..=0x1F | 0x7F => None,
+        _ => Some(byte),
+    }
+}
