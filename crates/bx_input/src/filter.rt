@@ -56,15 +56,22 @@ impl Filter {
     }
 
     /// What still waits goes out, since the input is at its end. The filter is then at a start again.
-    pub fn finish(&mut self) -> Output
+    pub fn finish(&mut self) -> &'static [u8]
         ensures state { self.new ≡ spec.start }
-        ensures output { bytes_of result ≡ spec.at_end self.old }
+        ensures output { result.now ≡ spec.at_end self.old }
     {
-        let before = match self.place {
+        let rest = match self.place {
             Place::Outside { waiting, .. } => waiting.bytes(),
             Place::Within { waiting, .. } => waiting.text(),
         };
         *self = Filter::new();
-        Output { before, byte: None }
+        rest
+    }
+
+    /// A filter that stands where this one does.
+    pub(crate) fn copied(&self) -> Filter
+        ensures { result ≡ self.now }
+    {
+        Filter { place: self.place }
     }
 }

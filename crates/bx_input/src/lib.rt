@@ -7,11 +7,15 @@
 
 mod after;
 mod beginning;
+mod fault;
 mod filter;
 mod held;
 mod output;
 mod place;
+mod running;
 mod step;
 
+pub use fault::FilterFault;
 pub use filter::Filter;
 pub use output::Output;
+pub use running::run;
