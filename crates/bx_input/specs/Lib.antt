@@ -1,5 +1,6 @@
 pub mod Filter
 pub mod Held
+pub mod Laws
 pub mod Paste
 pub mod Running
 pub mod Table

@@ -11,11 +11,13 @@ mod fault;
 mod filter;
 mod held;
 mod output;
+mod laws;
 mod place;
 mod running;
 mod step;
 
 pub use fault::FilterFault;
 pub use filter::Filter;
+pub use laws::{in_any_pieces, pastes_are_clean, waits_for_five};
 pub use output::Output;
 pub use running::run;

@@ -1,0 +1,126 @@
+-- Patterns that take a byte as their first alone, and how long a beginning is.
+use Rattle.std.proofs.Common.{◌≡◌, ℕ, ◌≤◌, ◌<◌, ◌⊎◌, inl, inr, Bool, true, false, not, ◌&&◌, ◌||◌, cond, nat_le, List, [], ◌∷◌, ◌++◌, length, suc, refl, ap, sym, ◌∙◌, arith}
+use Rattle.std.specs.List.{list_all}
+use Rattle.std.proofs.lemmas.Bool.{cases_Bool, both_ways, and_parts, and_left, and_right, or_cases, or_from, or_parts, cond-true, cond-false, leb-true}
+use Rattle.std.proofs.lemmas.Bool.{not-true}
+use Rattle.bx_bytes.specs.Fate.{fate_in}
+use Rattle.bx_bytes.specs.Pattern.{Piece, One, Many, is_within, past, matches, begins, matches_any, begins_any}
+use Rattle.bx_bytes.specs.declared.fate.Fate.{Fate}
+use Rattle.bx_bytes.specs.declared.fate.Fate.TheVariants.{Waits, Ends, Breaks}
+use Rattle.bx_bytes.proofs.Patterns.{matches_any_begins}
+
+-- ---- what a fate says
+
+pub record IsBegun (patterns : List (List Piece)) (bs : List ℕ) : Type 0 where
+  pub not_whole : matches_any patterns bs ≡ false
+  pub begins : begins_any patterns bs ≡ true
+
+abbrev if_fate : Bool → Bool → Fate
+if_fate m b = cond m Ends (cond b Waits Breaks)
+
+begun_by : (m b : Bool) → (if_fate m b ≡ Waits) → (m ≡ false) × (b ≡ true)
+begun_by true b h = absurd (cc h)
+begun_by false true h = (refl, refl)
+begun_by false false h = absurd (cc h)
+
+pub waits_says : (patterns : List (List Piece)) (bs : List ℕ) → fate_in patterns bs ≡ Waits → IsBegun patterns bs
+waits_says patterns bs h =
+    let parts = begun_by (matches_any patterns bs) (begins_any patterns bs) h in record { not_whole = parts.0; begins = parts.1 }
+
+whole_by : (m b : Bool) → if_fate m b ≡ Ends → m ≡ true
+whole_by true b h = refl
+whole_by false true h = absurd (cc h)
+whole_by false false h = absurd (cc h)
+
+pub ends_says : (patterns : List (List Piece)) (bs : List ℕ) → fate_in patterns bs ≡ Ends → matches_any patterns bs ≡ true
+ends_says patterns bs h = whole_by (matches_any patterns bs) (begins_any patterns bs) h
+
+pub breaks_if : (patterns : List (List Piece)) (bs : List ℕ) → begins_any patterns bs ≡ false → fate_in patterns bs ≡ Breaks
+breaks_if patterns bs h = elim (cases_Bool (matches_any patterns bs)) [
+  | inl whole ↦ absurd (both_ways (begins_any patterns bs) h (matches_any_begins patterns bs whole))
+  | inr other ↦ cond-false (matches_any patterns bs) _ _ other ∙ cond-false (begins_any patterns bs) _ _ h
+]
+
+-- ---- a byte that none takes but as its first
+
+abbrev pub lacks : ℕ → Piece → Bool
+lacks b (One low high) = not (is_within low high b)
+lacks b (Many low high) = not (is_within low high b)
+
+abbrev pub lacks_after_first : ℕ → List Piece → Bool
+lacks_after_first b (One low high ∷ ps) = list_all (lacks b) ps
+lacks_after_first b _ = false
+
+-- bytes of a range go, and the byte stays
+past_at : (t : Bool) (low high b x : ℕ) (xs : List ℕ) → is_within low high x ≡ t → (ys : List ℕ) × (past low high (xs ++ b ∷ []) ≡ ys ++ b ∷ [])
+    → (ys : List ℕ) × (past low high (x ∷ (xs ++ b ∷ [])) ≡ ys ++ b ∷ [])
+past_at true low high b x xs e rest = (rest.0, rw e rest.1)
+past_at false low high b x xs e rest = (x ∷ xs, rw e refl)
+
+past_one : (low high b : ℕ) (xs : List ℕ) → is_within low high b ≡ false → (ys : List ℕ) × (past low high (xs ++ b ∷ []) ≡ ys ++ b ∷ [])
+past_one low high b [] n = ([], rw n refl)
+past_one low high b (x ∷ xs) n = past_at (is_within low high x) low high b x xs refl (past_one low high b xs n)
+
+none_begin : (ps : List Piece) (xs : List ℕ) (b : ℕ) → list_all (lacks b) ps ≡ true → begins ps (xs ++ b ∷ []) ≡ false
+none_begin [] [] b h = refl
+none_begin [] (x ∷ xs) b h = refl
+none_begin (One low high ∷ ps) [] b h =
+    let parts = and_parts (not (is_within low high b)) (list_all (lacks b) ps) h in
+    and_left (is_within low high b) (begins ps []) (not-true (is_within low high b) parts.0)
+none_begin (One low high ∷ ps) (x ∷ xs) b h =
+    let parts = and_parts (not (is_within low high b)) (list_all (lacks b) ps) h in
+    and_right (is_within low high x) (begins ps (xs ++ b ∷ [])) (none_begin ps xs b parts.1)
+none_begin (Many low high ∷ ps) xs b h =
+    let parts = and_parts (not (is_within low high b)) (list_all (lacks b) ps) h in
+    let left = past_one low high b xs (not-true (is_within low high b) parts.0) in
+    ap (begins ps) left.1 ∙ none_begin ps left.0 b parts.1
+
+not_begun : (p : List Piece) (x : ℕ) (xs : List ℕ) (b : ℕ) → lacks_after_first b p ≡ true → begins p (x ∷ (xs ++ b ∷ [])) ≡ false
+not_begun [] x xs b h = refl
+not_begun (One low high ∷ ps) x xs b h = and_right (is_within low high x) (begins ps (xs ++ b ∷ [])) (none_begin ps xs b h)
+not_begun (Many low high ∷ ps) x xs b h = absurd (cc h)
+
+any_not_begun : (patterns : List (List Piece)) (x : ℕ) (xs : List ℕ) (b : ℕ) → list_all (lacks_after_first b) patterns ≡ true
+    → begins_any patterns (x ∷ (xs ++ b ∷ [])) ≡ false
+any_not_begun [] x xs b h = refl
+any_not_begun (p ∷ patterns) x xs b h =
+    let parts = and_parts (lacks_after_first b p) (list_all (lacks_after_first b) patterns) h in
+    or_from (begins p (x ∷ (xs ++ b ∷ []))) (begins_any patterns (x ∷ (xs ++ b ∷ []))) (not_begun p x xs b parts.0) (any_not_begun patterns x xs b parts.1)
+
+-- such a byte breaks whatever has begun
+pub breaks_at : (patterns : List (List Piece)) (x : ℕ) (xs : List ℕ) (b : ℕ) → list_all (lacks_after_first b) patterns ≡ true
+    → fate_in patterns (x ∷ (xs ++ b ∷ [])) ≡ Breaks
+breaks_at patterns x xs b h = breaks_if patterns (x ∷ (xs ++ b ∷ [])) (any_not_begun patterns x xs b h)
+
+-- ---- how long what waits is
+
+abbrev pub is_of_single_bytes : List Piece → Bool
+is_of_single_bytes [] = true
+is_of_single_bytes (One low high ∷ ps) = is_of_single_bytes ps
+is_of_single_bytes (Many low high ∷ ps) = false
+
+-- bytes that begin such a pattern and are not of it are fewer
+fewer : (ps : List Piece) (bs : List ℕ) → is_of_single_bytes ps ≡ true → begins ps bs ≡ true → matches ps bs ≡ false → length bs < length ps
+fewer [] [] n h m = absurd (cc m)
+fewer [] (b ∷ bs) n h m = absurd (cc h)
+fewer (One low high ∷ ps) [] n h m = omega arith
+fewer (One low high ∷ ps) (b ∷ bs) n h m =
+    let tests = and_parts (is_within low high b) (begins ps bs) h in
+    let rest : matches ps bs ≡ false = rw tests.0 at m in
+    omega (arith, fewer ps bs n tests.1 rest)
+fewer (Many low high ∷ ps) bs n h m = absurd (cc n)
+
+abbrev pub is_within_length : ℕ → List Piece → Bool
+is_within_length n p = is_of_single_bytes p && nat_le (length p) n
+
+pub any_fewer : (patterns : List (List Piece)) (n : ℕ) (bs : List ℕ) → list_all (is_within_length n) patterns ≡ true → begins_any patterns bs ≡ true
+    → matches_any patterns bs ≡ false → length bs < n
+any_fewer [] n bs s h m = absurd (cc h)
+any_fewer (p ∷ patterns) n bs s h m =
+    let sizes = and_parts (is_within_length n p) (list_all (is_within_length n) patterns) s in
+    let size = and_parts (is_of_single_bytes p) (nat_le (length p) n) sizes.0 in
+    let no = or_parts (matches p bs) (matches_any patterns bs) m in
+    elim (or_cases (begins p bs) (begins_any patterns bs) h) [
+      | inl here ↦ omega (arith, fewer p bs size.0 here no.0, leb-true (length p) n size.1)
+      | inr later ↦ any_fewer patterns n bs sizes.1 later no.1
+    ]

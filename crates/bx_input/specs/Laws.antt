@@ -1,0 +1,63 @@
+-- What holds of the filter, whatever its input.
+use Rattle.std.specs.Prelude.{◌≡◌, ◌≤◌, ℕ, ◌*◌, Bool, true, false, not, ◌||◌, ◌==◌, ◌&&◌, List, [], ◌∷◌, ◌++◌, length}
+use Rattle.std.specs.List.{AllByRecursion, list_all}
+use Rattle.bx_bytes.specs.Pattern.{Piece, matches_any, matches}
+use Rattle.bx_keys.specs.Keys.{decoding}
+use Rattle.bx_input.specs.Table.{Row, rows, sequences, exact, paste_start, paste_end}
+use Rattle.bx_input.specs.Paste.{is_control_byte, pasted}
+use Rattle.bx_input.specs.Filter.{State, Outside, Within, Step, step_to, with_front, step, start, run, at_end, filtered, apart_from, is_empty}
+
+-- cut in two, input goes as its first part does, and then its second
+abbrev pub ComesInPieces : Type 0
+ComesInPieces = (s : State) (bs more : List ℕ) →
+    let first : Step = run s bs in
+    run s (bs ++ more) ≡ with_front first.output (run first.state more)
+
+abbrev pub waiting_in : State → List ℕ
+waiting_in (Outside waiting is_open) = waiting
+waiting_in (Within waiting after_return) = waiting
+
+-- no more than five bytes ever wait
+abbrev pub WaitsForFive : Type 0
+WaitsForFive = (bs : List ℕ) → length (waiting_in (run start bs).state) ≤ 5
+
+-- a sequence of the table after input that ends outside a paste: what waited goes out as it came, and then the row's bytes
+abbrev pub BecomesRow : Row → Type 0
+BecomesRow r = (bs waiting : List ℕ) (is_open : Bool) → (run start bs).state ≡ Outside waiting is_open
+    → run start (bs ++ r.sequence) ≡ step_to start (filtered bs ++ apart_from (is_open || not (is_empty waiting)) r.becomes)
+
+-- none of the patterns' bytes stand in a row in these
+abbrev pub HasNone : List (List Piece) → List ℕ → Type 0
+HasNone patterns bs = (front middle back : List ℕ) → bs ≡ front ++ (middle ++ back) → matches_any patterns middle ≡ false
+
+-- input with no sequence of the table and no start of a paste goes out as it came
+abbrev pub OthersPass : Type 0
+OthersPass = (bs : List ℕ) → HasNone sequences bs → filtered bs ≡ bs
+
+-- a paste after input that ends outside one, up to the first end of a paste
+abbrev pub PastesText : Type 0
+PastesText = (bs waiting : List ℕ) (is_open : Bool) (text : List ℕ) → (run start bs).state ≡ Outside waiting is_open
+    → HasNone (exact paste_end ∷ []) text
+    → run start (bs ++ (paste_start ++ (text ++ paste_end)))
+    ≡ step_to start (filtered bs ++ (apart_from (is_open || not (is_empty waiting)) [] ++ pasted text))
+
+-- no control byte but TAB and LF
+abbrev pub is_text_byte : ℕ → Bool
+is_text_byte b = (b == 0x09 || b == 0x0A) || not (is_control_byte b)
+
+abbrev pub IsText : List ℕ → Type 0
+IsText bs = list_all is_text_byte bs ≡ true
+
+-- what goes out within a paste is text, however it is cut
+pub record PastesAreClean : Type 0 where
+  pub each_byte : (waiting : List ℕ) (after_return : Bool) (b : ℕ) → IsText (step (Within waiting after_return) b).output
+  pub input_ends : (waiting : List ℕ) (after_return : Bool) → IsText (at_end (Within waiting after_return))
+  pub whole : (text : List ℕ) → IsText (pasted text)
+
+-- F2 as ESC O Q is three bytes and becomes four, and nothing else grows
+abbrev pub GrowsByThird : Type 0
+GrowsByThird = (bs : List ℕ) → 3 * length (filtered bs) ≤ 4 * length bs
+
+-- the editor's key for what a row becomes is the row's
+abbrev pub HasKey : Row → Type 0
+HasKey r = decoding r.becomes ≡ record { keys = r.key ∷ []; rest = [] }
