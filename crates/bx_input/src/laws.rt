@@ -1,6 +1,8 @@
 //! What holds of the filter, whatever its input. The functions do nothing: their contracts are the laws.
 
-ghost use Rattle.bx_input.specs.Laws.{ComesInPieces, PastesAreClean, WaitsForFive};
+ghost use Rattle.std.specs.List.{AllByRecursion};
+ghost use Rattle.bx_input.specs.Laws.{BecomesRow, ComesInPieces, GrowsByThird, HasKey, OthersPass, PastesAreClean, WaitsForFive};
+ghost use Rattle.bx_input.specs.Table.{rows};
 
 /// However input is cut, what goes out is the same.
 pub fn in_any_pieces()
@@ -15,4 +17,24 @@ pub fn waits_for_five()
 /// From within a paste no control byte but TAB and LF goes out.
 pub fn pastes_are_clean()
     ensures { PastesAreClean }
+{}
+
+/// A sequence of the table becomes what its row says, wherever it comes but in a paste.
+pub fn rows_become()
+    ensures { AllByRecursion BecomesRow rows }
+{}
+
+/// Input with no sequence of the table and no paste goes out as it came.
+pub fn others_pass()
+    ensures { OthersPass }
+{}
+
+/// What goes out is at most a third longer than what came in.
+pub fn grows_by_third()
+    ensures { GrowsByThird }
+{}
+
+/// The editor has the table's key for what a sequence of the table becomes.
+pub fn rows_have_keys()
+    ensures { AllByRecursion HasKey rows }
 {}

@@ -10,14 +10,14 @@ mod beginning;
 mod fault;
 mod filter;
 mod held;
-mod output;
 mod laws;
+mod output;
 mod place;
 mod running;
 mod step;
 
 pub use fault::FilterFault;
 pub use filter::Filter;
-pub use laws::{in_any_pieces, pastes_are_clean, waits_for_five};
+pub use laws::{grows_by_third, in_any_pieces, others_pass, pastes_are_clean, rows_become, rows_have_keys, waits_for_five};
 pub use output::Output;
 pub use running::run;
