@@ -83,7 +83,7 @@ rows_become = all_rows rows are_rows
 
 -- ---- all else
 
-none_behind : (patterns : List (List Piece)) (xs ys : List ℕ) → HasNone patterns (xs ++ ys) → HasNone patterns ys
+pub none_behind : (patterns : List (List Piece)) (xs ys : List ℕ) → HasNone patterns (xs ++ ys) → HasNone patterns ys
 none_behind patterns xs ys h front middle back e = h (xs ++ front) middle back (ap (λ zs. xs ++ zs) e ∙ sym (append_assoc xs front (middle ++ back)))
 
 as_it_came : Step → List ℕ

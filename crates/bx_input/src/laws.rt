@@ -1,7 +1,7 @@
 //! What holds of the filter, whatever its input. The functions do nothing: their contracts are the laws.
 
 ghost use Rattle.std.specs.List.{AllByRecursion};
-ghost use Rattle.bx_input.specs.Laws.{BecomesRow, ComesInPieces, GrowsByThird, HasKey, OthersPass, PastesAreClean, WaitsForFive};
+ghost use Rattle.bx_input.specs.Laws.{BecomesRow, ComesInPieces, GrowsByThird, HasKey, OthersPass, PastesAreClean, PastesText, WaitsForFive};
 ghost use Rattle.bx_input.specs.Table.{rows};
 
 /// However input is cut, what goes out is the same.
@@ -37,4 +37,9 @@ pub fn grows_by_third()
 /// The editor has the table's key for what a sequence of the table becomes.
 pub fn rows_have_keys()
     ensures { AllByRecursion HasKey rows }
+{}
+
+/// A paste becomes its text, up to the first end of a paste.
+pub fn pastes_become_text()
+    ensures { PastesText }
 {}
