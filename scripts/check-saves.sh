@@ -26,11 +26,11 @@ fi
 
 folder=$(mktemp -d)
 place=$folder/place
-program='' is_mounted=''
+program='' mounted=''
 
 clean_up() {
     [ -z "$program" ] || kill -s KILL "$program" 2>/dev/null
-    [ -z "$is_mounted" ] || umount "$folder/disk"
+    [ -z "$mounted" ] || umount "$mounted"
     rm -rf "$folder"
 }
 
@@ -46,7 +46,7 @@ cat >"$folder/as_other" <<'END'
 exec setpriv --reuid 54322 --regid 54322 --clear-groups "$@"
 END
 chmod 755 "$folder"/*
-umask 027
+umask 022
 
 # ---- what is counted
 
@@ -119,11 +119,11 @@ prepare() { # SCENE
         ln -s ../text "$file"
         ;;
     made)
-        others=links
+        mode=644 others=links
         cp "$folder/typed" "$folder/new"
         ;;
     dangling)
-        file=$place/links/link others=links
+        file=$place/links/link mode=644 others=links
         cp "$folder/typed" "$folder/new"
         ln -s second "$file"
         ln -s ../text "$place/links/second"
@@ -539,24 +539,45 @@ check_owners() {
     chmod 666 "$kept"
     check_save 'a folder that may not be written' old "$folder/as_other"
     check_nothing_left
+
+    prepare plain
+    chmod 666 "$kept"
+    chmod 1777 "$place"
+    check_save "another user's file in a folder like /tmp" old "$folder/as_other"
+    check_nothing_left
 }
 
-# ---- a disk that is full
+# ---- disks that take no text
 
-check_full_disk() {
-    begin_kind 'a full disk'
+check_disks() {
+    begin_kind 'disks that take no text'
     mkdir -m 755 "$folder/disk"
     if ! mount -t tmpfs -o size=64k tmpfs "$folder/disk" 2>/dev/null; then
         skip 'no disk may be mounted'
         return
     fi
-    is_mounted=1
-    head -c 40000 /dev/zero | tr '\0' a >"$folder/disk/text"
-    cp "$folder/disk/text" "$folder/old"
+    mounted=$folder/disk
+    prepare plain
     file=$folder/disk/text kept=$folder/disk/text
-    check_save '40,000 bytes on a disk of 64 KiB' old env
+    put_old "$kept" 640
+    mount -o remount,ro "$folder/disk"
+    check_save 'read-only' old env
+    mount -o remount,rw "$folder/disk"
+    check_save 'no longer read-only' new env
+
+    cp "$folder/old" "$folder/short"
+    head -c 40000 /dev/zero | tr '\0' a >"$folder/old"
+    cp "$folder/old" "$kept"
+    check_save '40,000 bytes more on a disk of 64 KiB' old env
     same "what is there" "$(ls -A "$folder/disk")" text
-    umount "$folder/disk" && is_mounted=''
+    mv "$folder/short" "$folder/old"
+    umount "$folder/disk" && mounted=''
+
+    prepare plain
+    mount --bind "$kept" "$kept" && mounted=$kept
+    check_save 'a file that is mounted by itself' old env
+    check_nothing_left
+    umount "$kept" && mounted=''
 }
 
 check_kills
@@ -565,7 +586,7 @@ check_changes
 check_drafts
 check_names
 check_owners
-check_full_disk
+check_disks
 end_kind
 kind='all points' point='their number'
 [ "$points" -ge "$least" ] || fails "there are $points, and not $least"

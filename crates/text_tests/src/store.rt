@@ -79,16 +79,13 @@ fn a_change_by_another_program_is_told_once(rt: HostRuntime) -> Result<(), Fail>
     let third = save(&mut store, b"again", b"");
     let made_again = file_at(&rt, path.as_str())?;
     fs::remove_file(&rt, path.as_path())?;
-    assert_eq!(rt; (first, second, third), (Err(StoreFault), Ok(()), Ok(())));
-    assert_eq!(rt; (kept.0.as_slice(), kept.1), (b"theirs".as_slice(), 0o640));
-    assert_eq!(rt;
-        (replaced.0.as_slice(), replaced.1),
-        (b"ours".as_slice(), 0o640)
-    );
-    assert_eq!(rt;
-        (made_again.0.as_slice(), made_again.1),
-        (b"again".as_slice(), 0o640)
-    );
+    assert_eq!(rt; first, Err(StoreFault));
+    assert_eq!(rt; second, Ok(()));
+    assert_eq!(rt; third, Ok(()));
+    assert_eq!(rt; kept.0.as_slice(), b"theirs".as_slice());
+    assert_eq!(rt; replaced.0.as_slice(), b"ours".as_slice());
+    assert_eq!(rt; made_again.0.as_slice(), b"again".as_slice());
+    assert_eq!(rt; [kept.1, replaced.1, made_again.1], [0o640; 3]);
     assert_eq!(rt; store.failures(), 1);
     Ok(())
 }
