@@ -64,7 +64,7 @@ take_tables() { # FOLDER
 find_tables() {
     if [ -n "${BIDI_EDIT_DATA:-}" ]; then
         take_tables "$BIDI_EDIT_DATA" ||
-            fail "BIDI_EDIT_DATA names $BIDI_EDIT_DATA, which lacks DerivedBidiClass.txt, BidiBrackets.txt or BidiMirroring.txt"
+            fail "BIDI_EDIT_DATA names $(shown "$BIDI_EDIT_DATA"), which lacks DerivedBidiClass.txt, BidiBrackets.txt or BidiMirroring.txt"
     else
         take_tables /usr/share/unicode || take_tables "$own_tables" || fail "$own_tables lacks Unicode's three files"
     fi

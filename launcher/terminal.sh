@@ -10,8 +10,8 @@ folder='' program='' keys='' sizes='' outer='' is_running='' is_shown='' has_tit
 # scrolls by itself, a row's end that keeps a letter with its marks (tmux joins them to the letter before without autowrap), a
 # shown cursor, and rows from left to right as they are sent.
 modes='\033[?1l\033(B\017\033[4l\033[?6l\033[r\033[?7h\033[?25h\033[8l\033[1 k'
-# And what shells count on: a terminal that reorders does so again.
-end_modes='\033[0m\033[?25h\033[0 k\033[8h'
+# And what shells count on: a terminal that reorders does so again. How arrows were sent is kept and given back, where that is known.
+end_modes='\033[0m\033[?1r\033[?25h\033[0 k\033[8h'
 
 # Whether this terminal keeps its title when asked, and gives it back. GNU screen does not, and hides what it runs in.
 keeps_titles() {
@@ -30,17 +30,18 @@ title_name() {
     esac
 }
 
-# The terminal that tmux shows this one in, if it can be written. It may reorder what tmux hands on.
+# The terminal that tmux shows this one in, if it can be written. It may reorder what tmux hands on. A client in control mode is a
+# program that reads tmux's own protocol there.
 find_outer() {
     [ -n "${TMUX:-}" ] || return 0
-    outer=$(timeout 1 tmux display-message -p '#{client_tty}') || outer=''
+    outer=$(timeout 1 tmux display-message -p '#{?client_control_mode,,#{client_tty}}') || outer=''
     [ -c "$outer" ] && [ -w "$outer" ] || outer=''
 }
 
-# One that stands still is not waited for.
+# One that stands still is not waited for; the other signals are ignored at the end.
 tell_outer() { # SEQUENCE
     # shellcheck disable=SC2016
-    [ -z "$outer" ] || timeout 1 sh -c 'printf "%b" "$0" >"$1"' "$1" "$outer"
+    [ -z "$outer" ] || timeout -s KILL 1 sh -c 'printf "%b" "$0" >"$1"' "$1" "$outer"
 }
 
 # Raw, on the alternate screen, with the painter's modes. xterm's 1049 also keeps the cursor, 1047 leaves the one that is kept.
@@ -53,6 +54,7 @@ show() {
     is_shown=1
     find_outer
     tell_outer '\033[8l'
+    printf '\033[?1s'
     set_terminal 1049
     if keeps_titles; then
         has_title=1

@@ -8,9 +8,8 @@ usage='usage: bidi-edit [--direction auto|ltr|rtl] [--line N | +N] [--force] FIL
 help() {
     echo "$usage"
     cat <<'TEXT'
-Edits a text of any scripts, each paragraph in its own direction.
---line N or +N begins at line N, --force opens also what cannot be saved, and
---version tells the versions of the editor, its toolchain and Unicode's tables.
+Edits a text of any scripts, each paragraph in its own direction, from line N.
+--force opens also what cannot be saved, --version tells what this is made of.
 
   Left Right Up Down    CSI D C A B   move as the screen shows
   Ctrl-B Ctrl-F         02 06         move back, forward as the text is stored
@@ -111,7 +110,7 @@ read_words() { # WORD..
             shift
             break
             ;;
-        -?*) refuse_words "there is no option $1" ;;
+        -?*) refuse_words "there is no option $(shown "$1")" ;;
         +*) take_place "$1" ;;
         *) break ;;
         esac
@@ -128,8 +127,8 @@ read_words() { # WORD..
 take_option() { # NAME VALUE
     case $1:$2 in
     --direction:auto | --direction:ltr | --direction:rtl) direction=$2 ;;
-    --direction:*) refuse_words "--direction wants auto, ltr or rtl, not $2" ;;
-    --line: | --line:*[!0-9]*) refuse_words "--line wants a number, not $2" ;;
+    --direction:*) refuse_words "--direction wants auto, ltr or rtl, not $(shown "$2")" ;;
+    --line: | --line:*[!0-9]*) refuse_words "--line wants a number, not $(shown "$2")" ;;
     --line:*) take_line "$2" ;;
     esac
 }

@@ -22,6 +22,7 @@ editor=$top/crates/bidi_edit/out/bidi_edit
 # shellcheck disable=SC2034
 wanted="$*"
 folder=$(mktemp -d)
+export XDG_STATE_HOME="$folder/state"
 socket="bx$$"
 passed=0 failed=0 skipped=0
 # What a check sets for its own sessions: the tables, lines around the launcher, what stands behind its words, a paste that goes on.

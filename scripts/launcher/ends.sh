@@ -82,7 +82,7 @@ is_raw() {
 
 # An interactive shell, in which a job can be stopped and taken up again, and its first line.
 start_shell() { # ROWS COLS LAUNCHER WORD..
-    for file in ended status before after record words output; do rm -f "$folder/$file"; done
+    for file in ended status before after record words output state; do rm -rf "${folder:?}/$file"; done
     command="env -u BASH_ENV ENV= PS1='ready> ' TMPDIR='$folder/private' BX_RECORD='$folder/record' BX_WORDS='$folder/words'"
     case $shell in
     bash) command="$command bash --norc --noprofile -i" ;;

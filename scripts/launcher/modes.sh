@@ -11,8 +11,8 @@ check_modes() {
     wait_for 50 test -e "$folder/record"
     type_keys C-q
     finish modes 7 50
-    has 'modes, told at the start' "$(written)" '^[[?1049h^[[?1l^[(B^O^[[4l^[[?6l^[[r^[[?7h^[[?25h^[[8l^[[1 k'
-    has 'modes, told at the end' "$(written)" '^[[0m^[[?25h^[[0 k^[[8h^[[23;0t^[[?1049l'
+    has 'modes, told at the start' "$(written)" '^[[?1s^[[?1049h^[[?1l^[(B^O^[[4l^[[?6l^[[r^[[?7h^[[?25h^[[8l^[[1 k'
+    has 'modes, told at the end' "$(written)" '^[[0m^[[?1r^[[?25h^[[0 k^[[8h^[[23;0t^[[?1049l'
 }
 
 # A program that writes and never gets to the end of what it does, killed while it hides the cursor in negative image.
@@ -92,6 +92,7 @@ title() {
 check_title() {
     setup="printf '\033]2;a title of before\007'"
     start 8 50 "$recorder" "$(printf 'x\033]te\302\205x שם')"
+    wait_for 50 test -e "$folder/record"
     same 'title' "$(title)" 'x]tex שם - ^S save ^Q quit'
     type_keys C-q
     wait_for 50 has_ended

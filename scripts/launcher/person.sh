@@ -92,12 +92,12 @@ has_ended() {
 
 # ---- a session
 
-# A session in which a launcher runs with these words, between two looks at the terminal's settings. `setup` and `cleanup` are lines
-# of the shell before and behind it, `redirection` stands behind its words.
+# A session in which a launcher runs with these words, between two looks at the terminal's settings, with nothing kept of sessions
+# before. `setup` and `cleanup` are lines of the shell before and behind it, `redirection` stands behind its words.
 start() { # ROWS COLS LAUNCHER WORD..
     rows=$1 cols=$2
     shift 2
-    for file in line ended status before after record words go output; do rm -f "$folder/$file"; done
+    for file in line ended status before after record words go output state; do rm -rf "${folder:?}/$file"; done
     {
         echo "export BIDI_EDIT_DATA='$tables' TMPDIR='$folder/private' BX_RECORD='$folder/record' BX_WORDS='$folder/words'"
         echo "cd '$folder/files'"

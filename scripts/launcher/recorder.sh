@@ -9,6 +9,8 @@ make_recorder() {
     cp "$top/bidi-edit" "$recorder"
     cp -R "$top/launcher" "$folder/recorder/lib/bidi_edit/launcher"
     cp -r "$top/data" "$folder/recorder/share/bidi_edit"
+    input=$top/crates/bidi_input/out/bidi_input
+    [ ! -x "$input" ] || cp "$input" "$folder/recorder/lib/bidi_edit/bidi_input"
     echo 'a kit' >"$folder/recorder/lib/bidi_edit/kit"
     cat >"$folder/recorder/lib/bidi_edit/bidi_edit" <<'TEXT'
 #!/bin/sh
