@@ -1,15 +1,13 @@
 -- What goes out within a paste is text.
-use Rattle.std.proofs.Common.{◌≡◌, ℕ, Bool, true, false, ◌&&◌, cond, nat_eq, List, [], ◌∷◌, ◌++◌, refl, ap, sym, ◌∙◌, arith, inl, inr}
-use Rattle.std.specs.Prelude.{flat_map}
+use Rattle.std.proofs.Common.{ℕ, Bool, true, false, cond, nat_eq, List, [], ◌∷◌, ◌++◌, refl, ◌∙◌, arith}
 use Rattle.std.specs.List.{list_all}
-use Rattle.std.specs.Str.{bytes_eq}
-use Rattle.std.proofs.lemmas.Bool.{cases_Bool, and_from}
+use Rattle.std.proofs.lemmas.Bool.{and_from}
 use Rattle.std.proofs.lemmas.Bool.Decides.{nat_tests}
 use Rattle.std.proofs.lemmas.List.Folds.{list_all-append}
 use Rattle.bx_bytes.specs.declared.fate.Fate.{Fate}
 use Rattle.bx_bytes.specs.declared.fate.Fate.TheVariants.{Waits, Ends, Breaks}
-use Rattle.bx_input.specs.Paste.{is_control_byte, is_c1, pasted_byte, pasted_after, pasted_part, paste_fate}
-use Rattle.bx_input.specs.Filter.{State, Within, Step, paste_step_by, fresh_in_paste, step, at_end}
+use Rattle.bx_input.specs.Paste.{is_c1, pasted_byte, pasted_after, pasted_part, paste_fate}
+use Rattle.bx_input.specs.Filter.{paste_step_by, fresh_in_paste}
 use Rattle.bx_input.specs.Laws.{is_text_byte, IsText, PastesAreClean}
 
 byte_clean : (after_return : Bool) (b : ℕ) → IsText (pasted_byte after_return b)

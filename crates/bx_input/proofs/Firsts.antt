@@ -1,7 +1,7 @@
 -- Patterns that take a byte as their first alone, and how long a beginning is.
-use Rattle.std.proofs.Common.{◌≡◌, ℕ, ◌≤◌, ◌<◌, ◌⊎◌, inl, inr, Bool, true, false, not, ◌&&◌, ◌||◌, cond, nat_le, List, [], ◌∷◌, ◌++◌, length, suc, refl, ap, sym, ◌∙◌, arith}
+use Rattle.std.proofs.Common.{◌≡◌, ℕ, ◌<◌, inl, inr, Bool, true, false, not, ◌&&◌, cond, nat_le, List, [], ◌∷◌, ◌++◌, length, refl, ap, ◌∙◌, arith}
 use Rattle.std.specs.List.{list_all}
-use Rattle.std.proofs.lemmas.Bool.{cases_Bool, both_ways, and_parts, and_left, and_right, or_cases, or_from, or_parts, cond-true, cond-false, leb-true}
+use Rattle.std.proofs.lemmas.Bool.{cases_Bool, both_ways, and_parts, and_left, and_right, or_cases, or_from, or_parts, cond-false, leb-true}
 use Rattle.std.proofs.lemmas.Bool.{not-true}
 use Rattle.bx_bytes.specs.Fate.{fate_in}
 use Rattle.bx_bytes.specs.Pattern.{Piece, One, Many, is_within, past, matches, begins, matches_any, begins_any}

@@ -1,5 +1,5 @@
 -- What goes out is at most a third longer.
-use Rattle.std.proofs.Common.{◌≡◌, ℕ, ◌+◌, ◌*◌, ◌≤◌, ◌⊎◌, inl, inr, Bool, true, false, not, ◌&&◌, ◌||◌, nat_eq, nat_le, cond, List, [], ◌∷◌, ◌++◌, length, Option, Some, None, refl, ap, sym, ◌∙◌, arith, length-append}
+use Rattle.std.proofs.Common.{◌≡◌, ℕ, ◌+◌, ◌*◌, ◌≤◌, inl, inr, Bool, true, false, ◌&&◌, nat_eq, nat_le, cond, List, [], ◌∷◌, ◌++◌, length, Option, Some, None, refl, sym, ◌∙◌, arith, length-append}
 use Rattle.std.specs.Prelude.{find}
 use Rattle.std.specs.List.{list_all}
 use Rattle.std.specs.Str.{bytes_eq}
@@ -9,7 +9,7 @@ use Rattle.bx_bytes.specs.declared.fate.Fate.{Fate}
 use Rattle.bx_bytes.specs.declared.fate.Fate.TheVariants.{Waits, Ends, Breaks}
 use Rattle.bx_input.specs.Table.{Row, rows, fate, row_of, paste_end}
 use Rattle.bx_input.specs.Paste.{pasted_byte, pasted_part, paste_fate}
-use Rattle.bx_input.specs.Filter.{State, Outside, Within, Step, step_by, paste_step_by, fresh_in_paste, broken, ended, step, start, run, at_end, filtered, apart_from}
+use Rattle.bx_input.specs.Filter.{State, Outside, Within, Step, step_by, paste_step_by, fresh_in_paste, broken, ended, step, start, run, at_end, apart_from}
 use Rattle.bx_input.specs.Laws.{waiting_in, GrowsByThird}
 
 -- bytes that go out, or wait, count for those that came

@@ -1,5 +1,5 @@
 -- The editor's keys.
-use Rattle.std.proofs.Common.{◌≡◌, [], ◌∷◌, refl, rules}
+use Rattle.std.proofs.Common.{rules}
 use Rattle.std.specs.List.{AllByRecursion}
 use Rattle.bx_input.specs.Table.{rows}
 use Rattle.bx_input.specs.Laws.{HasKey}

@@ -1,13 +1,13 @@
 -- Outside a paste: sequences of the table, and all else.
-use Rattle.std.proofs.Common.{◌≡◌, ℕ, ◌⊎◌, inl, inr, Bool, true, false, not, ◌||◌, nat_eq, List, [], ◌∷◌, ◌++◌, drop, refl, ap, sym, ◌∙◌, append_assoc, subst, arith, rules}
-use Rattle.std.specs.List.{AllByRecursion, list_all}
-use Rattle.std.proofs.lemmas.Bool.{cases_Bool, both_ways, eqb-true}
+use Rattle.std.proofs.Common.{◌≡◌, ℕ, inl, inr, Bool, true, false, not, ◌||◌, nat_eq, List, [], ◌∷◌, ◌++◌, drop, refl, ap, sym, ◌∙◌, append_assoc, subst, rules}
+use Rattle.std.specs.List.{AllByRecursion}
+use Rattle.std.proofs.lemmas.Bool.{cases_Bool, both_ways}
 use Rattle.std.proofs.lemmas.List.{append-nil}
 use Rattle.bx_bytes.specs.Pattern.{Piece, matches_any}
 use Rattle.bx_bytes.specs.declared.fate.Fate.{Fate}
 use Rattle.bx_bytes.specs.declared.fate.Fate.TheVariants.{Waits, Ends, Breaks}
-use Rattle.bx_input.specs.Table.{Row, rows, sequences, fate, paste_start}
-use Rattle.bx_input.specs.Filter.{State, Outside, Within, Step, step_to, with_front, step_by, broken, step, start, run, at_end, filtered, apart_from, is_empty}
+use Rattle.bx_input.specs.Table.{Row, rows, sequences, fate}
+use Rattle.bx_input.specs.Filter.{Outside, Step, step_to, with_front, step_by, step, start, run, at_end, filtered, apart_from, is_empty}
 use Rattle.bx_input.specs.Laws.{BecomesRow, HasNone, OthersPass}
 use Rattle.bx_input.proofs.Firsts.{breaks_at, ends_says}
 use Rattle.bx_input.proofs.Runs.{in_pieces}

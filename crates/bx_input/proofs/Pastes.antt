@@ -1,8 +1,7 @@
 -- A paste is the text that its definition says.
-use Rattle.std.proofs.Common.{◌≡◌, ℕ, ◌<◌, ◌⊎◌, inl, inr, Bool, true, false, ◌||◌, not, nat_eq, cond, List, [], ◌∷◌, ◌++◌, length, drop, refl, ap, sym, ◌∙◌, append_assoc, subst, arith}
-use Rattle.std.specs.Prelude.{flat_map}
+use Rattle.std.proofs.Common.{◌≡◌, ℕ, ◌⊎◌, inl, inr, Bool, true, false, nat_eq, cond, List, [], ◌∷◌, ◌++◌, drop, refl, ap, sym, ◌∙◌, append_assoc, subst, arith}
 use Rattle.std.specs.Str.{bytes_eq}
-use Rattle.std.proofs.lemmas.Bool.{cases_Bool, cases_eq, both_ways, false≢true, cond-true, cond-false}
+use Rattle.std.proofs.lemmas.Bool.{cases_eq, both_ways, false≢true, cond-true, cond-false}
 use Rattle.std.proofs.lemmas.Bool.Decides.{nat_tests}
 use Rattle.std.proofs.lemmas.List.{append-nil}
 use Rattle.std.proofs.lemmas.Slice.Eq.{bytes_eq-Decides}
@@ -11,12 +10,12 @@ use Rattle.bx_bytes.specs.declared.fate.Fate.{Fate}
 use Rattle.bx_bytes.specs.declared.fate.Fate.TheVariants.{Waits, Ends, Breaks}
 use Rattle.bx_input.specs.Table.{exact, paste_start, paste_end}
 use Rattle.bx_input.specs.Paste.{is_c1, pasted_byte, pasted_after, pasted, pasted_part, paste_fate, paste_sequences}
-use Rattle.bx_input.specs.Filter.{State, Outside, Within, Step, step_to, with_front, paste_step_by, fresh_in_paste, step, start, run, filtered, apart_from}
+use Rattle.bx_input.specs.Filter.{Within, Step, step_to, with_front, paste_step_by, fresh_in_paste, step, start, run, filtered, apart_from}
 use Rattle.bx_input.specs.Held.{held_back}
 use Rattle.bx_input.specs.Laws.{HasNone, PastesText}
 use Rattle.bx_input.specs.declared.held.Held.{Held}
 use Rattle.bx_input.specs.declared.held.Held.TheVariants as held
-use Rattle.bx_input.proofs.Firsts.{waits_says, any_fewer, breaks_at, ends_says}
+use Rattle.bx_input.proofs.Firsts.{waits_says, any_fewer, breaks_at}
 use Rattle.bx_input.proofs.Passing.{none_behind, whole_sequence, is_open_after}
 use Rattle.bx_input.proofs.Runs.{in_pieces}
 use Rattle.bx_input.proofs.States.{IsSound, run_sound}

@@ -1,10 +1,9 @@
 -- What goes out for a row of the table.
-use Rattle.std.proofs.Common.{◌≡◌, ◌≢◌, ℕ, Bool, true, false, nat_eq, List, [], ◌∷◌, ◌++◌, Option, Some, None, refl, ap, sym, ◌∙◌, arith}
-use Rattle.std.specs.Prelude.{slice_index, option_map}
-use Rattle.std.proofs.lemmas.Bool.Decides.{nat_tests}
+use Rattle.std.proofs.Common.{◌≡◌, ℕ, Bool, true, false, List, [], ◌∷◌, ◌++◌, Option, Some, None, refl}
+use Rattle.std.specs.Prelude.{option_map}
 use Rattle.bx_bytes.specs.declared.fate.Fate.TheVariants.{Ends}
 use Rattle.bx_input.specs.Table.{Row, fate, row_of}
-use Rattle.bx_input.specs.Filter.{Outside, Step, step_to, step_by, ended, apart_from}
+use Rattle.bx_input.specs.Filter.{Outside, step_to, step_by, ended, apart_from}
 use Rattle.bx_input.specs.Held.{becomes_of, BeginsByEscape}
 
 ended_by : (is_open : Bool) (r : Option Row) (bs : List ℕ) → option_map (λ (r : Row). r.becomes) r ≡ Some bs

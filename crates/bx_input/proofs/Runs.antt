@@ -4,7 +4,7 @@ use Rattle.std.specs.Prelude.{OnOk}
 use Rattle.std.proofs.lemmas.List.{append-nil}
 use Rattle.std.specs.Io.KnownBytes.{Appends, Consumes, IsAtEnd}
 use Rattle.std.proofs.KnownBytes.{Appends-nil, Appends-trans, Consumes-nil, Consumes-trans}
-use Rattle.bx_input.specs.Filter.{State, Step, step_to, with_front, step, start, run, at_end, filtered}
+use Rattle.bx_input.specs.Filter.{State, Step, step_to, with_front, step, start, run, at_end}
 use Rattle.bx_input.specs.Running.{HasPassed, IsFiltered}
 
 abbrev pub after_first : Step → List ℕ → Step

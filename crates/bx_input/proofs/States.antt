@@ -1,12 +1,12 @@
 -- What waits, wherever the filter stands.
-use Rattle.std.proofs.Common.{◌≡◌, ℕ, ◌≤◌, ◌⊎◌, inl, inr, Bool, true, false, nat_eq, List, [], ◌∷◌, ◌++◌, length, Option, Some, None, cond, refl, ap, sym, ◌∙◌, arith}
+use Rattle.std.proofs.Common.{◌≡◌, ℕ, ◌≤◌, inl, inr, Bool, true, false, nat_eq, List, [], ◌∷◌, ◌++◌, length, Option, Some, None, cond, refl, arith}
 use Rattle.std.specs.Str.{bytes_eq}
-use Rattle.std.proofs.lemmas.Bool.{cases_Bool, cond-true, cond-false, eqb-true, false≢true}
+use Rattle.std.proofs.lemmas.Bool.{cases_Bool, eqb-true, false≢true}
 use Rattle.bx_bytes.specs.declared.fate.Fate.{Fate}
 use Rattle.bx_bytes.specs.declared.fate.Fate.TheVariants.{Waits, Ends, Breaks}
 use Rattle.bx_input.specs.Table.{Row, sequences, fate, row_of, paste_end}
 use Rattle.bx_input.specs.Paste.{paste_fate, paste_sequences}
-use Rattle.bx_input.specs.Filter.{State, Outside, Within, Step, step_by, paste_step_by, fresh_in_paste, broken, ended, step, start, run}
+use Rattle.bx_input.specs.Filter.{State, Outside, Within, step_by, paste_step_by, fresh_in_paste, broken, ended, step, start, run}
 use Rattle.bx_input.specs.Laws.{waiting_in, WaitsForFive}
 use Rattle.bx_input.proofs.Firsts.{waits_says, any_fewer}
 

@@ -1,9 +1,9 @@
 -- What holds of the filter, whatever its input.
-use Rattle.std.specs.Prelude.{◌≡◌, ◌≤◌, ℕ, ◌*◌, Bool, true, false, not, ◌||◌, ◌==◌, ◌&&◌, List, [], ◌∷◌, ◌++◌, length}
-use Rattle.std.specs.List.{AllByRecursion, list_all}
-use Rattle.bx_bytes.specs.Pattern.{Piece, matches_any, matches}
+use Rattle.std.specs.Prelude.{◌≡◌, ◌≤◌, ℕ, ◌*◌, Bool, true, false, not, ◌||◌, ◌==◌, List, [], ◌∷◌, ◌++◌, length}
+use Rattle.std.specs.List.{list_all}
+use Rattle.bx_bytes.specs.Pattern.{Piece, matches_any}
 use Rattle.bx_keys.specs.Keys.{decoding}
-use Rattle.bx_input.specs.Table.{Row, rows, sequences, exact, paste_start, paste_end}
+use Rattle.bx_input.specs.Table.{Row, sequences, exact, paste_start, paste_end}
 use Rattle.bx_input.specs.Paste.{is_control_byte, pasted}
 use Rattle.bx_input.specs.Filter.{State, Outside, Within, Step, step_to, with_front, step, start, run, at_end, filtered, apart_from, is_empty}
 

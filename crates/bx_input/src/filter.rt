@@ -18,7 +18,6 @@ pub struct Filter {
 
 impl Model for Filter {
     ghost use Rattle.bx_input.specs.Filter.{State};
-
     ghost use Rattle.bx_input.specs.Held.{state_of};
 
     ghost Value = { State };

@@ -66,7 +66,11 @@ fn send<W: Write>(writer: &mut W, bytes: &[u8]) -> Result<(), FilterFault>
 ///
 /// Errors: `ReadFault`, `WriteFault` and `OutOfMemory`, each at the first such fault; `ReadLimit` after
 /// 1,000,000,000,000 reads.
-pub fn run<R: Read, W: Write>(alloc: Global, reader: &mut R, writer: &mut W) -> Result<(), FilterFault>
+pub fn run<R: Read, W: Write>(
+    alloc: Global,
+    reader: &mut R,
+    writer: &mut W,
+) -> Result<(), FilterFault>
     ensures { OnOk result ((bytes : List ℕ)
         × IsFiltered (R.remaining reader.old) (R.remaining reader.new) (W.contents writer.old) (W.contents writer.new) bytes) }
 {
@@ -86,7 +90,12 @@ pub fn run<R: Read, W: Write>(alloc: Global, reader: &mut R, writer: &mut W) -> 
 }
 
 /// Writes what goes out for these bytes.
-fn pass<W: Write>(alloc: Global, filter: &mut Filter, bytes: &[u8], writer: &mut W) -> Result<(), FilterFault>
+fn pass<W: Write>(
+    alloc: Global,
+    filter: &mut Filter,
+    bytes: &[u8],
+    writer: &mut W,
+) -> Result<(), FilterFault>
     ensures state { OnOk result (filter.new ≡ (spec.run filter.old bytes.now).state) }
     ensures output { OnOk result (Appends (W.contents writer.old) (W.contents writer.new) (spec.run filter.old bytes.now).output) }
 {

@@ -28,7 +28,13 @@ pub fn outside(waiting: Beginning, is_open: bool, byte: u8) -> (Place, Output)
 {
     match sequence_after(waiting, byte) {
         After::Waits(waiting) => (Place::Outside { waiting, is_open }, NOTHING),
-        After::Becomes(bytes) => (OUTSIDE, Output { before: bytes, byte: None }),
+        After::Becomes(bytes) => (
+            OUTSIDE,
+            Output {
+                before: bytes,
+                byte: None,
+            },
+        ),
         After::Digit(digit) => (OUTSIDE, apart(is_open, Some(digit))),
         After::Pastes => (fresh_paste(false), apart(is_open, None)),
         After::Breaks => broken_off(waiting, is_open, byte),
@@ -64,7 +70,13 @@ fn broken_off(waiting: Beginning, is_open: bool, byte: u8) -> (Place, Output)
             waiting: Beginning::Nothing,
             is_open: was_open && 0x20 <= byte && byte <= 0x3F,
         };
-        (place, Output { before, byte: Some(byte) })
+        (
+            place,
+            Output {
+                before,
+                byte: Some(byte),
+            },
+        )
     }
 }
 
@@ -107,7 +119,13 @@ fn broken_off_in_paste(waiting: Held, after_return: bool, byte: u8) -> (Place, O
         AfterInPaste::Waits(held) => (waits(held), Output { before, byte: None }),
         _ => {
             let byte_out = pasted(after_return, byte);
-            (fresh_paste(byte == b'\r'), Output { before, byte: byte_out })
+            (
+                fresh_paste(byte == b'\r'),
+                Output {
+                    before,
+                    byte: byte_out,
+                },
+            )
         }
     }
 }

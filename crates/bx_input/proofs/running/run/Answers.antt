@@ -1,5 +1,4 @@
-use Rattle.std.proofs.Common.{◌≡◌, List, ℕ, [], ◌++◌, take, subst, sym, arith}
-use Rattle.std.specs.Io.KnownBytes.{Consumes}
+use Rattle.std.proofs.Common.{[], ◌++◌, take, arith}
 use Rattle.bx_input.proofs.Runs.{none_passed, more_passed, filtered_on_ok}
 use Rattle.bx_input.proofs.running.run.Goals as goal
 

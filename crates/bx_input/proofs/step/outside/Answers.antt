@@ -1,4 +1,4 @@
-use Rattle.std.proofs.Common.{◌≡◌, ◌++◌, ◌∷◌, [], sym, ap, ◌∙◌, append-nil}
+use Rattle.std.proofs.Common.{◌∷◌, [], sym, ap, ◌∙◌, append-nil}
 use Rattle.bx_input.specs.Filter.{Step}
 use Rattle.bx_input.specs.Held.{begun}
 use Rattle.bx_input.proofs.Rows.{row_goes, escape_apart}
@@ -10,8 +10,8 @@ returns-in-Becomes c =
     let goes = row_goes (begun c.args.waiting) c.args.is_open c.args.byte c.in-Becomes.bytes.now says.0 says.1 in (
       sym (ap (λ (s : Step). s.state) goes),
       append-nil c.in-Becomes.bytes.now
-      ∙ sym (escape_apart c.args.is_open c.in-Becomes.bytes.now says.2)
-      ∙ sym (ap (λ (s : Step). s.output) goes),
+          ∙ sym (escape_apart c.args.is_open c.in-Becomes.bytes.now says.2)
+          ∙ sym (ap (λ (s : Step). s.output) goes),
     )
 
 pub returns-in-Digit : goal.returns-in-Digit
