@@ -25,7 +25,7 @@ pub record IsFound (p : Row → Bool) (q : Row → Bool) (r : Row) : Type 0 wher
   pub passes : p r ≡ true
   pub fits : q r ≡ true
 
-found : (p q : Row → Bool) (rs : List Row) (r : Row) → list_all q rs ≡ true → find p rs ≡ Some r → IsFound p q r
+pub found : (p q : Row → Bool) (rs : List Row) (r : Row) → list_all q rs ≡ true → find p rs ≡ Some r → IsFound p q r
 found p q [] r all h = absurd (cc h)
 found p q (x ∷ rs) r all h =
     let parts = and_parts (q x) (list_all q rs) all in

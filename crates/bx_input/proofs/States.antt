@@ -45,7 +45,7 @@ within_sound Waits waiting after_return b h = (h, λ e. absurd (false≢true e))
 within_sound Ends waiting after_return b h = after_end_sound (bytes_eq (waiting ++ b ∷ []) paste_end)
 within_sound Breaks waiting after_return b h = fresh_sound (paste_fate (b ∷ [])) after_return b refl
 
-step_sound : (s : State) (b : ℕ) → IsSound (step s b).state
+pub step_sound : (s : State) (b : ℕ) → IsSound (step s b).state
 step_sound (Outside waiting is_open) b = outside_sound (fate (waiting ++ b ∷ [])) waiting is_open b refl
 step_sound (Within waiting after_return) b = within_sound (paste_fate (waiting ++ b ∷ [])) waiting after_return b refl
 

@@ -3,6 +3,8 @@ use Rattle.std.specs.Prelude.{◌≡◌, ◌≤◌, ℕ, ◌*◌, Bool, true, fa
 use Rattle.std.specs.List.{list_all}
 use Rattle.bx_bytes.specs.Pattern.{Piece, matches_any}
 use Rattle.bx_keys.specs.Keys.{decoding}
+use Rattle.bx_keys.specs.declared.key.Key.{Key}
+use Rattle.bx_keys.specs.declared.key.Key.TheVariants.{Insert}
 use Rattle.bx_input.specs.Table.{Row, sequences, exact, paste_start, paste_end}
 use Rattle.bx_input.specs.Paste.{is_control_byte, pasted}
 use Rattle.bx_input.specs.Filter.{State, Outside, Within, Step, step_to, with_front, step, start, run, at_end, filtered, apart_from, is_empty}
@@ -61,3 +63,20 @@ GrowsByThird = (bs : List ℕ) → 3 * length (filtered bs) ≤ 4 * length bs
 -- the editor's key for what a row becomes is the row's
 abbrev pub HasKey : Row → Type 0
 HasKey r = decoding r.becomes ≡ record { keys = r.key ∷ []; rest = [] }
+
+-- The editor has this key more for it, whatever came before that ended outside a paste.
+abbrev pub AddsKey : Row → Type 0
+AddsKey r = (bs waiting : List ℕ) (is_open : Bool) → (run start bs).state ≡ Outside waiting is_open
+    → (decoding (filtered (bs ++ r.sequence))).keys ≡ (decoding (filtered bs)).keys ++ r.key ∷ []
+
+abbrev pub is_insert : Key → Bool
+is_insert (Insert c) = true
+is_insert _ = false
+
+-- the editor's keys for a paste put characters in, and do nothing else
+abbrev pub PastesInsert : Type 0
+PastesInsert = (bs waiting : List ℕ) (is_open : Bool) (text : List ℕ) → (run start bs).state ≡ Outside waiting is_open
+    → HasNone (exact paste_end ∷ []) text
+    → (keys : List Key)
+    × ((decoding (filtered (bs ++ (paste_start ++ (text ++ paste_end))))).keys ≡ (decoding (filtered bs)).keys ++ keys)
+    × (list_all is_insert keys ≡ true)

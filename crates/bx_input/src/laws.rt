@@ -1,7 +1,7 @@
 //! What holds of the filter, whatever its input. The functions do nothing: their contracts are the laws.
 
 ghost use Rattle.std.specs.List.{AllByRecursion};
-ghost use Rattle.bx_input.specs.Laws.{BecomesRow, ComesInPieces, GrowsByThird, HasKey, OthersPass, PastesAreClean, PastesText, WaitsForFive};
+ghost use Rattle.bx_input.specs.Laws.{AddsKey, BecomesRow, ComesInPieces, GrowsByThird, HasKey, OthersPass, PastesAreClean, PastesInsert, PastesText, WaitsForFive};
 ghost use Rattle.bx_input.specs.Table.{rows};
 
 /// However input is cut, what goes out is the same.
@@ -42,4 +42,14 @@ pub fn rows_have_keys()
 /// A paste becomes its text, up to the first end of a paste.
 pub fn pastes_become_text()
     ensures { PastesText }
+{}
+
+/// Whatever came before outside a paste, a sequence of the table is the editor's key that the table names, and no other.
+pub fn rows_add_keys()
+    ensures { AllByRecursion AddsKey rows }
+{}
+
+/// Whatever came before outside it, a paste only inserts.
+pub fn pastes_insert()
+    ensures { PastesInsert }
 {}

@@ -1,0 +1,342 @@
+-- The editor's decoder behind the filter.
+use Rattle.std.proofs.Common.{◌≡◌, ◌≢◌, ℕ, ◌⊎◌, inl, inr, Bool, true, false, not, ◌&&◌, ◌||◌, nat_eq, cond, List, [], ◌∷◌, ◌++◌, get_or, Option, Some, None, refl, ap, sym, ◌∙◌, append_assoc, subst, arith}
+use Rattle.std.specs.List.{AllByRecursion, list_all}
+use Rattle.std.specs.Str.{bytes_eq}
+use Rattle.std.proofs.lemmas.Bool.{cases_Bool, cases_eq, and_parts, and_cases, or_parts, eqb-true, eqb-false, false≢true}
+use Rattle.std.proofs.lemmas.List.{append-nil}
+use Rattle.bx_bytes.specs.Pattern.{is_within}
+use Rattle.bx_bytes.specs.Utf8.{characters}
+use Rattle.bx_bytes.specs.declared.fate.Fate.{Fate}
+use Rattle.bx_bytes.specs.declared.fate.Fate.TheVariants.{Waits, Ends, Breaks}
+use Rattle.bx_keys.specs.Items.{items}
+use Rattle.bx_keys.specs.Keys.{Decoding, decoding, rest_after}
+use Rattle.bx_keys.specs.Waiting as editor
+use Rattle.bx_keys.specs.declared.key.Key.{Key}
+use Rattle.bx_keys.proofs.Cuts.{in_pieces, rest_waits}
+use Rattle.bx_keys.proofs.Feeding.{waits_decoding, feeds_waiting, feeds_end, feeds_break, feeds_alone}
+use Rattle.bx_input.specs.Table.{Row, rows, sequences, fate, row_of, paste_start, paste_end}
+use Rattle.bx_input.specs.Paste.{pasted, paste_fate}
+use Rattle.bx_input.specs.Filter.{State, Outside, Within, Step, step_to, with_front, step_by, paste_step_by, fresh_in_paste, broken, ended, step, start, run, at_end, filtered, apart_from, is_empty}
+use Rattle.bx_input.specs.Laws.{is_text_byte, IsText, is_insert, HasKey, AddsKey, BecomesRow, HasNone, PastesInsert}
+use Rattle.bx_input.proofs.Clean.{pastes_clean}
+use Rattle.bx_input.proofs.Decoding.{IsFree, IsOutside, anew, anew_in_text, after_can, alone_free, sequence_over, still_free, text_inserts, text_not_escape}
+use Rattle.bx_input.proofs.Firsts.{lacks_after_first, breaks_at}
+use Rattle.bx_input.proofs.Growth.{found}
+use Rattle.bx_input.proofs.Keys.{rows_have_keys}
+use Rattle.bx_input.proofs.Passing.{is_open_after, rows_become}
+use Rattle.bx_input.proofs.Pastes.{pastes_text}
+use Rattle.bx_input.proofs.States.{IsSound, step_sound}
+
+-- what the decoder waits with after these bytes more
+abbrev left : List ℕ → List ℕ → List ℕ
+left rest bs = (decoding (rest ++ bs)).rest
+
+left_append : (rest xs ys : List ℕ) → left rest (xs ++ ys) ≡ left (left rest xs) ys
+left_append rest xs ys =
+    ap (λ bs. (decoding bs).rest) (sym (append_assoc rest xs ys)) ∙ ap (λ (d : Decoding). d.rest) (in_pieces (rest ++ xs) ys)
+
+left_none : (rest : List ℕ) → editor.fate rest ≡ Waits → left rest [] ≡ rest
+left_none rest w = ap (λ bs. (decoding bs).rest) (append-nil rest) ∙ ap (λ (d : Decoding). d.rest) (waits_decoding rest w)
+
+-- ---- a lone ESC
+
+not_one : (x : ℕ) (xs : List ℕ) (b : ℕ) → x ∷ (xs ++ b ∷ []) ≢ 0x1B ∷ []
+not_one x [] b e = cc e
+not_one x (y ∷ xs) b e = cc e
+
+alone_not_bare : (f : Fate) (b : ℕ) → editor.fate (b ∷ []) ≡ f → b ≢ 0x1B → rest_after [] b ≢ 0x1B ∷ []
+alone_not_bare Waits b h n e = n (let s : b ∷ [] ≡ 0x1B ∷ [] = sym (feeds_waiting [] b h).is_rest ∙ e in cc s)
+alone_not_bare Ends b h n e = let s : [] ≡ 0x1B ∷ [] = sym (feeds_end [] b h).is_rest ∙ e in cc s
+alone_not_bare Breaks b h n e = let s : [] ≡ 0x1B ∷ [] = sym (feeds_alone b h).is_rest ∙ e in cc s
+
+not_bare_by : (f : Fate) (rest : List ℕ) (b : ℕ) → editor.fate rest ≡ Waits → editor.fate (rest ++ b ∷ []) ≡ f → b ≢ 0x1B → rest_after rest b ≢ 0x1B ∷ []
+not_bare_by Waits [] b w h n e = alone_not_bare Waits b h n e
+not_bare_by Waits (x ∷ xs) b w h n e = not_one x xs b (sym (feeds_waiting (x ∷ xs) b h).is_rest ∙ e)
+not_bare_by Ends rest b w h n e = let s : [] ≡ 0x1B ∷ [] = sym (feeds_end rest b h).is_rest ∙ e in cc s
+not_bare_by Breaks rest b w h n e = alone_not_bare (editor.fate (b ∷ [])) b refl n (sym (feeds_break rest b w h).is_rest ∙ e)
+
+not_bare : (rest : List ℕ) (b : ℕ) → editor.fate rest ≡ Waits → b ≢ 0x1B → rest_after rest b ≢ 0x1B ∷ []
+not_bare rest b w n = not_bare_by (editor.fate (rest ++ b ∷ [])) rest b w refl n
+
+IsLast : List ℕ → Type 0
+IsLast xs = (xs ≡ []) ⊎ ((ys : List ℕ) × (b : ℕ) × (xs ≡ ys ++ b ∷ []))
+
+last_of : (xs : List ℕ) → IsLast xs
+unfolding IsLast
+last_of [] = inl refl
+last_of (x ∷ xs) = elim (last_of xs) [
+  | inl none ↦ inr ([], x, ap (λ ys. x ∷ ys) none)
+  | inr some ↦ inr (x ∷ some.0, some.1, ap (λ ys. x ∷ ys) some.2)
+]
+
+-- the decoder has a lone ESC only where the filter had no more than that
+bare_alone : (rest : List ℕ) (x : ℕ) (xs : List ℕ) → editor.fate rest ≡ Waits → fate (x ∷ xs) ≡ Waits → left rest (x ∷ xs) ≡ 0x1B ∷ [] → x ∷ xs ≡ 0x1B ∷ []
+unfolding IsLast
+bare_alone rest x xs w h e = elim (last_of xs) [
+  | inl none ↦ (
+      let one : left rest (x ∷ []) ≡ 0x1B ∷ [] = ap (λ ys. left rest (x ∷ ys)) (sym none) ∙ e in
+      elim (cases_eq x 0x1B) [
+        | inl escape ↦ ap (λ ys. x ∷ ys) none ∙ ap (λ y. y ∷ []) escape
+        | inr other ↦ absurd (not_bare rest x w other one)
+      ])
+  | inr some ↦ elim (cases_eq some.1 0x1B) [
+    | inl escape ↦ absurd (
+        let same : x ∷ xs ≡ x ∷ (some.0 ++ 0x1B ∷ []) = ap (λ ys. x ∷ ys) (some.2 ∙ ap (λ b. some.0 ++ b ∷ []) escape) in
+        let breaks : Waits ≡ Breaks = sym h ∙ ap fate same ∙ breaks_at sequences x some.0 0x1B refl in
+        cc breaks)
+    | inr other ↦ absurd (
+        let front : List ℕ = x ∷ some.0 in
+        let same : left rest (x ∷ xs) ≡ rest_after (left rest front) some.1 =
+        ap (λ ys. left rest (x ∷ ys)) some.2 ∙ left_append rest front (some.1 ∷ []) in
+        not_bare (left rest front) some.1 (rest_waits (rest ++ front)) other (sym same ∙ e))
+  ]
+]
+
+-- ---- where the filter stands, and with what the decoder waits
+
+pub record FollowsOutside (waiting : List ℕ) (is_open : Bool) (rest : List ℕ) : Type 0 where
+  pub closed : is_open ≡ false → IsFree rest
+  pub not_bare : waiting ≡ [] → rest ≢ 0x1B ∷ []
+
+abbrev Follows : State → List ℕ → Type 0
+Follows (Outside waiting is_open) rest = FollowsOutside waiting is_open rest
+Follows (Within waiting after_return) rest = IsFree rest
+
+nothing_free : IsFree []
+nothing_free e = omega (arith, e)
+
+nothing_follows : (is_open : Bool) → FollowsOutside [] is_open []
+nothing_follows is_open = record { closed = λ e. nothing_free; not_bare = λ e s. cc s }
+
+-- ---- what begins anew
+
+abbrev starts_anew : List ℕ → Bool
+starts_anew [] = false
+starts_anew (b ∷ bs) = list_all (lacks_after_first b) (cond (nat_eq b 0x1B) items characters)
+
+sent_by : (t is_open : Bool) (rest : List ℕ) (b : ℕ) (bs : List ℕ) → nat_eq b 0x1B ≡ t
+    → list_all (lacks_after_first b) (cond t items characters) ≡ true → editor.fate rest ≡ Waits → (is_open ≡ false → IsFree rest)
+    → decoding (rest ++ cond (is_open && not t) (0x18 ∷ b ∷ bs) (b ∷ bs)) ≡ decoding (b ∷ bs)
+sent_by true true rest b bs e l w free = anew rest b bs l w
+sent_by true false rest b bs e l w free = anew rest b bs l w
+sent_by false true rest b bs e l w free = anew rest 0x18 (b ∷ bs) refl w ∙ after_can (b ∷ bs)
+sent_by false false rest b bs e l w free = anew_in_text rest b bs l w (free refl)
+
+sent_anew : (is_open : Bool) (rest bs : List ℕ) → starts_anew bs ≡ true → editor.fate rest ≡ Waits → (is_open ≡ false → IsFree rest)
+    → decoding (rest ++ apart_from is_open bs) ≡ decoding bs
+sent_anew is_open rest [] s w free = absurd (cc s)
+sent_anew is_open rest (b ∷ bs) s w free = sent_by (nat_eq b 0x1B) is_open rest b bs refl s w free
+
+opened_free : (is_open : Bool) (rest : List ℕ) → editor.fate rest ≡ Waits → (is_open ≡ false → IsFree rest) → IsFree (left rest (apart_from is_open []))
+opened_free true rest w free = subst IsFree (sym (ap (λ (d : Decoding). d.rest) (anew rest 0x18 [] refl w))) nothing_free
+opened_free false rest w free = subst IsFree (sym (left_none rest w)) (free refl)
+
+abbrev is_whole : Row → Bool
+is_whole r = starts_anew r.becomes && is_empty (decoding r.becomes).rest
+
+is_nothing : (bs : List ℕ) → is_empty bs ≡ true → bs ≡ []
+is_nothing [] h = refl
+is_nothing (b ∷ bs) h = absurd (cc h)
+
+row_leaves : (is_open : Bool) (r : Row) (rest : List ℕ) → is_whole r ≡ true → editor.fate rest ≡ Waits → (is_open ≡ false → IsFree rest)
+    → left rest (apart_from is_open r.becomes) ≡ []
+row_leaves is_open r rest h w free =
+    let parts = and_parts (starts_anew r.becomes) (is_empty (decoding r.becomes).rest) h in
+    ap (λ (d : Decoding). d.rest) (sent_anew is_open rest r.becomes parts.0 w free) ∙ is_nothing (decoding r.becomes).rest parts.1
+
+ended_follows : (is_open : Bool) (read : List ℕ) (o : Option Row) (rest : List ℕ) → row_of read ≡ o → editor.fate rest ≡ Waits
+    → (is_open ≡ false → IsFree rest) → Follows (ended is_open o).state (left rest (ended is_open o).output)
+ended_follows is_open read None rest h w free = opened_free is_open rest w free
+ended_follows is_open read (Some r) rest h w free =
+    let is = found (λ (x : Row). bytes_eq x.sequence read) is_whole rows r refl h in
+    subst (FollowsOutside [] false) (sym (row_leaves is_open r rest is.fits w free)) (nothing_follows false)
+
+-- ---- what breaks off
+
+not_begun : (b c : ℕ) → fate (0x1B ∷ c ∷ []) ≡ Waits → fate (0x1B ∷ b ∷ []) ≡ Breaks → b ≢ c
+not_begun b c h g e = let s : Waits ≡ Breaks = sym h ∙ ap (λ x. fate (0x1B ∷ x ∷ [])) (sym e) ∙ g in cc s
+
+over_by : (rest : List ℕ) (b : ℕ) → editor.fate rest ≡ Waits → IsOutside rest b → IsFree (rest_after rest b)
+over_by [] b w o = alone_free b o.not_escape
+over_by (x ∷ xs) b w o = elim (cases_eq x 0x1B) [
+  | inl escape ↦ (
+      let waits : editor.fate (0x1B ∷ xs) ≡ Waits = ap (λ y. editor.fate (y ∷ xs)) (sym escape) ∙ w in
+      let outside : IsOutside (0x1B ∷ xs) b = subst (λ y. IsOutside (y ∷ xs) b) escape o in
+      subst (λ y. IsFree (rest_after (y ∷ xs) b)) (sym escape) (sequence_over xs b waits outside))
+  | inr other ↦ still_free (x ∷ xs) b w other o.not_escape
+]
+
+-- nothing waited in the filter
+passed_free : (is_open : Bool) (rest : List ℕ) (b : ℕ) → FollowsOutside [] is_open rest → editor.fate rest ≡ Waits → b ≢ 0x1B
+    → is_open_after [] is_open && is_within 0x20 0x3F b ≡ false → IsFree (rest_after rest b)
+passed_free is_open rest b f w n h = elim (and_cases (is_open_after [] is_open) (is_within 0x20 0x3F b) h) [
+  | inl closed ↦ still_free rest b w (f.closed (or_parts is_open false closed).0) n
+  | inr outside ↦ over_by rest b w (record {
+    not_within = outside;
+    not_escape = n;
+    not_csi = λ e. absurd (f.not_bare refl e);
+    not_ss3 = λ e. absurd (f.not_bare refl e);
+  })
+]
+
+within_false : (is_open t : Bool) → is_open_after (0 ∷ []) is_open && t ≡ false → t ≡ false
+within_false true t h = h
+within_false false t h = h
+
+-- or something did
+broken_free : (is_open : Bool) (rest : List ℕ) (x : ℕ) (xs : List ℕ) (b : ℕ) → editor.fate rest ≡ Waits → fate (x ∷ xs) ≡ Waits
+    → fate (x ∷ (xs ++ b ∷ [])) ≡ Breaks → b ≢ 0x1B → is_open_after (x ∷ xs) is_open && is_within 0x20 0x3F b ≡ false
+    → IsFree (rest_after (left rest (x ∷ xs)) b)
+broken_free is_open rest x xs b w h g n c =
+    let outside : is_within 0x20 0x3F b ≡ false = within_false is_open (is_within 0x20 0x3F b) c in
+    let alone : left rest (x ∷ xs) ≡ 0x1B ∷ [] → fate (0x1B ∷ b ∷ []) ≡ Breaks =
+    λ e. ap (λ ys. fate (ys ++ b ∷ [])) (sym (bare_alone rest x xs w h e)) ∙ g in
+    over_by (left rest (x ∷ xs)) b (rest_waits (rest ++ x ∷ xs)) (record {
+      not_within = outside;
+      not_escape = n;
+      not_csi = λ e. not_begun b 0x5B refl (alone e);
+      not_ss3 = λ e. not_begun b 0x4F refl (alone e);
+    })
+
+after_byte : (rest waiting : List ℕ) (b : ℕ) → left rest (waiting ++ b ∷ []) ≡ rest_after (left rest waiting) b
+after_byte rest waiting b = left_append rest waiting (b ∷ [])
+
+other_follows : (waiting : List ℕ) (is_open : Bool) (rest : List ℕ) (b : ℕ) → editor.fate rest ≡ Waits → fate waiting ≡ Waits
+    → fate (waiting ++ b ∷ []) ≡ Breaks → b ≢ 0x1B → FollowsOutside waiting is_open rest
+    → FollowsOutside [] (is_open_after waiting is_open && is_within 0x20 0x3F b) (left rest (waiting ++ b ∷ []))
+other_follows [] is_open rest b w h g n f = record {
+  closed = λ c. passed_free is_open rest b f w n c;
+  not_bare = λ e. not_bare rest b w n;
+}
+other_follows (x ∷ xs) is_open rest b w h g n f =
+    let same : left rest (x ∷ (xs ++ b ∷ [])) ≡ rest_after (left rest (x ∷ xs)) b = after_byte rest (x ∷ xs) b in
+    record {
+      closed = λ c. subst IsFree (sym same) (broken_free is_open rest x xs b w h g n c);
+      not_bare = λ e s. not_bare (left rest (x ∷ xs)) b (rest_waits (rest ++ x ∷ xs)) n (sym same ∙ s);
+    }
+
+escape_closed : (waiting : List ℕ) (is_open : Bool) (rest : List ℕ) → editor.fate rest ≡ Waits → FollowsOutside waiting is_open rest
+    → is_open_after waiting is_open ≡ false → IsFree (left rest waiting)
+escape_closed [] is_open rest w f c = subst IsFree (sym (left_none rest w)) (f.closed (or_parts is_open false c).0)
+escape_closed (x ∷ xs) is_open rest w f c = absurd (let no = (or_parts is_open true c).1 in cc no)
+
+broken_follows : (waiting : List ℕ) (is_open : Bool) (rest : List ℕ) (b : ℕ) → editor.fate rest ≡ Waits → fate waiting ≡ Waits
+    → fate (waiting ++ b ∷ []) ≡ Breaks → FollowsOutside waiting is_open rest
+    → Follows (broken waiting is_open b).state (left rest (broken waiting is_open b).output)
+broken_follows waiting is_open rest b w h g f = elim (cases_Bool (nat_eq b 0x1B)) [
+  | inl escape ↦ rw escape (record { closed = λ c. escape_closed waiting is_open rest w f c; not_bare = λ e s. cc e })
+  | inr other ↦ rw other (other_follows waiting is_open rest b w h g (eqb-false b 0x1B other) f)
+]
+
+not_nothing : (xs : List ℕ) (b : ℕ) → xs ++ b ∷ [] ≢ []
+not_nothing [] b e = cc e
+not_nothing (x ∷ xs) b e = cc e
+
+outside_follows : (f : Fate) (waiting : List ℕ) (is_open : Bool) (b : ℕ) (rest : List ℕ) → fate (waiting ++ b ∷ []) ≡ f → fate waiting ≡ Waits
+    → editor.fate rest ≡ Waits → FollowsOutside waiting is_open rest
+    → Follows (step_by f waiting is_open b).state (left rest (step_by f waiting is_open b).output)
+outside_follows Waits waiting is_open b rest h s w f =
+    subst (FollowsOutside (waiting ++ b ∷ []) is_open) (sym (left_none rest w))
+    (record { closed = f.closed; not_bare = λ e. absurd (not_nothing waiting b e) })
+outside_follows Ends waiting is_open b rest h s w f = ended_follows is_open (waiting ++ b ∷ []) (row_of (waiting ++ b ∷ [])) rest refl w f.closed
+outside_follows Breaks waiting is_open b rest h s w f = broken_follows waiting is_open rest b w s h f
+
+-- ---- within a paste
+
+text_free : (rest bs : List ℕ) → editor.fate rest ≡ Waits → IsFree rest → IsText bs → IsFree (left rest bs)
+text_free rest [] w free t = subst IsFree (sym (left_none rest w)) free
+text_free rest (b ∷ bs) w free t =
+    let parts = and_parts (is_text_byte b) (list_all is_text_byte bs) t in
+    let next : List ℕ = rest_after rest b in
+    subst IsFree (sym (left_append rest (b ∷ []) bs))
+    (text_free next bs (rest_waits (rest ++ b ∷ [])) (still_free rest b w free (text_not_escape b parts.0)) parts.1)
+
+free_follows : (rest : List ℕ) → IsFree rest → FollowsOutside [] false rest
+free_follows rest free = record { closed = λ e. free; not_bare = λ e s. free (ap (λ xs. get_or xs 0 0) s) }
+
+after_end_follows : (t : Bool) (rest : List ℕ) → IsFree rest → Follows (cond t start (Within [] false)) rest
+after_end_follows true rest free = free_follows rest free
+after_end_follows false rest free = free
+
+fresh_follows : (f : Fate) (after_return : Bool) (b : ℕ) (rest : List ℕ) → IsFree rest → Follows (fresh_in_paste f after_return b).state rest
+fresh_follows Waits after_return b rest free = free
+fresh_follows Ends after_return b rest free = free
+fresh_follows Breaks after_return b rest free = free
+
+within_follows : (f : Fate) (waiting : List ℕ) (after_return : Bool) (b : ℕ) (rest : List ℕ) → IsFree rest
+    → Follows (paste_step_by f waiting after_return b).state rest
+within_follows Waits waiting after_return b rest free = free
+within_follows Ends waiting after_return b rest free = after_end_follows (bytes_eq (waiting ++ b ∷ []) paste_end) rest free
+within_follows Breaks waiting after_return b rest free = fresh_follows (paste_fate (b ∷ [])) after_return b rest free
+
+step_follows : (s : State) (b : ℕ) (rest : List ℕ) → IsSound s → editor.fate rest ≡ Waits → Follows s rest
+    → Follows (step s b).state (left rest (step s b).output)
+step_follows (Outside waiting is_open) b rest s w f = outside_follows (fate (waiting ++ b ∷ [])) waiting is_open b rest refl s w f
+step_follows (Within waiting after_return) b rest s w f =
+    within_follows (paste_fate (waiting ++ b ∷ [])) waiting after_return b (left rest (step (Within waiting after_return) b).output)
+    (text_free rest (step (Within waiting after_return) b).output w f (pastes_clean.each_byte waiting after_return b))
+
+run_follows : (s : State) (bs rest : List ℕ) → IsSound s → editor.fate rest ≡ Waits → Follows s rest → Follows (run s bs).state (left rest (run s bs).output)
+run_follows s [] rest h w f = subst (Follows s) (sym (left_none rest w)) f
+run_follows s (b ∷ bs) rest h w f =
+    let first : Step = step s b in
+    subst (Follows (run first.state bs).state) (sym (left_append rest first.output (run first.state bs).output))
+    (run_follows first.state bs (left rest first.output) (step_sound s b) (rest_waits (rest ++ first.output)) (step_follows s b rest h w f))
+
+-- ---- the editor's keys, whatever came before
+
+-- outside a paste nothing is open for the decoder that is not for the filter
+closed_before : (bs waiting : List ℕ) (is_open : Bool) → (run start bs).state ≡ Outside waiting is_open
+    → is_open_after waiting is_open ≡ false → IsFree (decoding (filtered bs)).rest
+closed_before bs waiting is_open at c =
+    let all : Step = run start bs in
+    let f : FollowsOutside waiting is_open (decoding all.output).rest =
+    subst (λ s. Follows s (decoding all.output).rest) at (run_follows start bs [] refl refl (nothing_follows false)) in
+    let out : filtered bs ≡ all.output ++ waiting = ap (λ s. all.output ++ at_end s) at in
+    subst IsFree (sym (ap (λ xs. (decoding xs).rest) out ∙ ap (λ (d : Decoding). d.rest) (in_pieces all.output waiting)))
+    (escape_closed waiting is_open (decoding all.output).rest (rest_waits all.output) f c)
+
+pub record IsAlike (r : Row) : Type 0 where
+  pub is_becoming : BecomesRow r
+  pub has_key : HasKey r
+  pub is_anew : starts_anew r.becomes ≡ true
+
+adds_key : (r : Row) → IsAlike r → AddsKey r
+adds_key r is bs waiting is_open at =
+    let opened : Bool = is_open_after waiting is_open in
+    let sent : List ℕ = apart_from opened r.becomes in
+    let out : filtered (bs ++ r.sequence) ≡ filtered bs ++ sent =
+    ap (λ (x : Step). x.output ++ at_end x.state) (is.is_becoming bs waiting is_open at) ∙ append-nil (filtered bs ++ sent) in
+    let here : decoding ((decoding (filtered bs)).rest ++ sent) ≡ record { keys = r.key ∷ []; rest = [] } =
+    sent_anew opened (decoding (filtered bs)).rest r.becomes is.is_anew (rest_waits (filtered bs)) (closed_before bs waiting is_open at) ∙ is.has_key in
+    ap (λ xs. (decoding xs).keys) out
+    ∙ ap (λ (d : Decoding). d.keys) (in_pieces (filtered bs) sent)
+    ∙ ap (λ (d : Decoding). (decoding (filtered bs)).keys ++ d.keys) here
+
+all_add : (rs : List Row) → AllByRecursion BecomesRow rs → AllByRecursion HasKey rs → list_all (λ (r : Row). starts_anew r.becomes) rs ≡ true
+    → AllByRecursion AddsKey rs
+all_add [] b k a = tt
+all_add (r ∷ rs) b k a =
+    let parts = and_parts (starts_anew r.becomes) (list_all (λ (x : Row). starts_anew x.becomes) rs) a in
+    (adds_key r (record { is_becoming = b.0; has_key = k.0; is_anew = parts.0 }), all_add rs b.1 k.1 parts.1)
+
+pub rows_add_keys : AllByRecursion AddsKey rows
+rows_add_keys = all_add rows rows_become rows_have_keys refl
+
+opened_inserts : (opened : Bool) (rest text : List ℕ) → editor.fate rest ≡ Waits → (opened ≡ false → IsFree rest) → IsText text
+    → list_all is_insert (decoding (rest ++ (apart_from opened [] ++ text))).keys ≡ true
+opened_inserts true rest text w free t =
+    ap (λ (d : Decoding). list_all is_insert d.keys) (anew rest 0x18 text refl w ∙ after_can text) ∙ text_inserts [] text refl nothing_free t
+opened_inserts false rest text w free t = text_inserts rest text w (free refl) t
+
+pub pastes_insert : PastesInsert
+pastes_insert bs waiting is_open text at none =
+    let opened : Bool = is_open_after waiting is_open in
+    let sent : List ℕ = apart_from opened [] ++ pasted text in
+    let out : filtered (bs ++ (paste_start ++ (text ++ paste_end))) ≡ filtered bs ++ sent =
+    ap (λ (x : Step). x.output ++ at_end x.state) (pastes_text bs waiting is_open text at none) ∙ append-nil (filtered bs ++ sent) in (
+      (decoding ((decoding (filtered bs)).rest ++ sent)).keys,
+      ap (λ xs. (decoding xs).keys) out ∙ ap (λ (d : Decoding). d.keys) (in_pieces (filtered bs) sent),
+      opened_inserts opened (decoding (filtered bs)).rest (pasted text) (rest_waits (filtered bs)) (closed_before bs waiting is_open at)
+          (pastes_clean.whole text),
+    )
