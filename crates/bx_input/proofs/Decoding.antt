@@ -1,13 +1,12 @@
 -- The editor's decoder, where bytes begin anew and where text comes.
-use Rattle.std.proofs.Common.{◌≡◌, ◌≢◌, ℕ, ◌<◌, ◌≤◌, ◌⊎◌, inl, inr, Bool, true, false, not, ◌&&◌, ◌||◌, nat_eq, nat_le, List, [], ◌∷◌, ◌++◌, length, get_or, Option, Some, None, refl, ap, sym, ◌∙◌, append_assoc, subst, arith}
+use Rattle.std.proofs.Common.{◌≡◌, ◌≢◌, ℕ, inl, inr, Bool, true, false, nat_eq, List, [], ◌∷◌, ◌++◌, get_or, Option, Some, None, refl, ap, sym, ◌∙◌, append_assoc, subst, arith}
 use Rattle.std.specs.Option.{option_to_list}
 use Rattle.std.specs.List.{list_all}
 use Rattle.std.specs.Str.{chars}
-use Rattle.std.proofs.lemmas.Bool.{cases_Bool, cases_eq, and_from, and_parts}
+use Rattle.std.proofs.lemmas.Bool.{cases_eq, and_from, and_parts}
 use Rattle.std.proofs.lemmas.Bool.Decides.{nat_tests}
 use Rattle.std.proofs.lemmas.List.{append-nil}
 use Rattle.std.proofs.lemmas.List.Folds.{list_all-append}
-use Rattle.bx_bytes.specs.Fate.{fate_in}
 use Rattle.bx_bytes.specs.Pattern.{is_within}
 use Rattle.bx_bytes.specs.Utf8.{characters}
 use Rattle.bx_bytes.specs.declared.fate.Fate.{Fate}
@@ -16,12 +15,10 @@ use Rattle.bx_keys.specs.Items.{items}
 use Rattle.bx_keys.specs.Keys.{Decoding, decoding, key_of, single_key, character_key, key_after, rest_after}
 use Rattle.bx_keys.specs.Waiting.{fate}
 use Rattle.bx_keys.specs.declared.key.Key.{Key}
-use Rattle.bx_keys.specs.declared.key.Key.TheVariants.{Insert}
-use Rattle.bx_keys.proofs.Cuts.{in_pieces, one_key, byte_by_byte, rest_waits}
+use Rattle.bx_keys.proofs.Cuts.{in_pieces, one_key, rest_waits}
 use Rattle.bx_keys.proofs.Feeding.{broken_decoding, feeds_waiting, feeds_end, feeds_break, feeds_alone, waits_decoding}
 use Rattle.bx_keys.proofs.Characters.{no_escape}
 use Rattle.bx_keys.proofs.Sequences.{control_more, shift_more, long_more}
-use Rattle.bx_input.specs.Filter.{apart_from}
 use Rattle.bx_input.specs.Laws.{is_text_byte, IsText, is_insert}
 use Rattle.bx_input.proofs.Firsts.{lacks_after_first, breaks_at}
 

@@ -1,8 +1,8 @@
 -- The editor's decoder behind the filter.
-use Rattle.std.proofs.Common.{◌≡◌, ◌≢◌, ℕ, ◌⊎◌, inl, inr, Bool, true, false, not, ◌&&◌, ◌||◌, nat_eq, cond, List, [], ◌∷◌, ◌++◌, get_or, Option, Some, None, refl, ap, sym, ◌∙◌, append_assoc, subst, arith}
+use Rattle.std.proofs.Common.{◌≡◌, ◌≢◌, ℕ, ◌⊎◌, inl, inr, Bool, true, false, not, ◌&&◌, nat_eq, cond, List, [], ◌∷◌, ◌++◌, get_or, Option, Some, None, refl, ap, sym, ◌∙◌, append_assoc, subst, arith}
 use Rattle.std.specs.List.{AllByRecursion, list_all}
 use Rattle.std.specs.Str.{bytes_eq}
-use Rattle.std.proofs.lemmas.Bool.{cases_Bool, cases_eq, and_parts, and_cases, or_parts, eqb-true, eqb-false, false≢true}
+use Rattle.std.proofs.lemmas.Bool.{cases_Bool, cases_eq, and_parts, and_cases, or_parts, eqb-false}
 use Rattle.std.proofs.lemmas.List.{append-nil}
 use Rattle.bx_bytes.specs.Pattern.{is_within}
 use Rattle.bx_bytes.specs.Utf8.{characters}
@@ -11,13 +11,12 @@ use Rattle.bx_bytes.specs.declared.fate.Fate.TheVariants.{Waits, Ends, Breaks}
 use Rattle.bx_keys.specs.Items.{items}
 use Rattle.bx_keys.specs.Keys.{Decoding, decoding, rest_after}
 use Rattle.bx_keys.specs.Waiting as editor
-use Rattle.bx_keys.specs.declared.key.Key.{Key}
 use Rattle.bx_keys.proofs.Cuts.{in_pieces, rest_waits}
 use Rattle.bx_keys.proofs.Feeding.{waits_decoding, feeds_waiting, feeds_end, feeds_break, feeds_alone}
 use Rattle.bx_input.specs.Table.{Row, rows, sequences, fate, row_of, paste_start, paste_end}
 use Rattle.bx_input.specs.Paste.{pasted, paste_fate}
-use Rattle.bx_input.specs.Filter.{State, Outside, Within, Step, step_to, with_front, step_by, paste_step_by, fresh_in_paste, broken, ended, step, start, run, at_end, filtered, apart_from, is_empty}
-use Rattle.bx_input.specs.Laws.{is_text_byte, IsText, is_insert, HasKey, AddsKey, BecomesRow, HasNone, PastesInsert}
+use Rattle.bx_input.specs.Filter.{State, Outside, Within, Step, step_by, paste_step_by, fresh_in_paste, broken, ended, step, start, run, at_end, filtered, apart_from, is_empty}
+use Rattle.bx_input.specs.Laws.{is_text_byte, IsText, is_insert, HasKey, AddsKey, BecomesRow, PastesInsert}
 use Rattle.bx_input.proofs.Clean.{pastes_clean}
 use Rattle.bx_input.proofs.Decoding.{IsFree, IsOutside, anew, anew_in_text, after_can, alone_free, sequence_over, still_free, text_inserts, text_not_escape}
 use Rattle.bx_input.proofs.Firsts.{lacks_after_first, breaks_at}
