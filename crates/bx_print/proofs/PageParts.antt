@@ -1,0 +1,48 @@
+-- A page, paragraph by paragraph.
+use Rattle.std.proofs.Common.{◌≡◌, ℕ, ◌+◌, ◌<◌, List, [], ◌∷◌, ◌++◌, length, map, drop, Option, refl, ap, ap₂, ◌∙◌, arith}
+use Rattle.std.specs.Prelude.{flat_map}
+use Rattle.std.specs.List.{join_by}
+use Rattle.std.proofs.lemmas.List.Concat.{flat_map-append}
+use Rattle.std.proofs.lemmas.List.Folds.{flat_map-map}
+use Rattle.bx_ucd.specs.declared.class.Class.{Class}
+use Rattle.bx_ucd.specs.declared.data.Side.{Side}
+use Rattle.bx_explicit.specs.declared.base.Base.{Base}
+use Rattle.bx_paras.specs.Paragraphs.{Paragraph, lengths_of, paragraphs}
+use Rattle.bx_paras.specs.Positions.{bytes_of}
+use Rattle.bx_paragraph.specs.BodyRows.{BodyRow, body_rows}
+use Rattle.bx_view.specs.TextRows.{TextRow, rows_from, text_row, text_row_glyphs}
+use Rattle.bx_print.specs.declared.marks.Marks.{Marks}
+use Rattle.bx_print.specs.BodyLines.{body_line, body_lines}
+use Rattle.bx_print.specs.Page.{line, page}
+
+-- lines with a line feed between two are lines behind a line feed each, but for the first byte
+joined-is : {X : Type 0} (f : X → List ℕ) (xs : List X) → join_by f (10 ∷ []) xs ≡ drop 1 (flat_map (λ x. 10 ∷ f x) xs)
+joined-is f [] = refl
+joined-is f (x ∷ xs) = refl
+
+module _ (class : ℕ → Class) (bracket : ℕ → Option (Side × ℕ)) (mirror : ℕ → Option ℕ) (marks : Marks) (base : Base) (w : ℕ) where
+  abbrev pub lines_of : Paragraph → List ℕ
+  lines_of p = body_lines class bracket mirror marks base w p.body
+
+  abbrev text_line : TextRow → List ℕ
+  text_line r = 10 ∷ line marks (text_row_glyphs class mirror w r)
+
+  rows-lines : (start : ℕ) (ps : List Paragraph) → flat_map text_line (rows_from class bracket base w start ps) ≡ flat_map lines_of ps
+  rows-lines start [] = refl
+  rows-lines start (p ∷ ps) =
+      let own = map (text_row start) (body_rows class bracket base w p.body) in
+      let later = start + bytes_of (lengths_of p) in
+      flat_map-append text_line own (rows_from class bracket base w later ps)
+      ∙ ap₂ (λ x y. x ++ y) (flat_map-map text_line (text_row start) (body_rows class bracket base w p.body)) (rows-lines later ps)
+
+  -- the page of a text
+  pub page-is : (text : List ℕ) → page class bracket mirror marks base w text ≡ drop 1 (flat_map lines_of (paragraphs class text))
+  page-is text =
+      joined-is (λ r. line marks (text_row_glyphs class mirror w r)) (rows_from class bracket base w 0 (paragraphs class text))
+      ∙ ap (drop 1) (rows-lines 0 (paragraphs class text))
+
+-- rows make some bytes
+pub some-bytes : (class : ℕ → Class) (mirror : ℕ → Option ℕ) (marks : Marks) (w : ℕ) (rows : List BodyRow) → 0 < length rows
+    → 0 < length (flat_map (body_line class mirror marks w) rows)
+some-bytes class mirror marks w [] some = absurd (omega (arith, some))
+some-bytes class mirror marks w (r ∷ rows) some = omega arith

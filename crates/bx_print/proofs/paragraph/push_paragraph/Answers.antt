@@ -1,0 +1,20 @@
+use Rattle.std.proofs.Common.{◌≡◌, ◌++◌, ◌∙◌, OnOk, ap, subst}
+use Rattle.bx_print.specs.BodyLines.{body_lines}
+use Rattle.bx_view.proofs.Numbers.{span-told}
+use Rattle.bx_view.specs.Standing.{body_at}
+use Rattle.bx_print.proofs.paragraph.push_paragraph.Goals as goal
+
+pub returns-clause-lines : goal.returns-clause-lines
+returns-clause-lines g c =
+    let class = g.D.BidiData.class_of c.args.source.now in
+    let text = c.args.text.now.edited.text in
+    let l = c.in_ok-layout.layout in
+    let style = c.args.style in
+    let lines = body_lines class (g.D.BidiData.bracket_of c.args.source.now) (g.D.BidiData.mirror_of c.args.source.now) style.marks in
+    let told = c.in_ok-layout.ensures in
+    let span = span-told class text c.args.index.now.paragraphs c.args.number c.span-start.result.0 c.span-start.result.1 c.len-utf8.ensures.utf8
+    c.requires.number c.requires.index c.span-start.ensures in
+    let same : lines l.base l.w l.body ≡ lines style.base style.columns (body_at class text c.args.number) =
+    ap (λ b. lines b l.w l.body) told.base ∙ ap (λ w. lines style.base w l.body) told.w
+    ∙ ap (lines style.base style.columns) (told.body ∙ c.in_ok-body.ensures.bytes ∙ span.body) in
+    subst (λ bs. OnOk c.push_rows.result (c.push_rows.new.page.items ≡ c.args.page.now.items ++ bs)) same c.push_rows.ensures.lines

@@ -1,0 +1,64 @@
+//! Why a text could not be printed.
+use bx_paragraph::ParagraphError;
+use bx_paras::ParasError;
+use bx_text::TextError;
+use std::alloc::AllocError;
+use thiserror::Error;
+
+/// Why a text could not be printed.
+#[derive(Clone, Copy, PartialEq, Eq, Debug, Error)]
+pub enum PrintError {
+    /// The text has more than 16,777,216 bytes.
+    #[error("more than 16777216 bytes")]
+    TooLong,
+    /// The writer took no more.
+    #[error("cannot write")]
+    WriteFault,
+    /// Memory ran out.
+    #[error("out of memory")]
+    OutOfMemory,
+}
+
+impl From<AllocError> for PrintError {
+    ghost use Rattle.std.specs.Prelude.{◌≡◌};
+    ghost use Rattle.bx_print.specs.declared.error.PrintError.TheVariants.{OutOfMemory};
+
+    ghost from_gives = { λ e r. r ≡ OutOfMemory };
+
+    fn from(_error: AllocError) -> Self {
+        PrintError::OutOfMemory
+    }
+}
+
+impl From<TextError> for PrintError {
+    ghost use Rattle.std.specs.Prelude.{◌≡◌};
+    ghost use Rattle.bx_print.specs.declared.error.PrintError.TheVariants.{OutOfMemory};
+
+    ghost from_gives = { λ e r. r ≡ OutOfMemory };
+
+    fn from(_error: TextError) -> Self {
+        PrintError::OutOfMemory
+    }
+}
+
+impl From<ParasError> for PrintError {
+    ghost use Rattle.std.specs.Prelude.{◌≡◌};
+    ghost use Rattle.bx_print.specs.declared.error.PrintError.TheVariants.{OutOfMemory};
+
+    ghost from_gives = { λ e r. r ≡ OutOfMemory };
+
+    fn from(_error: ParasError) -> Self {
+        PrintError::OutOfMemory
+    }
+}
+
+impl From<ParagraphError> for PrintError {
+    ghost use Rattle.std.specs.Prelude.{◌≡◌};
+    ghost use Rattle.bx_print.specs.declared.error.PrintError.TheVariants.{OutOfMemory};
+
+    ghost from_gives = { λ e r. r ≡ OutOfMemory };
+
+    fn from(_error: ParagraphError) -> Self {
+        PrintError::OutOfMemory
+    }
+}

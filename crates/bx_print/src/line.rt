@@ -1,0 +1,68 @@
+//! The line of a row.
+ghost use Rattle.std.specs.Prelude.{◌≡◌, ◌≤◌, ◌++◌, OnOk, flat_map, length, map, take};
+ghost use Rattle.bx_rows.specs.Shown.{glyph_of};
+ghost use Rattle.bx_print.specs.Page.{glyph_bytes, line, trimmed};
+
+use crate::marks::Marks;
+use bx_rows::{Drawn, RowPicture};
+use std::alloc::AllocError;
+
+/// Adds what is printed of a glyph.
+fn push_glyph(page: &mut Vec<u8>, glyph: &Drawn<'_>, marks: Marks) -> Result<(), AllocError>
+    ensures { OnOk result (page.new.items ≡ page.old.items ++ glyph_bytes marks (glyph_of glyph.now)) }
+{
+    let text = glyph.text.as_str().as_bytes();
+    if !glyph.negative {
+        page.extend_from_slice(text)?;
+        return Ok(());
+    }
+    match marks {
+        Marks::LeftOut => Ok(()),
+        Marks::Bracketed => {
+            page.push(b'[')?;
+            page.extend_from_slice(text)?;
+            page.push(b']')?;
+            Ok(())
+        }
+    }
+}
+
+/// How many bytes stand in front of the blanks that some bytes end with.
+fn trimmed_len(bytes: &[u8]) -> usize
+    ensures within { result ≤ length bytes.now }
+    ensures trimmed { take result bytes.now ≡ trimmed bytes.now }
+{
+    let mut len = bytes.len();
+    while len > 0 {
+        if bytes[len - 1] != b' ' {
+            return len;
+        }
+        len -= 1;
+    }
+    len
+}
+
+/// Adds the glyphs of a row.
+fn push_glyphs(page: &mut Vec<u8>, glyphs: &[Drawn<'_>], marks: Marks) -> Result<(), AllocError>
+    ensures { OnOk result (page.new.items ≡ page.old.items ++ flat_map (glyph_bytes marks) (map glyph_of glyphs.now)) }
+{
+    for glyph in glyphs {
+        push_glyph(page, glyph, marks)?;
+    }
+    Ok(())
+}
+
+/// Adds the line of a row that shows this picture.
+pub(crate) fn push_line(
+    page: &mut Vec<u8>,
+    picture: &RowPicture<'_>,
+    marks: Marks,
+) -> Result<(), AllocError>
+    ensures { OnOk result (page.new.items ≡ page.old.items ++ line marks (map glyph_of picture.now.glyphs.items)) }
+{
+    let start = page.len();
+    push_glyphs(page, &picture.glyphs, marks)?;
+    let len = trimmed_len(&page[start..]);
+    page.truncate(start + len);
+    Ok(())
+}

@@ -1,0 +1,73 @@
+//! A text is printed.
+ghost use Rattle.std.specs.Prelude.{◌≡◌, ◌↔◌, ◌<◌, [], IsErrOf, OnOk, length, string_bytes};
+ghost use Rattle.std.specs.Io.KnownBytes.{Appends};
+ghost use Rattle.bx_text.specs.Edits.{largest_text};
+ghost use Rattle.bx_paras.specs.Paragraphs.{lengths};
+ghost use Rattle.bx_print.specs.Page.{page};
+ghost use Rattle.bx_print.specs.Writing.{WritesFront};
+
+use crate::error::PrintError;
+use crate::output::{finish, send_full};
+use crate::paragraph::push_paragraph;
+use crate::style::Style;
+use bx_paras::Index;
+use bx_text::{Text, TextError};
+use bx_ucd::BidiData;
+use std::alloc::Global;
+use std::io::Write;
+
+/// Prints the paragraphs of a text, with a list for what is not yet written.
+fn print_paragraphs<D: BidiData, W: Write>(
+    pending: &mut Vec<u8>,
+    text: &Text,
+    index: &Index,
+    source: &D,
+    style: Style,
+    writer: &mut W,
+) -> Result<(), PrintError>
+    requires empty { pending.old.items ≡ [] }
+    requires index { index.now.paragraphs ≡ lengths (D.class_of source.now) text.now.edited.text }
+    ensures page { OnOk result (Appends (W.contents writer.old) (W.contents writer.new)
+        (page (D.class_of source.now) (D.bracket_of source.now) (D.mirror_of source.now) style.marks style.base style.columns text.now.edited.text)) }
+    ensures front { WritesFront
+        (page (D.class_of source.now) (D.bracket_of source.now) (D.mirror_of source.now) style.marks style.base style.columns text.now.edited.text)
+        (W.contents writer.old) (W.contents writer.new) }
+    ensures cause { IsErrOf result PrintError.TooLong → ⊥ }
+{
+    let count = index.count();
+    push_paragraph(pending, text, index, 0, source, style)?;
+    // no line feed stands in front of the first row
+    pending.remove(0);
+    for number in 1..count {
+        send_full(writer, pending)?;
+        push_paragraph(pending, text, index, number, source, style)?;
+    }
+    finish(writer, pending)
+}
+
+/// Writes the lines of a text's rows, with a line feed between two, and flushes.
+///
+/// Errors: `TooLong` above 16,777,216 bytes; `WriteFault` and `OutOfMemory`, where a front of the lines was written.
+pub fn print<D: BidiData, W: Write>(
+    alloc: Global,
+    text: String,
+    source: &D,
+    style: Style,
+    writer: &mut W,
+) -> Result<(), PrintError>
+    ensures page { OnOk result (Appends (W.contents writer.old) (W.contents writer.new)
+        (page (D.class_of source.now) (D.bracket_of source.now) (D.mirror_of source.now) style.marks style.base style.columns (string_bytes text))) }
+    ensures front { WritesFront
+        (page (D.class_of source.now) (D.bracket_of source.now) (D.mirror_of source.now) style.marks style.base style.columns (string_bytes text))
+        (W.contents writer.old) (W.contents writer.new) }
+    ensures too_long { IsErrOf result PrintError.TooLong ↔ (largest_text < length (string_bytes text)) }
+{
+    let text = match Text::open(alloc, text) {
+        Ok(text) => text,
+        Err(TextError::TooLong) => return Err(PrintError::TooLong),
+        Err(_) => return Err(PrintError::OutOfMemory),
+    };
+    let index = Index::build(alloc, &text, source)?;
+    let mut pending = Vec::new(alloc);
+    print_paragraphs(&mut pending, &text, &index, source, style, writer)
+}

@@ -1,0 +1,18 @@
+//! How a text is printed.
+ghost use Rattle.std.specs.Prelude.{◌≡◌, true};
+ghost use Rattle.bx_terms.specs.Sizes.{is_side};
+
+use crate::marks::Marks;
+use bx_explicit::Base;
+
+/// How a text is printed.
+#[derive(Clone, Copy)]
+pub struct Style {
+    /// The base direction.
+    pub base: Base,
+    /// The columns of a row, from 1 to 500.
+    pub columns: u16,
+    /// What becomes of marks.
+    pub marks: Marks,
+    ghost has_columns: { is_side columns ≡ true },
+}

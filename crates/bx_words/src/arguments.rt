@@ -1,0 +1,59 @@
+//! The words of a command line that several programs take.
+
+ghost use Rattle.std.specs.Prelude.{◌≡◌, true, IfSome};
+ghost use Rattle.bx_terms.specs.Sizes.{is_side};
+
+use bx_explicit::Base;
+use bx_terms::{LARGEST_SIDE, is_side};
+use clap::{Arg, ArgMatches, value_parser};
+use std::alloc::Global;
+
+/// The names of the directions.
+static DIRECTIONS: [&str; 3] = ["auto", "ltr", "rtl"];
+
+/// An option whose value is a side of a window.
+pub fn side<'a>(alloc: Global, name: &'a str, default: &'a str) -> Arg<'a> {
+    Arg::new(alloc, name)
+        .long(name)
+        .value_name("N")
+        .value_parser(value_parser!(u16).range(1..=i64::from(LARGEST_SIDE)))
+        .default_value(default)
+}
+
+/// An option that names one of Unicode's files.
+pub fn table<'a>(alloc: Global, name: &'a str) -> Arg<'a> {
+    Arg::new(alloc, name)
+        .long(name)
+        .value_name("F")
+        .required(true)
+}
+
+/// The option that names a direction.
+pub fn direction<'a>(alloc: Global) -> Arg<'a> {
+    Arg::new(alloc, "direction")
+        .long("direction")
+        .value_parser(DIRECTIONS.as_slice())
+        .default_value("auto")
+}
+
+/// The side of a window that an option names.
+pub fn side_of(matches: &ArgMatches<'_>, name: &str) -> Option<u16>
+    ensures { IfSome result (λ n. is_side n ≡ true) }
+{
+    matches.get_one::<u16>(name).filter(|n| is_side(*n))
+}
+
+/// The direction that a word names.
+fn base_of(name: &str) -> Option<Base> {
+    match name {
+        "auto" => Some(Base::Auto),
+        "ltr" => Some(Base::Ltr),
+        "rtl" => Some(Base::Rtl),
+        _ => None,
+    }
+}
+
+/// The direction that is named.
+pub fn direction_of(matches: &ArgMatches<'_>) -> Option<Base> {
+    base_of(matches.get_str("direction")?)
+}

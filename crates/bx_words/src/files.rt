@@ -1,0 +1,53 @@
+//! The files that the programs read.
+
+use bx_terms::LARGEST_TEXT;
+use std::fs::{self, File};
+use std::io::{self, ErrorKind, Read};
+use thiserror::Error;
+
+/// Why a file could not be read.
+#[derive(Debug, Drop, PartialEq, Eq, Error)]
+pub enum FileFault<'a> {
+    /// The file of this path is not there, or cannot be read.
+    #[error("cannot read {0}")]
+    Unreadable(&'a str),
+    #[error("out of memory")]
+    OutOfMemory,
+}
+
+/// Why the file of a path could not be read.
+fn fault_of<'a>(path: &'a str, kind: ErrorKind) -> FileFault<'a> {
+    match kind {
+        ErrorKind::OutOfMemory => FileFault::OutOfMemory,
+        _ => FileFault::Unreadable(path),
+    }
+}
+
+/// All bytes of a reader, or as many as show that they are too many for a text.
+fn bytes_of<R: Read + Drop>(rt: &HostRuntime, reader: R) -> io::Result<Vec<u8>> {
+    let mut bytes = Vec::new(rt.alloc());
+    reader
+        .take(LARGEST_TEXT as u64 + 1)
+        .read_to_end(&mut bytes)?;
+    Ok(bytes)
+}
+
+/// The bytes of a text's file, of one that is longer than a text one byte more than a text may have. None where no file is
+/// there.
+///
+/// Errors: `Unreadable`; `OutOfMemory`.
+pub fn text_of<'a>(rt: &HostRuntime, path: &'a str) -> Result<Option<Vec<u8>>, FileFault<'a>> {
+    let read = match File::open(rt, path) {
+        Ok(file) => bytes_of(rt, file).map(Some),
+        Err(error) if error.kind() == ErrorKind::NotFound => Ok(None),
+        Err(error) => Err(error),
+    };
+    read.map_err(|error| fault_of(path, error.kind()))
+}
+
+/// The bytes of one of Unicode's files.
+///
+/// Errors: `Unreadable`, also where no file is there; `OutOfMemory`.
+pub fn table_of<'a>(rt: &HostRuntime, path: &'a str) -> Result<Vec<u8>, FileFault<'a>> {
+    fs::read(rt, path).map_err(|error| fault_of(path, error.kind()))
+}
