@@ -76,7 +76,7 @@ echo "so far: 0 of 10 functions checked; the verdict comes last"
 while [ "$had" -lt 10 ]; do
     sleep 0.1
     had=$((had + 1))
-    : >"out/incremental/$had.Proof.oantt"
+    touch "out/incremental/$had.Proof.oantt" 2>/dev/null
     ! [ -f "$TOLD/slow" ] || sleep 1
 done
 if [ "$name" = "$(cat "$TOLD/bad" 2>/dev/null)" ]; then
@@ -160,7 +160,7 @@ check_order() {
     same 'order, status' "$status" 0
     before 'order, a crate waits for what it stands on' 'end a' 'begin c lib 0'
     before 'order, the program waits for all' 'end c' 'begin d run 0'
-    if [ "$(getconf _NPROCESSORS_ONLN)" -gt 1 ] && [ "$(awk '/^MemAvailable:/ { print int($2 / 4000000) }' /proc/meminfo)" -gt 1 ]; then
+    if [ "$(nproc)" -gt 1 ] && [ "$(awk '/^MemAvailable:/ { print int($2 / 4000000) }' /proc/meminfo)" -gt 1 ]; then
         before 'order, two at once' 'begin b lib 0' 'end a'
     else
         echo "skipped: $shell order, two at once (one processor, or too little memory)"
@@ -240,6 +240,48 @@ check_killed() {
     nothing_left killed
 }
 
+# The launcher, whose program here ends at once.
+check_launcher() {
+    make_tree
+    cp -R "$top/bidi-edit" "$top/launcher" "$top/data" "$folder/tree/"
+    mkdir -p "$folder/tree/crates/bidi_edit/src"
+    echo '// a line' >"$folder/tree/crates/bidi_edit/src/main.rt"
+    echo 'bidi_edit: c b' >>"$folder/tree/crates.txt"
+    : >"$folder/told/slow"
+    start_launcher
+    wait_for 150 has_line '[1-9] of 10 functions proved'
+    tmux -L "$socket" send-keys -t person C-c
+    wait_for 50 is_over
+    same 'launcher, Ctrl-C' "$(cat "$folder/status" 2>/dev/null)" 130
+    like 'launcher, Ctrl-C: the words' "$(screen | tail -n 1)" 'bidi-edit: stopped: .*'
+    tmux -L "$socket" kill-session -t person
+    rm -f "$folder/told/slow"
+    start_launcher
+    wait_for 300 is_over
+    same 'launcher, built and started' "$(cat "$folder/status" 2>/dev/null)" 0
+    same 'launcher, what was built' "$(screen | grep -c 'bidi-edit: built, after')" 1
+    tmux -L "$socket" kill-session -t person
+    rm "$folder/tree/crates/bidi_edit/out/bidi_edit"
+    printf '#!/bin/sh\nexit 1\n' >"$folder/bin/rt"
+    start_launcher
+    wait_for 100 is_over
+    same 'launcher, not built' "$(cat "$folder/status" 2>/dev/null)" 1
+    tmux -L "$socket" kill-session -t person
+    rm -f "${TMPDIR:-/tmp}/bidi-edit-bidi_edit.log"
+    make_rt
+}
+
+start_launcher() {
+    rm -f "$folder/status"
+    cat >"$folder/run" <<END
+trap : INT
+PATH='$folder/bin':\$PATH TOLD='$folder/told' $shell '$folder/tree/bidi-edit' '$folder/note'
+echo \$? >'$folder/status'
+exec sleep 600
+END
+    tmux -u -L "$socket" -f /dev/null new-session -d -s person -x 100 -y 12 "sh '$folder/run'"
+}
+
 # ---- the toolchain itself
 
 # Twenty functions of this run alone, so that nothing is taken over from elsewhere.
@@ -306,6 +348,7 @@ for shell in dash bash; do
         check_terminal
         check_failure
         check_killed
+        check_launcher
     fi
 done
 [ -n "$ran" ] || {

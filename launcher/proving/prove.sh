@@ -115,7 +115,7 @@ count() { # WORD..
 
 # How many crates at once: one for each processor, and for each 4 GB of memory that is free.
 find_lanes() {
-    cores=$(getconf _NPROCESSORS_ONLN 2>/dev/null || echo 1)
+    cores=$(nproc 2>/dev/null || getconf _NPROCESSORS_ONLN 2>/dev/null || echo 1)
     lanes=$(awk '/^MemAvailable:/ { print int($2 / 4000000) }' /proc/meminfo 2>/dev/null)
     [ -n "$lanes" ] || lanes=1
     [ "$lanes" -le "$cores" ] || lanes=$cores
@@ -163,14 +163,18 @@ is_ready() { # CRATE THAT IT STANDS ON ..
     done
 }
 
-# Starts a crate. The longest chain is what all waits for, so its next crate gets the processors, up to the four that a proof can
-# use; one that nearly belongs to it gets two, and any other what these leave.
+# Starts a crate. All waits for the longest chain, so its next crate gets the processors, up to the four that a proof can use well.
+# Any other crate is to be there when that chain needs it: the less time there is, against what its proof takes, the more it gets.
 start() { # CRATE SECONDS CHAIN
-    jobs=1 niceness=10
-    if [ "$3" = "$longest" ]; then jobs=$cores niceness=0
-    elif [ $(($3 + $2)) -ge "$longest" ]; then jobs=2 niceness=0
+    spare=$((longest - $3)) jobs=1 niceness=10
+    if [ "$spare" = 0 ]; then
+        jobs=$cores niceness=0
+        [ "$jobs" -le 4 ] || jobs=4
+    elif [ "$spare" -lt $((2 * $2)) ]; then
+        jobs=2 niceness=0
+    elif [ "$spare" -lt $((3 * $2)) ]; then
+        niceness=0
     fi
-    [ "$jobs" -le 4 ] || jobs=4
     prove_one "$1" "$jobs" "$niceness" </dev/null >"$room/$1.log" 2>&1 &
     running="$running $1:$!"
 }
@@ -274,7 +278,7 @@ stop_by() { # SIGNAL NUMBER
     exit $((128 + $2))
 }
 
-command -v rt >/dev/null || fail "$programs: not built, and there is no rt to build with"
+command -v rt >/dev/null || fail "the editor is not built, and there is no rt to build it with (an installed package needs none)"
 is_terminal=''
 [ ! -t 2 ] || is_terminal=1
 take_room

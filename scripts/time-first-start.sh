@@ -1,0 +1,93 @@
+#!/bin/sh
+# time-first-start.sh [--limit MINUTES] [COMMIT..]: how long it takes from nothing to the editor's first screen, for each of these
+# commits (HEAD unless named) in a clean clone, with nothing that the toolchain kept of other copies. It wants root, for a view of
+# the file system in which that is not there, and a machine with nothing beside. The status is 1 where there was no screen within
+# the limit, 180 minutes unless said otherwise, and 77 where a tool is missing.
+set -eu
+
+top=$(cd "$(dirname "$0")/.." && pwd)
+
+skip() { # CAUSE
+    echo "skipped: $1"
+    exit 77
+}
+
+# What checks leave for other copies lies beside the kit.
+kept_folder() {
+    rt=$(readlink -f "$(command -v rt)")
+    echo "${rt%/*/bin/rt}/rattle-kept"
+}
+
+# Runs this script once more where the kept folder is an empty one.
+hide_kept() { # WORD..
+    for tool in rt tmux git unshare; do
+        command -v "$tool" >/dev/null || skip "there is no $tool"
+    done
+    unshare -m true 2>/dev/null || skip 'only root can hide what other copies kept'
+    kept=$(kept_folder)
+    mkdir -p "$kept"
+    # shellcheck disable=SC2016
+    BIDI_EDIT_HIDDEN=1 exec unshare -m sh -c 'mount -t tmpfs none "$1" && shift && exec sh "$@"' sh "$kept" "$0" "$@"
+}
+
+in_terminal() { # WORD..
+    tmux -u -L "$socket" -f /dev/null "$@"
+}
+
+has_screen() {
+    [ "$(in_terminal display-message -p -t person '#{alternate_on}')" = 1 ]
+}
+
+show_last() {
+    in_terminal capture-pane -p -t person | grep . | tail -n 1
+}
+
+# Ctrl-C ends the building, which puts its work away first.
+stop() {
+    in_terminal send-keys -t person C-c
+    for _ in 1 2 3 4 5 6 7 8 9 10; do
+        sleep 1
+        [ -e "$clone/out/proving" ] || break
+    done
+    in_terminal kill-server
+}
+
+# Says the minutes from the start in a clone to the first screen.
+time_commit() { # COMMIT
+    clone=$folder/clone
+    rm -rf "$clone"
+    git clone -q "$top" "$clone"
+    git -C "$clone" checkout -q "$1"
+    begun=$(date +%s)
+    in_terminal new-session -d -s person -x 100 -y 24 "cd '$clone' && ./bidi-edit '$folder/note'; exec sleep 60000"
+    until has_screen; do
+        if [ $(($(date +%s) - begun)) -gt $((limit * 60)) ]; then
+            echo "$1: no screen within $limit minutes: $(show_last)"
+            stop
+            return 1
+        fi
+        sleep 1
+    done
+    seconds=$(($(date +%s) - begun))
+    echo "$1: $seconds seconds, $(awk -v s="$seconds" 'BEGIN { printf "%.1f", s / 60 }') minutes"
+    in_terminal send-keys -t person C-q
+    in_terminal kill-server
+}
+
+[ -n "${BIDI_EDIT_HIDDEN:-}" ] || hide_kept "$@"
+limit=180
+if [ "${1:-}" = --limit ]; then
+    limit=$2
+    shift 2
+fi
+[ $# -gt 0 ] || set -- HEAD
+socket="bf$$"
+folder=$(mktemp -d)
+trap 'in_terminal kill-server 2>/dev/null; rm -rf "$folder"' EXIT
+trap 'exit 1' HUP INT TERM
+echo 'some words' >"$folder/note"
+failed=0
+for commit; do
+    time_commit "$commit" || failed=1
+done
+exit "$failed"
