@@ -1,0 +1,106 @@
+//! A session alone, and the steps of a scene in it.
+
+use crate::answers::{Answers, add_bytes, add_flag, add_number, add_text, letter_of_refusal};
+use crate::scene::{Act, Look, Scene};
+use crate::stage::{SAVE, first_bytes};
+use bx_session::{Refused, Session, Status};
+use bx_store::{MemoryStore, Store};
+use bx_ucd::BidiData;
+use bx_world::Step;
+use std::alloc::{AllocError, Global};
+
+/// A session in which a scene is played.
+#[derive(Drop)]
+pub struct Alone<D: BidiData + Drop> {
+    pub alloc: Global,
+    pub session: Session<D>,
+    pub store: MemoryStore,
+    /// How many steps were taken.
+    pub taken: usize,
+    /// Whether a call of the store is to fail.
+    pub may_fail: bool,
+}
+
+/// The letter of a byte's answer.
+fn letter_of_byte(answer: Result<Status, Refused>, has_failed: bool) -> char {
+    match answer {
+        Ok(_) if has_failed => 'f',
+        Ok(Status::Running) => 'o',
+        Ok(Status::Ended) => 'e',
+        Err(refused) => letter_of_refusal(refused),
+    }
+}
+
+impl<D: BidiData + Drop> Alone<D> {
+    /// Takes the steps of a scene, and notes the answers to them, what is looked at, and what is left.
+    pub fn step_through(&mut self, scene: &Scene<'_>, answers: &mut Answers) -> Result<(), AllocError> {
+        for act in &scene.acts {
+            match act {
+                Act::Take(step) => self.take(*step, answers)?,
+                Act::Look(look) => self.look(look, &scene.file, &mut answers.looks)?,
+            }
+        }
+        answers.shown.push('-')?;
+        answers.note_ending(&self.session, &self.store, &scene.file)?;
+        answers.queued.extend_from_slice(self.session.pending())?;
+        if self.session.ended() {
+            return Ok(());
+        }
+        let mut store = MemoryStore::new(self.alloc, None);
+        // a painting that is refused is none of the scene's
+        let _ = self.session.feed(SAVE, &mut store);
+        answers.note_text(&store, &scene.file)
+    }
+
+    /// Takes a step, and notes its answer.
+    fn take(&mut self, step: Step, answers: &mut Answers) -> Result<(), AllocError> {
+        let letter = match step {
+            Step::Byte(byte) => self.type_byte(byte),
+            Step::Told(height, width) => match self.session.told(height, width) {
+                Ok(()) => 'o',
+                Err(refused) => letter_of_refusal(refused),
+            },
+            Step::Send(count) => self.send(count, &mut answers.queued)?,
+            Step::Window(_, _) | Step::Read(_) => '?',
+        };
+        answers.letters.push(letter)?;
+        if self.session.ended() && answers.before_end.is_none() {
+            answers.before_end = Some(self.taken);
+        }
+        self.taken = self.taken.saturating_add(1);
+        Ok(())
+    }
+
+    fn type_byte(&mut self, byte: u8) -> char {
+        let failures = self.store.failures();
+        let answer = self.session.feed(byte, &mut self.store);
+        letter_of_byte(answer, !self.may_fail && self.store.failures() > failures)
+    }
+
+    /// Takes bytes off the queue, and adds them to those that were sent.
+    fn send(&mut self, count: usize, queued: &mut Vec<u8>) -> Result<char, AllocError> {
+        let part = first_bytes(self.session.pending(), count);
+        queued.extend_from_slice(part)?;
+        let sent = part.len();
+        self.session.taken(sent);
+        Ok('o')
+    }
+
+    /// Notes what is looked at, behind a blank where something was before.
+    fn look(&self, look: &Look<'_>, file: &[u8], looks: &mut String) -> Result<(), AllocError> {
+        if !looks.is_empty() {
+            looks.push(' ')?;
+        }
+        match look {
+            Look::Place => add_number(looks, self.session.place()),
+            Look::Changed => add_flag(looks, self.session.changed()),
+            Look::Ended => add_flag(looks, self.session.ended()),
+            Look::Kept => add_text(looks, self.store.contents(), file),
+            Look::Pending => add_bytes(looks, self.session.pending()),
+            Look::Told | Look::Line | Look::Rows { .. } => {
+                looks.push('?')?;
+                Ok(())
+            }
+        }
+    }
+}

@@ -1,0 +1,68 @@
+//! Why the program stops.
+
+use crate::words::WordFault;
+use bx_ucd::{Cause, UcdError};
+use std::alloc::{AllocError, AllocFailed};
+use std::io::{self, ErrorKind};
+use thiserror::Error;
+
+/// A fault, whose text is the line that standard error is told.
+#[derive(Debug, Drop, Error)]
+pub enum Fault {
+    #[error("usage: play_scenes CLASSES BRACKETS MIRRORING < SCENES")]
+    Words,
+    /// The line of standard input with this number, from 1, is no scene.
+    #[error("line {0}: {1}")]
+    BadLine(usize, &'static str),
+    #[error("{0}")]
+    Tables(UcdError),
+    #[error("input or output failed")]
+    Stream,
+    #[error("out of memory")]
+    OutOfMemory,
+}
+
+impl Fault {
+    /// A line's fault.
+    pub fn of_line(number: usize, fault: WordFault) -> Fault {
+        match fault {
+            WordFault::Bad(why) => Fault::BadLine(number, why),
+            WordFault::OutOfMemory => Fault::OutOfMemory,
+        }
+    }
+
+    /// Whether what the program was given is at fault, and not what it runs on.
+    pub fn is_of_input(&self) -> bool {
+        matches!(self, Fault::Words | Fault::BadLine(_, _))
+    }
+}
+
+impl From<AllocError> for Fault {
+    fn from(_error: AllocError) -> Self {
+        Fault::OutOfMemory
+    }
+}
+
+impl<T: Drop> From<AllocFailed<T>> for Fault {
+    fn from(_error: AllocFailed<T>) -> Self {
+        Fault::OutOfMemory
+    }
+}
+
+impl From<io::Error> for Fault {
+    fn from(error: io::Error) -> Self {
+        match error.kind() {
+            ErrorKind::OutOfMemory => Fault::OutOfMemory,
+            _ => Fault::Stream,
+        }
+    }
+}
+
+impl From<UcdError> for Fault {
+    fn from(error: UcdError) -> Self {
+        match error.cause {
+            Cause::OutOfMemory => Fault::OutOfMemory,
+            _ => Fault::Tables(error),
+        }
+    }
+}

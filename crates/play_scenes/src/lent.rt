@@ -1,0 +1,31 @@
+//! Tables that many worlds take, one after another.
+
+use bx_ucd::{BidiData, Class, Side};
+
+/// Tables that are lent.
+#[derive(Drop)]
+pub struct Lent<'a, D: BidiData> {
+    pub tables: &'a D,
+}
+
+impl<D: BidiData> BidiData for Lent<'_, D> {
+    ghost class_of = { λ s c. D.class_of s.tables.now c };
+
+    ghost bracket_of = { λ s c. D.bracket_of s.tables.now c };
+
+    ghost mirror_of = { λ s c. D.mirror_of s.tables.now c };
+
+    ghost no_mirror_is_control = { λ s c. D.no_mirror_is_control s.tables.now c };
+
+    fn class(&self, c: char) -> Class {
+        self.tables.class(c)
+    }
+
+    fn bracket(&self, c: char) -> Option<(Side, char)> {
+        self.tables.bracket(c)
+    }
+
+    fn mirror(&self, c: char) -> Option<char> {
+        self.tables.mirror(c)
+    }
+}

@@ -1,0 +1,81 @@
+//! The picture of rows that a scene names.
+
+ghost use Rattle.std.specs.Prelude.{IsTrue};
+ghost use Rattle.bx_grid.specs.Picture.{IsWithin};
+
+use bx_grid::{Cell, Grid, GridError, Picture};
+use bx_terms::{is_glyph, run_width};
+use std::alloc::Global;
+
+/// Why rows make no picture.
+pub enum RowFault {
+    /// The window has no room for them.
+    NoPicture,
+    OutOfMemory,
+}
+
+impl From<GridError> for RowFault {
+    fn from(error: GridError) -> Self {
+        match error {
+            GridError::SizeOutOfRange => RowFault::NoPicture,
+            GridError::OutOfMemory => RowFault::OutOfMemory,
+        }
+    }
+}
+
+/// Whether a cell is in a grid.
+fn is_inside(grid: &Grid, cell: Cell) -> bool
+    ensures { IsTrue result → IsWithin grid.now.height grid.now.width cell.line cell.column }
+{
+    1 <= cell.line && cell.line <= grid.height() && 1 <= cell.column && cell.column <= grid.width()
+}
+
+/// Puts a glyph where the grid has room for it.
+fn put(grid: &mut Grid, cell: Cell, text: &str) -> Result<(), RowFault> {
+    if !is_glyph(text) || !is_inside(grid, cell) || !grid.has_room(cell, run_width(text)) {
+        return Err(RowFault::NoPicture);
+    }
+    grid.put(cell, text, false)?;
+    Ok(())
+}
+
+/// Puts the characters of a row; a `_` is a blank.
+fn put_row(grid: &mut Grid, line: u16, row: &str) -> Result<(), RowFault> {
+    let mut column: u16 = 1;
+    for c in row.chars() {
+        let mut buffer = [0; 4];
+        let text = c.encode_utf8(&mut buffer);
+        let columns = run_width(text).min(2) as u16;
+        if c != '_' {
+            put(grid, Cell { line, column }, text)?;
+        }
+        column = column.saturating_add(columns);
+    }
+    Ok(())
+}
+
+/// A grid of rows that have a bar between them.
+fn grid_of(alloc: Global, height: u16, width: u16, rows: &str) -> Result<Grid, RowFault> {
+    let mut grid = Grid::blank(alloc, height, width)?;
+    let mut line: u16 = 1;
+    for row in rows.split('|') {
+        put_row(&mut grid, line, row)?;
+        line = line.saturating_add(1);
+    }
+    Ok(grid)
+}
+
+/// The picture of rows that have a bar between them, with the cursor at a cell.
+pub fn picture_of(
+    alloc: Global,
+    height: u16,
+    width: u16,
+    rows: &str,
+    cursor: Cell,
+) -> Result<Picture, RowFault> {
+    let grid = grid_of(alloc, height, width, rows)?;
+    if !is_inside(&grid, cursor) {
+        return Err(RowFault::NoPicture);
+    }
+    Ok(Picture::new(grid, cursor))
+}

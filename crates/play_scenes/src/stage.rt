@@ -1,0 +1,166 @@
+//! A world with its store, and the steps of a scene in it.
+
+use crate::answers::{Answers, add_bytes, add_flag, add_number, add_text, letter_of};
+use crate::scene::{Act, Look, Scene};
+use crate::terminal::Terminal;
+use bx_grid::Cell;
+use bx_store::{MemoryStore, Store};
+use bx_ucd::BidiData;
+use bx_world::{Step, World};
+use std::alloc::{AllocError, Global};
+
+/// The byte of the key Save.
+pub const SAVE: u8 = 0x13;
+
+/// The first bytes, at most so many.
+pub fn first_bytes(bytes: &[u8], count: usize) -> &[u8] {
+    &bytes[..count.min(bytes.len())]
+}
+
+/// A world in which a scene is played.
+#[derive(Drop)]
+pub struct Stage<D: BidiData + Drop> {
+    pub alloc: Global,
+    pub world: World<D>,
+    pub store: MemoryStore,
+    /// Where rows are looked at.
+    pub terminal: Option<Terminal>,
+    /// How many steps were taken.
+    pub taken: usize,
+    /// Whether a call of the store is to fail.
+    pub may_fail: bool,
+}
+
+impl<D: BidiData + Drop> Stage<D> {
+    /// Takes the steps of a scene one after another, notes the answers to them and what is looked at, and what is left.
+    pub fn step_through(&mut self, scene: &Scene<'_>, answers: &mut Answers) -> Result<(), AllocError> {
+        for act in &scene.acts {
+            match act {
+                Act::Take(step) => self.take(*step, answers)?,
+                Act::Look(look) => self.look(look, &scene.file, &mut answers.looks)?,
+            }
+        }
+        self.note_end(&scene.file, answers)
+    }
+
+    /// Takes all steps by one call, and notes the answers, and what is left.
+    pub fn play_through(
+        &mut self,
+        steps: &[Step],
+        file: &[u8],
+        answers: &mut Answers,
+    ) -> Result<(), AllocError> {
+        match self.world.play(steps, &mut self.store) {
+            Ok(found) => {
+                for answer in &found {
+                    answers.plain.push(letter_of(answer))?;
+                }
+            }
+            Err(_) => answers.plain.push('N')?,
+        }
+        add_flag(&mut answers.shown, self.world.shows())?;
+        answers.queued.extend_from_slice(self.world.line())?;
+        self.note_end(file, answers)
+    }
+
+    /// Takes a step, and notes its answer, and whether the terminal shows the picture behind it.
+    fn take(&mut self, step: Step, answers: &mut Answers) -> Result<(), AllocError> {
+        if let Some(terminal) = &mut self.terminal {
+            terminal.follow(step, self.world.line())?;
+        }
+        let queued = answers.queued.len();
+        if let Step::Send(count) = step {
+            let part = first_bytes(self.world.session().pending(), count);
+            answers.queued.extend_from_slice(part)?;
+        }
+        let failures = self.store.failures();
+        let answer = self.world.step(step, &mut self.store);
+        let letter = letter_of(&answer);
+        if letter == 'L' {
+            answers.queued.truncate(queued);
+        }
+        answers.plain.push(letter)?;
+        let has_failed = !self.may_fail && self.store.failures() > failures;
+        answers.letters.push(self.letter(step, letter, has_failed))?;
+        add_flag(&mut answers.shown, self.world.shows())?;
+        if self.world.session().ended() && answers.before_end.is_none() {
+            answers.before_end = Some(self.taken);
+        }
+        self.taken = self.taken.saturating_add(1);
+        Ok(())
+    }
+
+    /// The letter of a step: of a byte also whether the session has ended, and whether a Save had no memory.
+    fn letter(&self, step: Step, letter: char, has_failed: bool) -> char {
+        if letter != 'o' || !matches!(step, Step::Byte(_)) {
+            letter
+        } else if has_failed {
+            'f'
+        } else if self.world.session().ended() {
+            'e'
+        } else {
+            'o'
+        }
+    }
+
+    /// Notes what is looked at, behind a blank where something was before.
+    fn look(&self, look: &Look<'_>, file: &[u8], looks: &mut String) -> Result<(), AllocError> {
+        if !looks.is_empty() {
+            looks.push(' ')?;
+        }
+        let session = self.world.session();
+        match look {
+            Look::Place => add_number(looks, session.place()),
+            Look::Changed => add_flag(looks, session.changed()),
+            Look::Ended => add_flag(looks, session.ended()),
+            Look::Told => add_flag(looks, self.world.is_told()),
+            Look::Kept => add_text(looks, self.store.contents(), file),
+            Look::Pending => add_bytes(looks, session.pending()),
+            Look::Line => add_bytes(looks, self.world.line()),
+            Look::Rows { line, column, rows } => {
+                let (line, column) = (*line, *column);
+                match &self.terminal {
+                    Some(terminal) => terminal.add_shown(looks, rows, Cell { line, column }),
+                    None => Ok(()),
+                }
+            }
+        }
+    }
+
+    /// Notes what is left, and the text by a Save to a store of its own, which ends the stage.
+    fn note_end(&mut self, file: &[u8], answers: &mut Answers) -> Result<(), AllocError> {
+        answers.note_ending(self.world.session(), &self.store, file)?;
+        add_flag(&mut answers.on_way, self.world.is_told())?;
+        add_flag(&mut answers.on_way, self.world.shows())?;
+        add_bytes(&mut answers.on_way, self.world.line())?;
+        answers.on_way.push(' ')?;
+        add_bytes(&mut answers.on_way, self.world.session().pending())?;
+        answers.queued.extend_from_slice(self.world.session().pending())?;
+        if self.world.session().ended() {
+            return Ok(());
+        }
+        self.save_text(file, answers)
+    }
+
+    /// Notes the text, by a Save to a store of its own. A Save that comes where a sequence or a character is half read ends that.
+    fn save_text(&mut self, file: &[u8], answers: &mut Answers) -> Result<(), AllocError> {
+        let mut store = MemoryStore::new(self.alloc, None);
+        // a painting that is refused is none of the scene's
+        let _ = self.world.step(Step::Byte(SAVE), &mut store);
+        answers.note_text(&store, file)
+    }
+
+    /// Takes steps of which nothing is noted, and notes the text behind them.
+    pub fn text_behind(
+        &mut self,
+        steps: &[Step],
+        file: &[u8],
+        answers: &mut Answers,
+    ) -> Result<(), AllocError> {
+        for step in steps {
+            // the answer is noted already
+            let _ = self.world.step(*step, &mut self.store);
+        }
+        self.save_text(file, answers)
+    }
+}
