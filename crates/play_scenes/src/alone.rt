@@ -33,7 +33,11 @@ fn letter_of_byte(answer: Result<Status, Refused>, has_failed: bool) -> char {
 
 impl<D: BidiData + Drop> Alone<D> {
     /// Takes the steps of a scene, and notes the answers to them, what is looked at, and what is left.
-    pub fn step_through(&mut self, scene: &Scene<'_>, answers: &mut Answers) -> Result<(), AllocError> {
+    pub fn step_through(
+        &mut self,
+        scene: &Scene<'_>,
+        answers: &mut Answers,
+    ) -> Result<(), AllocError> {
         for act in &scene.acts {
             match act {
                 Act::Take(step) => self.take(*step, answers)?,
@@ -97,10 +101,8 @@ impl<D: BidiData + Drop> Alone<D> {
             Look::Ended => add_flag(looks, self.session.ended()),
             Look::Kept => add_text(looks, self.store.contents(), file),
             Look::Pending => add_bytes(looks, self.session.pending()),
-            Look::Told | Look::Line | Look::Rows { .. } => {
-                looks.push('?')?;
-                Ok(())
-            }
+            // the text is noted at the end, and a session alone has none of the others
+            Look::Text | Look::Told | Look::Line | Look::Shown | Look::Rows { .. } => Ok(()),
         }
     }
 }

@@ -12,6 +12,7 @@ const LONG: usize = 4096;
 
 /// The room for each kind of answer, and for all that is queued.
 const ROOM: usize = 65_536;
+
 const ROOM_FOR_QUEUE: usize = 1_048_576;
 
 /// What is noted while a scene is played in one way.

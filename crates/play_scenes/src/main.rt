@@ -18,17 +18,16 @@
 //!     R11           the terminal reads at most 11 bytes of the line
 //!
 //! and words that are no steps and look at what is there: `place`, `changed`, `ended`, `told` (whether the window's last size was
-//! told since), `kept` (what the store keeps), `pending` and `line` (the bytes that are not yet sent, and not yet read), and
-//! `rows=1;3:ab|cd`, whether the terminal shows these rows, `_` being a blank, with the cursor in line 1 and column 3.
+//! told since), `shown` (whether the terminal shows the picture last painted), `kept` (what the store keeps), `pending` and `line`
+//! (the bytes that are not yet sent, and not yet read), `rows=1;3:ab|cd` (whether the terminal shows these rows, with the cursor
+//! in line 1 and column 3; `_` is a blank, and a character behind a backquote is negative), and, as the last word alone, `text`.
 //!
 //! WAY is `both` where it is left out: a world takes the steps one by one and another all by `play`, and where they do not
-//! answer and leave the same the line says so. `step` and `play` are one of these alone; a play looks at nothing. `alone` takes
-//! the steps by the calls of a session without a world, has no `W` and `R`, and does not look at `told`, `line` and rows.
+//! answer and leave the same the line says so. `step` and `play` are one of these alone; a play looks at the text at most. `alone`
+//! takes the steps by the calls of a session without a world: it has no `W` and `R`, and looks at nothing that a session does not
+//! tell.
 //!
-//! The line of answers has, with tabs between them: a letter for each step; for each step 1 where the terminal shows the picture
-//! last painted, else 0 (of `play` the last alone, of `alone` a hyphen); the text; the bytes that the store keeps; the cursor's
-//! place; 1 where the text has changed, else 0; all bytes that were ever queued for the terminal (of `play` those that were not
-//! yet read); and, where something is looked at, what was found, with a blank between two. The letters:
+//! The line of answers begins with a letter for each step:
 //!
 //!     o    Ok
 //!     e    Ok, of a byte once the session has ended
@@ -41,10 +40,15 @@
 //!     M    no memory in the terminal, now or before
 //!     N    no memory for the answers of `play`: no step was taken
 //!
-//! `play` does not tell `e` and `f` from `o`. Bytes are written as in FILE. A text of more than 4096 bytes that is the file's is `=`.
-//! The text is what a Save at the end gives to a store of its own; of a session that has ended it is that of another world behind
-//! the steps before the end, and `?` where that store had no memory, or `play` alone has ended the session. A file that is not
-//! opened has `refused: ` and the cause as its whole line.
+//! of which `play` does not tell `e` and `f` from `o`. Where the scene looks at something, a tab follows, and what was found, with a
+//! blank between two. Else there follow, with a tab before each: for each step 1 where the terminal shows the picture last painted
+//! behind it, else 0 (of `play` for the last step alone, of `alone` a hyphen); the text; the bytes that the store keeps; the
+//! cursor's place; 1 where the text has changed, else 0; and all bytes that were ever queued for the terminal (of `play` those
+//! that were not yet read). A file that is not opened has `refused: ` and the cause as its whole line.
+//!
+//! Bytes are written as pairs of digits, `-` for none; a text of more than 4096 bytes that is the file's is `=`. The text is what a
+//! Save at the end gives to a store of its own. Of a session that has ended it is that of another world behind the steps before
+//! the end. It is `?` where that store had no memory, and where `play` alone has ended the session.
 //!
 //! The buffers for answers are made before the first world is opened, so that want of memory falls on the world. Where the program
 //! itself has none, it says `out of memory` on standard error and ends with status 1. It ends with status 1 too where files or

@@ -31,24 +31,30 @@ fn is_inside(grid: &Grid, cell: Cell) -> bool
 }
 
 /// Puts a glyph where the grid has room for it.
-fn put(grid: &mut Grid, cell: Cell, text: &str) -> Result<(), RowFault> {
+fn put(grid: &mut Grid, cell: Cell, text: &str, negative: bool) -> Result<(), RowFault> {
     if !is_glyph(text) || !is_inside(grid, cell) || !grid.has_room(cell, run_width(text)) {
         return Err(RowFault::NoPicture);
     }
-    grid.put(cell, text, false)?;
+    grid.put(cell, text, negative)?;
     Ok(())
 }
 
-/// Puts the characters of a row; a `_` is a blank.
+/// Puts the characters of a row; a `_` is a blank, and behind a backquote a character is negative.
 fn put_row(grid: &mut Grid, line: u16, row: &str) -> Result<(), RowFault> {
     let mut column: u16 = 1;
+    let mut negative = false;
     for c in row.chars() {
+        if c == '`' {
+            negative = true;
+            continue;
+        }
         let mut buffer = [0; 4];
         let text = c.encode_utf8(&mut buffer);
         let columns = run_width(text).min(2) as u16;
         if c != '_' {
-            put(grid, Cell { line, column }, text)?;
+            put(grid, Cell { line, column }, text, negative)?;
         }
+        negative = false;
         column = column.saturating_add(columns);
     }
     Ok(())

@@ -33,6 +33,10 @@ pub enum Look<'a> {
     Pending,
     /// The bytes that are sent, and not yet read.
     Line,
+    /// Whether the terminal shows the picture last painted.
+    Shown,
+    /// The text at the end.
+    Text,
     /// Whether the terminal shows these rows, with the cursor at this cell.
     Rows {
         line: u16,
@@ -79,6 +83,8 @@ fn look_of(word: &str) -> Result<Look<'_>, WordFault> {
         "kept" => Ok(Look::Kept),
         "pending" => Ok(Look::Pending),
         "line" => Ok(Look::Line),
+        "shown" => Ok(Look::Shown),
+        "text" => Ok(Look::Text),
         _ => match word.strip_prefix("rows=") {
             Some(rows) => rows_of(rows),
             None => Err(WordFault::Bad("no step and nothing to look at")),
@@ -128,6 +134,15 @@ fn acts_of(alloc: Global, field: &str) -> Result<Vec<Act<'_>>, WordFault> {
     Ok(acts)
 }
 
+/// Whether the text is looked at nowhere but at the end.
+fn is_text_last(acts: &[Act<'_>]) -> bool {
+    let count = acts.len();
+    let before = &acts[..count.saturating_sub(1)];
+    !before
+        .iter()
+        .any(|act| matches!(act, Act::Look(Look::Text)))
+}
+
 /// The way that a word names.
 fn way_of(word: &str) -> Result<Way, WordFault> {
     match word {
@@ -144,11 +159,11 @@ impl Act<'_> {
     fn is_of(&self, way: Way) -> bool {
         match way {
             Way::Both | Way::Step => true,
-            Way::Play => matches!(self, Act::Take(_)),
+            Way::Play => matches!(self, Act::Take(_) | Act::Look(Look::Text)),
             Way::Alone => !matches!(
                 self,
                 Act::Take(Step::Window(_, _) | Step::Read(_))
-                    | Act::Look(Look::Told | Look::Line | Look::Rows { .. })
+                    | Act::Look(Look::Told | Look::Line | Look::Shown | Look::Rows { .. })
             ),
         }
     }
@@ -168,7 +183,10 @@ impl<'a> Scene<'a> {
         let acts = acts_of(alloc, fields.next().ok_or(missing)?)?;
         let way = way_of(fields.next().unwrap_or("both"))?;
         if !acts.iter().all(|act| act.is_of(way)) {
-            return Err(WordFault::Bad("what cannot be done in this way"));
+            return Err(WordFault::Bad("a word is none of this way"));
+        }
+        if !is_text_last(&acts) {
+            return Err(WordFault::Bad("the text is looked at before the end"));
         }
         Ok(Scene {
             base,
@@ -194,6 +212,13 @@ impl<'a> Scene<'a> {
     /// Whether something is looked at.
     pub fn looks(&self) -> bool {
         self.acts.iter().any(|act| matches!(act, Act::Look(_)))
+    }
+
+    /// Whether the text is looked at.
+    pub fn looks_at_text(&self) -> bool {
+        self.acts
+            .iter()
+            .any(|act| matches!(act, Act::Look(Look::Text)))
     }
 
     /// Whether the terminal's rows are looked at.

@@ -33,7 +33,11 @@ pub struct Stage<D: BidiData + Drop> {
 
 impl<D: BidiData + Drop> Stage<D> {
     /// Takes the steps of a scene one after another, notes the answers to them and what is looked at, and what is left.
-    pub fn step_through(&mut self, scene: &Scene<'_>, answers: &mut Answers) -> Result<(), AllocError> {
+    pub fn step_through(
+        &mut self,
+        scene: &Scene<'_>,
+        answers: &mut Answers,
+    ) -> Result<(), AllocError> {
         for act in &scene.acts {
             match act {
                 Act::Take(step) => self.take(*step, answers)?,
@@ -60,6 +64,9 @@ impl<D: BidiData + Drop> Stage<D> {
         }
         add_flag(&mut answers.shown, self.world.shows())?;
         answers.queued.extend_from_slice(self.world.line())?;
+        if self.world.session().ended() {
+            answers.text.push('?')?;
+        }
         self.note_end(file, answers)
     }
 
@@ -117,6 +124,8 @@ impl<D: BidiData + Drop> Stage<D> {
             Look::Kept => add_text(looks, self.store.contents(), file),
             Look::Pending => add_bytes(looks, session.pending()),
             Look::Line => add_bytes(looks, self.world.line()),
+            Look::Shown => add_flag(looks, self.world.shows()),
+            Look::Text => Ok(()),
             Look::Rows { line, column, rows } => {
                 let (line, column) = (*line, *column);
                 match &self.terminal {
@@ -135,7 +144,9 @@ impl<D: BidiData + Drop> Stage<D> {
         add_bytes(&mut answers.on_way, self.world.line())?;
         answers.on_way.push(' ')?;
         add_bytes(&mut answers.on_way, self.world.session().pending())?;
-        answers.queued.extend_from_slice(self.world.session().pending())?;
+        answers
+            .queued
+            .extend_from_slice(self.world.session().pending())?;
         if self.world.session().ended() {
             return Ok(());
         }

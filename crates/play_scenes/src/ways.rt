@@ -210,20 +210,34 @@ impl Room {
 
     /// Writes the fields of the answers.
     fn write_answers(&mut self, scene: &Scene<'_>) -> Result<(), AllocError> {
-        let answers = &self.answers;
-        let letters = match scene.way {
-            Way::Play => &answers.plain,
-            Way::Both | Way::Step | Way::Alone => &answers.letters,
-        };
-        for field in [letters, &answers.shown, &answers.text, &answers.ending] {
-            self.line.push_str(field.as_str())?;
-            self.line.push('\t')?;
-        }
-        add_bytes(&mut self.line, &answers.queued)?;
+        let (line, answers) = (&mut self.line, &self.answers);
+        line.push_str(match scene.way {
+            Way::Play => answers.plain.as_str(),
+            Way::Both | Way::Step | Way::Alone => answers.letters.as_str(),
+        })?;
+        line.push('\t')?;
         if scene.looks() {
-            self.line.push('\t')?;
-            self.line.push_str(answers.looks.as_str())?;
+            write_looks(line, scene, answers)
+        } else {
+            write_ending(line, answers)
         }
-        Ok(())
     }
+}
+
+/// Writes what was looked at, of which the text is the last.
+fn write_looks(line: &mut String, scene: &Scene<'_>, answers: &Answers) -> Result<(), AllocError> {
+    line.push_str(answers.looks.as_str())?;
+    if scene.looks_at_text() {
+        line.push_str(answers.text.as_str())?;
+    }
+    Ok(())
+}
+
+/// Writes what is answered where nothing is looked at.
+fn write_ending(line: &mut String, answers: &Answers) -> Result<(), AllocError> {
+    for field in [&answers.shown, &answers.text, &answers.ending] {
+        line.push_str(field.as_str())?;
+        line.push('\t')?;
+    }
+    add_bytes(line, &answers.queued)
 }

@@ -80,8 +80,7 @@ pub fn count_of(word: &str) -> Result<usize, WordFault> {
 
 /// A side of a window, also one that no window has.
 pub fn side_of(word: &str) -> Result<u16, WordFault> {
-    word.parse::<u16>()
-        .map_err(|_| WordFault::Bad("a number of rows or columns is wanted"))
+    word.parse::<u16>().map_err(|_| WordFault::Bad("a number of rows or columns is wanted"))
 }
 
 /// Two numbers with this character between them.

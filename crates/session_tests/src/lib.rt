@@ -1,21 +1,8 @@
-//! Tests of the session: scenes of files, keys and sizes with what they send, show and store, runs over readers and writers that
-//! may fail, and schedules of a world's steps. They stand in a crate of their own since the tests of a crate prove all of it once
-//! more.
+//! Tests of runs of a session over readers, writers and stores that may fail. Scenes of a session and of a world are played by
+//! `play_scenes`. They stand in a crate of their own since the tests of a crate prove all of it once more.
 #![tactic(auto)]
 
 #[cfg(test)]
-mod opening;
-#[cfg(test)]
-mod pictures;
+mod faulty;
 #[cfg(test)]
 mod running;
-#[cfg(test)]
-mod scene;
-#[cfg(test)]
-mod scenes;
-#[cfg(test)]
-mod schedules;
-#[cfg(test)]
-mod steps;
-#[cfg(test)]
-mod words;

@@ -1,186 +1,241 @@
-//! Runs over readers and writers, of which some fail.
+//! Runs over readers, writers and stores, of which some fail.
 
-use crate::words::bytes_of;
+use crate::faulty::{Letters, Narrow, Refusal};
 use bx_explicit::Base;
 use bx_session::{End, RunFault, Session, run, run_within};
-use bx_store::MemoryStore;
+use bx_store::{MemoryStore, Store};
 use bx_ucd::{Tables, sample_tables};
 use std::alloc::Global;
-use std::io::{self, ErrorKind, Read, Write};
 use std::test::Fail;
 
-/// Gives a byte `x` at each read, so many times, and then fails.
-#[derive(Drop)]
-struct Letters {
-    left: usize,
-}
+/// What is written of `ab` in a row of five columns when it is opened, and then when it is ended.
+const OPENED_AND_ENDED: &[u8] = b"\x1b[0m\x1b[2J\x1b[1;1Hab\x1b[1;1H\x1b[0m\x1b[2J\x1b[1;1H";
 
-impl Read for Letters {
-    fn read(&mut self, buf: &mut [u8]) -> io::Result<usize> {
-        if self.left == 0 || buf.is_empty() {
-            return Err(ErrorKind::Other.into());
-        }
-        self.left -= 1;
-        buf[0] = b'x';
-        Ok(1)
-    }
-}
+/// How many bytes of it come before the first read.
+const OPENED: usize = 22;
 
-/// Takes one byte a call, and none once its room is full.
-#[derive(Drop)]
-struct Narrow {
-    room: usize,
-}
+/// The key Save.
+const SAVE: u8 = 0x13;
 
-impl Write for Narrow {
-    fn write(&mut self, buf: &[u8]) -> io::Result<usize> {
-        if self.room == 0 || buf.is_empty() {
-            return Ok(0);
-        }
-        self.room -= 1;
-        Ok(1)
-    }
-
-    fn flush(&mut self) -> io::Result<()> {
-        Ok(())
-    }
-}
-
-/// Takes all, and cannot flush.
-#[derive(Drop)]
-struct Clogged;
-
-impl Write for Clogged {
-    fn write(&mut self, buf: &[u8]) -> io::Result<usize> {
-        Ok(buf.len())
-    }
-
-    fn flush(&mut self) -> io::Result<()> {
-        Err(ErrorKind::Other.into())
-    }
-}
-
-/// A text in a window of one row.
-fn opened(alloc: Global, text: &str, width: u16) -> Result<Session<Tables>, Fail> {
-    let bytes = bytes_of(alloc, text)?;
+/// A text in a window.
+fn opened(alloc: Global, text: &str, height: u16, width: u16) -> Result<Session<Tables>, Fail> {
+    let bytes = Vec::from_slice(alloc, text.as_bytes())?;
     let tables = sample_tables(alloc)?;
-    Ok(Session::open(alloc, bytes, tables, 1, width, Base::Auto)?)
-}
-
-/// Whether a run ended so.
-fn is_end(alloc: Global, found: Result<End, RunFault>, end: &str) -> bool {
-    match format!(in alloc; "{found:?}") {
-        Ok(found) => found.as_str() == end,
-        Err(_) => false,
-    }
+    Ok(Session::open(alloc, bytes, tables, height, width, Base::Auto)?)
 }
 
 /// How a run over keys ends, and whether exactly these bytes were written.
-fn ends(
-    alloc: Global,
-    text: &str,
-    mut keys: &[u8],
-    end: &str,
-    output: &[u8],
-) -> Result<bool, Fail> {
-    let mut session = opened(alloc, text, 5)?;
+fn ends(alloc: Global, text: &str, mut keys: &[u8], end: End, output: &[u8]) -> Result<bool, Fail> {
+    let mut session = opened(alloc, text, 1, 5)?;
     let mut written = Vec::new(alloc);
     let mut store = MemoryStore::new(alloc, None);
     let found = run(&mut keys, &mut written, &mut store, &mut session);
-    let is_end = is_end(alloc, found, end);
-    Ok(written.as_slice() == output && is_end)
+    Ok(found == Ok(end) && written.as_slice() == output)
 }
 
-/// How a run over a writer ends, and whether exactly these bytes are left.
-fn leaves<W: Write>(
-    alloc: Global,
-    mut keys: &[u8],
-    writer: &mut W,
-    output: &[u8],
-) -> Result<bool, Fail> {
-    let mut session = opened(alloc, "ab", 5)?;
-    let mut store = MemoryStore::new(alloc, None);
-    let found = run(&mut keys, writer, &mut store, &mut session);
-    Ok(found == Err(RunFault::WriteFault) && !session.changed() && session.pending() == output)
+#[test]
+fn a_run_writes_all_and_tells_its_end(rt: HostRuntime) -> Result<(), Fail> {
+    let alloc = rt.alloc();
+    let (none, some) = (
+        End::InputEnded { changed: false },
+        End::InputEnded { changed: true },
+    );
+    let edited = b"\x1b[0m\x1b[2J\x1b[1;1Hab\x1b[1;1H\x1b[1;1Hxab\x1b[1;2H";
+    let dropped = b"\x1b[0m\x1b[2J\x1b[1;1H\x1b[1;1Hx\x1b[1;2H\x1b[0m\x1b[2J\x1b[1;1H";
+    assert!(rt; ends(alloc, "ab", b"\x11", End::Quit, OPENED_AND_ENDED)?);
+    assert!(rt; ends(alloc, "ab", b"", none, &OPENED_AND_ENDED[..OPENED])?);
+    assert!(rt; ends(alloc, "ab", b"x", some, edited)?);
+    assert!(rt;
+        ends(alloc, "", b"x\x11\x11yy", End::Quit, dropped)?,
+        "bytes after the end"
+    );
+    Ok(())
 }
 
-/// Whether a run over so many letters, with so many reads, ends with a fault, has put in as many of them before the text as
-/// `place` says, and has written all.
-fn breaks(
-    alloc: Global,
-    letters: usize,
-    limit: u64,
-    fault: RunFault,
-    place: usize,
-) -> Result<bool, Fail> {
-    let mut session = opened(alloc, "ab", 8)?;
-    let mut written = Vec::new(alloc);
+/// Whether a run over a writer ends with its fault, exactly so many bytes went out, and the rest of what was queued is pending.
+fn breaks_at_write(alloc: Global, writer: &mut Narrow, count: usize) -> Result<bool, Fail> {
+    let mut session = opened(alloc, "ab", 1, 5)?;
     let mut store = MemoryStore::new(alloc, None);
-    let reader = &mut Letters { left: letters };
-    let found = run_within(limit, reader, &mut written, &mut store, &mut session);
-    let start = b"\x1b[0m\x1b[2J\x1b[1;1Hab\x1b[1;1H";
+    let found = run(&mut b"\x11".as_slice(), writer, &mut store, &mut session);
+    let queued = if session.ended() {
+        OPENED_AND_ENDED.len()
+    } else {
+        OPENED
+    };
     Ok(
-        found == Err(fault)
-            && session.place() == place
-            && session.pending().is_empty()
-            && written.as_slice().starts_with(start)
-            && written.len() >= start.len().saturating_add(place),
+        found == Err(RunFault::WriteFault)
+            && OPENED_AND_ENDED.get(..count) == Some(writer.written.as_slice())
+            && OPENED_AND_ENDED.get(count..queued) == Some(session.pending()),
     )
 }
 
 #[test]
-fn quit_ends_a_run(rt: HostRuntime) -> Result<(), Fail> {
-    let output = b"\x1b[0m\x1b[2J\x1b[1;1Hab\x1b[1;1H\x1b[0m\x1b[2J\x1b[1;1H";
-    assert!(rt; ends(rt.alloc(), "ab", b"\x11", "Ok(Quit)", output)?);
+fn a_write_that_fails_is_a_fault(rt: HostRuntime) -> Result<(), Fail> {
+    for refusal in [Refusal::Error, Refusal::Nothing] {
+        for room in 0..OPENED_AND_ENDED.len() {
+            let mut writer = Narrow {
+                written: Vec::new(rt.alloc()),
+                room,
+                flushes: 9,
+                refusal,
+            };
+            assert!(rt;
+                breaks_at_write(rt.alloc(), &mut writer, room)?,
+                "{refusal:?} after {room}"
+            );
+        }
+    }
     Ok(())
 }
 
 #[test]
-fn bytes_after_quit_are_dropped(rt: HostRuntime) -> Result<(), Fail> {
-    let output = b"\x1b[0m\x1b[2J\x1b[1;1H\x1b[1;1Hx\x1b[1;2H\x1b[0m\x1b[2J\x1b[1;1H";
-    assert!(rt; ends(rt.alloc(), "", b"x\x11\x11yy", "Ok(Quit)", output)?);
-    Ok(())
-}
-
-#[test]
-fn an_end_of_input_tells_of_changes(rt: HostRuntime) -> Result<(), Fail> {
-    let (none, some) = (
-        "Ok(InputEnded { changed: false })",
-        "Ok(InputEnded { changed: true })",
-    );
-    let start = b"\x1b[0m\x1b[2J\x1b[1;1Hab\x1b[1;1H";
-    let edited = b"\x1b[0m\x1b[2J\x1b[1;1Hab\x1b[1;1H\x1b[1;1Hxab\x1b[1;2H";
-    assert!(rt; ends(rt.alloc(), "ab", b"", none, start)?);
-    assert!(rt; ends(rt.alloc(), "ab", b"x", some, edited)?);
-    Ok(())
-}
-
-#[test]
-fn a_write_of_no_byte_is_a_fault(rt: HostRuntime) -> Result<(), Fail> {
-    assert!(rt; leaves(rt.alloc(), b"", &mut Narrow { room: 20 }, b"1H")?);
-    Ok(())
-}
-
-#[test]
-fn a_failed_flush_is_a_fault(rt: HostRuntime) -> Result<(), Fail> {
-    assert!(rt; leaves(rt.alloc(), b"x", &mut Clogged, b"")?);
-    Ok(())
-}
-
-#[test]
-fn a_failed_read_is_a_fault(rt: HostRuntime) -> Result<(), Fail> {
-    for left in [0, 1, 5] {
+fn a_flush_that_fails_is_a_fault(rt: HostRuntime) -> Result<(), Fail> {
+    for (flushes, count) in [(0, OPENED), (1, OPENED_AND_ENDED.len())] {
+        let mut writer = Narrow {
+            written: Vec::new(rt.alloc()),
+            room: 99,
+            flushes,
+            refusal: Refusal::Error,
+        };
         assert!(rt;
-            breaks(rt.alloc(), left, 99, RunFault::ReadFault, left)?,
+            breaks_at_write(rt.alloc(), &mut writer, count)?,
+            "after {flushes} flushes"
+        );
+    }
+    Ok(())
+}
+
+/// Whether a Save gives a store this text.
+fn saves(alloc: Global, session: &mut Session<Tables>, text: &[u8]) -> bool {
+    let mut store = MemoryStore::new(alloc, None);
+    session.feed(SAVE, &mut store).is_ok() && store.contents() == text
+}
+
+/// Whether a run over so many letters, with so many reads, ends with a fault, has written all, which is as many bytes, and has
+/// put the letters in before the text.
+fn breaks_at_read(
+    alloc: Global,
+    letters: usize,
+    limit: u64,
+    fault: RunFault,
+    written: usize,
+    text: &[u8],
+) -> Result<bool, Fail> {
+    let mut session = opened(alloc, "ab", 1, 5)?;
+    let mut output = Vec::new(alloc);
+    let mut store = MemoryStore::new(alloc, None);
+    let reader = &mut Letters { left: letters };
+    let found = run_within(limit, reader, &mut output, &mut store, &mut session);
+    Ok(
+        found == Err(fault)
+            && output.len() == written
+            && output.starts_with(&OPENED_AND_ENDED[..OPENED])
+            && session.pending().is_empty()
+            && saves(alloc, &mut session, text),
+    )
+}
+
+#[test]
+fn a_read_that_fails_is_a_fault(rt: HostRuntime) -> Result<(), Fail> {
+    // each letter is sent with the two behind it, between two moves: 15 bytes
+    for (left, written, text) in [(0, 22, "ab"), (1, 37, "xab"), (2, 52, "xxab")] {
+        assert!(rt;
+            breaks_at_read(
+                rt.alloc(),
+                left,
+                99,
+                RunFault::ReadFault,
+                written,
+                text.as_bytes()
+            )?,
             "{left} letters"
         );
     }
     Ok(())
 }
 
+/// Whether a run with one read ends by Quit where that read gives it.
+fn ends_within_one_read(alloc: Global) -> Result<bool, Fail> {
+    let mut session = opened(alloc, "ab", 1, 5)?;
+    let mut output = Vec::new(alloc);
+    let mut store = MemoryStore::new(alloc, None);
+    let found = run_within(
+        1,
+        &mut b"\x11".as_slice(),
+        &mut output,
+        &mut store,
+        &mut session,
+    );
+    Ok(found == Ok(End::Quit) && output.as_slice() == OPENED_AND_ENDED)
+}
+
 #[test]
 fn a_run_makes_as_many_reads_as_it_may(rt: HostRuntime) -> Result<(), Fail> {
-    assert!(rt; breaks(rt.alloc(), 9, 0, RunFault::ReadLimit, 0)?);
-    assert!(rt; breaks(rt.alloc(), 9, 3, RunFault::ReadLimit, 3)?);
+    let fault = RunFault::ReadLimit;
+    assert!(rt; ends_within_one_read(rt.alloc())?);
+    assert!(rt; breaks_at_read(rt.alloc(), 9, 0, fault, 22, b"ab")?);
+    assert!(rt; breaks_at_read(rt.alloc(), 9, 3, fault, 67, b"xxxab")?);
+    Ok(())
+}
+
+/// What is written of `ab` in two rows of twenty columns, and of an `x` and a Save that fails.
+const NOT_SAVED: &[u8] = b"\x1b[0m\x1b[2J\x1b[1;1Hab\x1b[2;1H-\x1b[2;3H1:1\x1b[1;1H\
+\x1b[1;1Hxab\x1b[2;1H*\x1b[2;5H2\x1b[1;2H\x1b[2;7Hsave\x1b[2;12Hfailed\x1b[1;2H";
+
+/// What is written of a Save behind that which does not fail.
+const SAVED: &[u8] = b"\x1b[2;1H-\x1b[2;11Hd\x1b[2;12H\x1b[0K\x1b[1;2H";
+
+/// What a run over keys writes.
+fn output_of(
+    alloc: Global,
+    session: &mut Session<Tables>,
+    store: &mut MemoryStore,
+    mut keys: &[u8],
+) -> Result<Vec<u8>, Fail> {
+    let mut output = Vec::new(alloc);
+    run(&mut keys, &mut output, store, session)?;
+    Ok(output)
+}
+
+/// Whether a first Save fails and keeps nothing, and the next one keeps the text, each with its message; nothing where the
+/// first one does not fail.
+fn fails_and_then_saves(
+    alloc: Global,
+    session: &mut Session<Tables>,
+    store: &mut MemoryStore,
+) -> Result<Option<bool>, Fail> {
+    let first = output_of(alloc, session, store, b"x\x13")?;
+    if store.failures() == 0 {
+        return Ok(None);
+    }
+    let kept_nothing = session.changed() && store.contents().is_empty();
+    let second = output_of(alloc, session, store, b"\x13")?;
+    Ok(Some(
+        first.as_slice() == NOT_SAVED
+            && kept_nothing
+            && second.as_slice() == SAVED
+            && !session.changed()
+            && store.contents() == b"xab".as_slice(),
+    ))
+}
+
+/// The same of a store whose call of this number fails.
+fn fails_at_call(alloc: Global, call: u64) -> Result<Option<bool>, Fail> {
+    let mut session = opened(alloc, "ab", 2, 20)?;
+    let mut store = MemoryStore::new(alloc, Some(call));
+    fails_and_then_saves(alloc, &mut session, &mut store)
+}
+
+#[test]
+fn a_save_fails_at_each_call_of_the_store(rt: HostRuntime) -> Result<(), Fail> {
+    let mut failed = 0;
+    for call in 1..99 {
+        let Some(is_right) = fails_at_call(rt.alloc(), call)? else {
+            break;
+        };
+        assert!(rt; is_right, "at call {call}");
+        failed = call;
+    }
+    assert!(rt; 3 <= failed && failed < 98, "{failed} calls");
     Ok(())
 }

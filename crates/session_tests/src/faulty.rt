@@ -1,0 +1,59 @@
+//! A reader and a writer that fail.
+
+use std::io::{self, ErrorKind, Read, Write};
+
+/// Gives a byte `x` at each read, so many times, and then fails.
+#[derive(Drop)]
+pub(crate) struct Letters {
+    pub(crate) left: usize,
+}
+
+impl Read for Letters {
+    fn read(&mut self, buf: &mut [u8]) -> io::Result<usize> {
+        if self.left == 0 || buf.is_empty() {
+            return Err(ErrorKind::Other.into());
+        }
+        self.left -= 1;
+        buf[0] = b'x';
+        Ok(1)
+    }
+}
+
+/// How a write fails.
+#[derive(Clone, Copy, PartialEq, Eq, Debug)]
+pub(crate) enum Refusal {
+    Error,
+    /// It takes no byte, and says so.
+    Nothing,
+}
+
+/// Takes one byte a call, so many in all, and flushes so often; then it fails.
+#[derive(Drop)]
+pub(crate) struct Narrow {
+    pub(crate) written: Vec<u8>,
+    pub(crate) room: usize,
+    pub(crate) flushes: usize,
+    pub(crate) refusal: Refusal,
+}
+
+impl Write for Narrow {
+    fn write(&mut self, buf: &[u8]) -> io::Result<usize> {
+        if self.room == 0 || buf.is_empty() {
+            return match self.refusal {
+                Refusal::Error => Err(ErrorKind::Other.into()),
+                Refusal::Nothing => Ok(0),
+            };
+        }
+        self.room -= 1;
+        self.written.push(buf[0])?;
+        Ok(1)
+    }
+
+    fn flush(&mut self) -> io::Result<()> {
+        if self.flushes == 0 {
+            return Err(ErrorKind::Other.into());
+        }
+        self.flushes -= 1;
+        Ok(())
+    }
+}
