@@ -1,0 +1,48 @@
+//! Why the program ends with status 1.
+
+use bx_print::PrintError;
+use bx_ucd::UcdError;
+use bx_words::FileFault;
+use std::alloc::AllocError;
+use thiserror::Error;
+
+/// A fault, whose text is told behind the program's name.
+#[derive(Debug, Drop, PartialEq, Eq, Error)]
+pub enum ProgramFault<'a> {
+    /// A line of one of Unicode's files is refused.
+    #[error("{0}")]
+    Tables(UcdError),
+    #[error("{0}")]
+    File(FileFault<'a>),
+    /// The file's bytes are not UTF-8 from the one of this number on, counted from 0.
+    #[error("not UTF-8 at byte {0}")]
+    NotUtf8(usize),
+    #[error("{0}")]
+    Print(PrintError),
+    #[error("out of memory")]
+    OutOfMemory,
+}
+
+impl From<UcdError> for ProgramFault<'_> {
+    fn from(error: UcdError) -> Self {
+        ProgramFault::Tables(error)
+    }
+}
+
+impl<'a> From<FileFault<'a>> for ProgramFault<'a> {
+    fn from(fault: FileFault<'a>) -> Self {
+        ProgramFault::File(fault)
+    }
+}
+
+impl From<PrintError> for ProgramFault<'_> {
+    fn from(error: PrintError) -> Self {
+        ProgramFault::Print(error)
+    }
+}
+
+impl From<AllocError> for ProgramFault<'_> {
+    fn from(_error: AllocError) -> Self {
+        ProgramFault::OutOfMemory
+    }
+}

@@ -1,0 +1,63 @@
+//! Prints a text: its rows as the rules of UAX #9 give them, a line each, to standard output.
+//!
+//! `bidi_print [--cols N] [--direction auto|ltr|rtl] [--marks] --classes F --brackets F --mirroring F FILE`. Exit status 0:
+//! all was written; 1: a fault, which a line on standard error tells; 2: the command line was refused, and standard error
+//! tells why.
+#![tactic(auto)]
+
+mod fault;
+mod printing;
+mod words;
+
+use bx_words::{FileFault, finish, refuse, refuse_words, table_of, text_of};
+use fault::ProgramFault;
+use printing::print_bytes;
+use std::env;
+use std::io::{self, Write};
+use std::process::ExitCode;
+use words::{Options, command_line};
+
+/// The program's name, in front of each line that it tells.
+const NAME: &str = "bidi_print";
+
+/// Prints what the command line asks for.
+fn program<'a, W: Write>(
+    rt: &HostRuntime,
+    options: &Options<'a>,
+    writer: &mut W,
+) -> Result<(), ProgramFault<'a>> {
+    let classes = table_of(rt, options.classes)?;
+    let brackets = table_of(rt, options.brackets)?;
+    let mirroring = table_of(rt, options.mirroring)?;
+    let Some(bytes) = text_of(rt, options.file)? else {
+        return Err(FileFault::Unreadable(options.file).into());
+    };
+    print_bytes(
+        rt.alloc(),
+        writer,
+        bytes.as_slice(),
+        classes.as_slice(),
+        brackets.as_slice(),
+        mirroring.as_slice(),
+        options.style,
+    )
+}
+
+/// The words after the program's name.
+fn words_of(rt: &HostRuntime) -> io::Result<Vec<String>> {
+    Ok(env::args(rt)?.skip(1).collect(rt.alloc())?)
+}
+
+fn main(rt: HostRuntime) -> ExitCode {
+    let words = match words_of(&rt) {
+        Ok(words) => words,
+        Err(error) => return refuse_words(&rt, NAME, error.kind()),
+    };
+    match command_line(rt.alloc(), words.as_slice()) {
+        Ok(options) => {
+            let outcome = program(&rt, &options, &mut rt.stdout());
+            finish(&rt, NAME, outcome)
+        }
+        Err(error) => refuse(&rt, NAME, &error),
+    }
+}

@@ -1,0 +1,41 @@
+//! A file's bytes are printed.
+
+ghost use Rattle.std.specs.Prelude.{◌≡◌, None, OnOk};
+ghost use Rattle.bx_ucd.specs.Reading.{refusal};
+
+use crate::fault::ProgramFault;
+use bx_print::{Style, print};
+use bx_ucd::Tables;
+use simdutf8::compat::from_utf8;
+use std::alloc::{AllocError, Global};
+use std::io::Write;
+
+/// A copy of some characters.
+fn copy_of(alloc: Global, characters: &str) -> Result<String, AllocError> {
+    let mut text = String::with_capacity(alloc, characters.len())?;
+    text.push_str(characters)?;
+    Ok(text)
+}
+
+/// Reads Unicode's three files, and prints a file's bytes.
+///
+/// Errors: those of the tables, `NotUtf8`, and those of printing, in this order.
+pub fn print_bytes<W: Write>(
+    alloc: Global,
+    writer: &mut W,
+    bytes: &[u8],
+    classes: &[u8],
+    brackets: &[u8],
+    mirroring: &[u8],
+    style: Style,
+) -> Result<(), ProgramFault<'static>>
+    ensures { OnOk result (refusal classes.now brackets.now mirroring.now ≡ None) }
+{
+    let tables = Tables::read(alloc, classes, brackets, mirroring)?;
+    let text = match from_utf8(bytes) {
+        Ok(characters) => copy_of(alloc, characters)?,
+        Err(error) => return Err(ProgramFault::NotUtf8(error.valid_up_to())),
+    };
+    print(alloc, text, &tables, style, writer)?;
+    Ok(())
+}

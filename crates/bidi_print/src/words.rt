@@ -1,0 +1,85 @@
+//! The program's words.
+
+use bx_print::{Marks, Style};
+use bx_words::{direction, direction_of, side, side_of, table};
+use clap::error::ErrorKind;
+use clap::{Arg, ArgAction, ArgMatches, Command};
+use std::alloc::{AllocError, Global};
+use std::convert::AsStr;
+
+/// What the program is asked to do.
+#[derive(Drop)]
+pub struct Options<'a> {
+    /// How the text is printed.
+    pub style: Style,
+    /// The path of DerivedBidiClass.txt.
+    pub classes: &'a str,
+    /// The path of BidiBrackets.txt.
+    pub brackets: &'a str,
+    /// The path of BidiMirroring.txt.
+    pub mirroring: &'a str,
+    /// The path of the file that is printed.
+    pub file: &'a str,
+}
+
+/// The command line that the program takes.
+fn command<'a>(alloc: Global) -> Result<Command<'a>, AllocError> {
+    Command::new(alloc, "bidi_print")
+        .no_binary_name(true)
+        .disable_help_flag(true)
+        .disable_version_flag(true)
+        .arg(side(alloc, "cols", "80"))?
+        .arg(direction(alloc))?
+        .arg(
+            Arg::new(alloc, "marks")
+                .long("marks")
+                .action(ArgAction::SetTrue),
+        )?
+        .arg(table(alloc, "classes"))?
+        .arg(table(alloc, "brackets"))?
+        .arg(table(alloc, "mirroring"))?
+        .arg(Arg::new(alloc, "file").value_name("FILE").required(true))
+}
+
+/// What becomes of marks.
+fn marks_of(matches: &ArgMatches<'_>) -> Marks {
+    if matches.get_flag("marks") {
+        Marks::Bracketed
+    } else {
+        Marks::LeftOut
+    }
+}
+
+/// What clap found; none where it lacks a value or has one that is none of ours.
+fn options_of<'a>(matches: &ArgMatches<'a>) -> Option<Options<'a>> {
+    let columns = side_of(matches, "cols")?;
+    let base = direction_of(matches)?;
+    let marks = marks_of(matches);
+    Some(Options {
+        style: Style {
+            base,
+            columns,
+            marks,
+        },
+        classes: matches.get_str("classes")?,
+        brackets: matches.get_str("brackets")?,
+        mirroring: matches.get_str("mirroring")?,
+        file: matches.get_str("file")?,
+    })
+}
+
+/// What the words after the program's name ask for.
+///
+/// Errors: clap's, whose text tells what is wrong with the words.
+pub fn command_line<'a, S: AsStr>(
+    alloc: Global,
+    words: &'a [S],
+) -> Result<Options<'a>, clap::Error> {
+    let mut command = command(alloc)?;
+    let matches = command.try_get_matches_from_mut(words)?;
+    match options_of(&matches) {
+        Some(options) => Ok(options),
+        // clap has refused such words before: each argument is required or has a default, and has a parser
+        None => Err(command.error(ErrorKind::InvalidValue, "a value is missing")?),
+    }
+}

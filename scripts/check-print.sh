@@ -1,0 +1,203 @@
+#!/bin/sh
+# check-print.sh [ROWS]: prints texts with bidi_print and compares the lines, byte by byte: with the rows of ROWS, and with what
+# fribidi prints of random paragraphs, beside which it may differ only where a paragraph is wrapped, since fribidi cuts rows out of
+# what it has reordered. It prints how many agree. ROWS is a file of rows from elsewhere, a line each, made with the tables of this
+# crate's data: the text as UTF-8 in hex, the direction, the columns, the row's number, two fields that are passed over, and the
+# glyphs from left to right as BYTES:COLUMNS, with an n behind where one is in negative image. It stands beside the gate. The
+# status is 1 where something differs that may not, and 77 where ROWS or fribidi is not there.
+set -eu
+export LC_ALL=C
+
+crate=$(cd "$(dirname "$0")/../crates/bidi_print" && pwd)
+program=$crate/out/bidi_print
+failed='' skipped=''
+
+# Notes that a comparison was not made, and why.
+skip() { # WHY
+    echo "skipped: $1"
+    skipped=1
+}
+
+# Without words the program only tells its usage, which shows that it was built.
+build() {
+    if ! (cd "$crate" && rt run 2>&1) | grep -q '^Usage: bidi_print'; then
+        echo 'the program was not built: see rt check' >&2
+        exit 1
+    fi
+}
+
+# Prints a file with the tables of the crate's data.
+print_file() { # FILE WORD..
+    file=$1
+    shift
+    "$program" --classes "$crate/data/classes.txt" --brackets "$crate/data/brackets.txt" --mirroring "$crate/data/mirroring.txt" \
+        "$@" "$file"
+}
+
+# ---- rows from elsewhere
+
+# Writes each text of the rows, its lines with marks in brackets and with none, and prints a line of number, direction and columns.
+write_cases() { # ROWS
+    awk -F '\t' -v folder="$scratch" '
+        function bytes(hex,    text, i) {
+            text = ""
+            for (i = 1; i < length(hex); i += 2)
+                text = text character[tolower(substr(hex, i, 2))]
+            return text
+        }
+        function line(glyphs, with_marks,    parts, part, count, i, text) {
+            text = ""
+            count = split(glyphs, parts, " ")
+            for (i = 1; i <= count; i++) {
+                split(parts[i], part, ":")
+                if (part[2] !~ /n$/)
+                    text = text bytes(part[1])
+                else if (with_marks)
+                    text = text "[" bytes(part[1]) "]"
+            }
+            sub(/ +$/, "", text)
+            return text
+        }
+        function write(kind, text) {
+            printf "%s%s", separator, text >(folder "/" number "." kind)
+        }
+        BEGIN {
+            for (i = 1; i < 256; i++)
+                character[sprintf("%02x", i)] = sprintf("%c", i)
+        }
+        /^#/ || $1 ~ /^(..)*00/ { next }
+        ($1 FS $2 FS $3) != case {
+            case = $1 FS $2 FS $3
+            number++
+            separator = ""
+            write("text", bytes($1))
+            print number, $2, $3
+        }
+        {
+            write("marks", line($7, 1))
+            write("plain", line($7, 0))
+            separator = "\n"
+        }
+    ' "$1"
+}
+
+# Compares what is printed of each text with the lines that its rows make.
+compare_rows() { # ROWS
+    write_cases "$1" >"$scratch/cases"
+    agreed=0 differing=0
+    while read -r number base columns; do
+        print_file "$scratch/$number.text" --cols "$columns" --direction "$base" --marks >"$scratch/marks"
+        print_file "$scratch/$number.text" --cols "$columns" --direction "$base" >"$scratch/plain"
+        if cmp -s "$scratch/marks" "$scratch/$number.marks" && cmp -s "$scratch/plain" "$scratch/$number.plain"; then
+            agreed=$((agreed + 1))
+        else
+            differing=$((differing + 1))
+            echo "text $number differs, direction $base in $columns columns"
+        fi
+    done <"$scratch/cases"
+    echo "rows from elsewhere: $agreed of $((agreed + differing)) texts agree"
+    [ "$agreed" -gt 0 ] && [ "$differing" = 0 ] || failed=1
+}
+
+# ---- fribidi
+
+# Prints so many random paragraphs, each below a line @NUMBER. A lam stands before no alef: fribidi joins them to one character.
+random_text() { # COUNT
+    awk -v count="$1" '
+        BEGIN {
+            srand(7)
+            words = "שלום עולם דג בּוֹקֶר 17 3.50 -4 50% a+b abc Hello, x=1 (אב) (ab) [ג] <ד> \"ה\" ספר, יום. בית! " \
+                "كتاب قلم درس. مدرسة، ١٢٣ ٤,٥ عربي (شمس) {ab} a/b ב/ג 1-2 שָׁנָה é o̧ www.il $5 5₪ . ? ! - : ;"
+            total = split(words, word, " ")
+            for (number = 1; number <= count; number++) {
+                print "@" number
+                text = ""
+                for (left = int(rand() * (rand() < 0.5 ? 9 : 60)); left > 0; left--)
+                    text = text word[1 + int(rand() * total)] (rand() < 0.9 ? " " : "")
+                print text
+            }
+        }
+    '
+}
+
+# Letters in place of fribidi s joined forms of them, which stand in the order of the letters, and lines without blanks at their end.
+plain_letters() {
+    awk '
+        function utf8(code) {
+            if (code < 2048)
+                return sprintf("%c%c", 192 + int(code / 64), 128 + code % 64)
+            return sprintf("%c%c%c", 224 + int(code / 4096), 128 + int(code / 64) % 64, 128 + code % 64)
+        }
+        BEGIN {
+            # how many forms each letter has, from 0621 on but for 063B to 0640
+            forms = "122224242444422224444444444444444224"
+            letter = 1569
+            form = 65152
+            for (i = 1; i <= length(forms); i++) {
+                for (k = substr(forms, i, 1); k > 0; k--)
+                    letters[utf8(form++)] = utf8(letter)
+                letter = letter == 1594 ? 1601 : letter + 1
+            }
+        }
+        {
+            for (joined in letters)
+                if (index($0, joined)) gsub(joined, letters[joined])
+            sub(/ +$/, "")
+            print
+        }
+    '
+}
+
+# Compares paragraph by paragraph. One of several lines is wrapped.
+compare_paragraphs() { # OURS THEIRS
+    awk '
+        FNR == 1 { file++ }
+        /^@[0-9]+$/ {
+            number = substr($0, 2) + 0
+            if (file == 1) total++
+            next
+        }
+        file == 1 { ours[number] = ours[number] $0 "\n"; lines[number]++ }
+        file == 2 { theirs[number] = theirs[number] $0 "\n" }
+        END {
+            for (number = 1; number <= total; number++) {
+                if (lines[number] > 1) wrapped++
+                if (ours[number] == theirs[number]) { alike++; continue }
+                if (lines[number] > 1) { cut++; continue }
+                printf "paragraph %d differs:\n%s%s", number, ours[number], theirs[number]
+                wrong++
+            }
+            printf "beside fribidi: %d of %d paragraphs are alike; of %d that are wrapped %d differ, and %d others\n", \
+                alike, total, wrapped, cut, wrong
+            exit wrong > 0 || cut == 0 || alike == 0
+        }
+    ' "$1" "$2"
+}
+
+compare_fribidi() {
+    random_text 3000 >"$scratch/text"
+    "$program" --classes "$tables/DerivedBidiClass.txt" --brackets "$tables/BidiBrackets.txt" --mirroring "$tables/BidiMirroring.txt" \
+        "$scratch/text" >"$scratch/ours"
+    fribidi --width 80 --reordernsm --clean "$scratch/text" | plain_letters >"$scratch/theirs"
+    compare_paragraphs "$scratch/ours" "$scratch/theirs" || failed=1
+}
+
+rows=${1:-}
+tables=$crate/../../data
+scratch=$(mktemp -d)
+trap 'rm -rf "$scratch"' EXIT
+trap 'exit 130' INT
+trap 'exit 143' TERM
+build
+if [ -r "$rows" ]; then
+    compare_rows "$rows"
+else
+    skip 'no rows from elsewhere are given'
+fi
+if command -v fribidi >/dev/null; then
+    compare_fribidi
+else
+    skip 'fribidi is not there (apt-get install libfribidi-bin)'
+fi
+[ -z "$failed" ] || exit 1
+[ -z "$skipped" ] || exit 77
