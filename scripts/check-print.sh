@@ -66,8 +66,8 @@ write_cases() { # ROWS
                 character[sprintf("%02x", i)] = sprintf("%c", i)
         }
         /^#/ || $1 ~ /^(..)*00/ { next }
-        ($1 FS $2 FS $3) != case {
-            case = $1 FS $2 FS $3
+        ($1 FS $2 FS $3) != text_key {
+            text_key = $1 FS $2 FS $3
             number++
             separator = ""
             write("text", bytes($1))
@@ -130,7 +130,7 @@ plain_letters() {
         }
         BEGIN {
             # how many forms each letter has, from 0621 on but for 063B to 0640
-            forms = "122224242444422224444444444444444224"
+            forms = "122224242444442222444444444444444224"
             letter = 1569
             form = 65152
             for (i = 1; i <= length(forms); i++) {
@@ -182,6 +182,46 @@ compare_fribidi() {
     compare_paragraphs "$scratch/ours" "$scratch/theirs" || failed=1
 }
 
+# ---- how it ends
+
+# Runs the program to an end of this status, of which standard error tells this line.
+end_by() { # STATUS LINE WORD..
+    wanted=$1 line=$2
+    shift 2
+    status=0
+    "$program" --classes /dev/null --brackets /dev/null --mirroring /dev/null "$@" >"$output" 2>"$scratch/stderr" || status=$?
+    if [ "$status" = "$wanted" ] && [ "$(head -n 1 "$scratch/stderr")" = "$line" ]; then
+        agreed=$((agreed + 1))
+    else
+        differing=$((differing + 1))
+        echo "$*: status $status and not $wanted, or another line than: $line"
+    fi
+}
+
+compare_endings() {
+    agreed=0 differing=0
+    output=$scratch/stdout
+    : >"$scratch/empty"
+    printf 'ab\n' >"$scratch/short"
+    printf 'abc\377\n' >"$scratch/bytes"
+    # too long by few bytes, of which the first that are too many stand inside a letter
+    awk 'BEGIN { printf "a"; for (i = 0; i < 5592407; i++) print "א" }' >"$scratch/long"
+    end_by 0 '' "$scratch/empty"
+    [ ! -s "$output" ] || failed=1
+    end_by 0 '' "$scratch/short"
+    cmp -s "$scratch/short" "$output" || failed=1
+    end_by 1 'bidi_print: cannot read not here' 'not here'
+    end_by 1 'bidi_print: cannot read /' /
+    end_by 1 'bidi_print: not UTF-8 at byte 3' "$scratch/bytes"
+    end_by 1 'bidi_print: file too long' "$scratch/long"
+    end_by 2 "error: invalid value '0' for '--cols <N>': 0 is not in 1..=500" --cols 0 "$scratch/short"
+    end_by 2 "error: invalid value '501' for '--cols <N>': 501 is not in 1..=500" --cols 501 "$scratch/short"
+    output=/dev/full
+    end_by 1 'bidi_print: output failed' "$scratch/short"
+    echo "endings: $agreed of $((agreed + differing)) are as they should be"
+    [ "$differing" = 0 ] || failed=1
+}
+
 rows=${1:-}
 tables=$crate/../../data
 scratch=$(mktemp -d)
@@ -189,6 +229,7 @@ trap 'rm -rf "$scratch"' EXIT
 trap 'exit 130' INT
 trap 'exit 143' TERM
 build
+compare_endings
 if [ -r "$rows" ]; then
     compare_rows "$rows"
 else

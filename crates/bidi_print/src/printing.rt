@@ -4,7 +4,8 @@ ghost use Rattle.std.specs.Prelude.{◌≡◌, None, OnOk};
 ghost use Rattle.bx_ucd.specs.Reading.{refusal};
 
 use crate::fault::ProgramFault;
-use bx_print::{Style, print};
+use bx_print::{PrintError, Style, print};
+use bx_terms::LARGEST_TEXT;
 use bx_ucd::Tables;
 use simdutf8::compat::from_utf8;
 use std::alloc::{AllocError, Global};
@@ -19,7 +20,7 @@ fn copy_of(alloc: Global, characters: &str) -> Result<String, AllocError> {
 
 /// Reads Unicode's three files, and prints a file's bytes.
 ///
-/// Errors: those of the tables, `NotUtf8`, and those of printing, in this order.
+/// Errors, in this order: those of the tables; `TooLong`; `NotUtf8`; want of memory, and a writer that takes no more.
 pub fn print_bytes<W: Write>(
     alloc: Global,
     writer: &mut W,
@@ -32,6 +33,10 @@ pub fn print_bytes<W: Write>(
     ensures { OnOk result (refusal classes.now brackets.now mirroring.now ≡ None) }
 {
     let tables = Tables::read(alloc, classes, brackets, mirroring)?;
+    // A file that is too long was not read to its end, and may be cut inside a character.
+    if bytes.len() > LARGEST_TEXT {
+        return Err(PrintError::TooLong.into());
+    }
     let text = match from_utf8(bytes) {
         Ok(characters) => copy_of(alloc, characters)?,
         Err(error) => return Err(ProgramFault::NotUtf8(error.valid_up_to())),

@@ -9,10 +9,10 @@ use thiserror::Error;
 #[derive(Clone, Copy, PartialEq, Eq, Debug, Error)]
 pub enum PrintError {
     /// The text has more than 16,777,216 bytes.
-    #[error("more than 16777216 bytes")]
+    #[error("file too long")]
     TooLong,
     /// The writer took no more.
-    #[error("cannot write")]
+    #[error("output failed")]
     WriteFault,
     /// Memory ran out.
     #[error("out of memory")]
