@@ -48,6 +48,8 @@ tell_outer() { # SEQUENCE
 set_terminal() { # SCREEN
     stty raw -echo -iexten
     printf '%b' "\033[?$1h$modes"
+    # pastes come between marks, which only the filter knows
+    [ -z "$filter" ] || printf '\033[?2004h'
 }
 
 show() {
@@ -65,6 +67,7 @@ show() {
 hide() {
     [ -n "$is_shown" ] || return 0
     is_shown=''
+    [ -z "$filter" ] || printf '\033[?2004l'
     printf '%b' "$end_modes"
     [ -z "$has_title" ] || printf '\033[23;0t'
     printf '\033[?1049l'
@@ -180,6 +183,13 @@ open_pipes() {
     trap resume CONT
 }
 
+# What is typed: what terminals send for keys, as the editor takes it, and pastes as text; where the filter is not there, as it comes.
+# A block of 512 bytes is written into a pipe whole on every system, and the filter writes no more at once.
+hand_on_keys() {
+    [ -z "$filter" ] || exec "$filter"
+    exec dd bs=512
+}
+
 # The program, what hands it the keys, and what tells it sizes. A closed terminal tells all of them so, and the program is to end by
 # the end of its input.
 start_processes() {
@@ -191,8 +201,7 @@ start_processes() {
             --brackets "$brackets" --mirroring "$mirroring" "$file"
     } <&6 2>"$folder/fault" 3<&- 4<&- 5>&- 6<&- 7>&- 8<&- 9<&- &
     program=$!
-    # A block of 512 bytes is written into a pipe whole on every system.
-    dd bs=512 <&3 >&5 3<&- 4<&- 5>&- 6<&- 7>&- 8<&- 9<&- &
+    hand_on_keys <&3 >&5 3<&- 4<&- 5>&- 6<&- 7>&- 8<&- 9<&- &
     keys=$!
     send_sizes &
     sizes=$!
@@ -220,6 +229,7 @@ await_program() {
 
 # Edits `file` until the program ends, and ends with its status.
 edit() {
+    [ -x "$filter" ] || filter=''
     guard
     open_pipes
     show

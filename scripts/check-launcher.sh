@@ -36,7 +36,7 @@ chmod 755 "$folder"
 mkdir "$folder/private" "$folder/files"
 cd "$folder/files" || exit 1
 
-for part in person recorder refusals ends modes editor callers; do
+for part in person recorder refusals ends modes editor input callers; do
     # shellcheck source=/dev/null
     . "$top/scripts/launcher/$part.sh"
 done
@@ -52,6 +52,7 @@ for shell in dash bash; do
     check_ends
     check_terminal_modes
     check_editor
+    check_input
     check_callers
 done
 echo "$passed passed, $failed failed, $skipped skipped"

@@ -1,0 +1,182 @@
+# shellcheck shell=sh
+# shellcheck disable=SC2034,SC2154 # words that other parts give and take
+# What is typed as other terminals send it, and pastes: seen by the recorder, and by the editor.
+
+has_filter() {
+    [ -x "$top/crates/bidi_input/out/bidi_input" ] || {
+        skip 'input' 'its filter is not built (rt run in crates/bidi_input builds it)'
+        return 1
+    }
+}
+
+# Puts the bytes of a file into the session as they are.
+type_bytes() { # FILE
+    terminal load-buffer -b bytes "$1"
+    terminal paste-buffer -d -r -b bytes -t person
+}
+
+# A terminal's keys, what it sends for them, and what the editor takes, as printf has them.
+terminal_keys() {
+    cat <<'TEXT'
+xterm, Home and End:\033[H\033[F:\033[H\033[F
+xterm, Home and End in application mode:\033OH\033OF:\033[H\033[F
+rxvt, Home and End:\033[7~\033[8~:\033[H\033[F
+the Linux console, Home and End:\033[1~\033[4~:\033[1~\033[4~
+tmux and screen, Home and End:\033[1~\033[4~:\033[1~\033[4~
+xterm, arrows:\033[A\033[B\033[C\033[D:\033[A\033[B\033[C\033[D
+xterm, arrows in application mode:\033OA\033OB\033OC\033OD:\033[A\033[B\033[C\033[D
+xterm, arrows with Shift:\033[1;2A\033[1;2B\033[1;2C\033[1;2D:\033[A\033[B\033[C\033[D
+xterm, Home and End with Shift:\033[1;2H\033[1;2F:\033[H\033[F
+xterm, F2:\033OQ:\033[9~
+rxvt, F2:\033[12~:\033[9~
+the Linux console, F2:\033[[B:\033[9~
+the keypad in application mode:\033Op\033Oq\033Or\033Os\033Ot\033Ou\033Ov\033Ow\033Ox\033Oy:0123456789
+arrows with Control, which the editor does not know:\033[1;5C\033[1;5D:\033[1;5C\033[1;5D
+Escape, and then a letter:\033a:\033a
+Escape, and then a digit of the keypad:\033\033Oq:\033\0301
+TEXT
+}
+
+# One line of the record for each line of keys.
+check_terminal_keys() {
+    terminal_keys | while IFS=: read -r _ sent _; do
+        # shellcheck disable=SC2059
+        printf "$sent\n"
+    done >"$folder/keys"
+    start 8 50 "$recorder" f
+    wait_for 50 test -e "$folder/record"
+    type_bytes "$folder/keys"
+    sleep 0.5
+    type_keys C-q
+    finish 'input, keys' 7 50
+    terminal_keys >"$folder/table"
+    line=0
+    while IFS=: read -r name _ taken; do
+        line=$((line + 1))
+        # shellcheck disable=SC2059
+        same "input, $name" "$(sed -n "${line}p" "$folder/record" | cat -v)" "$(printf "$taken" | cat -v)"
+    done <"$folder/table"
+}
+
+# Bytes cut in the middle of a sequence, a reading each.
+check_cut_keys() {
+    start 8 50 "$recorder" f
+    wait_for 50 test -e "$folder/record"
+    for part in 'a\033' 'O' 'A\033[1' ';2' 'Db'; do
+        # shellcheck disable=SC2059
+        printf "$part" >"$folder/keys"
+        type_bytes "$folder/keys"
+        sleep 0.2
+    done
+    type_keys C-q
+    finish 'input, cut' 7 50
+    same 'input, keys that come byte by byte' "$(cat -v "$folder/record")" 'a^[[A^[[Db'
+}
+
+# 1 MB of text with every byte value, and what it becomes.
+make_big_paste() {
+    byte=0
+    while [ "$byte" -lt 256 ]; do
+        # shellcheck disable=SC2059
+        printf "\\$(printf %03o "$byte")"
+        byte=$((byte + 1))
+    done >"$folder/cycle"
+    {
+        printf '\t\n\n'
+        tail -c +33 "$folder/cycle" | head -c 95
+        tail -c +129 "$folder/cycle"
+    } >"$folder/cycle_pasted"
+    printf 'a\r\nb\rc\nd\302\205e\302\251\033[201f\033[A\033[9~\023\021\021' >"$folder/tricks"
+    printf 'a\nb\nc\nde\302\251[201f[A[9~' >"$folder/tricks_pasted"
+    for name in cycle cycle_pasted; do
+        cat "$folder/$name" >"$folder/all"
+        for _ in 1 2 3 4 5 6 7 8 9 10 11 12; do
+            cat "$folder/all" "$folder/all" >"$folder/twice"
+            mv "$folder/twice" "$folder/all"
+        done
+        mv "$folder/all" "$folder/$name"
+    done
+    {
+        printf '\033[200~'
+        cat "$folder/tricks" "$folder/cycle"
+        printf '\033[201~'
+    } >"$folder/big"
+    cat "$folder/tricks_pasted" "$folder/cycle_pasted" >"$folder/big_pasted"
+}
+
+check_big_paste() {
+    make_big_paste
+    same 'input, the paste has 1 MB' "$(($(wc -c <"$folder/cycle")))" 1048576
+    start 8 50 "$recorder" f
+    wait_for 50 test -e "$folder/record"
+    type_bytes "$folder/big"
+    wait_for 300 has_all_of "$folder/big_pasted"
+    type_keys C-q
+    finish 'input, a paste' 7 50
+    cmp "$folder/record" "$folder/big_pasted" >"$folder/differs" 2>&1
+    report 'input, a paste of 1 MB with every byte' $? "$(cat "$folder/differs")"
+}
+
+has_all_of() { # FILE
+    [ "$(wc -c <"$folder/record")" -ge "$(wc -c <"$1")" ]
+}
+
+# tmux marks a paste only where the launcher asked for it.
+check_marks() {
+    start 8 50 "$recorder" f
+    wait_for 50 test -e "$folder/record"
+    printf 'one\ntwo\023\021\021' >"$folder/keys"
+    terminal load-buffer -b bytes "$folder/keys"
+    terminal paste-buffer -d -p -b bytes -t person
+    sleep 0.3
+    type_keys C-q
+    finish 'input, marks' 7 50
+    same 'input, a paste of tmux' "$(cat -v "$folder/record")" "$(printf 'one\ntwo')"
+    has 'input, pastes asked for' "$(written)" '^[[?2004h'
+    has 'input, and given back' "$(written)" '^[[?2004l^[[0m'
+}
+
+# The editor itself: Home of rxvt, F2, a lone Escape before a paste of what would be keys, and the paste of 1 MB with no NUL for the cursor.
+check_editor_input() {
+    rm -f note
+    start 8 40 "$top/bidi-edit" note
+    printf 'abc\033[7~X\033OQ\033\033[200~[A\023\021\021\033[201~y' >"$folder/keys"
+    type_bytes "$folder/keys"
+    : >"$folder/opened"
+    same 'input, keys and a paste in the editor' "$(settled_screen person)" "$(alone 8 40 "$folder/none" 'abc\033[HX\033[9~[Ay')"
+    same 'input, nothing is saved by a paste' "$(ls)" ''
+    type_keys C-s
+    wait_for 20 test -s note
+    same 'input, what was pasted is saved' "$(cat note)" 'X[Ayabc'
+    type_keys C-q
+    finish 'input, the editor' 0 50
+    rm -f note
+}
+
+# The editor takes the text, and goes on.
+check_big_edit() {
+    rm -f note
+    start 8 40 "$top/bidi-edit" note
+    type_bytes "$folder/big"
+    type_keys -l z
+    type_keys C-s
+    wait_for 1200 test -s note
+    same 'input, 1 MB pasted into the editor: its end' "$(tail -c 1 note)" z
+    iconv -f UTF-8 -t UTF-8 note >/dev/null 2>&1
+    report 'input, 1 MB pasted into the editor: its text' $? 'it is not UTF-8'
+    type_keys C-q
+    finish 'input, 1 MB pasted into the editor' 0 100
+    rm -f note
+}
+
+check_input() {
+    asked input || return 0
+    has_filter || return 0
+    check_terminal_keys
+    check_cut_keys
+    check_big_paste
+    check_marks
+    has_editor || return 0
+    check_editor_input
+    check_big_edit
+}
