@@ -2,11 +2,15 @@
 # shellcheck disable=SC2034,SC2154 # words that other parts give and take
 # What is refused before the screen changes: one line each, on standard error alone.
 
-# Without a controlling terminal, so that nothing of it can change.
+# Without a controlling terminal, so that nothing of it can change, and not for ever.
+alone_in_session() { # WORD..
+    timeout -s KILL 20 setsid -w "$@" </dev/null >"$folder/output" 2>"$folder/errors"
+}
+
 refused() { # NAME WANTED WORD..
     name=$1 refusal=$2
     shift 2
-    setsid -w "$shell" "$top/bidi-edit" "$@" </dev/null >"$folder/output" 2>"$folder/errors"
+    alone_in_session "$shell" "$top/bidi-edit" "$@"
     same "$name" "$? $(head -n 1 "$folder/errors")" "$refusal"
     same "$name: nothing else" "$(wc -c <"$folder/output") $(grep -c . "$folder/errors")" "0 $lines_told"
 }
@@ -16,9 +20,9 @@ refused_to_user() { # NAME WANTED WORD..
     name=$1 refusal=$2
     shift 2
     if [ "$(id -u)" = 0 ]; then
-        setsid -w setpriv --reuid 65534 --regid 65534 --clear-groups "$shell" "$top/bidi-edit" "$@" </dev/null >"$folder/output" 2>"$folder/errors"
+        alone_in_session setpriv --reuid 65534 --regid 65534 --clear-groups "$shell" "$top/bidi-edit" "$@"
     else
-        setsid -w "$shell" "$top/bidi-edit" "$@" </dev/null >"$folder/output" 2>"$folder/errors"
+        alone_in_session "$shell" "$top/bidi-edit" "$@"
     fi
     same "$name" "$? $(head -n 1 "$folder/errors")" "$refusal"
 }
