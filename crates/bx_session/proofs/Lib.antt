@@ -1,7 +1,9 @@
 pub mod Bytes
 pub mod Computed
 pub mod Input
+pub mod Kept
 pub mod Pictures
+pub mod Replayed
 pub mod Rows
 pub mod Shown
 pub mod Turns

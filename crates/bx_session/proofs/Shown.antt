@@ -28,5 +28,6 @@ always_shows = record {
   owing_byte = λ d saved s b owed. absurd (cc owed);
   told = λ d s height width owed. refl;
   owing_told = λ d s height width owed. absurd (cc owed);
+  replay = λ d s b owed. absurd (cc owed);
   sending = λ d s count h. h;
 }

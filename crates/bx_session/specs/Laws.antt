@@ -1,12 +1,15 @@
 -- What holds of sessions, whatever their input.
 use Rattle.std.specs.Prelude.{◌≡◌, ℕ, Bool, false, List, [], ◌∷◌, ◌++◌, Some, option_to_list}
+use Rattle.std.specs.List.{filter}
 use Rattle.bx_explicit.specs.declared.base.Base.{Base}
 use Rattle.bx_keys.specs.declared.key.Key.{Key}
 use Rattle.bx_keys.specs.Keys.{decoding, key_after, rest_after}
 use Rattle.bx_keys.specs.Waiting.{head_of}
 use Rattle.bx_editor.specs.Data.{Data}
+use Rattle.bx_editor.specs.Keys.{after_keys}
 use Rattle.bx_editor.specs.Picture.{picture}
 use Rattle.bx_session.specs.Session.{Session, at_opening, after_spending, after_byte, owing_after_byte, after_told, owing_after_told, after_sending}
+use Rattle.bx_session.specs.Session.{after_replay, is_replayed}
 
 -- where no painting is owed, the picture last painted is that of the session's state
 abbrev pub ShowsState : Data → Session → Type 0
@@ -20,6 +23,7 @@ pub record AlwaysShowsState : Type 0 where
   pub owing_byte : (d : Data) (saved : Bool) (s : Session) (b : ℕ) → ShowsState d (owing_after_byte d saved s b)
   pub told : (d : Data) (s : Session) (height width : ℕ) → ShowsState d (after_told d s height width)
   pub owing_told : (d : Data) (s : Session) (height width : ℕ) → ShowsState d (owing_after_told s height width)
+  pub replay : (d : Data) (s : Session) (b : ℕ) → ShowsState d (after_replay d s b)
   pub sending : (d : Data) (s : Session) (count : ℕ) → ShowsState d s → ShowsState d (after_sending s count)
 
 -- the keys that bytes end one after another, of which a session keeps what waits as far as a key can still come of it
@@ -30,3 +34,14 @@ keys_from rest (b ∷ bs) = option_to_list (key_after rest b) ++ keys_from (head
 -- they are the keys of the bytes as a whole
 abbrev pub HasKeysOfInput : Type 0
 HasKeysOfInput = (bs : List ℕ) → keys_from [] bs ≡ (decoding bs).keys
+
+-- the session after bytes of a journal
+abbrev pub after_replaying : Data → Session → List ℕ → Session
+after_replaying d s [] = s
+after_replaying d s (b ∷ bs) = after_replaying d (after_replay d s b) bs
+
+-- they apply their keys one after another, but for the Saves and the Quits
+abbrev pub ReplaysKeys : Type 0
+ReplaysKeys =
+    (d : Data) (s : Session) (bs : List ℕ) → s.editor.ended ≡ false
+    → (after_replaying d s bs).editor ≡ after_keys d false s.editor (filter is_replayed (keys_from s.rest bs))

@@ -2,4 +2,5 @@ pub mod Session
 pub mod Saving
 pub mod Painting
 pub mod Running
+pub mod Journal
 pub mod Laws

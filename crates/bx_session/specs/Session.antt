@@ -2,6 +2,7 @@
 use Rattle.std.specs.Prelude.{ℕ, Bool, true, false, not, ◌&&◌, ◌||◌, is_some, List, [], ◌++◌, drop, Option, Some, None, if◌then◌else◌}
 use Rattle.bx_explicit.specs.declared.base.Base.{Base}
 use Rattle.bx_keys.specs.declared.key.Key.{Key}
+use Rattle.bx_keys.specs.declared.key.Key.TheVariants.{Quit, Save}
 use Rattle.bx_keys.specs.Keys.{key_after, rest_after}
 use Rattle.bx_keys.specs.Waiting.{head_of}
 use Rattle.bx_grid.specs.Picture.{PictureState}
@@ -111,6 +112,22 @@ owing_after_byte d saved s b = with_painting_owed (unpainted_after_byte d saved 
 
 abbrev pub status_of : Session → Status
 status_of s = if s.editor.ended then Ended else Running
+
+-- ---- a byte of a journal
+
+-- a key that a replay applies: Saves and Quits are passed over
+abbrev pub is_replayed : Key → Bool
+is_replayed Save = false
+is_replayed Quit = false
+is_replayed _ = true
+
+abbrev pub after_replayed_key : Data → Session → Option Key → Session
+after_replayed_key d s None = s
+after_replayed_key d s (Some key) = if is_replayed key then session_after_key d false s key else s
+
+-- the byte's key is applied, and a painting is owed
+abbrev pub after_replay : Data → Session → ℕ → Session
+after_replay d s b = with_painting_owed (after_replayed_key d (after_spending s b) (key_of_byte s b))
 
 -- ---- a told size
 

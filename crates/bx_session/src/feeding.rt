@@ -20,7 +20,7 @@ use bx_terms::is_side;
 use bx_ucd::BidiData;
 
 /// A key after which nothing is taken for known of the screen.
-fn asks_for_whole(key: Key) -> bool
+pub(crate) fn asks_for_whole(key: Key) -> bool
     ensures { result ≡ keys.asks_for_whole key }
 {
     matches!(key, Key::Repaint | Key::Size(_, _))
@@ -31,6 +31,31 @@ fn is_size(height: u16, width: u16) -> bool
     ensures { result ≡ is_size height width }
 {
     is_side(height) && is_side(width)
+}
+
+/// Applies a key that does not save.
+///
+/// Errors: `Edit` for want of memory, for a key that edits or moves: nothing has changed.
+pub(crate) fn apply_unsaved<D: BidiData + Drop>(
+    editor: &mut Editor<D>,
+    key: Key,
+) -> Result<(), Refused>
+    requires no_save { keys.is_save key ≡ false }
+    requires sides { HasSides key }
+    ensures after_key { OnOk result (editor.new ≡ record editor.old { editor = keys.after_key (⟦<D as Answers>⟧.data editor.old.tables) false editor.old.editor key }) }
+    ensures err { OnErr result (editor.new ≡ editor.old) }
+    ensures edits { OnErr result (keys.is_edit_or_move key ≡ true) }
+    ensures refused { OnErr result (result ≡ Err Refused.Edit) }
+{
+    match key {
+        Key::Size(height, width) => editor.resize(height, width),
+        _ => {
+            if editor.apply(key).is_err() {
+                return Err(Refused::Edit);
+            }
+        }
+    }
+    Ok(())
 }
 
 /// Applies a key; a Save goes to the store.
@@ -55,20 +80,15 @@ fn apply<D: BidiData + Drop, S: Store>(
         Key::Save => {
             let saved = save_pieces(editor.pieces(), store).is_ok();
             editor.finish_save(saved);
+            Ok(())
         }
-        Key::Size(height, width) => editor.resize(height, width),
-        _ => {
-            if editor.apply(key).is_err() {
-                return Err(Refused::Edit);
-            }
-        }
+        _ => apply_unsaved(editor, key),
     }
-    Ok(())
 }
 
 impl<D: BidiData + Drop> Session<D> {
     /// Spends a byte, and gives the key that it ends; after the end it ends none.
-    fn decode(&mut self, byte: u8) -> Option<Key>
+    pub(crate) fn decode(&mut self, byte: u8) -> Option<Key>
         ensures key { result ≡ key_of_byte self.old.session byte }
         ensures rest { self.new ≡ record self.old { session = after_spending self.old.session byte } }
         ensures sides { IfSome result HasSides }

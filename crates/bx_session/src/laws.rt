@@ -1,6 +1,6 @@
 //! What holds of sessions, whatever their input. The functions do nothing: their contracts are the laws.
 
-ghost use Rattle.bx_session.specs.Laws.{AlwaysShowsState, HasKeysOfInput};
+ghost use Rattle.bx_session.specs.Laws.{AlwaysShowsState, HasKeysOfInput, ReplaysKeys};
 
 /// Where no painting is owed, the picture last painted is that of the session's state.
 pub fn paintings_keep_up()
@@ -10,4 +10,9 @@ pub fn paintings_keep_up()
 /// The keys of a session's input, byte by byte, are those of the input as a whole.
 pub fn keys_are_those_of_input()
     ensures { HasKeysOfInput }
+{}
+
+/// Bytes that are replayed apply the keys of the bytes as a whole, but for the Saves and the Quits.
+pub fn replays_apply_keys()
+    ensures { ReplaysKeys }
 {}

@@ -36,10 +36,11 @@ fn append(
 }
 
 impl<D: BidiData + Drop> Session<D> {
-    /// The top follows the cursor, and what leads to the picture is queued.
+    /// The top follows the cursor, and what leads to the picture is queued. A byte and a told size do so by themselves, and a
+    /// byte of a journal does not.
     ///
     /// Errors: `Paint` for want of memory: top and queue are as before, and the painting is owed.
-    pub(crate) fn paint(&mut self) -> Result<(), Refused>
+    pub fn paint(&mut self) -> Result<(), Refused>
         ensures tables { self.new.tables ≡ self.old.tables }
         ensures ok { OnOk result (self.new.session ≡ with_painting (⟦<D as Answers>⟧.data self.old.tables) self.old.session) }
         ensures paints { OnOk result (QueuesPicture (⟦<D as Answers>⟧.data self.old.tables) self.old.session.pending

@@ -1,6 +1,6 @@
 //! A text on its way to a store.
 
-ghost use Rattle.std.specs.Prelude.{◌≡◌, true, OnErr, OnOk};
+ghost use Rattle.std.specs.Prelude.{◌≡◌, ◌≢◌, ◌++◌, ◌↔◌, ℕ, List, IsTrue, MatchOption, true, OnErr, OnOk};
 ghost use Rattle.bx_store.specs.Stores.{one_more, with_bytes};
 ghost use Rattle.bx_session.specs.Saving.{store_state, with_text};
 
@@ -34,4 +34,36 @@ pub fn save_pieces<S: Store>(pieces: Slices<'_>, store: &mut S) -> Result<(), St
     put_pieces(pieces, store)?;
     store.commit()?;
     Ok(())
+}
+
+/// Whether two lists of bytes are the same.
+fn are_same(left: &[u8], right: &[u8]) -> bool
+    ensures { IsTrue result ↔ (left.now ≡ right.now) }
+{
+    left == right
+}
+
+/// What stands behind a beginning; none where the bytes do not begin so.
+fn behind<'a>(bytes: &'a [u8], beginning: &[u8]) -> Option<&'a [u8]>
+    ensures { MatchOption result ((rest : List ℕ) → beginning.now ++ rest ≢ bytes.now) (λ rest. bytes.now ≡ beginning.now ++ rest.now) }
+{
+    let (front, rest) = bytes.split_at_checked(beginning.len())?;
+    if !are_same(front, beginning) {
+        return None;
+    }
+    Some(rest)
+}
+
+/// Whether the text whose pieces these are is these bytes.
+pub fn is_text(pieces: Slices<'_>, bytes: &[u8]) -> bool
+    ensures { IsTrue result ↔ (pieces.entry ≡ bytes.now) }
+{
+    let mut rest = bytes;
+    for piece in pieces {
+        match behind(rest, piece.as_bytes()) {
+            Some(after) => rest = after,
+            None => return false,
+        }
+    }
+    rest.is_empty()
 }

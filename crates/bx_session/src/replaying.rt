@@ -1,0 +1,82 @@
+//! A byte of a journal: its key is applied again, and what was saved stays as it is.
+
+ghost use Rattle.std.specs.Prelude.{◌≡◌, ◌↔◌, IsTrue, false, true, OnErr, OnOk};
+ghost use Rattle.bx_keys.specs.Keys.{HasSides};
+ghost use Rattle.bx_editor.specs.Keys as keys;
+ghost use Rattle.bx_session.specs.Saving.{is_edit_or_move_key, store_state, with_text};
+ghost use Rattle.bx_session.specs.Session.{after_replay, after_spending, is_replayed, key_of_byte, session_after_key};
+ghost use Rattle.bx_store.specs.Stores.{one_more};
+
+use crate::error::Refused;
+use crate::feeding::{apply_unsaved, asks_for_whole};
+use crate::saving::{is_text, save_pieces};
+use crate::session::Session;
+use bx_document::Answers;
+use bx_keys::Key;
+use bx_store::{Store, StoreFault};
+use bx_ucd::BidiData;
+
+/// A key that a replay applies: Saves and Quits are passed over.
+fn is_replayed(key: Key) -> bool
+    ensures { result ≡ is_replayed key }
+{
+    !matches!(key, Key::Save | Key::Quit)
+}
+
+impl<D: BidiData + Drop> Session<D> {
+    /// Applies a key that is no Save and no Quit, and paints nothing.
+    ///
+    /// Errors: `Edit` for want of memory, for a key that edits or moves: nothing has changed.
+    fn press_again(&mut self, key: Key) -> Result<(), Refused>
+        requires replayed { is_replayed key ≡ true }
+        requires sides { HasSides key }
+        ensures after_key { OnOk result (self.new ≡ record self.old { session = session_after_key (⟦<D as Answers>⟧.data self.old.tables) false self.old.session key }) }
+        ensures err { OnErr result (self.new ≡ self.old) }
+        ensures edits { OnErr result (keys.is_edit_or_move key ≡ true) }
+        ensures refused { OnErr result (result ≡ Err Refused.Edit) }
+    {
+        apply_unsaved(&mut self.editor, key)?;
+        if asks_for_whole(key) || self.editor.ended() {
+            self.painted = None;
+        }
+        Ok(())
+    }
+
+    /// Spends a byte of a journal, and applies the key that it ends. A Save and a Quit do nothing. Nothing is painted, and no
+    /// store is touched: [`Session::paint`] makes the screen right after all bytes.
+    ///
+    /// Errors: `Edit` where there was no memory to apply the key: it is spent, and nothing else has changed.
+    pub fn replay(&mut self, byte: u8) -> Result<(), Refused>
+        ensures after_byte { OnOk result (self.new ≡ record self.old { session = after_replay (⟦<D as Answers>⟧.data self.old.tables) self.old.session byte }) }
+        ensures err { OnErr result (self.new ≡ record self.old { session = after_spending self.old.session byte }) }
+        ensures edits { OnErr result (is_edit_or_move_key (key_of_byte self.old.session byte) ≡ true) }
+        ensures refused { OnErr result (result ≡ Err Refused.Edit) }
+    {
+        if let Some(key) = self.decode(byte) {
+            if is_replayed(key) {
+                self.press_again(key)?;
+            }
+        }
+        self.painting_owed = true;
+        Ok(())
+    }
+
+    /// Whether the text is these bytes. No memory.
+    pub fn has_text(&self, bytes: &[u8]) -> bool
+        ensures { IsTrue result ↔ (self.now.session.editor.content.text ≡ bytes.now) }
+    {
+        is_text(self.editor.pieces(), bytes)
+    }
+
+    /// Stores the text, of which the session takes no note: it stays as changed as it is.
+    ///
+    /// Errors: `StoreFault` where a call of the store failed: it keeps what it kept before.
+    pub fn copy_to<S: Store>(&self, store: &mut S) -> Result<(), StoreFault>
+        ensures ok { OnOk result (store_state S.contents S.failure_count store.new
+            ≡ with_text self.now.session.editor.content.text (store_state S.contents S.failure_count store.old)) }
+        ensures stored { OnErr result (S.contents store.new ≡ S.contents store.old) }
+        ensures failure { OnErr result (S.failure_count store.new ≡ one_more (S.failure_count store.old)) }
+    {
+        save_pieces(self.editor.pieces(), store)
+    }
+}
