@@ -20,6 +20,14 @@ pub fn finish(rt: &HostRuntime, outcome: Result<(), ProgramFault<'_>>) -> ExitCo
     }
 }
 
+/// Tells that a journal was not kept. The session was not ended by that.
+pub fn tell_lost_journal(rt: &HostRuntime) {
+    // where standard error takes no line there is nobody to tell
+    let _ = eprintln!(rt;
+        "bidi_edit: the journal could not be written, so a crash would have lost what was not saved"
+    );
+}
+
 /// The status where the command line is refused, whose cause is told.
 pub fn refuse(rt: &HostRuntime, error: &clap::Error) -> ExitCode {
     if error.kind() == ErrorKind::OutOfMemory {

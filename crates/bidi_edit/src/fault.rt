@@ -1,6 +1,6 @@
 //! Why the program ends with status 1.
 
-use bx_session::{OpenError, RunFault};
+use bx_session::{OpenError, Refused, RunFault};
 use bx_store::StoreFault;
 use bx_ucd::UcdError;
 use std::alloc::AllocError;
@@ -22,6 +22,12 @@ pub enum ProgramFault<'a> {
     Run(RunFault),
     #[error("bidi_edit: input ended before saving")]
     Unsaved,
+    /// The text that a journal makes could not be stored.
+    #[error("bidi_edit: cannot write the recovered text")]
+    Unwritten,
+    /// The word on a recovered text could not be told.
+    #[error("bidi_edit: output failed")]
+    Untold,
     #[error("bidi_edit: out of memory")]
     OutOfMemory,
 }
@@ -51,6 +57,13 @@ impl From<OpenError> for ProgramFault<'_> {
 impl From<RunFault> for ProgramFault<'_> {
     fn from(fault: RunFault) -> Self {
         ProgramFault::Run(fault)
+    }
+}
+
+impl From<Refused> for ProgramFault<'_> {
+    /// A key and a painting are refused for want of memory; a size that was parsed is not refused.
+    fn from(_refused: Refused) -> Self {
+        ProgramFault::OutOfMemory
     }
 }
 

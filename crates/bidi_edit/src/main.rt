@@ -1,52 +1,115 @@
 //! A full-screen editor: keys come from standard input, the screen goes to standard output.
 //!
-//! `bidi_edit [--rows N] [--cols N] [--direction auto|ltr|rtl] --classes F --brackets F --mirroring F FILE`. Exit status 0:
-//! ended by Quit, or the input ended with nothing changed; 1: a fault, which a line on standard error tells; 2: the command
-//! line was refused, and standard error tells why.
+//! `bidi_edit [--rows N] [--cols N] [--direction auto|ltr|rtl] [--line N] [--text PATH] [--journal PATH] [--replay PATH
+//! [--to PATH]] --classes F --brackets F --mirroring F FILE`. Exit status 0: ended by Quit, or the input ended with nothing
+//! changed; 1: a fault, which a line on standard error tells; 2: the command line was refused, and standard error tells why.
 #![tactic(auto)]
 
+mod beginning;
 mod edit;
 mod exit;
 mod fault;
 mod files;
+mod journal;
+mod line;
+mod recover;
+mod replaying;
 mod words;
 
-use bx_store::FileStore;
-use edit::edit;
-use exit::{finish, refuse, refuse_words};
+use beginning::Beginning;
+use bx_session::JournalReader;
+use bx_store::{FileStore, Store};
+use edit::{Changes, edit};
+use exit::{finish, refuse, refuse_words, tell_lost_journal};
 use fault::ProgramFault;
-use files::{table_of, text_of};
+use files::{Files, text_of};
+use journal::JournalFile;
+use recover::recover;
 use std::env;
 use std::io::{self, Read, Write};
 use std::process::ExitCode;
 use words::{Options, command_line};
 
-/// Edits what the command line asks for.
+/// Edits a file. What is read is kept in the journal, of which nothing is left where nothing is unsaved at the end.
+fn edit_file<'a, R: Read, W: Write, S: Store>(
+    rt: &HostRuntime,
+    options: &Options<'a>,
+    files: &Files,
+    beginning: Beginning<'_>,
+    reader: &mut R,
+    writer: &mut W,
+    store: &mut S,
+) -> Result<(), ProgramFault<'a>> {
+    let mut reader = JournalReader::new(reader, JournalFile::open(rt, options.journal));
+    let changes = edit(
+        rt.alloc(),
+        &mut reader,
+        writer,
+        store,
+        files.classes.as_slice(),
+        files.brackets.as_slice(),
+        files.mirroring.as_slice(),
+        beginning,
+    );
+    if reader.has_failed() {
+        tell_lost_journal(rt);
+    }
+    match (changes?, options.journal) {
+        (Changes::Saved, Some(path)) => journal::empty(rt, path),
+        (Changes::Saved, None) | (Changes::Dropped, _) => {}
+    }
+    Ok(())
+}
+
+/// Stores the text that a journal makes, and writes how the file that is edited stands to it.
+fn recover_to<'a, W: Write, S: Store>(
+    rt: &HostRuntime,
+    options: &Options<'a>,
+    files: &Files,
+    beginning: Beginning<'_>,
+    writer: &mut W,
+    store: &mut S,
+) -> Result<(), ProgramFault<'a>> {
+    let file = text_of(rt, options.file)?.unwrap_or(Vec::new(rt.alloc()));
+    let replayed = recover(
+        rt.alloc(),
+        store,
+        files.classes.as_slice(),
+        files.brackets.as_slice(),
+        files.mirroring.as_slice(),
+        beginning,
+        file.as_slice(),
+    )?;
+    match writeln!(writer, "{replayed}") {
+        Ok(()) => Ok(()),
+        Err(_) => Err(ProgramFault::Untold),
+    }
+}
+
+/// Does what the command line asks for.
 fn program<'a, R: Read, W: Write>(
     rt: &HostRuntime,
     options: &Options<'a>,
     reader: &mut R,
     writer: &mut W,
 ) -> Result<(), ProgramFault<'a>> {
-    let classes = table_of(rt, options.classes)?;
-    let brackets = table_of(rt, options.brackets)?;
-    let mirroring = table_of(rt, options.mirroring)?;
     // before the reading, so that what another program changes in between is seen at the first save
-    let mut store = FileStore::new(rt, rt.alloc(), options.file)?;
-    let file = text_of(rt, options.file)?;
-    edit(
-        rt.alloc(),
-        reader,
-        writer,
-        &mut store,
-        file,
-        classes.as_slice(),
-        brackets.as_slice(),
-        mirroring.as_slice(),
-        options.rows,
-        options.cols,
-        options.direction,
-    )
+    let path = options.to.unwrap_or(options.file);
+    let mut store = FileStore::new(rt, rt.alloc(), path)?;
+    let mut files = Files::read(rt, options)?;
+    let text = files.text.take();
+    let beginning = Beginning {
+        text,
+        rows: options.rows,
+        cols: options.cols,
+        direction: options.direction,
+        line: options.line,
+        keys: files.keys.as_slice(),
+    };
+    match options.to {
+        None => edit_file(rt, options, &files, beginning, reader, writer, &mut store),
+        Some(_) => recover_to(rt, options, &files, beginning, writer, &mut store),
+    }
 }
 
 /// The words after the program's name.

@@ -3,6 +3,7 @@
 mod editing;
 mod ending;
 mod files;
+mod recovering;
 mod saving;
 mod sessions;
 mod words;

@@ -23,8 +23,18 @@ pub struct Options<'a> {
     pub brackets: &'a str,
     /// The path of BidiMirroring.txt.
     pub mirroring: &'a str,
-    /// The path of the file that is edited.
+    /// The path of the file that is edited, where saves go.
     pub file: &'a str,
+    /// The path of the file whose text is opened.
+    pub text: &'a str,
+    /// The path of the journal that the keys are appended to.
+    pub journal: Option<&'a str>,
+    /// The path of the journal that is replayed.
+    pub replay: Option<&'a str>,
+    /// The path where the replayed text is stored, with no terminal.
+    pub to: Option<&'a str>,
+    /// The line that the cursor goes to, from 1.
+    pub line: Option<u64>,
     /// How the direction of each paragraph is chosen at first.
     pub direction: Base,
     ghost has_rows: { is_side rows ≡ true },
@@ -51,6 +61,19 @@ fn table<'a>(alloc: Global, name: &'a str) -> Arg<'a> {
         .required(true)
 }
 
+/// An option that names another file.
+fn path<'a>(alloc: Global, name: &'a str) -> Arg<'a> {
+    Arg::new(alloc, name).long(name).value_name("PATH")
+}
+
+/// The option that names a line.
+fn line<'a>(alloc: Global) -> Arg<'a> {
+    Arg::new(alloc, "line")
+        .long("line")
+        .value_name("N")
+        .value_parser(value_parser!(u64).range(1..))
+}
+
 /// The option that names a direction.
 fn direction<'a>(alloc: Global) -> Arg<'a> {
     Arg::new(alloc, "direction")
@@ -71,6 +94,11 @@ fn command<'a>(alloc: Global) -> Result<Command<'a>, AllocError> {
         .arg(table(alloc, "classes"))?
         .arg(table(alloc, "brackets"))?
         .arg(table(alloc, "mirroring"))?
+        .arg(line(alloc))?
+        .arg(path(alloc, "text"))?
+        .arg(path(alloc, "journal"))?
+        .arg(path(alloc, "replay"))?
+        .arg(path(alloc, "to").requires_arg("replay")?)?
         .arg(Arg::new(alloc, "file").value_name("FILE").required(true))
 }
 
@@ -93,13 +121,19 @@ fn base_of(name: &str) -> Option<Base> {
 
 /// What clap found; none where it lacks a value or has one that is none of ours.
 fn options_of<'a>(matches: &ArgMatches<'a>) -> Option<Options<'a>> {
+    let file = matches.get_str("file")?;
     Some(Options {
         rows: side_of(matches, "rows")?,
         cols: side_of(matches, "cols")?,
         classes: matches.get_str("classes")?,
         brackets: matches.get_str("brackets")?,
         mirroring: matches.get_str("mirroring")?,
-        file: matches.get_str("file")?,
+        file,
+        text: matches.get_str("text").unwrap_or(file),
+        journal: matches.get_str("journal"),
+        replay: matches.get_str("replay"),
+        to: matches.get_str("to"),
+        line: matches.get_one::<u64>("line"),
         direction: base_of(matches.get_str("direction")?)?,
     })
 }

@@ -1,6 +1,7 @@
 //! Runs over texts, tables and keys that are given as bytes, in a window of one row of five columns.
 
-use crate::edit::edit;
+use crate::beginning::Beginning;
+use crate::edit::{Changes, edit};
 use crate::fault::ProgramFault;
 use bx_explicit::Base;
 use bx_session::{OpenError, RunFault};
@@ -10,30 +11,39 @@ use std::alloc::Global;
 use std::io::{self, ErrorKind, Read, Write};
 use std::test::Fail;
 
+/// A text in a window of one row of five columns, over which nothing is replayed.
+fn beginning(text: Option<Vec<u8>>) -> Beginning<'static> {
+    Beginning {
+        text,
+        rows: 1,
+        cols: 5,
+        direction: Base::Auto,
+        line: None,
+        keys: &[],
+    }
+}
+
 /// How a run over a reader and a writer ends, with the small tables.
 fn run_over<R: Read, W: Write>(
     alloc: Global,
     file: Option<Vec<u8>>,
     reader: &mut R,
     writer: &mut W,
-) -> Result<(), ProgramFault<'static>> {
+) -> Result<Changes, ProgramFault<'static>> {
     edit(
         alloc,
         reader,
         writer,
         &mut MemoryStore::new(alloc, None),
-        file,
         CLASSES.as_bytes(),
         BRACKETS.as_bytes(),
         MIRRORING.as_bytes(),
-        1,
-        5,
-        Base::Auto,
+        beginning(file),
     )
 }
 
 /// How a run over a file's bytes and the bytes of keys ends.
-fn outcome(alloc: Global, file: &[u8], mut keys: &[u8]) -> Result<(), ProgramFault<'static>> {
+fn outcome(alloc: Global, file: &[u8], mut keys: &[u8]) -> Result<Changes, ProgramFault<'static>> {
     let file = Vec::from_slice(alloc, file)?;
     run_over(alloc, Some(file), &mut keys, &mut Vec::new(alloc))
 }
@@ -51,16 +61,13 @@ fn line_of(
         &mut b"".as_slice(),
         &mut Vec::new(alloc),
         &mut MemoryStore::new(alloc, None),
-        file,
         classes.as_bytes(),
         brackets.as_bytes(),
         mirroring.as_bytes(),
-        1,
-        5,
-        Base::Auto,
+        beginning(file),
     );
     match outcome {
-        Ok(()) => Ok(String::new(alloc)),
+        Ok(_) => Ok(String::new(alloc)),
         Err(fault) => Ok(format!(in alloc; "{fault}")?),
     }
 }
@@ -71,8 +78,12 @@ fn ends_of_input(rt: HostRuntime) {
         outcome(rt.alloc(), b"ab", b"x"),
         Err(ProgramFault::Unsaved)
     );
-    assert_eq!(rt; outcome(rt.alloc(), b"ab", b""), Ok(()));
-    assert_eq!(rt; outcome(rt.alloc(), b"ab", b"\x11"), Ok(()));
+    assert_eq!(rt; outcome(rt.alloc(), b"ab", b""), Ok(Changes::Saved));
+    assert_eq!(rt; outcome(rt.alloc(), b"ab", b"\x11"), Ok(Changes::Saved));
+    assert_eq!(rt;
+        outcome(rt.alloc(), b"ab", b"x\x11\x11"),
+        Ok(Changes::Dropped)
+    );
 }
 
 #[test]
@@ -86,7 +97,7 @@ fn a_file_that_is_not_utf8(rt: HostRuntime) -> Result<(), Fail> {
 fn a_file_that_is_not_there_is_an_empty_text(rt: HostRuntime) -> Result<(), Fail> {
     let mut written = Vec::new(rt.alloc());
     let outcome = run_over(rt.alloc(), None, &mut b"".as_slice(), &mut written);
-    assert_eq!(rt; outcome, Ok(()));
+    assert_eq!(rt; outcome, Ok(Changes::Saved));
     assert_eq!(rt; written.as_slice(), b"\x1b[0m\x1b[2J\x1b[1;1H".as_slice());
     Ok(())
 }

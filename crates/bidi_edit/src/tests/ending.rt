@@ -3,7 +3,7 @@
 use crate::exit::{finish, refuse, refuse_words};
 use crate::fault::ProgramFault;
 use crate::words::command_line;
-use bx_session::{OpenError, RunFault};
+use bx_session::{OpenError, Refused, RunFault};
 use bx_store::StoreFault;
 use std::alloc::AllocError;
 use std::io::ErrorKind;
@@ -22,8 +22,11 @@ fn faults_by_their_lines(rt: HostRuntime) -> Result<(), Fail> {
         ProgramFault::from(RunFault::ReadFault),
         ProgramFault::from(RunFault::WriteFault),
         ProgramFault::from(RunFault::ReadLimit),
+        ProgramFault::from(Refused::Edit),
         ProgramFault::from(StoreFault),
         ProgramFault::Unsaved,
+        ProgramFault::Unwritten,
+        ProgramFault::Untold,
     ] {
         let line = format!(in rt.alloc(); "{fault}\n")?;
         text.push_str(line.as_str())?;
@@ -39,7 +42,10 @@ fn faults_by_their_lines(rt: HostRuntime) -> Result<(), Fail> {
          bidi_edit: output failed\n\
          bidi_edit: too many reads\n\
          bidi_edit: out of memory\n\
-         bidi_edit: input ended before saving\n"
+         bidi_edit: out of memory\n\
+         bidi_edit: input ended before saving\n\
+         bidi_edit: cannot write the recovered text\n\
+         bidi_edit: output failed\n"
     );
     Ok(())
 }

@@ -24,6 +24,11 @@ fn outcome<'a>(
         brackets,
         mirroring,
         file,
+        text: file,
+        journal: None,
+        replay: None,
+        to: None,
+        line: None,
         direction: Base::Auto,
     };
     let mut written = Vec::new(rt.alloc());

@@ -1,6 +1,7 @@
 //! What a save leaves: the keys are `x`, Save and Quit, in a window of one row of five columns.
 
-use crate::edit::edit;
+use crate::beginning::Beginning;
+use crate::edit::{Changes, edit};
 use crate::fault::ProgramFault;
 use bx_explicit::Base;
 use bx_store::{FileStore, MemoryStore, Store};
@@ -14,26 +15,31 @@ fn save<S: Store>(
     alloc: Global,
     store: &mut S,
     file: Option<Vec<u8>>,
-) -> Result<(), ProgramFault<'static>> {
+) -> Result<Changes, ProgramFault<'static>> {
+    let beginning = Beginning {
+        text: file,
+        rows: 1,
+        cols: 5,
+        direction: Base::Auto,
+        line: None,
+        keys: &[],
+    };
     edit(
         alloc,
         &mut b"x\x13\x11".as_slice(),
         &mut Vec::new(alloc),
         store,
-        file,
         CLASSES.as_bytes(),
         BRACKETS.as_bytes(),
         MIRRORING.as_bytes(),
-        1,
-        5,
-        Base::Auto,
+        beginning,
     )
 }
 
 #[test]
 fn a_new_text_is_kept(rt: HostRuntime) {
     let mut store = MemoryStore::new(rt.alloc(), None);
-    assert_eq!(rt; save(rt.alloc(), &mut store, None), Ok(()));
+    assert_eq!(rt; save(rt.alloc(), &mut store, None), Ok(Changes::Saved));
     assert_eq!(rt; store.contents(), b"x".as_slice());
 }
 
@@ -53,7 +59,7 @@ fn a_new_file_is_made_and_nothing_is_left_beside_it(rt: HostRuntime) -> Result<(
     let path = env::temp_dir(&rt)?.join(rt.alloc(), name.as_str())?;
     let beside = format!(in rt.alloc(); "{}.bx", path.as_str())?;
     let mut store = FileStore::new(&rt, rt.alloc(), path.as_str())?;
-    assert_eq!(rt; save(rt.alloc(), &mut store, None), Ok(()));
+    assert_eq!(rt; save(rt.alloc(), &mut store, None), Ok(Changes::Saved));
     let text = fs::read(&rt, path.as_path())?;
     let is_left = fs::metadata(&rt, beside.as_str()).is_ok();
     fs::remove_file(&rt, path.as_path())?;

@@ -5,6 +5,7 @@ ghost use Rattle.bx_terms.specs.Sizes.{is_side};
 
 mod vectors;
 
+use crate::beginning::Beginning;
 use crate::edit::edit;
 use bx_explicit::Base;
 use bx_store::MemoryStore;
@@ -94,22 +95,26 @@ impl Given {
         written: &mut Vec<u8>,
         store: &mut MemoryStore,
     ) -> Result<String, Fail> {
-        let file = self.file;
+        let beginning = Beginning {
+            text: self.file,
+            rows: self.rows,
+            cols: self.cols,
+            direction: self.direction,
+            line: None,
+            keys: &[],
+        };
         let outcome = edit(
             alloc,
             &mut self.keys.as_slice(),
             written,
             store,
-            file,
             CLASSES.as_bytes(),
             BRACKETS.as_bytes(),
             MIRRORING.as_bytes(),
-            self.rows,
-            self.cols,
-            self.direction,
+            beginning,
         );
         match outcome {
-            Ok(()) => Ok(String::new(alloc)),
+            Ok(_) => Ok(String::new(alloc)),
             Err(fault) => Ok(format!(in alloc; "{fault}")?),
         }
     }

@@ -34,7 +34,44 @@ fn three_tables_and_file(rt: HostRuntime) -> Result<(), Fail> {
     assert_eq!(rt; options.direction, Base::Auto);
     assert_eq!(rt; (options.classes, options.brackets), ("c", "b"));
     assert_eq!(rt; (options.mirroring, options.file), ("m", "f"));
+    assert_eq!(rt; (options.text, options.line), ("f", None));
+    assert_eq!(rt; (options.journal, options.replay), (None, None));
     Ok(())
+}
+
+#[test]
+fn options_of_a_session_that_goes_on(rt: HostRuntime) -> Result<(), Fail> {
+    let words = [
+        "--classes=c",
+        "--brackets=b",
+        "--mirroring=m",
+        "--text=t",
+        "--journal=j",
+        "--replay=r",
+        "--to=o",
+        "--line=7",
+        "f",
+    ];
+    let options = command_line(rt.alloc(), &words)?;
+    assert_eq!(rt; (options.file, options.text), ("f", "t"));
+    assert_eq!(rt; (options.journal, options.replay), (Some("j"), Some("r")));
+    assert_eq!(rt; (options.to, options.line), (Some("o"), Some(7)));
+    Ok(())
+}
+
+#[test]
+fn lines(rt: HostRuntime) {
+    assert_eq!(rt; refusal_of_option(rt.alloc(), "--line", "1"), None);
+    for line in ["0", "18446744073709551616", "x", ""] {
+        assert_eq!(rt;
+            refusal_of_option(rt.alloc(), "--line", line),
+            Some(ErrorKind::ValueValidation)
+        );
+    }
+    assert_eq!(rt;
+        refusal_of_option(rt.alloc(), "--to", "o"),
+        Some(ErrorKind::MissingRequiredArgument)
+    );
 }
 
 #[test]

@@ -1,0 +1,149 @@
+//! Keys that are replayed, and the text that a journal makes: the text is `ab`, in a window of one row of five columns.
+
+use crate::beginning::Beginning;
+use crate::edit::{Changes, edit};
+use crate::fault::ProgramFault;
+use crate::line::start_of_line;
+use crate::recover::recover;
+use crate::replaying::{Held, Replayed};
+use bx_explicit::Base;
+use bx_session::JournalReader;
+use bx_store::MemoryStore;
+use bx_ucd::sample::{BRACKETS, CLASSES, MIRRORING};
+use std::alloc::Global;
+use std::io::{self, ErrorKind, Read, Write};
+use std::test::Fail;
+
+fn beginning<'a>(alloc: Global, keys: &'a [u8]) -> Result<Beginning<'a>, Fail> {
+    Ok(Beginning {
+        text: Some(Vec::from_slice(alloc, b"ab")?),
+        rows: 1,
+        cols: 5,
+        direction: Base::Auto,
+        line: None,
+        keys,
+    })
+}
+
+/// What a file with these bytes holds, where these keys are replayed into a store.
+fn recovered(
+    alloc: Global,
+    store: &mut MemoryStore,
+    keys: &[u8],
+    file: &[u8],
+) -> Result<Result<Replayed, ProgramFault<'static>>, Fail> {
+    Ok(recover(
+        alloc,
+        store,
+        CLASSES.as_bytes(),
+        BRACKETS.as_bytes(),
+        MIRRORING.as_bytes(),
+        beginning(alloc, keys)?,
+        file,
+    ))
+}
+
+#[test]
+fn a_journal_beside_its_file(rt: HostRuntime) -> Result<(), Fail> {
+    for (file, held) in [
+        (b"xyab".as_slice(), Held::Same),
+        (b"xab".as_slice(), Held::Known),
+        (b"ab".as_slice(), Held::Known),
+        (b"xa".as_slice(), Held::Foreign),
+    ] {
+        let mut store = MemoryStore::new(rt.alloc(), None);
+        let replayed = recovered(rt.alloc(), &mut store, b"x\x13y\x11\x11", file)?;
+        assert_eq!(rt; replayed, Ok(Replayed { held, keys: 5 }));
+        assert_eq!(rt; store.contents(), b"xyab".as_slice());
+    }
+    Ok(())
+}
+
+#[test]
+fn a_text_that_cannot_be_stored(rt: HostRuntime) -> Result<(), Fail> {
+    let mut store = MemoryStore::new(rt.alloc(), Some(1));
+    let replayed = recovered(rt.alloc(), &mut store, b"x", b"ab")?;
+    assert_eq!(rt; replayed, Err(ProgramFault::Unwritten));
+    Ok(())
+}
+
+/// The keys `y`, Save and Quit over others that are replayed.
+fn resumed(alloc: Global, store: &mut MemoryStore, keys: &[u8]) -> Result<bool, Fail> {
+    let changes = edit(
+        alloc,
+        &mut b"y\x13\x11".as_slice(),
+        &mut Vec::new(alloc),
+        store,
+        CLASSES.as_bytes(),
+        BRACKETS.as_bytes(),
+        MIRRORING.as_bytes(),
+        beginning(alloc, keys)?,
+    );
+    Ok(changes == Ok(Changes::Saved))
+}
+
+#[test]
+fn typing_goes_on_behind_what_is_replayed(rt: HostRuntime) -> Result<(), Fail> {
+    let mut store = MemoryStore::new(rt.alloc(), None);
+    assert!(rt; resumed(rt.alloc(), &mut store, b"x\x13\x11\x11")?);
+    assert_eq!(rt; store.contents(), b"xyab".as_slice());
+    Ok(())
+}
+
+#[test]
+fn lines_begin_behind_line_feeds(rt: HostRuntime) {
+    for (line, start) in [(1, 0), (2, 2), (3, 3), (4, 6), (5, 6), (9, 6)] {
+        assert_eq!(rt; start_of_line(b"a\n\nbc\nd", line), start);
+    }
+    assert_eq!(rt; start_of_line(b"", 2), 0);
+}
+
+/// A journal that has room for so many bytes, and takes two at once.
+#[derive(Drop)]
+struct Small {
+    bytes: Vec<u8>,
+    room: usize,
+}
+
+impl Write for Small {
+    fn write(&mut self, buf: &[u8]) -> io::Result<usize> {
+        let count = buf.len().min(self.room).min(2);
+        if count == 0 {
+            return Err(ErrorKind::StorageFull.into());
+        }
+        self.bytes.extend_from_slice(&buf[..count])?;
+        self.room -= count;
+        Ok(count)
+    }
+
+    fn flush(&mut self) -> io::Result<()> {
+        Ok(())
+    }
+}
+
+/// Reads `abcdef` in two reads, and answers whether each gave what it should and whether the journal failed.
+fn read_kept(journal: &mut Small) -> Result<(bool, bool), Fail> {
+    let mut input = b"abcdef".as_slice();
+    let mut reader = JournalReader::new(&mut input, journal);
+    let mut buffer = [0; 4];
+    let is_read = reader.read(&mut buffer)? == 4 && buffer.as_slice() == b"abcd".as_slice();
+    let is_rest = reader.read(&mut buffer)? == 2 && buffer.as_slice() == b"efcd".as_slice();
+    let failed = reader.has_failed();
+    Ok((is_read && is_rest, failed))
+}
+
+#[test]
+fn a_journal_holds_what_was_read(rt: HostRuntime) -> Result<(), Fail> {
+    for (room, kept, fails) in [
+        (6, b"abcdef".as_slice(), false),
+        (3, b"abc".as_slice(), true),
+    ] {
+        let mut journal = Small {
+            bytes: Vec::new(rt.alloc()),
+            room,
+        };
+        assert_eq!(rt; read_kept(&mut journal)?, (true, fails));
+        assert_eq!(rt; journal.bytes.as_slice(), kept);
+    }
+    Ok(())
+}
