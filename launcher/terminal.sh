@@ -114,7 +114,7 @@ end_processes() {
 tell_end() {
     fault=$(cat "$folder/fault")
     [ -z "$fault" ] || printf '%s\n' "$fault" >&7
-    [ "$status" = 0 ] || ! command -v tell_kept >/dev/null || tell_kept
+    [ "$status" = 0 ] || tell_kept
 }
 
 # Whatever stands of the session ends, and the terminal is as it was. A second signal changes nothing then.
@@ -124,6 +124,7 @@ put_back() {
     hide
     if [ -n "$folder" ]; then
         tell_end
+        end_session
         rm -rf -- "$folder"
         folder=''
     fi
@@ -195,10 +196,13 @@ hand_on_keys() {
 start_processes() {
     is_running=1
     measure
+    begin_session
     {
         trap '' HUP
-        exec "$editor" --rows "$rows" --cols "$cols" --direction "$direction" ${line:+--line "$line"} --classes "$classes" \
+        set -- --rows "$rows" --cols "$cols" --direction "$direction" ${line:+--line "$line"} --classes "$classes" \
             --brackets "$brackets" --mirroring "$mirroring" "$file"
+        [ -z "$kept" ] || set -- --text "$kept/text" --journal "$kept/journal" ${is_resumed:+--replay "$kept/journal"} "$@"
+        exec "$editor" "$@"
     } <&6 2>"$folder/fault" 3<&- 4<&- 5>&- 6<&- 7>&- 8<&- 9<&- &
     program=$!
     hand_on_keys <&3 >&5 3<&- 4<&- 5>&- 6<&- 7>&- 8<&- 9<&- &

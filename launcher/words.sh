@@ -3,13 +3,14 @@
 # The command line: its words, the help, the version, and how a refusal is told.
 
 version=1.0.0
-usage='usage: bidi-edit [--direction auto|ltr|rtl] [--line N | +N] [--force] FILE'
+usage='usage: bidi-edit [--direction auto|ltr|rtl] [--line N | +N] [--force] [--recover [--to OTHER]] FILE'
 
 help() {
     echo "$usage"
     cat <<'TEXT'
 Edits a text of any scripts, each paragraph in its own direction, from line N.
 --force opens also what cannot be saved, --version tells what this is made of.
+--recover has back what was typed and not saved; --to only stores it as OTHER.
 
   Left Right Up Down    CSI D C A B   move as the screen shows
   Ctrl-B Ctrl-F         02 06         move back, forward as the text is stored
@@ -84,9 +85,9 @@ take_place() { # WORD
     esac
 }
 
-# Reads the command line into `direction`, `line`, `is_forced` and `file`.
+# Reads the command line into `direction`, `line`, `is_forced`, `is_recovery`, `other` and `file`.
 read_words() { # WORD..
-    direction=auto line='' is_forced=''
+    direction=auto line='' is_forced='' is_recovery='' other=''
     while [ $# -gt 0 ]; do
         case $1 in
         -h | --help)
@@ -97,13 +98,14 @@ read_words() { # WORD..
             tell_version
             exit 0
             ;;
-        --direction | --line)
+        --direction | --line | --to)
             [ $# -gt 1 ] || refuse_words "$1 wants a value"
             take_option "$1" "$2"
             shift
             ;;
-        --direction=* | --line=*) take_option "${1%%=*}" "${1#*=}" ;;
+        --direction=* | --line=* | --to=*) take_option "${1%%=*}" "${1#*=}" ;;
         --force) is_forced=1 ;;
+        --recover) is_recovery=1 ;;
         # What callers say to other editors: no window of its own, no swap file, wait for the end.
         -f | -n | -w | -nw | --nofork | --wait) ;;
         --)
@@ -122,6 +124,7 @@ read_words() { # WORD..
     -* | +*) file=./$1 ;;
     *) file=$1 ;;
     esac
+    [ -n "$is_recovery" ] || [ -z "$other" ] || refuse_words '--to goes with --recover'
 }
 
 take_option() { # NAME VALUE
@@ -130,5 +133,8 @@ take_option() { # NAME VALUE
     --direction:*) refuse_words "--direction wants auto, ltr or rtl, not $(shown "$2")" ;;
     --line: | --line:*[!0-9]*) refuse_words "--line wants a number, not $(shown "$2")" ;;
     --line:*) take_line "$2" ;;
+    --to:) refuse_words 'OTHER has no name' ;;
+    --to:[-+]*) other=./$2 ;;
+    --to:*) other=$2 ;;
     esac
 }
