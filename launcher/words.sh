@@ -3,7 +3,8 @@
 # The command line: its words, the help, the version, and how a refusal is told.
 
 version=1.0.0
-usage='usage: bidi-edit [--direction auto|ltr|rtl] [--line N | +N] [--force] [--recover [--to OTHER]] FILE'
+usage='usage: bidi-edit [--direction auto|ltr|rtl] [--line N | +N] [--force] FILE
+       bidi-edit --recover [--to OTHER] FILE'
 
 help() {
     echo "$usage"

@@ -1,0 +1,497 @@
+#!/bin/sh
+# Ends sessions in tmux by KILL, HUP and TERM of the launcher, of the program or of both, at a random key, and recovers each: all
+# that the program had read must be there. What the text is after each key a plain model in python tells, of the keys whose meaning
+# needs no rows. Then: a full disk under the journal, a replay of 100,000 keys, and what the journal costs at a key. It stands
+# beside the gate. The first word is how many sessions (200), the second the seed of the random keys (1). The last line counts.
+set -u
+
+sessions=${1:-200}
+seed=${2:-1}
+top=$(CDPATH='' cd -- "$(dirname "$0")/.." && pwd)
+editor=$top/crates/bidi_edit/out/bidi_edit
+
+skip() { # CAUSE
+    echo "nothing was checked: $1"
+    exit 77
+}
+
+command -v tmux >/dev/null || skip 'there is no tmux'
+command -v python3 >/dev/null || skip 'there is no python3'
+[ -x "$editor" ] || skip "$editor is not built"
+
+export LC_ALL=C.UTF-8
+folder=$(mktemp -d) || exit 1
+socket=bidi-edit-$$
+mounted=''
+clean_up() {
+    tmux -L "$socket" kill-server 2>/dev/null
+    [ -z "$mounted" ] || umount "$mounted"
+    rm -rf -- "$folder"
+}
+trap clean_up EXIT
+trap 'exit 1' HUP INT TERM
+
+passes() { # NAME
+    echo "ok $1" >>"$folder/results"
+}
+
+fails() { # NAME DETAIL
+    echo "FAILS $1: $2" | tee -a "$folder/results"
+}
+
+# Waits for a command to succeed, a tenth of a second at a time.
+wait_for() { # TENTHS COMMAND..
+    tenths=$1
+    shift
+    while ! "$@"; do
+        tenths=$((tenths - 1))
+        [ "$tenths" -gt 0 ] || return 1
+        sleep 0.1
+    done
+}
+
+# ---- the sessions, and what their keys make
+
+# Makes a folder for each session: file, the text; keys1, after which the last row is what row has; keys2; ends, the text in
+# hexadecimal after each count of bytes that ends a key; how, the signal, what it ends, and how many seconds after keys2.
+make_sessions() {
+    python3 - "$folder/sessions" "$sessions" "$seed" <<'PYTHON'
+import os, random, sys
+
+folder, count, seed = sys.argv[1], int(sys.argv[2]), int(sys.argv[3])
+random.seed(seed)
+# each is a unit of its own, whatever stands beside it
+LETTERS = "abcxyz ,.()0123456789" + "\u05d0\u05d1\u05d2\u05e9\u05dc" + "\u0627\u0628\u062a\u0645"
+BYTES = {"erase": b"\x7f", "delete": b"\x1b[3~", "back": b"\x02", "forward": b"\x06", "undo": b"\x1a", "redo": b"\x19",
+         "save": b"\x13", "repaint": b"\x0c", "direction": b"\x1b[9~"}
+NAMES = [*BYTES, "enter", "tab", "size", "quit"]
+# a program that the launcher runs is deaf to HUP
+WAYS = [(s, t) for t in ("launcher", "program", "both") for s in ("KILL", "HUP", "TERM") if (s, t) != ("HUP", "program")]
+
+
+class Session:
+    def __init__(self, text):
+        self.text, self.place, self.changed = text, 0, False
+        self.past, self.future = [], []
+        self.keys, self.ends = b"", {0: text}
+
+    def edit(self, text, place):
+        self.past.append((self.text, self.place, text, place))
+        self.text, self.place, self.changed, self.future = text, place, True, []
+
+    def insert(self, letter, byte=None):
+        self.edit(self.text[:self.place] + letter + self.text[self.place:], self.place + 1)
+        self.typed(byte or letter.encode())
+
+    def typed(self, keys):
+        self.keys += keys
+        self.ends[len(self.keys)] = self.text
+
+    def apply(self, name):
+        text, at = self.text, self.place
+        if name == "erase" and at > 0:
+            self.edit(text[:at - 1] + text[at:], at - 1)
+        elif name == "delete" and at < len(text):
+            self.edit(text[:at] + text[at + 1:], at)
+        elif name == "back":
+            self.place = max(0, at - 1)
+        elif name == "forward":
+            self.place = min(len(text), at + 1)
+        elif name == "undo" and self.past:
+            step = self.past.pop()
+            self.future.append(step)
+            self.text, self.place, self.changed = step[0], step[1], True
+        elif name == "redo" and self.future:
+            step = self.future.pop()
+            self.past.append(step)
+            self.text, self.place, self.changed = step[2], step[3], True
+        elif name == "save":
+            self.changed = False
+
+    def press(self):
+        name = random.choice(NAMES) if random.random() < 0.4 else "insert"
+        if name == "insert":
+            self.insert(random.choice(LETTERS))
+        elif name == "enter":
+            self.insert("\n", b"\r")
+        elif name == "tab":
+            self.insert("\t")
+        elif name == "size":
+            self.typed(b"\x1b[8;%d;%dt" % (random.randint(2, 30), random.randint(5, 90)))
+        elif name == "quit":
+            # a letter before it, so that it asks, and one behind it, so that no other ends the session
+            self.insert(random.choice(LETTERS))
+            self.typed(b"\x11")
+            self.insert(random.choice(LETTERS))
+        else:
+            self.apply(name)
+            self.typed(BYTES[name])
+
+    def row(self):
+        lines = self.text[:self.place].split("\n")
+        return "%s %d:%d" % ("*" if self.changed else "-", len(lines), len(lines[-1]) + 1)
+
+
+for number in range(count):
+    session = Session("".join(random.choice(LETTERS + "\n\n") for _ in range(random.randint(0, 120))))
+    files = {"file": session.text.encode()}
+    for _ in range(random.randint(1, 60)):
+        session.press()
+    # the window that tmux has, and a letter, which takes a message away
+    session.typed(b"\x1b[8;24;80t")
+    session.insert("q")
+    cut = len(session.keys)
+    files["row"] = session.row().encode()
+    for _ in range(random.choice([0, random.randint(1, 60)])):
+        session.press()
+    files["keys1"], files["keys2"] = session.keys[:cut], session.keys[cut:]
+    files["ends"] = "".join("%d %s\n" % (n, t.encode().hex()) for n, t in session.ends.items()).encode()
+    files["how"] = ("%s %s %.3f\n" % (*WAYS[number % len(WAYS)], random.random() * 0.2)).encode()
+    path = os.path.join(folder, "%04d" % number)
+    os.makedirs(path)
+    for name, data in files.items():
+        with open(os.path.join(path, name), "wb") as file:
+            file.write(data)
+PYTHON
+}
+
+# Says what is wrong with a recovered text. The journal must be a beginning of the keys that has all of keys1, and the text that of
+# its last key. Where there is no journal any more all was saved, and the text is that of some key behind keys1.
+judge() { # SESSION TEXT JOURNAL
+    python3 - "$@" <<'PYTHON'
+import os, sys
+
+def read(*path):
+    with open(os.path.join(*path), "rb") as file:
+        return file.read()
+
+session, text, journal = sys.argv[1:]
+first, second = read(session, "keys1"), read(session, "keys2")
+ends = {int(n): bytes.fromhex(t) for n, t in (line.split(" ") for line in read(session, "ends").decode().splitlines())}
+found = read(text)
+if not os.path.exists(journal):
+    sys.exit(0 if found in [t for n, t in ends.items() if n >= len(first)] else "what was saved is no text of these keys")
+kept = read(journal)
+if not (first + second).startswith(kept):
+    sys.exit("the journal is no beginning of the keys: %r, %r" % (kept, first + second))
+if len(kept) < len(first):
+    sys.exit("the journal has %d of %d bytes whose keys were on the screen" % (len(kept), len(first)))
+wanted = ends[max(n for n in ends if n <= len(kept))]
+sys.exit(0 if found == wanted else "the text is %r, and not %r" % (found.decode(), wanted.decode()))
+PYTHON
+}
+
+# ---- one session
+
+terminal() {
+    tmux -u -L "$socket" -f /dev/null "$@"
+}
+
+# A number for a name would be a window's.
+open_editor() { # NAME STATE FILE
+    terminal new-session -d -s "$1" -x 80 -y 24 -e "XDG_STATE_HOME=$2" "exec '$top/bidi-edit' '$3'"
+}
+
+type_keys() { # NAME FILE
+    [ -s "$2" ] || return 0
+    terminal load-buffer -b "$1" "$2"
+    terminal paste-buffer -r -d -b "$1" -t "$1"
+}
+
+has_row() { # NAME ROW
+    [ "$(terminal capture-pane -p -t "$1" 2>/dev/null | sed -n '24s/ *$//p')" = "$2" ]
+}
+
+has_ended() { # PROCESS..
+    for process; do
+        ! kill -s 0 "$process" 2>/dev/null || return 1
+    done
+}
+
+program_of() { # LAUNCHER
+    ps -o pid=,comm= --ppid "$1" | sed -n 's/^ *\([0-9]*\) bidi_edit$/\1/p'
+}
+
+# Ends what is to be ended, and waits for both.
+end_session() { # HOW LAUNCHER PROGRAM
+    read -r signal target delay <"$1"
+    sleep "$delay"
+    case $target in
+    launcher) kill -s "$signal" "$2" ;;
+    program) kill -s "$signal" "$3" ;;
+    both) kill -s "$signal" "$2" "$3" ;;
+    esac
+    wait_for 150 has_ended "$2" "$3"
+}
+
+# Types the keys, ends the session, and recovers its text.
+run_session() { # NUMBER
+    given=$folder/sessions/$1
+    work=$folder/work/$1
+    mkdir -p "$work"
+    cp "$given/file" "$work/text"
+    open_editor "s$1" "$work/state" "$work/text"
+    wait_for 150 has_row "s$1" '- 1:1' || { fails "$1" 'no screen'; return; }
+    launcher=$(terminal display-message -p -t "s$1" '#{pane_pid}')
+    program=$(program_of "$launcher")
+    type_keys "s$1" "$given/keys1"
+    wait_for 150 has_row "s$1" "$(cat "$given/row")" || { fails "$1" "the last row is not $(cat "$given/row")"; return; }
+    type_keys "s$1" "$given/keys2"
+    end_session "$given/how" "$launcher" "$program" || { fails "$1" "it did not end after $(cat "$given/how")"; return; }
+    terminal kill-session -t "s$1" 2>/dev/null
+    recover_session "$1"
+}
+
+recover_session() { # NUMBER
+    cp "$work"/state/bidi_edit/*/journal "$work/journal" 2>/dev/null
+    [ -s "$work/journal" ] || rm -f "$work/journal"
+    if [ -e "$work/journal" ]; then
+        XDG_STATE_HOME=$work/state "$top/bidi-edit" --recover --to "$work/recovered" "$work/text" >"$work/said" 2>&1
+    else
+        cp "$work/text" "$work/recovered"
+    fi
+    if ! [ -e "$work/recovered" ]; then
+        fails "$1" "$(cat "$given/how"): $(cat "$work/said")"
+    elif wrong=$(judge "$given" "$work/recovered" "$work/journal" 2>&1); then
+        passes "$1"
+        case $1 in *[05]) [ -s "$given/keys2" ] || go_on "$1" ;; esac
+    else
+        fails "$1" "$(cat "$given/how"): $wrong"
+    fi
+}
+
+# Recovers in the terminal, goes on typing there, and saves.
+go_on() { # NUMBER
+    open_editor "s$1" "$work/state" "$work/text"
+    wait_for 150 asks "s$1" || { fails "$1 goes on" 'nothing was asked'; return; }
+    terminal send-keys -t "s$1" recover Enter
+    wait_for 150 has_row "s$1" "$(cat "$given/row")" || { fails "$1 goes on" "the last row is not $(cat "$given/row")"; return; }
+    launcher=$(terminal display-message -p -t "s$1" '#{pane_pid}')
+    terminal send-keys -t "s$1" C-s C-q
+    wait_for 150 has_ended "$launcher" || { fails "$1 goes on" 'no end'; return; }
+    cmp -s "$work/text" "$work/recovered" || { fails "$1 goes on" 'another text was saved'; return; }
+    [ -z "$(ls -A "$work/state/bidi_edit")" ] || { fails "$1 goes on" 'the session is kept, and all is saved'; return; }
+    passes "$1 goes on"
+}
+
+asks() { # NAME
+    terminal capture-pane -p -t "$1" | grep -q 'recover it, discard it'
+}
+
+run_share() { # FIRST STEP
+    number=$1
+    while [ "$number" -lt "$sessions" ]; do
+        run_session "$(printf %04d "$number")"
+        number=$((number + $2))
+    done
+}
+
+# Four at once.
+check_sessions() {
+    make_sessions
+    mkdir "$folder/work"
+    for share in 0 1 2 3; do
+        run_share "$share" 4 &
+        eval "share$share=\$!"
+    done
+    # shellcheck disable=SC2154
+    wait "$share0" "$share1" "$share2" "$share3"
+}
+
+# ---- what the launcher says and asks
+
+# Types a line of a shell whose state is a folder of its own.
+say() { # WORD..
+    terminal send-keys -t shell "$*" Enter
+}
+
+open_shell() {
+    shell=$folder/shell
+    mkdir -p "$shell"
+    terminal kill-session -t shell 2>/dev/null
+    terminal new-session -d -s shell -x 80 -y 24 -e "XDG_STATE_HOME=$shell/state" "cd '$shell' && exec sh"
+    say "PATH='$top':\$PATH; PS1='\\$ '; clear"
+}
+
+shows() { # TEXT
+    terminal capture-pane -p -J -t shell | grep -qF -e "$1"
+}
+
+# A step of a scene: what is to be seen then.
+expect() { # NAME TEXT
+    wait_for 150 shows "$2" || {
+        fails "$1" "'$2' is not seen, but: $(terminal capture-pane -p -J -t shell | tr '\n' '|' | sed 's/|*$//')"
+        return 1
+    }
+}
+
+# Presses keys that end the editor, and waits for the shell's own screen.
+end_by_keys() { # KEY..
+    terminal send-keys -t shell "$@"
+    wait_for 150 shows_shell
+}
+
+shows_shell() {
+    [ "$(terminal display-message -p -t shell '#{alternate_on}')" = 0 ]
+}
+
+# The editor is open on the file text, keys are typed until the last row is this, and its program is ended.
+break_off() { # ROW KEY..
+    row=$1
+    shift
+    open_shell
+    rm -rf "$shell/state" "$shell"/text*
+    printf 'ab\n' >"$shell/text"
+    say bidi-edit text
+    wait_for 150 has_row shell '- 1:1'
+    terminal send-keys -t shell "$@"
+    wait_for 150 has_row shell "$row"
+    kill -s KILL "$(terminal list-panes -t shell -F '#{pane_pid}' | while read -r process; do program_under "$process"; done)"
+    expect "$scene" 'what was typed is kept'
+    say clear
+}
+
+program_under() { # SHELL
+    for launcher in $(ps -o pid= --ppid "$1"); do program_of "$launcher"; done
+}
+
+scene_recover_asks() {
+    break_off '* 1:2' x && say bidi-edit text && expect "$scene" 'an unfinished session of' && expect "$scene" 'keys typed: 1' && say what &&
+        say 'echo status $?' && expect "$scene" 'status 2' && say clear && say bidi-edit text && expect "$scene" 'discard it' && say discard &&
+        wait_for 150 has_row shell '- 1:1' && end_by_keys C-q && say 'ls state/bidi_edit | wc -l' && expect "$scene" 0
+}
+
+scene_all_is_saved() {
+    break_off '- 1:2  saved' x C-s && say bidi-edit text && wait_for 150 has_row shell '- 1:1' && end_by_keys C-q &&
+        expect "$scene" 'text holds all that was typed in its last session'
+}
+
+scene_changed_by_another() {
+    break_off '* 1:2' x && echo other >"$shell/text" && say bidi-edit text && expect "$scene" 'discard it' && say recover &&
+        wait_for 150 has_row shell '* 1:2' && end_by_keys C-s C-q && expect "$scene" 'recovered as text.recovered' &&
+        say 'cat text text.recovered' && expect "$scene" xab && expect "$scene" other
+}
+
+scene_dropped() {
+    open_shell
+    say bidi-edit text
+    wait_for 150 has_row shell '- 1:1' && end_by_keys y C-q C-q && expect "$scene" 'what was dropped can be had back' &&
+        say clear && say bidi-edit --recover text && wait_for 150 has_row shell '* 1:2' && end_by_keys C-s C-q &&
+        say 'grep -c y text; ls state/bidi_edit | wc -l' && expect "$scene" 1 && expect "$scene" 0
+}
+
+scene_two_editors() {
+    open_shell
+    printf 'ab\n' >"$shell/other"
+    say bidi-edit other
+    wait_for 150 has_row shell '- 1:1' || return 1
+    terminal rename-session -t shell first
+    open_shell
+    say bidi-edit other
+    expect "$scene" 'other is open in another editor' && say no && say 'echo status $?' && expect "$scene" 'status 2'
+    ended=$?
+    terminal send-keys -t first C-q
+    return "$ended"
+}
+
+check_scenes() {
+    for scene in recover_asks all_is_saved changed_by_another dropped two_editors; do
+        if "scene_$scene"; then passes "$scene"; else fails "$scene" "at last: $(terminal capture-pane -p -J -t shell | tr '\n' '|' | sed 's/|*$//')"; fi
+    done
+}
+
+# ---- the program alone
+
+run_editor() { # WORD..
+    "$editor" --classes "$top/data/DerivedBidiClass.txt" --brackets "$top/data/BidiBrackets.txt" --mirroring "$top/data/BidiMirroring.txt" "$@"
+}
+
+# So many keys: lines of 60 letters, moves and erasures among them.
+many_keys() { # COUNT
+    python3 -c '
+import random, sys
+random.seed(2)
+for n in range(int(sys.argv[1])):
+    sys.stdout.buffer.write(b"\r" if n % 61 == 60 else random.choice([b"a", b"b", b" ", "\u05d0".encode(), "\u0628".encode(), b"\x1b[D", b"\x7f"]))
+' "$1"
+}
+
+# On a disk with no room for it the journal is given up, and the save is made.
+check_full_disk() {
+    mkdir "$folder/small"
+    if ! mount -t tmpfs -o size=64k none "$folder/small" 2>/dev/null; then
+        echo 'full disk: not checked, since no small one could be mounted'
+        return
+    fi
+    mounted=$folder/small
+    many_keys 100000 >"$folder/keys"
+    printf '\023\021' >>"$folder/keys"
+    run_editor --to "$folder/wanted" --replay "$folder/keys" "$folder/new" >/dev/null
+    run_editor --journal "$mounted/journal" "$folder/saved" <"$folder/keys" >/dev/null 2>"$folder/said"
+    status=$?
+    if [ "$status" = 0 ] && cmp -s "$folder/saved" "$folder/wanted" && grep -q 'the journal could not be written' "$folder/said"; then
+        passes 'full disk'
+    else
+        fails 'full disk' "status $status, $(wc -c <"$folder/saved") bytes saved: $(cat "$folder/said")"
+    fi
+}
+
+check_replay_time() {
+    many_keys 100000 >"$folder/keys"
+    start=$(date +%s%N)
+    told=$(run_editor --to "$folder/replayed" --replay "$folder/keys" "$folder/new")
+    milliseconds=$((($(date +%s%N) - start) / 1000000))
+    echo "replay of 100,000 keys: $milliseconds ms ($told)"
+    if [ "$told" = 'known 100000' ] && [ "$milliseconds" -lt 10000 ]; then passes replay; else fails replay "$milliseconds ms, $told"; fi
+}
+
+# The median time from a key's byte to its painting, with a journal and without, in turn; the least difference of five rounds, since
+# whatever else runs only adds to one.
+measure_cost() {
+    python3 - "$folder" "$editor" "$top/data" <<'PYTHON'
+import os, statistics, subprocess, sys, time
+
+folder, editor, data = sys.argv[1:]
+words = [editor, "--classes", data + "/DerivedBidiClass.txt", "--brackets", data + "/BidiBrackets.txt",
+         "--mirroring", data + "/BidiMirroring.txt"]
+
+def median(more):
+    """Of 2,000 letters in lines of 50, in microseconds."""
+    program = subprocess.Popen(words + more + [folder + "/none"], stdin=subprocess.PIPE, stdout=subprocess.PIPE,
+                               stderr=subprocess.DEVNULL, bufsize=0)
+    os.read(program.stdout.fileno(), 65536)
+    times = []
+    for n in range(2000):
+        key = b"\r" if n % 50 == 49 else b"a"
+        start = time.perf_counter()
+        program.stdin.write(key)
+        os.read(program.stdout.fileno(), 65536)
+        times.append(time.perf_counter() - start)
+    program.stdin.close()
+    program.wait(60)
+    return statistics.median(times) * 1e6
+
+rounds = [(median([]), median(["--journal", folder + "/cost"])) for _ in range(5)]
+cost = min(kept - bare for bare, kept in rounds)
+print("a key, median in us without a journal and with one: " + ", ".join("%.1f %.1f" % r for r in rounds))
+print("the journal costs %.1f us at a key" % cost)
+sys.exit(cost >= 10)
+PYTHON
+}
+
+check_cost() {
+    if measure_cost; then passes cost; else fails cost 'the journal costs 10 us at a key or more'; fi
+}
+
+: >"$folder/results"
+# tmux ends with its last session
+terminal new-session -d -s idle
+check_full_disk
+check_replay_time
+check_cost
+check_scenes
+check_sessions
+passed=$(grep -c '^ok' "$folder/results")
+failed=$(grep -c '^FAILS' "$folder/results")
+echo "$passed passed, $failed failed"
+[ "$failed" = 0 ] && [ "$passed" -gt "$sessions" ]
