@@ -44,19 +44,21 @@ pub fn byte_of(pair: &[u8]) -> Result<u8, WordFault> {
     }
 }
 
-/// Adds the bytes of pairs of digits.
-fn add_bytes(bytes: &mut Vec<u8>, digits: &str) -> Result<(), WordFault> {
+/// The bytes of pairs of digits.
+fn bytes_of_digits(alloc: Global, digits: &str) -> Result<Vec<u8>, WordFault> {
+    let mut bytes = Vec::new(alloc);
     for pair in digits.as_bytes().chunks(2) {
         bytes.push(byte_of(pair)?)?;
     }
-    Ok(())
+    Ok(bytes)
 }
 
 /// Adds the bytes of pairs of digits as often as a count behind a star says, or once.
-fn add_part(bytes: &mut Vec<u8>, part: &str) -> Result<(), WordFault> {
+fn add_part(alloc: Global, bytes: &mut Vec<u8>, part: &str) -> Result<(), WordFault> {
     let (digits, count) = part.split_once('*').unwrap_or((part, "1"));
+    let once = bytes_of_digits(alloc, digits)?;
     for _ in 0..count_of(count)? {
-        add_bytes(bytes, digits)?;
+        bytes.extend_from_slice(&once)?;
     }
     Ok(())
 }
@@ -66,7 +68,7 @@ pub fn bytes_of(alloc: Global, field: &str) -> Result<Vec<u8>, WordFault> {
     let mut bytes = Vec::new(alloc);
     if field != "-" {
         for part in field.split('+') {
-            add_part(&mut bytes, part)?;
+            add_part(alloc, &mut bytes, part)?;
         }
     }
     Ok(bytes)

@@ -1,6 +1,6 @@
-//! Tests of a paragraph's layout and of the rows of a whole text: each call once with ample memory, worked moves and pages, rows
-//! of an independent model, and how often an edit asks for a class. They stand in a crate of their own since the tests of a
-//! crate prove all of it once more.
+//! Tests of a paragraph's layout and of the rows of a whole text: each call once with ample memory, rows of an independent model,
+//! and how often an edit asks for a class. Moves are played by `play_scenes`. They stand in a crate of their own since the tests
+//! of a crate prove all of it once more.
 #![tactic(auto)]
 
 #[cfg(test)]
@@ -8,10 +8,8 @@ mod counting;
 #[cfg(test)]
 mod layout;
 #[cfg(test)]
-mod moves;
-#[cfg(test)]
-mod page;
-#[cfg(test)]
 mod rows;
 #[cfg(test)]
 mod scene;
+#[cfg(test)]
+mod whole;

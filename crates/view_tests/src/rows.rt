@@ -1,8 +1,10 @@
-//! The slots of the rows of whole texts: the column of each, and the steps from one to the next.
+//! The rows of whole texts: how many there are, where each begins, its slots with the column of each, and the steps from one slot
+//! to the next.
 
 mod vectors;
 
 use crate::scene::{Scene, base_of};
+use crate::whole::Whole;
 use bx_view::Visual;
 use std::alloc::Global;
 use std::test::Fail;
@@ -70,10 +72,58 @@ fn has_rows_of_line(alloc: Global, line: &str) -> Result<bool, Fail> {
     has_rows(&mut scene, rows)
 }
 
+/// Whether the row of a number begins at the least of the places of its slots, falls under each of them, and has these slots.
+fn is_row(whole: &Whole, number: usize, slots: &str) -> Result<bool, Fail> {
+    let mut places = Vec::new(whole.allocator());
+    for word in slots.split(' ') {
+        let (place, _) = slot_of(word)?;
+        if whole.row_of(place)? != number {
+            return Ok(false);
+        }
+        places.push(place)?;
+    }
+    let first = places.iter().copied().min();
+    Ok(
+        whole.first(number)? == first
+            && whole.slots(first.unwrap_or(0))?.as_slice() == places.as_slice(),
+    )
+}
+
+/// Whether a text has these rows and no more.
+fn has_rows_by_number(whole: &Whole, rows: &str) -> Result<bool, Fail> {
+    let mut count = 0;
+    for slots in rows.split('/') {
+        if !is_row(whole, count, slots)? {
+            return Ok(false);
+        }
+        count += 1;
+    }
+    Ok(whole.row_count()? == count && whole.first(count)?.is_none())
+}
+
+/// Whether the rows of a text are as its line says, by their numbers.
+fn has_numbered_rows_of_line(alloc: Global, line: &str) -> Result<bool, Fail> {
+    let mut fields = line.split('|');
+    let text = text_of(alloc, fields.next().ok_or("no text")?)?;
+    let base = base_of(fields.next().ok_or("no base")?)?;
+    let w: u16 = fields.next().ok_or("no columns")?.parse()?;
+    let rows = fields.next().ok_or("no rows")?;
+    let whole = Whole::of(alloc, text, w, base)?;
+    has_rows_by_number(&whole, rows)
+}
+
 #[test]
 fn slots_of_random_texts(rt: HostRuntime) -> Result<(), Fail> {
     for line in VECTORS.lines() {
         assert!(rt; has_rows_of_line(rt.alloc(), line)?, "{line}");
+    }
+    Ok(())
+}
+
+#[test]
+fn numbered_rows_of_random_texts(rt: HostRuntime) -> Result<(), Fail> {
+    for line in VECTORS.lines() {
+        assert!(rt; has_numbered_rows_of_line(rt.alloc(), line)?, "{line}");
     }
     Ok(())
 }

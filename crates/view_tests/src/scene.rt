@@ -5,7 +5,7 @@ use bx_document::Document;
 use bx_explicit::Base;
 use bx_terms::is_side;
 use bx_ucd::{BidiData, Tables, sample_tables};
-use bx_view::{Logical, Vertical, Visual};
+use bx_view::Visual;
 use std::alloc::Global;
 use std::test::Fail;
 
@@ -36,23 +36,6 @@ pub(crate) fn base_of(field: &str) -> Result<Base, Fail> {
     }
 }
 
-/// The text of a field, which is plain ASCII: a slash stands for a line feed, `A`, `B` and `G` for the first letters of the
-/// Hebrew alphabet, and `W` for a wide character.
-pub(crate) fn text_of(alloc: Global, field: &str) -> Result<String, Fail> {
-    let mut text = String::new(alloc);
-    for c in field.chars() {
-        text.push(match c {
-            '/' => '\n',
-            'A' => '\u{5d0}',
-            'B' => '\u{5d1}',
-            'G' => '\u{5d2}',
-            'W' => '\u{4e16}',
-            _ => c,
-        })?;
-    }
-    Ok(text)
-}
-
 /// A text in a window. Its characters stand beside the document, so that a move asks, when the test runs, whether its place
 /// stands between two of them.
 #[derive(Drop)]
@@ -79,43 +62,5 @@ impl Scene<'_> {
             return Err(Fail::new("within a character"));
         }
         Ok(self.document.step_visual(side, place)?)
-    }
-
-    pub(crate) fn step_logical(&mut self, way: Logical, place: usize) -> Result<usize, Fail> {
-        if !self.text.is_char_boundary(place) {
-            return Err(Fail::new("within a character"));
-        }
-        Ok(self.document.step_logical(way, place)?)
-    }
-
-    pub(crate) fn vertical(&mut self, way: Vertical, place: usize) -> Result<usize, Fail> {
-        if !self.text.is_char_boundary(place) {
-            return Err(Fail::new("within a character"));
-        }
-        Ok(self.document.vertical(way, place)?)
-    }
-
-    /// The place `t` rows away.
-    pub(crate) fn page(&mut self, way: Vertical, t: usize, place: usize) -> Result<usize, Fail> {
-        if !self.text.is_char_boundary(place) {
-            return Err(Fail::new("within a character"));
-        }
-        Ok(self.document.page(way, t, place)?)
-    }
-
-    pub(crate) fn row_home(&mut self, place: usize) -> Result<usize, Fail> {
-        Ok(self.document.row_home(place)?)
-    }
-
-    pub(crate) fn row_end(&mut self, place: usize) -> Result<usize, Fail> {
-        Ok(self.document.row_end(place)?)
-    }
-
-    /// Where the first of the `t` rows begins that are shown, so that the row of the place is among them.
-    pub(crate) fn follow(&mut self, top: usize, place: usize, t: usize) -> Result<usize, Fail> {
-        if t == 0 {
-            return Err(Fail::new("no rows"));
-        }
-        Ok(self.document.follow(top, place, t)?)
     }
 }

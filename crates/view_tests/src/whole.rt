@@ -1,0 +1,69 @@
+//! A text with its paragraphs and tables, of which a new layout is asked at each call.
+ghost use Rattle.std.specs.Prelude.{◌≡◌, true};
+ghost use Rattle.bx_paras.specs.Paragraphs.{lengths};
+ghost use Rattle.bx_terms.specs.Sizes.{is_side};
+
+use bx_explicit::Base;
+use bx_paras::Index;
+use bx_terms::is_side;
+use bx_text::Text;
+use bx_ucd::{BidiData, Tables, sample_tables};
+use bx_view::Layout;
+use std::alloc::Global;
+use std::test::Fail;
+
+/// A text in a window of so many columns.
+#[derive(Drop)]
+pub(crate) struct Whole {
+    alloc: Global,
+    text: Text,
+    index: Index,
+    tables: Tables,
+    w: u16,
+    base: Base,
+    ghost paragraphs: { index.paragraphs ≡ lengths (⟦<Tables as BidiData>⟧.class_of tables) text.edited.text },
+    ghost side: { is_side w ≡ true },
+}
+
+impl Whole {
+    pub(crate) fn of(alloc: Global, text: String, w: u16, base: Base) -> Result<Whole, Fail> {
+        if !is_side(w) {
+            return Err(Fail::new("no width"));
+        }
+        let text = Text::open(alloc, text)?;
+        let tables = sample_tables(alloc)?;
+        let index = Index::build(alloc, &text, &tables)?;
+        Ok(Whole {
+            alloc,
+            text,
+            index,
+            tables,
+            w,
+            base,
+        })
+    }
+
+    pub(crate) fn allocator(&self) -> Global {
+        self.alloc
+    }
+
+    pub(crate) fn row_count(&self) -> Result<usize, Fail> {
+        let layout = Layout::of(self.alloc, self.w, self.base);
+        Ok(layout.row_count(&self.text, &self.index, &self.tables)?)
+    }
+
+    pub(crate) fn row_of(&self, place: usize) -> Result<usize, Fail> {
+        let mut layout = Layout::of(self.alloc, self.w, self.base);
+        Ok(layout.row_of(&self.text, &self.index, &self.tables, place)?)
+    }
+
+    pub(crate) fn first(&self, row: usize) -> Result<Option<usize>, Fail> {
+        let layout = Layout::of(self.alloc, self.w, self.base);
+        Ok(layout.first(&self.text, &self.index, &self.tables, row)?)
+    }
+
+    pub(crate) fn slots(&self, place: usize) -> Result<Vec<usize>, Fail> {
+        let mut layout = Layout::of(self.alloc, self.w, self.base);
+        Ok(layout.slots(&self.text, &self.index, &self.tables, place)?)
+    }
+}
