@@ -1,0 +1,120 @@
+# shellcheck shell=sh
+# What refuses a growth of memory, for check-refusals.sh: a file in C that is loaded into a program. It refuses the growth whose number
+# it is given, gives the program its input one byte a read, and tells how many bytes were read when it refused.
+
+# Writes the file in C, and builds of it what is loaded.
+build_refuse() {
+    cat >refuse.c <<'END'
+#define _GNU_SOURCE
+#include <errno.h>
+#include <fcntl.h>
+#include <stdio.h>
+#include <stdlib.h>
+#include <sys/syscall.h>
+#include <unistd.h>
+
+extern void *__libc_malloc(size_t);
+extern void *__libc_calloc(size_t, size_t);
+extern void *__libc_realloc(void *, size_t);
+extern void *__libc_memalign(size_t, size_t);
+
+static long refused, muted, failing;       /* the growth; the byte whose output, and in whose time renames, are lost */
+static long growths, bytes, refused_at = -1; /* so far, and how many bytes were read at the refusal */
+
+static long number_of(const char *name) {
+    const char *word = getenv(name);
+    return word ? atol(word) : -1;
+}
+
+__attribute__((constructor)) static void begin(void) {
+    refused = number_of("REFUSED");
+    muted = number_of("MUTED");
+    failing = number_of("FAILING");
+}
+
+__attribute__((destructor)) static void end(void) {
+    char line[40];
+    int length = snprintf(line, sizeof line, "%ld\n", refused_at);
+    int file = open(getenv("TOLD"), O_WRONLY | O_CREAT | O_TRUNC, 0600);
+    if (syscall(SYS_write, file, line, length) != length) _exit(99);
+    close(file);
+}
+
+static int is_refused(void) {
+    if (++growths != refused) return 0;
+    refused_at = bytes;
+    errno = ENOMEM;
+    return 1;
+}
+
+void *malloc(size_t size) { return is_refused() ? NULL : __libc_malloc(size); }
+void *calloc(size_t count, size_t size) { return is_refused() ? NULL : __libc_calloc(count, size); }
+void *realloc(void *old, size_t size) { return is_refused() ? NULL : __libc_realloc(old, size); }
+void *memalign(size_t to, size_t size) { return is_refused() ? NULL : __libc_memalign(to, size); }
+void *aligned_alloc(size_t to, size_t size) { return memalign(to, size); }
+
+int posix_memalign(void **place, size_t to, size_t size) {
+    void *found = memalign(to, size);
+    if (!found) return ENOMEM;
+    *place = found;
+    return 0;
+}
+
+ssize_t read(int file, void *to, size_t count) {
+    ssize_t got = syscall(SYS_read, file, to, file == 0 && count > 1 ? 1 : count);
+    if (file == 0 && got > 0) bytes += got;
+    return got;
+}
+
+ssize_t write(int file, const void *from, size_t count) {
+    return file == 1 && bytes == muted ? (ssize_t)count : syscall(SYS_write, file, from, count);
+}
+
+int rename(const char *from, const char *to) {
+    if (bytes != failing) return syscall(SYS_rename, from, to);
+    errno = EIO;
+    return -1;
+}
+END
+    cc -O2 -Wall -shared -fPIC -o refuse.so refuse.c
+}
+
+# Runs a command with what is loaded, and these variables of it. The file `told` has how many bytes of input were read when a growth
+# was refused, -1 where none was, and nothing where the command did not end by itself.
+loaded() { # VARIABLE.. COMMAND..
+    : >"$scratch/told"
+    # `timeout` itself has its memory
+    timeout 60 env "TOLD=$scratch/told" "LD_PRELOAD=$scratch/refuse.so" "$@"
+}
+
+# Runs a command with each growth refused in turn, until none is. Each time a line is added to `runs`: the growth's number, the
+# status, what `told` has, the first line of standard error, and the lines of standard output with a bar between them.
+sweep() { # INPUT COMMAND..
+    input=$1 number=0 refused_at=''
+    shift
+    : >runs
+    while [ "$refused_at" != -1 ]; do
+        number=$((number + 1)) status=0
+        loaded "REFUSED=$number" "$@" <"$input" >out 2>err || status=$?
+        IFS= read -r refused_at <told || :
+        IFS= read -r error <err || error=''
+        line=''
+        while IFS= read -r part; do line=$line${line:+|}$part; done <out
+        printf '%s\t%s\t%s\t%s\t%s\n' "$number" "$status" "$refused_at" "$error" "$line" >>runs
+        if [ "$number" -ge 5000 ]; then
+            fail "$*: 5000 growths are not all"
+            return
+        fi
+    done
+}
+
+# Adds lines of a kind of run and what it was to those that are counted; those that begin with FAILS are told.
+count_kinds() { # NAME
+    while IFS= read -r kind; do
+        case $kind in
+        FAILS*) fail "$1, ${kind#FAILS }" ;;
+        *) echo "$kind" >>kinds ;;
+        esac
+    done
+}
+

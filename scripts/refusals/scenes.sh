@@ -1,0 +1,138 @@
+# shellcheck shell=sh
+# The scenes and the tables of check-refusals.sh.
+
+# Plays scenes that are refused nothing.
+play() {
+    timeout 60 "$player" "$top"/crates/play_scenes/data/classes.txt "$top"/crates/play_scenes/data/brackets.txt \
+        "$top"/crates/play_scenes/data/mirroring.txt
+}
+
+# Plays the scene of the file `scene` with each growth refused.
+sweep_scene() {
+    sweep scene "$player" "$top"/crates/play_scenes/data/classes.txt "$top"/crates/play_scenes/data/brackets.txt \
+        "$top"/crates/play_scenes/data/mirroring.txt
+}
+
+# A scene's line.
+scene_of() { # ROWS COLS FILE STEPS WAY
+    printf 'scene\tauto\t%s\t%s\t-\t%s\t%s\t%s\n' "$@"
+}
+
+# The scenes that tell what refused runs of one must answer: itself; for each step, itself with a byte that ends no key, or with
+# nothing sent, in its place; for each step, what stands before it; and itself with a call of the store failing, of which more
+# than it makes are tried.
+variants() {
+    awk -F '\t' -v OFS='\t' '
+        { head = $1 OFS $2 OFS $3 OFS $4; file = $6; way = $8; count = split($7, step, " ") }
+        function with(call, from, to, instead,  words, k) {
+            words = ""
+            for (k = 1; k <= to; k++) words = words (k > 1 ? " " : "") (k == from ? instead : step[k])
+            print head, call, file, (words == "" ? "-" : words), way
+        }
+        END {
+            with("-", 0, count)
+            for (k = 1; k <= count; k++) with("-", k, count, step[k] ~ /^B/ ? "B00" : step[k] ~ /^S/ ? "S0" : step[k])
+            for (k = 1; k <= count; k++) with("-", 0, k - 1)
+            for (call = 1; call <= 12; call++) with(call, 0, count)
+        }'
+}
+
+# Says what each run of `runs` was, by what the variants answer in `answers`, or why it is none that may be.
+judge() { # STEPS WAY
+    awk -F '\t' -v OFS='\t' -v steps="$1" -v way="$2" -f "$top/scripts/refusals/judge.awk" answers runs
+}
+
+# Runs a scene with each growth refused, step by step and by one call.
+check_scene() { # NAME ROWS COLS FILE STEPS
+    for way in step play; do
+        scene_of "$2" "$3" "$4" "$5" "$way" >scene
+        variants <scene | play >answers
+        sweep_scene
+        judge "$5" "$way" >judged
+        count_kinds "$1, $way" <judged
+    done
+}
+
+# A scene as it is, and with a byte that ends no key behind each key and each size.
+check_scenes() { # NAME ROWS COLS FILE STEPS
+    check_scene "$@"
+    check_scene "$1, idle bytes" "$2" "$3" "$4" "$(idle_behind_keys "$5")"
+}
+
+# Steps with a byte that ends no key behind each that may paint: a told size, and each byte but those of sequences and characters
+# that more bytes follow.
+idle_behind_keys() { # STEPS
+    printf '%s\n' "$1" | awk '{
+        for (k = 1; k <= NF; k++) {
+            printf "%s%s", (k > 1 ? " " : ""), $k
+            if ($k == "B1b" || $k == "Bcc") is_open = 1
+            else if ($k ~ /^B/ && is_open && $k != "B5b" && $k != "B33") is_open = 0
+            if ($k ~ /^[BT]/ && !is_open) printf " B00"
+        }
+        print ""
+    }'
+}
+
+# Plays a scene with each growth refused, and wants one run to answer exactly so. Where a kind of run is named, the run with the
+# growth before must have answered that.
+check_worked() { # NAME ROWS COLS FILE STEPS WAY WANTED [BEFORE]
+    scene_of "$2" "$3" "$4" "$5" "$6" >scene
+    sweep_scene
+    wanted=$(printf '%b' "$7")
+    found=$(cut -f 5- runs | awk -v wanted="$wanted" -v before="${8:-}" '
+        $0 == wanted && (before == "" || last == before) { n++ } { last = $0 } END { print n + 0 }')
+    if [ "$found" -gt 0 ]; then
+        echo "worked: $1" >>kinds
+    else
+        fail "$1: no run answers $wanted"
+    fi
+    awk -F '\t' '
+        { letters = $5; refusals = letters ~ /^refused: / ? 0 : gsub(/[EPLNf]/, "", letters) }
+        $3 == "" || refusals > 1 { print; next }
+        ($2 != 0 || $4 != "") && !($2 == 1 && $4 ~ /^play_scenes: (.*: )?out of memory$/) { print }
+    ' runs >odd
+    [ ! -s odd ] || fail "$1: $(head -n 1 odd)"
+}
+
+check_all_scenes() {
+    rest='S1000 R1000'
+    check_scenes 'quit' 1 5 6162 "B11 $rest"
+    check_scenes 'windows and sizes' 4 20 6162 'S38 R11 W2,5 R27 T4,20 T2,5 S1000 R1000'
+    check_scenes 'a save between CR LF' 3 10 610d0a62 "B1b B5b B46 B1b B5b B33 B7e B13 $rest"
+    check_scenes 'a mark, undo and redo' 2 10 65 "B1b B5b B46 Bcc B81 B7f B1a B19 $rest"
+    check_scenes 'changes' 1 5 6162 "B78 B1b B5b B46 B7f B1b B5b B43 $rest"
+    check_scenes 'down' 3 4 310a320a33 "B1b B5b B42 B1b B5b B42 $rest"
+}
+
+check_all_worked() {
+    # the painting at opening, and what shows `xyab` in its place
+    opening=1b5b306d1b5b324a1b5b313b314861621b5b313b3148
+    changes=1b5b313b3148787961621b5b313b3348
+    check_worked 'a byte without a key takes no memory' 1 5 6162 'S1000 B00 pending B78 pending' alone \
+        'ooE\t- -' 'refused: out of memory'
+    check_worked 'the next key paints what is owed' 1 5 6162 'S1000 B78 pending B79 pending place text' alone \
+        "oPo\\t- $changes 2 78796162"
+    check_worked 'a key makes the screen right' 1 5 6162 'S1000 R1000 B78 shown B79 S1000 R1000 shown rows=1;3:xyab_ text' step \
+        'ooPooo\t1 1 1 78796162'
+    told='S1000 R1000 W1,5 T1,5 B00 S1000 R1000'
+    check_worked 'a byte without a key paints for a told size' 1 5 6162 "$told" step "oooPooo\\t0100001\\t6162\\t-\\t0\\t0\\t$opening$opening"
+    check_worked 'a byte without a key paints for a told size, by a play' 1 5 6162 "$told" play 'oooPooo\t1\t6162\t-\t0\t0\t-'
+    check_worked 'the terminal without memory' 1 5 6162 'S1000 R5 R5 W1,4 R1000 R1000 W1,5 shown' step 'oMMMMoM\t0'
+}
+
+# ---- tables
+
+# Reads a class file with each growth refused, and asks for three characters.
+check_tables() {
+    printf '# @missing: 0041..0042; Right_To_Left\n0041 ; L\n' >classes
+    : >none
+    sweep none "$lookup" classes none none 0041 0042 0043
+    awk -F '\t' '
+        $3 == "" { print "FAILS it ended by a signal or not at all"; next }
+        $5 == "U+0041 L|U+0042 R|U+0043 L" && $4 == "" { print ($3 == -1 ? "tables: nothing refused" : "tables: the same"); next }
+        $5 == "" && $4 ~ /^Error: (.*: )?(out of memory|memory allocation failed)$/ { print "tables: out of memory"; next }
+        { print "FAILS growth " $1 ": " $4 " " $5 }
+    ' runs >judged
+    count_kinds 'the tables' <judged
+}
+
