@@ -24,7 +24,8 @@
 #    that is refused nothing, or be one of these, K being the byte that was read last before the refusal:
 #    - before the first byte: status 1, `out of memory` alone, nothing on the screen, and FILE as it was;
 #    - a dropped key: all is as where a byte that ends no key stands in K's place;
-#    - a failed save: all is as where the system refuses to rename in K's time;
+#    - a failed save: all is as where the system refuses to rename in K's time, or the first time where the store was refused the
+#      growth before the first byte;
 #    - a painting put off: status, fault and FILE are as if it had not been refused, and K sends nothing. With Repaint typed behind K
 #      and the same growth refused, all is as in the session with Repaint there that is refused nothing, but for what K sends.
 set -eu

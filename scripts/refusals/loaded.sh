@@ -18,7 +18,7 @@ extern void *__libc_calloc(size_t, size_t);
 extern void *__libc_realloc(void *, size_t);
 extern void *__libc_memalign(size_t, size_t);
 
-static long refused, muted, failing;       /* the growth; the byte whose output, and in whose time renames, are lost */
+static long refused, muted, failing;         /* the growth; the byte whose output, and in whose time renames, are lost, 0: the first */
 static long growths, bytes, refused_at = -1; /* so far, and how many bytes were read at the refusal */
 
 static long number_of(const char *name) {
@@ -71,7 +71,8 @@ ssize_t write(int file, const void *from, size_t count) {
 }
 
 int rename(const char *from, const char *to) {
-    if (bytes != failing) return syscall(SYS_rename, from, to);
+    if (failing != 0 && bytes != failing) return syscall(SYS_rename, from, to);
+    failing = failing ? failing : -1;
     errno = EIO;
     return -1;
 }

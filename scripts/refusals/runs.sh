@@ -50,8 +50,14 @@ kind_of_run() { # NUMBER BYTES
     elif are_alike found whole; then
         kind='session: the same'
     elif [ "$2" = 0 ]; then
-        kind='session: out of memory at opening'
-        cmp -s found.end refused.end && [ ! -s found.out ] || kind="FAILS another end: $(sed -n '1,2p' found.end)"
+        [ -f failing0.out ] || run_session failing0 keys FAILING=0
+        if cmp -s found.end refused.end && [ ! -s found.out ]; then
+            kind='session: out of memory at opening'
+        elif are_alike found failing0; then
+            kind='session: a failed save'
+        else
+            kind="FAILS another end: $(sed -n '1,2p' found.end)"
+        fi
     else
         make_answers "$2"
         if are_alike found "dropped$2"; then
