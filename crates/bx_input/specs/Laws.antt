@@ -60,6 +60,10 @@ pub record PastesAreClean : Type 0 where
 abbrev pub GrowsByThird : Type 0
 GrowsByThird = (bs : List ℕ) → 3 * length (filtered bs) ≤ 4 * length bs
 
+-- input without the letter Q has no such F2, and nothing longer goes out
+abbrev pub NoLongerWithoutQ : Type 0
+NoLongerWithoutQ = (bs : List ℕ) → list_all (λ b. not (b == 0x51)) bs ≡ true → length (filtered bs) ≤ length bs
+
 -- the editor's key for what a row becomes is the row's
 abbrev pub HasKey : Row → Type 0
 HasKey r = decoding r.becomes ≡ record { keys = r.key ∷ []; rest = [] }

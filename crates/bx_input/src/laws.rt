@@ -1,7 +1,7 @@
 //! What holds of the filter, whatever its input. The functions do nothing: their contracts are the laws.
 
 ghost use Rattle.std.specs.List.{AllByRecursion};
-ghost use Rattle.bx_input.specs.Laws.{AddsKey, BecomesRow, ComesInPieces, GrowsByThird, HasKey, OthersPass, PastesAreClean, PastesInsert, PastesText, WaitsForFive};
+ghost use Rattle.bx_input.specs.Laws.{AddsKey, BecomesRow, ComesInPieces, GrowsByThird, HasKey, NoLongerWithoutQ, OthersPass, PastesAreClean, PastesInsert, PastesText, WaitsForFive};
 ghost use Rattle.bx_input.specs.Table.{rows};
 
 /// However input is cut, what goes out is the same.
@@ -29,9 +29,10 @@ pub fn others_pass()
     ensures { OthersPass }
 {}
 
-/// What goes out is at most a third longer than what came in.
+/// What goes out is at most a third longer than what came in, and no longer where no F2 comes as ESC O Q.
 pub fn grows_by_third()
-    ensures { GrowsByThird }
+    ensures third { GrowsByThird }
+    ensures no_longer { NoLongerWithoutQ }
 {}
 
 /// The editor has the table's key for what a sequence of the table becomes.
