@@ -23,7 +23,8 @@ Edits a text of any scripts, each paragraph in its own direction, from line N.
   Ctrl-Q                11            quit; twice where changes are not saved
   Ctrl-Z Ctrl-Y         1A 19         undo, redo
   Ctrl-L                0C            paint the screen anew
-  Esc [ 9 ~ in turn     CSI 9~        direction: auto, ltr, rtl and auto again
+  F2, or Esc [ 9 ~      CSI 9~        direction: auto, ltr, rtl and auto again
+  Paste                 CSI 200~      goes in as text: no byte of it is a command
 
 The last row: * where changes are not saved, else -; paragraph:place; a message.
 Marks, in negative image, stand for what has no look of its own:
