@@ -24,7 +24,7 @@ Edits a text of any scripts, each paragraph in its own direction, from line N.
   Ctrl-Z Ctrl-Y         1A 19         undo, redo
   Ctrl-L                0C            paint the screen anew
   F2, or Esc [ 9 ~      CSI 9~        direction: auto, ltr, rtl and auto again
-  Paste                 CSI 200~      goes in as text: no byte of it is a command
+  Paste                 CSI 200~      goes in as text, whatever it holds
 
 The last row: * where changes are not saved, else -; paragraph:place; a message.
 Marks, in negative image, stand for what has no look of its own:
