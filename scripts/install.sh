@@ -31,15 +31,16 @@ uninstall() {
     echo "bidi-edit is no longer under $prefix"
 }
 
-# The programs that the toolchain built: the editor, and what reads the terminal for it where the repository has one.
+# The programs that the toolchain built: the editor, and those that work for it or beside it.
 find_programs() {
-    programs="bidi_edit"
-    [ ! -d "$top/crates/bidi_input" ] || programs="$programs bidi_input"
-    for program in $programs; do
+    programs=''
+    for main in "$top"/crates/bidi_*/src/main.rt; do
+        program=$(basename "${main%/src/main.rt}")
         if ! [ -x "$top/crates/$program/out/$program" ]; then
-            echo "$top/crates/$program/out/$program is not built: ./bidi-edit FILE builds it" >&2
+            echo "$top/crates/$program/out/$program is not built: launcher/proving/prove.sh . $program builds it" >&2
             exit 1
         fi
+        programs="$programs $program"
     done
 }
 

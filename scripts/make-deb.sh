@@ -1,8 +1,9 @@
 #!/bin/sh
 # make-deb.sh [FOLDER]: makes bidi-edit_VERSION_amd64.deb and bidi-edit_VERSION_amd64.tar.gz, with the same tree, in FOLDER (out/ at the
 # top of the repository unless named): for those who have no toolchain. It refuses where no proved program stands there. Then it
-# tries both: lintian finds no error, the package is installed in a clean root folder, used there in tmux and removed, and so is
-# the tree of the tar file. The last line counts; the status is 1 where a check failed, and 77 where a tool is missing.
+# tries both: lintian and the readers of manuals find no fault, the package is installed in a clean root folder, used there in tmux
+# and removed, and the tree of the tar file is used too. The last line counts; the status is 1 where a check failed, and 77 where a
+# tool is missing.
 set -eu
 
 top=$(cd "$(dirname "$0")/.." && pwd)
@@ -33,7 +34,7 @@ need_tools() {
 # A program with the stamp that the toolchain writes behind a proved build, which ends with the program's sum.
 need_proved() { # PROGRAM
     built=$top/crates/$1/out/$1
-    if ! [ -x "$built" ] || ! [ -f "$built.stamp" ]; then refuse "$built is not built and proved: ./bidi-edit FILE does it"; fi
+    if ! [ -x "$built" ] || ! [ -f "$built.stamp" ]; then refuse "$built is not built and proved: launcher/proving/prove.sh . $1 does it"; fi
     case $(cat "$built.stamp") in
     *"$(sha256sum <"$built" | cut -c 1-64)") ;;
     *) refuse "$built is not what its stamp tells: rt run in crates/$1 builds it anew" ;;
@@ -51,9 +52,9 @@ make_tree() { # FOLDER
     chmod -R u=rwX,go=rX "$1"
 }
 
-# The newest of the C library's versions that the program names.
-libc_version() {
-    grep -a -o 'GLIBC_[0-9][0-9.]*' "$1" | sed 's/GLIBC_//' | sort -u -V | tail -n 1
+# The newest of the C library's versions that the programs name.
+libc_version() { # PROGRAM..
+    grep -a -h -o 'GLIBC_[0-9][0-9.]*' "$@" | sed 's/GLIBC_//' | sort -u -V | tail -n 1
 }
 
 make_control() { # FOLDER MAINTAINER
@@ -63,7 +64,7 @@ Version: $version
 Architecture: amd64
 Maintainer: $2
 Installed-Size: $(du -s -k "$1/usr" | cut -f 1)
-Depends: libc6 (>= $(libc_version "$1/usr/lib/bidi_edit/bidi_edit"))
+Depends: libc6 (>= $(libc_version "$1"/usr/lib/bidi_edit/bidi_*))
 Suggests: unicode-data
 Section: editors
 Priority: optional
@@ -189,6 +190,14 @@ check_lintian() {
     cat "$folder/lintian"
 }
 
+# What the two readers of manuals have against it, where they are there.
+check_manual() {
+    manual=$top/docs/bidi_edit.1
+    ! command -v man >/dev/null || same 'manual, man' "$(man --warnings -l "$manual" 2>&1 >/dev/null)" ''
+    ! command -v mandoc >/dev/null || same 'manual, mandoc' "$(mandoc -T lint "$manual" 2>&1)" ''
+    same 'manual, its version' "$(sed -n '1s/.*"bidi_edit \([^"]*\)".*/\1/p' "$manual")" "$version"
+}
+
 # A root folder with nothing but dpkg's own list, which lacks the C library.
 in_root() { # WORD..
     dpkg --root="$folder/root" --force-not-root --force-depends --force-script-chrootless --log=/dev/null "$@" >"$folder/dpkg" 2>&1
@@ -216,12 +225,12 @@ check_tar() {
 }
 
 need_tools
-need_proved bidi_edit
-[ ! -d "$top/crates/bidi_input" ] || need_proved bidi_input
+for main in "$top"/crates/bidi_*/src/main.rt; do need_proved "$(basename "${main%/src/main.rt}")"; done
 target=${1:-$top/out}
 mkdir -p "$target"
 make_package
 make_tar
+check_manual
 check_lintian
 check_package
 check_tar
