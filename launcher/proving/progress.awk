@@ -66,7 +66,7 @@ END {
     if (ended != "") {
         read_log(ended)
         now_at = ended
-        counted = ": " many(functions, "function") " proved"
+        counted = functions ? ": " many(functions, "function") " proved" : ": proved before"
         beside = ""
     } else number = done + 1
     if (asks == "whole") print rest
