@@ -36,7 +36,7 @@ chmod 755 "$folder"
 mkdir "$folder/private" "$folder/files"
 cd "$folder/files" || exit 1
 
-for part in person recorder refusals ends modes editor input callers; do
+for part in person recorder refusals printing ends modes editor input callers; do
     # shellcheck source=/dev/null
     . "$top/scripts/launcher/$part.sh"
 done
@@ -49,6 +49,7 @@ for shell in dash bash; do
     fi
     check_recorder
     check_refusals
+    check_printing
     check_ends
     check_terminal_modes
     check_editor

@@ -33,14 +33,14 @@ uninstall() {
 
 # The programs that the toolchain built: the editor, and those that work for it or beside it.
 find_programs() {
-    programs=''
-    for main in "$top"/crates/bidi_*/src/main.rt; do
-        program=$(basename "${main%/src/main.rt}")
+    programs="bidi_edit bidi_input"
+    # built when something is printed for the first time
+    [ ! -x "$top/crates/bidi_print/out/bidi_print" ] || programs="$programs bidi_print"
+    for program in $programs; do
         if ! [ -x "$top/crates/$program/out/$program" ]; then
             echo "$top/crates/$program/out/$program is not built: launcher/proving/prove.sh . $program builds it" >&2
             exit 1
         fi
-        programs="$programs $program"
     done
 }
 

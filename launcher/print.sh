@@ -1,0 +1,93 @@
+# shellcheck shell=sh
+# shellcheck disable=SC2034,SC2154 # words that other parts give and take
+# Printing: the rows of FILE go to standard output, for a pager, mail or a printer.
+
+# The program beside the editor.
+find_printer() {
+    case $editor in
+    */bidi_edit/out/bidi_edit) printer=${editor%/bidi_edit/out/bidi_edit}/bidi_print/out/bidi_print ;;
+    *) printer=${editor%/*}/bidi_print ;;
+    esac
+}
+
+# The columns of the terminal that standard output is, else 80.
+find_columns() {
+    columns=80
+    [ -t 1 ] || return 0
+    size=$(stty size <&1 2>/dev/null) || return 0
+    columns=${size#* }
+    [ "$columns" -gt 0 ] || columns=80
+    [ "$columns" -le 500 ] || columns=500
+}
+
+take_columns() { # NUMBER
+    case $1 in
+    '' | *[!0-9]* | ????*) ;;
+    *)
+        columns=$1
+        [ "$columns" -lt 1 ] || [ "$columns" -gt 500 ] || return 0
+        ;;
+    esac
+    refuse_words "--cols wants a number from 1 to 500, not $(shown "$1")"
+}
+
+take_print_option() { # NAME VALUE
+    case $1 in
+    --cols) take_columns "$2" ;;
+    *) take_option "$1" "$2" ;;
+    esac
+}
+
+take_print_file() { # WORD..
+    if [ $# != 1 ] || [ -n "$file" ]; then refuse_words 'one FILE is wanted'; fi
+    [ -n "$1" ] || refuse_words 'FILE has no name'
+    case $1 in
+    -* | +*) file=./$1 ;;
+    *) file=$1 ;;
+    esac
+}
+
+# Reads the words behind --print into `columns`, `direction`, `marks` and `file`.
+read_print_words() { # WORD..
+    file='' marks=''
+    while [ $# -gt 0 ]; do
+        case $1 in
+        --cols | --direction)
+            [ $# -gt 1 ] || refuse_words "$1 wants a value"
+            take_print_option "$1" "$2"
+            shift
+            ;;
+        --cols=* | --direction=*) take_print_option "${1%%=*}" "${1#*=}" ;;
+        --marks) marks=--marks ;;
+        --)
+            shift
+            break
+            ;;
+        -?*) refuse_words "there is no option $(shown "$1") with --print" ;;
+        *) take_print_file "$1" ;;
+        esac
+        shift
+    done
+    [ $# = 0 ] || take_print_file "$@"
+    [ -n "$file" ] || refuse_words 'one FILE is wanted'
+}
+
+# What the program would tell without a cure. What is no plain file is read as it comes.
+check_print_file() {
+    [ ! -d "$file" ] || refuse_file "$file" 'is a folder: name a file in it'
+    [ -e "$file" ] || refuse_file "$file" 'is not there'
+    [ ! -f "$file" ] || check_text
+}
+
+# Prints as the words say, in place of this script.
+print_rows() { # WORD..
+    usage='usage: bidi-edit --print FILE [--cols N] [--marks] [--direction auto|ltr|rtl]'
+    find_columns
+    read_print_words "$@"
+    find_tables
+    check_print_file
+    find_printer
+    [ -x "$printer" ] || build bidi_print
+    exec "$printer" --cols "$columns" --direction "$direction" ${marks:+--marks} --classes "$classes" --brackets "$brackets" \
+        --mirroring "$mirroring" "$file"
+}

@@ -1,0 +1,60 @@
+# shellcheck shell=sh
+# shellcheck disable=SC2034,SC2154 # words that other parts give and take
+# What is printed in place of a session, and which words are refused there.
+
+# The lines that are printed with these words, and the status.
+printed() { # NAME WANTED WORD..
+    name=$1 lines=$2
+    shift 2
+    "$shell" "$top/bidi-edit" "$@" </dev/null >"$folder/output" 2>&1
+    same "$name" "$? $(cat "$folder/output" && echo .)" "0 $lines."
+}
+
+check_refused_prints() {
+    lines_told=2
+    refused 'printing, no FILE' '2 bidi-edit: one FILE is wanted' --print
+    refused 'printing, two' '2 bidi-edit: one FILE is wanted' --print f g
+    refused 'printing, an option' '2 bidi-edit: there is no option --line with --print' --print f --line 3
+    refused 'printing, no columns' '2 bidi-edit: --cols wants a value' --print f --cols
+    for columns in 0 501 1000 x ''; do
+        wants="2 bidi-edit: --cols wants a number from 1 to 500, not $columns"
+        refused "printing, $columns columns" "$wants" --print f "--cols=$columns"
+    done
+    lines_told=1
+    refused 'printing, no file' '1 bidi-edit: none is not there' --print none
+    refused 'printing, a folder' '1 bidi-edit: /tmp is a folder: name a file in it' --print /tmp
+    printf 'a\nb\377\n' >bytes
+    refused 'printing, bytes' "1 bidi-edit: bytes is not UTF-8 in line 2: iconv -f CP1255 -t UTF-8 may help if it is in Windows' Hebrew (CP1256: Arabic)" --print bytes
+}
+
+check_printed_rows() {
+    printf 'שלום (abc) 12\n\342\201\247a\342\201\251 end\n\nlast' >-text
+    printed 'printing, after FILE' '                      12 (abc) םולש
+a end
+
+last' --print ./-text --cols 35
+    printed 'printing, marks' '       12 (abc) םולש
+[I]a[P] end
+
+last' --print --marks --cols=20 -- -text
+    # a row ends after the last blank that it has room for, which stands at its left here
+    printed 'printing, wrapped' ' (abc) םולש
+         12
+a end
+
+last' --print --cols 11 ./-text
+    printed 'printing, a direction' 'םולש (abc) 12
+a end
+
+last' --direction ltr --print ./-text
+}
+
+check_printing() {
+    asked printing || return 0
+    check_refused_prints
+    if [ -x "$top/crates/bidi_print/out/bidi_print" ]; then
+        check_printed_rows
+    else
+        skip printing 'bidi_print is not built'
+    fi
+}
