@@ -9,7 +9,7 @@ usage='usage: bidi-edit [--direction auto|ltr|rtl] [--line N | +N] [--force] FIL
 help() {
     echo "$usage"
     cat <<'TEXT'
-       bidi-edit --print FILE [--cols N] [--marks]    the rows, to standard output
+       bidi-edit --print FILE [--cols N] [--marks]: its rows to standard output
 Edits a text of any scripts, each paragraph in its own direction, from line N.
 --force opens also what cannot be saved, --version tells what this is made of.
 --recover has back what was typed and not saved; --to only stores it as OTHER.
