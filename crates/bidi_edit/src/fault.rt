@@ -3,8 +3,8 @@
 use bx_session::{OpenError, Refused, RunFault};
 use bx_store::StoreFault;
 use bx_ucd::UcdError;
+use bx_words::FileFault;
 use std::alloc::AllocError;
-use std::io::ErrorKind;
 use thiserror::Error;
 
 /// A fault, whose text is the line that is told of it.
@@ -13,9 +13,8 @@ pub enum ProgramFault<'a> {
     /// A line of one of Unicode's files is refused.
     #[error("bidi_edit: {0}")]
     Tables(UcdError),
-    /// The file of this path is not there, or cannot be read.
-    #[error("bidi_edit: cannot read {0}")]
-    Unreadable(&'a str),
+    #[error("bidi_edit: {0}")]
+    File(FileFault<'a>),
     #[error("bidi_edit: {0}")]
     Open(OpenError),
     #[error("bidi_edit: {0}")]
@@ -32,19 +31,15 @@ pub enum ProgramFault<'a> {
     OutOfMemory,
 }
 
-impl<'a> ProgramFault<'a> {
-    /// Why the file of a path could not be read.
-    pub fn of_file(path: &'a str, kind: ErrorKind) -> ProgramFault<'a> {
-        match kind {
-            ErrorKind::OutOfMemory => ProgramFault::OutOfMemory,
-            _ => ProgramFault::Unreadable(path),
-        }
-    }
-}
-
 impl From<UcdError> for ProgramFault<'_> {
     fn from(error: UcdError) -> Self {
         ProgramFault::Tables(error)
+    }
+}
+
+impl<'a> From<FileFault<'a>> for ProgramFault<'a> {
+    fn from(fault: FileFault<'a>) -> Self {
+        ProgramFault::File(fault)
     }
 }
 

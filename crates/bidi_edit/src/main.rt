@@ -19,16 +19,20 @@ mod words;
 use beginning::Beginning;
 use bx_session::JournalReader;
 use bx_store::{FileStore, Store};
+use bx_words::{refuse, refuse_words, text_of};
 use edit::{Changes, edit};
-use exit::{finish, refuse, refuse_words, tell_lost_journal};
+use exit::{finish, tell_lost_journal};
 use fault::ProgramFault;
-use files::{Files, text_of};
+use files::Files;
 use journal::JournalFile;
 use recover::recover;
 use std::env;
 use std::io::{self, Read, Write};
 use std::process::ExitCode;
 use words::{Options, command_line};
+
+/// The program's name, in front of each line that it tells.
+const NAME: &str = "bidi_edit";
 
 /// Edits a file. What is read is kept in the journal, of which nothing is left where nothing is unsaved at the end.
 fn edit_file<'a, R: Read, W: Write, S: Store>(
@@ -120,14 +124,14 @@ fn words_of(rt: &HostRuntime) -> io::Result<Vec<String>> {
 fn main(rt: HostRuntime) -> ExitCode {
     let words = match words_of(&rt) {
         Ok(words) => words,
-        Err(error) => return refuse_words(&rt, error.kind()),
+        Err(error) => return refuse_words(&rt, NAME, error.kind()),
     };
     match command_line(rt.alloc(), words.as_slice()) {
         Ok(options) => {
             let outcome = program(&rt, &options, &mut rt.reader(), &mut rt.stdout());
             finish(&rt, outcome)
         }
-        Err(error) => refuse(&rt, &error),
+        Err(error) => refuse(&rt, NAME, &error),
     }
 }
 

@@ -1,10 +1,10 @@
 //! The program's words.
 
-ghost use Rattle.std.specs.Prelude.{◌≡◌, true, IfSome};
+ghost use Rattle.std.specs.Prelude.{◌≡◌, true};
 ghost use Rattle.bx_terms.specs.Sizes.{is_side};
 
 use bx_explicit::Base;
-use bx_terms::{LARGEST_SIDE, is_side};
+use bx_words::{direction, direction_of, side, side_of, table};
 use clap::error::ErrorKind;
 use clap::{Arg, ArgMatches, Command, value_parser};
 use std::alloc::{AllocError, Global};
@@ -41,26 +41,6 @@ pub struct Options<'a> {
     ghost has_cols: { is_side cols ≡ true },
 }
 
-/// The names of the directions.
-static DIRECTIONS: [&str; 3] = ["auto", "ltr", "rtl"];
-
-/// An option whose value is a side of the window.
-fn side<'a>(alloc: Global, name: &'a str, default: &'a str) -> Arg<'a> {
-    Arg::new(alloc, name)
-        .long(name)
-        .value_name("N")
-        .value_parser(value_parser!(u16).range(1..=i64::from(LARGEST_SIDE)))
-        .default_value(default)
-}
-
-/// An option that names one of Unicode's files.
-fn table<'a>(alloc: Global, name: &'a str) -> Arg<'a> {
-    Arg::new(alloc, name)
-        .long(name)
-        .value_name("F")
-        .required(true)
-}
-
 /// An option that names another file.
 fn path<'a>(alloc: Global, name: &'a str) -> Arg<'a> {
     Arg::new(alloc, name).long(name).value_name("PATH")
@@ -72,14 +52,6 @@ fn line<'a>(alloc: Global) -> Arg<'a> {
         .long("line")
         .value_name("N")
         .value_parser(value_parser!(u64).range(1..))
-}
-
-/// The option that names a direction.
-fn direction<'a>(alloc: Global) -> Arg<'a> {
-    Arg::new(alloc, "direction")
-        .long("direction")
-        .value_parser(DIRECTIONS.as_slice())
-        .default_value("auto")
 }
 
 /// The command line that the program takes.
@@ -102,23 +74,6 @@ fn command<'a>(alloc: Global) -> Result<Command<'a>, AllocError> {
         .arg(Arg::new(alloc, "file").value_name("FILE").required(true))
 }
 
-/// The side of the window that an option names.
-fn side_of(matches: &ArgMatches<'_>, name: &str) -> Option<u16>
-    ensures { IfSome result (λ n. is_side n ≡ true) }
-{
-    matches.get_one::<u16>(name).filter(|n| is_side(*n))
-}
-
-/// The direction that a word names.
-fn base_of(name: &str) -> Option<Base> {
-    match name {
-        "auto" => Some(Base::Auto),
-        "ltr" => Some(Base::Ltr),
-        "rtl" => Some(Base::Rtl),
-        _ => None,
-    }
-}
-
 /// What clap found; none where it lacks a value or has one that is none of ours.
 fn options_of<'a>(matches: &ArgMatches<'a>) -> Option<Options<'a>> {
     let file = matches.get_str("file")?;
@@ -134,7 +89,7 @@ fn options_of<'a>(matches: &ArgMatches<'a>) -> Option<Options<'a>> {
         replay: matches.get_str("replay"),
         to: matches.get_str("to"),
         line: matches.get_one::<u64>("line"),
-        direction: base_of(matches.get_str("direction")?)?,
+        direction: direction_of(matches)?,
     })
 }
 

@@ -9,7 +9,7 @@ mod fault;
 mod printing;
 mod words;
 
-use bx_words::{FileFault, finish, refuse, refuse_words, table_of, text_of};
+use bx_words::{FileFault, bytes_of, finish, refuse, refuse_words, text_of};
 use fault::ProgramFault;
 use printing::print_bytes;
 use std::env;
@@ -26,9 +26,9 @@ fn program<'a, W: Write>(
     options: &Options<'a>,
     writer: &mut W,
 ) -> Result<(), ProgramFault<'a>> {
-    let classes = table_of(rt, options.classes)?;
-    let brackets = table_of(rt, options.brackets)?;
-    let mirroring = table_of(rt, options.mirroring)?;
+    let classes = bytes_of(rt, options.classes)?;
+    let brackets = bytes_of(rt, options.brackets)?;
+    let mirroring = bytes_of(rt, options.mirroring)?;
     let Some(bytes) = text_of(rt, options.file)? else {
         return Err(FileFault::Unreadable(options.file).into());
     };

@@ -24,7 +24,7 @@ fn fault_of<'a>(path: &'a str, kind: ErrorKind) -> FileFault<'a> {
 }
 
 /// All bytes of a reader, or as many as show that they are too many for a text.
-fn bytes_of<R: Read + Drop>(rt: &HostRuntime, reader: R) -> io::Result<Vec<u8>> {
+fn text_bytes<R: Read + Drop>(rt: &HostRuntime, reader: R) -> io::Result<Vec<u8>> {
     let mut bytes = Vec::new(rt.alloc());
     reader
         .take(LARGEST_TEXT as u64 + 1)
@@ -38,16 +38,16 @@ fn bytes_of<R: Read + Drop>(rt: &HostRuntime, reader: R) -> io::Result<Vec<u8>> 
 /// Errors: `Unreadable`; `OutOfMemory`.
 pub fn text_of<'a>(rt: &HostRuntime, path: &'a str) -> Result<Option<Vec<u8>>, FileFault<'a>> {
     let read = match File::open(rt, path) {
-        Ok(file) => bytes_of(rt, file).map(Some),
+        Ok(file) => text_bytes(rt, file).map(Some),
         Err(error) if error.kind() == ErrorKind::NotFound => Ok(None),
         Err(error) => Err(error),
     };
     read.map_err(|error| fault_of(path, error.kind()))
 }
 
-/// The bytes of one of Unicode's files.
+/// All bytes of a file.
 ///
 /// Errors: `Unreadable`, also where no file is there; `OutOfMemory`.
-pub fn table_of<'a>(rt: &HostRuntime, path: &'a str) -> Result<Vec<u8>, FileFault<'a>> {
+pub fn bytes_of<'a>(rt: &HostRuntime, path: &'a str) -> Result<Vec<u8>, FileFault<'a>> {
     fs::read(rt, path).map_err(|error| fault_of(path, error.kind()))
 }

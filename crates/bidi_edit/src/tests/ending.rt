@@ -1,10 +1,12 @@
 //! The lines and the exit statuses of faults.
 
-use crate::exit::{finish, refuse, refuse_words};
+use crate::NAME;
+use crate::exit::finish;
 use crate::fault::ProgramFault;
 use crate::words::command_line;
 use bx_session::{OpenError, Refused, RunFault};
 use bx_store::StoreFault;
+use bx_words::{FileFault, refuse, refuse_words};
 use std::alloc::AllocError;
 use std::io::ErrorKind;
 use std::process::ExitCode;
@@ -14,8 +16,8 @@ use std::test::Fail;
 fn faults_by_their_lines(rt: HostRuntime) -> Result<(), Fail> {
     let mut text = String::new(rt.alloc());
     for fault in [
-        ProgramFault::of_file("a path", ErrorKind::NotFound),
-        ProgramFault::of_file("a path", ErrorKind::OutOfMemory),
+        ProgramFault::from(FileFault::Unreadable("a path")),
+        ProgramFault::from(FileFault::OutOfMemory),
         ProgramFault::from(OpenError::TooLong),
         ProgramFault::from(OpenError::NotUtf8(1)),
         ProgramFault::from(OpenError::OutOfMemory),
@@ -55,9 +57,9 @@ fn statuses(rt: HostRuntime) {
     assert!(rt; finish(&rt, Ok(())) == ExitCode::from(0));
     assert!(rt; finish(&rt, Err(ProgramFault::Unsaved)) == ExitCode::from(1));
     let no_memory = clap::Error::from(AllocError);
-    assert!(rt; refuse(&rt, &no_memory) == ExitCode::from(1));
-    assert!(rt; refuse_words(&rt, ErrorKind::OutOfMemory) == ExitCode::from(1));
-    assert!(rt; refuse_words(&rt, ErrorKind::InvalidData) == ExitCode::from(2));
+    assert!(rt; refuse(&rt, NAME, &no_memory) == ExitCode::from(1));
+    assert!(rt; refuse_words(&rt, NAME, ErrorKind::OutOfMemory) == ExitCode::from(1));
+    assert!(rt; refuse_words(&rt, NAME, ErrorKind::InvalidData) == ExitCode::from(2));
 }
 
 #[test]
@@ -65,6 +67,6 @@ fn words_that_are_refused_end_with_status_2(rt: HostRuntime) {
     let none: [&str; 0] = [];
     match command_line(rt.alloc(), &none) {
         Ok(_) => assert!(rt; false),
-        Err(error) => assert!(rt; refuse(&rt, &error) == ExitCode::from(2)),
+        Err(error) => assert!(rt; refuse(&rt, NAME, &error) == ExitCode::from(2)),
     }
 }

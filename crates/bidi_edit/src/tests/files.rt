@@ -1,11 +1,11 @@
 //! The files that the program reads, and in which order.
 
 use crate::fault::ProgramFault;
-use crate::files::text_of;
 use crate::program;
 use crate::words::Options;
 use bx_explicit::Base;
 use bx_session::OpenError;
+use bx_words::{FileFault, text_of};
 use std::test::Fail;
 use std::{env, fs, process};
 
@@ -46,7 +46,7 @@ fn the_first_file_that_cannot_be_read(rt: HostRuntime) {
     ] {
         assert_eq!(rt;
             outcome(&rt, classes, brackets, mirroring, file),
-            Err(ProgramFault::Unreadable(path))
+            Err(ProgramFault::File(FileFault::Unreadable(path)))
         );
     }
     assert_eq!(rt; outcome(&rt, empty, empty, empty, "not here"), Ok(()));
@@ -60,7 +60,10 @@ fn files_are_read_before_lines_are_refused(rt: HostRuntime) -> Result<(), Fail> 
     let unreadable = outcome(&rt, path.as_str(), "/dev/null", "/dev/null", "/");
     let refused = outcome(&rt, path.as_str(), "/dev/null", "/dev/null", "/dev/zero");
     fs::remove_file(&rt, path.as_path())?;
-    assert_eq!(rt; unreadable, Err(ProgramFault::Unreadable("/")));
+    assert_eq!(rt;
+        unreadable,
+        Err(ProgramFault::File(FileFault::Unreadable("/")))
+    );
     assert!(rt; matches!(&refused, Err(ProgramFault::Tables(_))));
     Ok(())
 }
