@@ -67,7 +67,7 @@ agrees_otherwise() {
     sed -n "$2p" "$scratch/$1.in" |
         awk -F '\t' -v OFS='\t' '$5 > 3 { for (k = 4; k < 100; k++) { $5 = k; print } }' >"$scratch/tries"
     sed -n "$2p" "$scratch/$1.want" >"$scratch/wanted"
-    play "$1" <"$scratch/tries" | grep -qxFf "$scratch/wanted"
+    play "$1" <"$scratch/tries" >"$scratch/tried" && grep -qxFf "$scratch/wanted" "$scratch/tried"
 }
 
 # Plays the schedules over the tables of this kind, and counts.

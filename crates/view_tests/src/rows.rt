@@ -96,7 +96,7 @@ fn has_rows_by_number(whole: &Whole, rows: &str) -> Result<bool, Fail> {
         if !is_row(whole, count, slots)? {
             return Ok(false);
         }
-        count += 1;
+        count = count.saturating_add(1);
     }
     Ok(whole.row_count()? == count && whole.first(count)?.is_none())
 }
