@@ -1,4 +1,5 @@
 # shellcheck shell=sh
+# shellcheck disable=SC2154 # what check-refusals.sh sets
 # What refuses a growth of memory, for check-refusals.sh: a file in C that is loaded into a program. It refuses the growth whose number
 # it is given, gives the program its input one byte a read, and tells how many bytes were read when it refused.
 

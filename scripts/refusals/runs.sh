@@ -1,4 +1,5 @@
 # shellcheck shell=sh
+# shellcheck disable=SC2154 # what check-refusals.sh sets
 # The recorded sessions of check-refusals.sh.
 
 # Runs the session `session` with other input. What it printed is in a file of this name, and in another its status, what it told, and

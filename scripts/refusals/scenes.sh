@@ -1,4 +1,5 @@
 # shellcheck shell=sh
+# shellcheck disable=SC2154 # what check-refusals.sh sets
 # The scenes and the tables of check-refusals.sh.
 
 # Plays scenes that are refused nothing.
