@@ -95,5 +95,22 @@ ended no_such_direction 2 'error: '
 run "$(printf 'a\377')"
 ended word_not_utf8 2 'bidi_edit: a word is not UTF-8'
 
+# The filter of what is typed, where it is built. What broke off by the input's end goes out.
+filter=$top/crates/bidi_input/out/bidi_input
+if [ -x "$filter" ]; then
+    printf '\033[7~a\033[1;' | "$filter" >written 2>told
+    status=$?
+    ended filter_input_ends 0 ''
+    [ "$(cat -v written)" = '^[[Ha^[[1;' ] || { failed=$((failed + 1)); echo "FAILS filter_input_ends: $(cat -v written)"; }
+    "$filter" <"$folder" >written 2>told
+    status=$?
+    ended filter_input_failed 1 'bidi_input: input failed'
+    if [ -w /dev/full ]; then
+        echo a | "$filter" >/dev/full 2>told
+        status=$?
+        ended filter_output_failed 1 'bidi_input: output failed'
+    fi
+fi
+
 echo "$passed passed, $failed failed"
 [ "$failed" = 0 ]
