@@ -20,8 +20,8 @@ Edits a text of any scripts, each paragraph in its own direction, from line N.
   Page Up, Page Down    CSI 5~ 6~     a window up, down
   Backspace, Delete     7F, CSI 3~    erase before, delete at the cursor
   Tab, Enter            09, 0D        a tab, a new line (also 0A)
-  Ctrl-S Ctrl-Q         13 11         save, quit; quit twice to leave changes
-  Ctrl-Z Ctrl-Y Ctrl-L  1A 19 0C      undo, redo, paint the screen anew
+  Ctrl-S Ctrl-Q         13 11         save; quit, twice where not all is saved
+  Ctrl-Z Ctrl-Y Ctrl-L  1A 19 0C      undo, redo; paint the screen anew
   F2, or Esc [ 9 ~      CSI 9~        direction: auto, ltr, rtl and auto again
   Paste                 CSI 200~      goes in as text, whatever it holds
 

@@ -77,13 +77,14 @@ check_visudo() {
     rm -f sudoers
 }
 
+# less gives the line that stands in the middle.
 check_less() {
     has_caller less || return 0
-    echo one >page
+    printf 'one\ntwo\n' >page
     start_caller 'less page'
     wait_for 50 shows END
     type_keys v
-    wait_for 50 shows '- 1:1'
+    wait_for 50 shows '- 2:1'
     type_keys -l new
     type_keys C-s
     wait_for 30 shows saved
@@ -92,7 +93,7 @@ check_less() {
     type_keys q
     wait_for 50 has_ended
     terminal kill-session -t person
-    same 'caller, less: the file' "$(cat page)" newone
+    same 'caller, less: the file' "$(paste -s -d '|' page)" 'one|newtwo'
     rm -f page
 }
 

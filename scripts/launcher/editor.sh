@@ -86,7 +86,7 @@ check_long_paste() {
 check_editor_end() {
     make_note
     start 8 60 "$top/bidi-edit" note
-    send_signal TERM '.*bidi_edit --rows'
+    send_signal TERM '.*/bidi_edit --'
     finish 'end, the program killed' 143 50
     for signal in TERM HUP; do
         start 8 60 "$top/bidi-edit" note
@@ -95,6 +95,7 @@ check_editor_end() {
         send_signal "$signal" "$shell .*/bidi-edit note"
         finish "end, the launcher by $signal" "$((128 + $(signal_number "$signal")))" 50
         has "end, the launcher by $signal: what is told" "$(cat "$folder/errors")" 'bidi_edit: input ended before saving'
+        has "end, the launcher by $signal: what is kept" "$(cat "$folder/errors")" 'bidi-edit --recover note gets it back'
     done
     cmp note "$folder/opened" >/dev/null
     report 'end, the file is as before' $? 'it is not'
@@ -118,12 +119,7 @@ check_files() {
     rm -f bytes
 }
 
-# Opens at a line, where the program knows how.
 check_line() {
-    if ! "$editor" --help 2>&1 | grep -q -e '--line'; then
-        skip line 'the editor has no --line'
-        return
-    fi
     awk 'BEGIN { for (i = 1; i <= 100; i++) print "line", i }' >note
     for word in +50 --line=50; do
         start 8 60 "$top/bidi-edit" "$word" note

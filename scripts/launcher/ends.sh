@@ -50,24 +50,6 @@ check_hard_ends() {
     is_flooded=''
 }
 
-# Where the sessions' part says that the text is kept, the launcher lets it say so.
-check_kept() {
-    if [ -e "$top/launcher/sessions.sh" ]; then
-        skip 'kept' 'the part of sessions has its own check'
-        return
-    fi
-    parts=$folder/recorder/lib/bidi_edit/launcher
-    cp "$parts/terminal.sh" "$folder/terminal.sh"
-    # shellcheck disable=SC2016
-    echo 'tell_kept() { echo "the text is kept ($status)" >&7; }' >>"$parts/terminal.sh"
-    start 24 80 "$recorder" f
-    wait_for 50 test -e "$folder/record"
-    send_signal TERM "$shell .*bin/bidi-edit"
-    finish 'kept' 143 50
-    has 'kept, told' "$(cat "$folder/errors")" 'the text is kept (9)'
-    cp "$folder/terminal.sh" "$parts/terminal.sh"
-}
-
 is_stopped() {
     case $(ps -o stat= -p "$1") in T*) return 0 ;; *) return 1 ;; esac
 }
@@ -150,6 +132,5 @@ check_ends() {
         check_input_end
         check_hard_ends
     fi
-    ! asked kept || check_kept
     ! asked stop || check_stop
 }

@@ -11,7 +11,7 @@ printed() { # NAME WANTED WORD..
 }
 
 check_refused_prints() {
-    lines_told=2
+    lines_told=3
     refused 'printing, no FILE' '2 bidi-edit: one FILE is wanted' --print
     refused 'printing, two' '2 bidi-edit: one FILE is wanted' --print f g
     refused 'printing, an option' '2 bidi-edit: there is no option --line with --print' --print f --line 3
@@ -57,4 +57,5 @@ check_printing() {
     else
         skip printing 'bidi_print is not built'
     fi
+    rm -f -- -text bytes
 }

@@ -30,7 +30,8 @@ refused_to_user() { # NAME WANTED WORD..
 no_terminal='2 bidi-edit: there is no terminal: start the editor in one (ssh -t gives one to a command)'
 
 check_refused_words() {
-    lines_told=2
+    # the cause, and the usage
+    lines_told=3
     refused 'refused, no FILE' '2 bidi-edit: one FILE is wanted'
     refused 'refused, two' '2 bidi-edit: one FILE is wanted' f g
     refused 'refused, an option' '2 bidi-edit: there is no option --rows' --rows 5 f
