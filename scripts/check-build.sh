@@ -11,7 +11,7 @@ prove=$top/launcher/proving/prove.sh
 folder=$(mktemp -d)
 socket="bb$$"
 passed=0 failed=0
-trap 'tmux -L "$socket" kill-server 2>/dev/null; rm -rf "$folder"' EXIT
+trap 'tmux -L "$socket" kill-server 2>/dev/null || :; rm -rf "$folder"' EXIT
 trap 'exit 1' HUP INT TERM
 export LC_ALL=C.UTF-8
 

@@ -12,7 +12,7 @@ name=bidi-edit_${version}_amd64
 folder=$(mktemp -d)
 socket="bd$$"
 passed=0 failed=0
-trap 'tmux -L "$socket" kill-server 2>/dev/null; rm -rf "$folder"' EXIT
+trap 'tmux -L "$socket" kill-server 2>/dev/null || :; rm -rf "$folder"' EXIT
 trap 'exit 1' HUP INT TERM
 umask 022
 export LC_ALL=C.UTF-8

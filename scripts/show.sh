@@ -27,7 +27,7 @@ esac
 export LC_ALL=C.UTF-8
 folder=$(mktemp -d)
 socket="show$$"
-trap 'tmux -L "$socket" kill-server 2>/dev/null; rm -rf "$folder"' EXIT
+trap 'tmux -L "$socket" kill-server 2>/dev/null || :; rm -rf "$folder"' EXIT
 trap 'exit 1' HUP INT TERM
 # The editor gets a copy of the file, under its name.
 name=$(basename -- "$file")

@@ -83,7 +83,7 @@ fi
 [ $# -gt 0 ] || set -- HEAD
 socket="bf$$"
 folder=$(mktemp -d)
-trap 'in_terminal kill-server 2>/dev/null; rm -rf "$folder"' EXIT
+trap 'in_terminal kill-server 2>/dev/null || :; rm -rf "$folder"' EXIT
 trap 'exit 1' HUP INT TERM
 echo 'some words' >"$folder/note"
 failed=0
