@@ -115,6 +115,7 @@ tell_end() {
     fault=$(cat "$folder/fault")
     [ -z "$fault" ] || printf '%s\n' "$fault" >&7
     [ "$status" = 0 ] || tell_kept
+    tell_line_ends
 }
 
 # Whatever stands of the session ends, and the terminal is as it was. A second signal changes nothing then.

@@ -56,6 +56,33 @@ check_edit() {
     same 'edit, files beside it' "$(ls)" note
 }
 
+check_line_ends() {
+    printf 'ab\r\ncd\r\nef' >note
+    start 8 40 "$top/bidi-edit" note
+    type_keys x C-s
+    sleep 0.5
+    type_keys C-q
+    finish 'breaks, alike' 0 50
+    same 'breaks, alike: the words' "$(cat "$folder/errors")" ''
+    start 8 40 "$top/bidi-edit" note
+    type_keys Enter C-s
+    sleep 0.5
+    type_keys C-q
+    finish 'breaks, mixed' 0 50
+    same 'breaks, mixed: the words' "$(cat "$folder/errors")" \
+        "bidi-edit: note has lines that end with LF among those with CR LF: perl -pi -e 's/\\r?\\n/\\r\\n/' makes them alike"
+    perl -pi -e 's/\r?\n/\r\n/' note
+    same 'breaks, what it says' "$(od -An -c note | tr -d ' \n')" '\r\nxab\r\ncd\r\nef'
+    printf 'ab\ncd\r\n' >note
+    start 8 40 "$top/bidi-edit" note
+    type_keys Enter C-s
+    sleep 0.5
+    type_keys C-q
+    finish 'breaks, mixed before' 0 50
+    same 'breaks, mixed before: the words' "$(cat "$folder/errors")" ''
+    rm -f note
+}
+
 check_quit() {
     make_note
     start 8 60 "$top/bidi-edit" note
@@ -185,6 +212,7 @@ times_of_ten() {
 check_editor() {
     has_editor || return 0
     ! asked edit || check_edit
+    ! asked breaks || check_line_ends
     ! asked quit || check_quit
     ! asked long || check_long_paste
     ! asked end || check_editor_end

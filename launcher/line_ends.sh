@@ -1,0 +1,20 @@
+# shellcheck shell=sh
+# shellcheck disable=SC2154 # words that other parts give
+# Line ends: Enter puts in LF, also where the lines of FILE end with CR LF, which is told at the end.
+
+# Whether a text has lines, and each of them ends with CR LF. The x stands behind the last line end.
+all_crlf() { # FILE
+    { cat -- "$1" && echo x; } 2>/dev/null |
+        LC_ALL=C awk 'is_lone { has_lone = 1; exit } { is_lone = !/\r$/ } END { exit has_lone || NR < 2 }'
+}
+
+look_at_line_ends() {
+    had_crlf=''
+    ! [ -f "$file" ] || ! all_crlf "$file" || had_crlf=1
+}
+
+tell_line_ends() {
+    [ -n "${had_crlf:-}" ] && [ -f "$file" ] && ! all_crlf "$file" || return 0
+    printf 'bidi-edit: %s has lines that end with LF among those with CR LF: perl -pi -e '\''s/\\r?\\n/\\r\\n/'\'' makes them alike\n' \
+        "$(shown "$file")" >&7
+}
