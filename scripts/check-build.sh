@@ -244,9 +244,11 @@ check_killed() {
 check_launcher() {
     make_tree
     cp -R "$top/bidi-edit" "$top/launcher" "$top/data" "$folder/tree/"
-    mkdir -p "$folder/tree/crates/bidi_edit/src"
-    echo '// a line' >"$folder/tree/crates/bidi_edit/src/main.rt"
-    echo 'bidi_edit: c b' >>"$folder/tree/crates.txt"
+    for name in bidi_edit bidi_input; do
+        mkdir -p "$folder/tree/crates/$name/src"
+        echo '// a line' >"$folder/tree/crates/$name/src/main.rt"
+    done
+    printf 'bidi_edit: c b\nbidi_input: b\n' >>"$folder/tree/crates.txt"
     : >"$folder/told/slow"
     start_launcher
     wait_for 150 has_line '[1-9] of 10 functions proved'
@@ -266,8 +268,9 @@ check_launcher() {
     start_launcher
     wait_for 100 is_over
     same 'launcher, not built' "$(cat "$folder/status" 2>/dev/null)" 1
+    screen >"$folder/words"
     tmux -L "$socket" kill-session -t person
-    rm -f "${TMPDIR:-/tmp}/bidi-edit-bidi_edit.log"
+    rm -f "$(sed -n 's/.* could not be proved, and \(.*\) tells why; .*/\1/p' "$folder/words")"
     make_rt
 }
 
@@ -275,7 +278,7 @@ start_launcher() {
     rm -f "$folder/status"
     cat >"$folder/run" <<END
 trap : INT
-PATH='$folder/bin':\$PATH TOLD='$folder/told' $shell '$folder/tree/bidi-edit' '$folder/note'
+PATH='$folder/bin':\$PATH TOLD='$folder/told' XDG_STATE_HOME='$folder/state' $shell '$folder/tree/bidi-edit' '$folder/note'
 echo \$? >'$folder/status'
 exec sleep 600
 END
