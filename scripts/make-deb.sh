@@ -15,7 +15,7 @@ passed=0 failed=0
 trap 'tmux -L "$socket" kill-server 2>/dev/null || :; rm -rf "$folder"' EXIT
 trap 'exit 1' HUP INT TERM
 umask 022
-export LC_ALL=C.UTF-8
+export LC_ALL=C.UTF-8 XDG_STATE_HOME="$folder/state"
 
 refuse() { # CAUSE
     echo "make-deb.sh: $1" >&2

@@ -32,8 +32,9 @@ trap 'exit 1' HUP INT TERM
 # The editor gets a copy of the file, under its name.
 name=$(basename -- "$file")
 cp -- "$file" "$folder/$name"
+# What the editor keeps of the session goes with it.
 {
-    printf "cd '%s'; exec" "$folder"
+    printf "export XDG_STATE_HOME='%s/.state'; cd '%s'; exec" "$folder" "$folder"
     for word in "$@" "$name"; do printf " '%s'" "$(printf '%s' "$word" | sed "s/'/'\\\\''/g")"; done
     echo ' 2>.errors'
 } >"$folder/.run"

@@ -85,6 +85,7 @@ socket="bf$$"
 folder=$(mktemp -d)
 trap 'in_terminal kill-server 2>/dev/null || :; rm -rf "$folder"' EXIT
 trap 'exit 1' HUP INT TERM
+export XDG_STATE_HOME="$folder/state"
 echo 'some words' >"$folder/note"
 failed=0
 for commit; do
