@@ -61,10 +61,11 @@ kind_of_run() { # NUMBER BYTES
         fi
     else
         make_answers "$2"
-        if are_alike found "dropped$2"; then
-            kind='session: a dropped key'
-        elif are_alike found "failing$2"; then
+        # without a status row a failed save looks as a dropped key
+        if are_alike found "failing$2"; then
             kind='session: a failed save'
+        elif are_alike found "dropped$2"; then
+            kind='session: a dropped key'
         elif is_painting_put_off "$2" "$1"; then
             kind='session: a painting put off'
         else
