@@ -200,10 +200,10 @@ start_processes() {
     begin_session
     {
         trap '' HUP
-        set -- --rows "$rows" --cols "$cols" --direction "$direction" ${line:+--line "$line"} --classes "$classes" \
-            --brackets "$brackets" --mirroring "$mirroring" "$file"
+        set -- "$file"
         [ -z "$kept" ] || set -- --text "$kept/text" --journal "$kept/journal" ${is_resumed:+--replay "$kept/journal"} "$@"
-        exec "$editor" "$@"
+        exec "$editor" --rows "$rows" --cols "$cols" --direction "$direction" ${line:+--line "$line"} --classes "$classes" \
+            --brackets "$brackets" --mirroring "$mirroring" "$@"
     } <&6 2>"$folder/fault" 3<&- 4<&- 5>&- 6<&- 7>&- 8<&- 9<&- &
     program=$!
     hand_on_keys <&3 >&5 3<&- 4<&- 5>&- 6<&- 7>&- 8<&- 9<&- &
