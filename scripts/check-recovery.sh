@@ -219,7 +219,8 @@ end_session() { # HOW LAUNCHER PROGRAM
     case $target in
     launcher) kill -s "$signal" "$2" ;;
     program) kill -s "$signal" "$3" ;;
-    both) kill -s "$signal" "$2" "$3" ;;
+    # the end of one may be the end of the other
+    both) kill -s "$signal" "$2" "$3" 2>/dev/null ;;
     esac
     wait_for 150 has_ended "$2" "$3"
 }
