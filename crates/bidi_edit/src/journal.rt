@@ -24,8 +24,8 @@ enum Place {
 /// A file to which a journal is appended. A flush puts it on the disk where a Save was written since the last time, or where
 /// that is a second ago.
 #[derive(Drop)]
-pub struct JournalFile<'a> {
-    rt: &'a HostRuntime,
+pub struct JournalFile {
+    rt: HostRuntime,
     place: Place,
     synced: Option<Instant>,
     holds_save: bool,
@@ -40,13 +40,15 @@ fn open_at_end(rt: &HostRuntime, path: &str) -> io::Result<File> {
         .open(rt, path)
 }
 
-impl<'a> JournalFile<'a> {
+impl JournalFile {
     /// The file of a path, if there is one. Where it cannot be opened the first write fails.
-    pub fn open(rt: &'a HostRuntime, path: Option<&str>) -> JournalFile<'a> {
-        let place = match path.map(|path| open_at_end(rt, path)) {
+    pub fn open(rt: HostRuntime, path: Option<&str>) -> JournalFile {
+        let place = match path {
             None => Place::Nowhere,
-            Some(Ok(file)) => Place::File(file),
-            Some(Err(_)) => Place::Unopened,
+            Some(path) => match open_at_end(&rt, path) {
+                Ok(file) => Place::File(file),
+                Err(_) => Place::Unopened,
+            },
         };
         JournalFile {
             rt,
@@ -61,14 +63,14 @@ impl<'a> JournalFile<'a> {
         let Some(synced) = &self.synced else {
             return true;
         };
-        match synced.elapsed(self.rt) {
+        match synced.elapsed(&self.rt) {
             Ok(elapsed) => elapsed.as_secs() >= WAIT,
             Err(_) => true,
         }
     }
 }
 
-impl Write for JournalFile<'_> {
+impl Write for JournalFile {
     fn write(&mut self, buf: &[u8]) -> io::Result<usize> {
         let count = match &mut self.place {
             Place::Nowhere => buf.len(),
@@ -85,7 +87,7 @@ impl Write for JournalFile<'_> {
         };
         if self.holds_save || self.is_due() {
             file.sync_data()?;
-            self.synced = Instant::now(self.rt).ok();
+            self.synced = Instant::now(&self.rt).ok();
             self.holds_save = false;
         }
         Ok(())

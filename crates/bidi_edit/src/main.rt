@@ -35,16 +35,16 @@ use words::{Options, command_line};
 const NAME: &str = "bidi_edit";
 
 /// Edits a file. What is read is kept in the journal, of which nothing is left where nothing is unsaved at the end.
-fn edit_file<'a, R: Read, W: Write, S: Store>(
+fn edit_file<'a, R: Read + Drop, W: Write, S: Store>(
     rt: &HostRuntime,
     options: &Options<'a>,
     files: &Files,
     beginning: Beginning<'_>,
-    reader: &mut R,
+    reader: R,
     writer: &mut W,
     store: &mut S,
 ) -> Result<(), ProgramFault<'a>> {
-    let mut reader = JournalReader::new(reader, JournalFile::open(rt, options.journal));
+    let mut reader = JournalReader::new(reader, JournalFile::open(*rt, options.journal));
     let changes = edit(
         rt.alloc(),
         &mut reader,
@@ -91,10 +91,10 @@ fn recover_to<'a, W: Write, S: Store>(
 }
 
 /// Does what the command line asks for.
-fn program<'a, R: Read, W: Write>(
+fn program<'a, R: Read + Drop, W: Write>(
     rt: &HostRuntime,
     options: &Options<'a>,
-    reader: &mut R,
+    reader: R,
     writer: &mut W,
 ) -> Result<(), ProgramFault<'a>> {
     // before the reading, so that what another program changes in between is seen at the first save
@@ -128,7 +128,7 @@ fn main(rt: HostRuntime) -> ExitCode {
     };
     match command_line(rt.alloc(), words.as_slice()) {
         Ok(options) => {
-            let outcome = program(&rt, &options, &mut rt.reader(), &mut rt.stdout());
+            let outcome = program(&rt, &options, rt.reader(), &mut rt.stdout());
             finish(&rt, outcome)
         }
         Err(error) => refuse(&rt, NAME, &error),

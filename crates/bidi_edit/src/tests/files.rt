@@ -32,7 +32,7 @@ fn outcome<'a>(
         direction: Base::Auto,
     };
     let mut written = Vec::new(rt.alloc());
-    program(rt, &options, &mut b"".as_slice(), &mut written)
+    program(rt, &options, b"".as_slice(), &mut written)
 }
 
 #[test]
