@@ -2,8 +2,10 @@
 # shellcheck disable=SC2154 # words that other parts give
 # Line ends: Enter puts in LF, also where the lines of FILE end with CR LF, which is told at the end.
 
-# Whether a text has lines, and each of them ends with CR LF. The x stands behind the last line end.
+# Whether a text has lines, and each of them ends with CR LF. Most texts are told by their first lines. The x stands behind the last
+# line end.
 all_crlf() { # FILE
+    LC_ALL=C awk 'is_lone { exit 1 } { is_lone = !/\r$/ }' <"$1" 2>/dev/null || return 1
     { cat -- "$1" && echo x; } 2>/dev/null |
         LC_ALL=C awk 'is_lone { has_lone = 1; exit } { is_lone = !/\r$/ } END { exit has_lone || NR < 2 }'
 }

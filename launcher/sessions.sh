@@ -24,7 +24,7 @@ find_path() {
 
 # When a process began, where the system tells that: its number alone comes again.
 began() { # PROCESS
-    read_stat=$(cat "/proc/$1/stat" 2>/dev/null) || return 0
+    read -r read_stat 2>/dev/null <"/proc/$1/stat" || return 0
     # behind the command's name, which ends with the last bracket
     # shellcheck disable=SC2086
     set -- ${read_stat##*)}
@@ -56,7 +56,7 @@ make_session() {
     kept=''
     find_path
     if [ -n "$sessions" ]; then
-        kept=$(umask 077 && mkdir -p -- "$sessions" && mktemp -d "$sessions/$(date +%Y%m%d%H%M%S).XXXXXX")
+        kept=$(umask 077 && { [ -d "$sessions" ] || mkdir -p -- "$sessions"; } && mktemp -d "$sessions/$(date +%Y%m%d%H%M%S).XXXXXX")
         [ -z "$kept" ] || (umask 077 && fill_session "$kept") || forget_session
     fi
     [ -n "$kept" ] || printf 'bidi-edit: unsaved text is not kept, since nothing can be written in %s\n' "$(shown "${sessions:-HOME}")" >&7

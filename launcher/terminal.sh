@@ -22,11 +22,14 @@ keeps_titles() {
     [ -n "${XTERM_VERSION:-}${VTE_VERSION:-}" ]
 }
 
-# FILE's name without the control bytes, which would end a title or begin something else.
-title_name() {
-    case $file in
-    *[!\ -~]*) printf '%s' "${file##*/}" | LC_ALL=C tr '\n' '\001' | LC_ALL=C sed "s/$(printf '\302')[$(printf '\200')-$(printf '\237')]//g" | LC_ALL=C tr -d '\001-\037\177' ;;
-    *) printf '%s' "${file##*/}" ;;
+# FILE's name, without the control bytes, which would end a title or begin something else.
+take_title() {
+    title=${file##*/}
+    case $title in
+    *[!\ -~]*)
+        title=$(printf '%s' "$title" | LC_ALL=C tr '\n' '\001' |
+            LC_ALL=C sed "s/$(printf '\302')[$(printf '\200')-$(printf '\237')]//g" | LC_ALL=C tr -d '\001-\037\177')
+        ;;
     esac
 }
 
@@ -34,7 +37,7 @@ title_name() {
 # program that reads tmux's own protocol there.
 find_outer() {
     [ -n "${TMUX:-}" ] || return 0
-    outer=$(timeout 1 tmux display-message -p '#{?client_control_mode,,#{client_tty}}') || outer=''
+    outer=$(tmux display-message -p '#{?client_control_mode,,#{client_tty}}') || outer=''
     [ -c "$outer" ] && [ -w "$outer" ] || outer=''
 }
 
@@ -60,7 +63,8 @@ show() {
     set_terminal 1049
     if keeps_titles; then
         has_title=1
-        printf '\033[22;0t\033]2;%s - ^S save ^Q quit\a' "$(title_name)"
+        take_title
+        printf '\033[22;0t\033]2;%s - ^S save ^Q quit\a' "$title"
     fi
 }
 
@@ -112,8 +116,7 @@ end_processes() {
 
 # What the program said, and after a fault where the typed text is kept, if it is.
 tell_end() {
-    fault=$(cat "$folder/fault")
-    [ -z "$fault" ] || printf '%s\n' "$fault" >&7
+    [ ! -s "$folder/fault" ] || cat "$folder/fault" >&7
     [ "$status" = 0 ] || tell_kept
     tell_line_ends
 }

@@ -181,34 +181,6 @@ check_install() {
     same 'install, taken away' "$(find "$folder/prefix" -type f -o -type l)" ''
 }
 
-check_time() {
-    printf 'ab' >note
-    times_of_ten >"$folder/times"
-    same 'time, under 50 ms of processor time to start and end' "$(awk '{ print ($1 < 50 ? "under" : $0) }' "$folder/times")" under
-    echo "   $shell: $(cat "$folder/times") ms, launcher and editor, of ten runs that end at once"
-}
-
-# The mean processor time of ten runs, in thousandths of a second, by the shell's own count of its children.
-times_of_ten() {
-    {
-        echo "cd '$folder/files'"
-        for _ in 1 2 3 4 5 6 7 8 9 10; do echo "$shell '$top/bidi-edit' note"; done
-        echo "times >'$folder/counted'"
-        echo "exec sleep 600"
-    } >"$folder/run"
-    rm -f "$folder/counted"
-    terminal new-session -d -s person -x 80 -y 24 "bash $folder/run" \; set -g status off
-    for _ in 1 2 3 4 5 6 7 8 9 10; do
-        wait_for 50 is_editing
-        sleep 0.2
-        type_keys C-q
-        sleep 0.3
-    done
-    wait_for 50 test -s "$folder/counted"
-    terminal kill-session -t person
-    awk 'NR == 2 { n = split($0, part, "[ms ]+"); printf "%d\n", (part[1] * 60 + part[2] + part[3] * 60 + part[4]) * 1000 / 10 }' "$folder/counted"
-}
-
 check_editor() {
     has_editor || return 0
     ! asked edit || check_edit
@@ -220,6 +192,5 @@ check_editor() {
     ! asked line || check_line
     ! asked stop || check_editor_stop
     ! asked install || check_install
-    ! asked time || check_time
     rm -f note
 }

@@ -14,11 +14,12 @@ make_recorder() {
     echo 'a kit' >"$folder/recorder/lib/bidi_edit/kit"
     cat >"$folder/recorder/lib/bidi_edit/bidi_edit" <<'TEXT'
 #!/bin/sh
-# Records its words, and its input until a reading ends in a byte 11. A FILE `still` is one that no key ends.
+# Records its words, and its input until a reading ends in a byte 11. A FILE `still` is one that no key ends, and `at-once` needs none.
 printf '%s\n' "$@" >"$BX_WORDS"
 echo 'bidi_edit: a fault' >&2
 for file; do :; done
 [ "$file" != still ] || exec sleep 1000
+[ "$file" != at-once ] || exit 0
 : >"$BX_RECORD"
 while dd bs=65536 count=1 2>/dev/null >"$BX_RECORD.part" && [ -s "$BX_RECORD.part" ]; do
     tr -d '\021' <"$BX_RECORD.part" >>"$BX_RECORD"
@@ -153,6 +154,40 @@ check_whole_keys() {
         'א[Cא[Cא[Cא[Cא[Cא[Cא[Cא[Cא[Cא[Cא[Cא[Cא[Cא[Cא[C'
 }
 
+# What the launcher itself costs: the least of ten runs, since what else the machine does makes each dearer. A machine that has more
+# to do than it has processors makes all of them dearer, by up to twice, so there it is told and not judged.
+check_time() {
+    printf 'a\nb\n' >at-once
+    times_of_ten >"$folder/times"
+    least=$(sort -n "$folder/times" | head -n 1)
+    same 'time, ten runs' "$(wc -l <"$folder/times")" 10
+    if is_busy; then
+        skip 'time, under 50 ms' 'the machine is busy'
+    else
+        same 'time, under 50 ms of processor time to start and end' "$([ "$least" -gt 0 ] && [ "$least" -lt 50 ] && echo under || echo "$least")" under
+    fi
+    echo "   $shell: $least ms of processor time to start and end, the least of ten; the mean is $(awk '{ n += $1 } END { print int(n / NR) }' "$folder/times")"
+    rm -f at-once
+}
+
+is_busy() {
+    awk -v processors="$(getconf _NPROCESSORS_ONLN)" '{ exit !($1 > processors) }' /proc/loadavg
+}
+
+# The processor time of ten runs, each in thousandths of a second, as bash counts its children.
+times_of_ten() {
+    {
+        echo "export BX_WORDS='$folder/words' TMPDIR='$folder/private'; cd '$folder/files'"
+        for _ in 1 2 3 4 5 6 7 8 9 10; do echo "$shell '$recorder' at-once 2>/dev/null; times >>'$folder/counted'"; done
+        echo "touch '$folder/ended'; exec sleep 600"
+    } >"$folder/run"
+    rm -f "$folder/counted" "$folder/ended"
+    terminal new-session -d -s person -x 80 -y 24 "bash $folder/run" \; set -g status off
+    wait_for 200 has_ended
+    terminal kill-session -t person
+    awk 'NR % 2 == 0 { split($0, part, "[ms ]+"); now = (part[1] * 60 + part[2] + part[3] * 60 + part[4]) * 1000; printf "%d\n", now - before; before = now }' "$folder/counted"
+}
+
 check_recorder() {
     make_recorder
     ! asked words || check_words
@@ -160,4 +195,7 @@ check_recorder() {
     ! asked tables || check_tables
     ! asked size || check_sizes
     ! asked paste || check_paste
+    if asked time; then
+        if command -v bash >/dev/null 2>&1; then check_time; else skip time 'there is no bash to count it'; fi
+    fi
 }
