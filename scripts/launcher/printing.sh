@@ -11,7 +11,7 @@ printed() { # NAME WANTED WORD..
 }
 
 check_refused_prints() {
-    lines_told=3
+    lines_told=2
     refused 'printing, no FILE' '2 bidi-edit: one FILE is wanted' --print
     refused 'printing, two' '2 bidi-edit: one FILE is wanted' --print f g
     refused 'printing, an option' '2 bidi-edit: there is no option --line with --print' --print f --line 3
