@@ -102,7 +102,7 @@ check_long_paste() {
     terminal load-buffer -b text "$folder/paste"
     terminal paste-buffer -r -b text -t person
     type_keys C-s
-    wait_for 1200 test -s new
+    wait_for 3000 test -s new
     type_keys C-q
     finish 'long paste' 0 50
     cmp new "$folder/paste" >"$folder/differs" 2>&1
