@@ -2,7 +2,7 @@
 
 use crate::answers::{Answers, add_bytes, add_flag, add_number, add_text, letter_of_refusal};
 use crate::scene::{Act, Look, Scene};
-use crate::stage::{SAVE, first_bytes};
+use crate::stage::SAVE;
 use bx_session::{Refused, Session, Status};
 use bx_store::{MemoryStore, Store};
 use bx_ucd::BidiData;
@@ -83,9 +83,8 @@ impl<D: BidiData + Drop> Alone<D> {
 
     /// Takes bytes off the queue, and adds them to those that were sent.
     fn send(&mut self, count: usize, queued: &mut Vec<u8>) -> Result<char, AllocError> {
-        let part = first_bytes(self.session.pending(), count);
-        queued.extend_from_slice(part)?;
-        let sent = part.len();
+        let sent = count.min(self.session.pending().len());
+        queued.extend_from_slice(&self.session.pending()[..sent])?;
         self.session.taken(sent);
         Ok('o')
     }

@@ -13,7 +13,7 @@ use std::alloc::{AllocError, Global};
 pub const SAVE: u8 = 0x13;
 
 /// The first bytes, at most so many.
-pub fn first_bytes(bytes: &[u8], count: usize) -> &[u8] {
+fn first_bytes(bytes: &[u8], count: usize) -> &[u8] {
     &bytes[..count.min(bytes.len())]
 }
 
