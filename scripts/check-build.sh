@@ -7,6 +7,8 @@
 set -u
 
 top=$(cd "$(dirname "$0")/.." && pwd)
+# shellcheck source=scripts/report.sh
+. "$top/scripts/report.sh"
 prove=$top/launcher/proving/prove.sh
 folder=$(mktemp -d)
 socket="bb$$"
@@ -20,34 +22,9 @@ command -v tmux >/dev/null || {
     exit 77
 }
 
-report() { # NAME STATUS DETAIL
-    if [ "$2" = 0 ]; then
-        passed=$((passed + 1))
-        echo "ok $shell $1"
-    else
-        failed=$((failed + 1))
-        echo "FAILS $shell $1: $3"
-    fi
-}
-
-same() { # NAME FOUND WANTED
-    if [ "$2" = "$3" ]; then report "$1" 0 ''; else report "$1" 1 "'$2', and not '$3'"; fi
-}
-
 like() { # NAME FOUND PATTERN
     printf '%s\n' "$2" | grep -q -x -e "$3"
     report "$1" $? "'$2', and not like '$3'"
-}
-
-# Waits for a command to succeed, a tenth of a second at a time.
-wait_for() { # TENTHS COMMAND..
-    tenths=$1
-    shift
-    while ! "$@"; do
-        tenths=$((tenths - 1))
-        [ "$tenths" -gt 0 ] || return 1
-        sleep 0.1
-    done
 }
 
 # ---- a small repository: a and b stand on nothing, c on a, and the program d on b and c

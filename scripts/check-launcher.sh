@@ -36,6 +36,8 @@ chmod 755 "$folder"
 mkdir "$folder/private" "$folder/files"
 cd "$folder/files" || exit 1
 
+# shellcheck source=scripts/report.sh
+. "$top/scripts/report.sh"
 for part in person recorder refusals printing ends modes editor input callers; do
     # shellcheck source=/dev/null
     . "$top/scripts/launcher/$part.sh"

@@ -8,6 +8,8 @@ set -u
 sessions=${1:-200}
 seed=${2:-1}
 top=$(CDPATH='' cd -- "$(dirname "$0")/.." && pwd)
+# shellcheck source=scripts/report.sh
+. "$top/scripts/report.sh"
 editor=$top/crates/bidi_edit/out/bidi_edit
 
 skip() { # CAUSE
@@ -37,17 +39,6 @@ passes() { # NAME
 
 fails() { # NAME DETAIL
     echo "FAILS $1: $2" | tee -a "$folder/results"
-}
-
-# Waits for a command to succeed, a tenth of a second at a time.
-wait_for() { # TENTHS COMMAND..
-    tenths=$1
-    shift
-    while ! "$@"; do
-        tenths=$((tenths - 1))
-        [ "$tenths" -gt 0 ] || return 1
-        sleep 0.1
-    done
 }
 
 # ---- the sessions, and what their keys make

@@ -7,6 +7,8 @@
 set -eu
 
 top=$(cd "$(dirname "$0")/.." && pwd)
+# shellcheck source=scripts/report.sh
+. "$top/scripts/report.sh"
 version=$(sed -n 's/^version=//p' "$top/launcher/words.sh")
 name=bidi-edit_${version}_amd64
 folder=$(mktemp -d)
@@ -121,31 +123,6 @@ make_tar() {
 }
 
 # ---- the checks
-
-report() { # NAME STATUS DETAIL
-    if [ "$2" = 0 ]; then
-        passed=$((passed + 1))
-        echo "ok $1"
-    else
-        failed=$((failed + 1))
-        echo "FAILS $1: $3"
-    fi
-}
-
-same() { # NAME FOUND WANTED
-    if [ "$2" = "$3" ]; then report "$1" 0 ''; else report "$1" 1 "'$2', and not '$3'"; fi
-}
-
-# Waits for a command to succeed, a tenth of a second at a time.
-wait_for() { # TENTHS COMMAND..
-    tenths=$1
-    shift
-    while ! "$@"; do
-        tenths=$((tenths - 1))
-        [ "$tenths" -gt 0 ] || return 1
-        sleep 0.1
-    done
-}
 
 has_line() { # TEXT
     tmux -L "$socket" capture-pane -p -t person | grep -q -F -e "$1"

@@ -8,20 +8,6 @@ terminal() {
 
 # ---- what is seen
 
-report() { # NAME STATUS DETAIL
-    if [ "$2" = 0 ]; then
-        passed=$((passed + 1))
-        echo "ok $shell $1"
-    else
-        failed=$((failed + 1))
-        echo "FAILS $shell $1: $3"
-    fi
-}
-
-same() { # NAME FOUND WANTED
-    if [ "$2" = "$3" ]; then report "$1" 0 ''; else report "$1" 1 "'$2', and not '$3'"; fi
-}
-
 has() { # NAME TEXT PART
     case $2 in
     *"$3"*) report "$1" 0 '' ;;
@@ -41,17 +27,6 @@ asked() {
         case $1 in "$prefix"*) return 0 ;; esac
     done
     return 1
-}
-
-# Waits for a command to succeed, a tenth of a second at a time.
-wait_for() { # TENTHS COMMAND..
-    tenths=$1
-    shift
-    while ! "$@"; do
-        tenths=$((tenths - 1))
-        [ "$tenths" -gt 0 ] || return 1
-        sleep 0.1
-    done
 }
 
 # The rows of a session, with what is negative between < and >, joined by |, and the cursor's column and row from 0.

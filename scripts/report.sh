@@ -1,0 +1,29 @@
+# shellcheck shell=sh
+# shellcheck disable=SC2034 # words that the scripts give and take
+# What a check says of each point, for scripts that count in `passed` and `failed`, and a wait that has an end. One that goes through
+# several shells names the one at work in `shell`.
+
+report() { # NAME STATUS DETAIL
+    if [ "$2" = 0 ]; then
+        passed=$((passed + 1))
+        echo "ok ${shell:+$shell }$1"
+    else
+        failed=$((failed + 1))
+        echo "FAILS ${shell:+$shell }$1: $3"
+    fi
+}
+
+same() { # NAME FOUND WANTED
+    if [ "$2" = "$3" ]; then report "$1" 0 ''; else report "$1" 1 "'$2', and not '$3'"; fi
+}
+
+# Waits for a command to succeed, a tenth of a second at a time.
+wait_for() { # TENTHS COMMAND..
+    tenths=$1
+    shift
+    while ! "$@"; do
+        tenths=$((tenths - 1))
+        [ "$tenths" -gt 0 ] || return 1
+        sleep 0.1
+    done
+}
