@@ -2,7 +2,7 @@
 # shellcheck disable=SC2034,SC2154 # words that other parts give and take
 # The command line: its words, the help, the version, and how a refusal is told.
 
-version=1.0.0
+version=0.1.0
 usage='usage: bidi-edit [--direction auto|ltr|rtl] [--line N | +N] [--force] FILE
        bidi-edit --recover [--to OTHER] FILE'
 
