@@ -2,6 +2,7 @@ mod Rows
 pub mod Scan
 pub mod Rising
 pub mod Steps
+pub mod States
 pub mod LevelRuns
 pub mod Texts
 pub mod Backward
@@ -22,4 +23,5 @@ pub mod Unjoined
 pub mod Waits
 pub mod Overtaken
 pub mod Ordered
+pub mod Counted
 pub mod OneSequence

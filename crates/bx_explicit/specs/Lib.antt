@@ -11,3 +11,4 @@ pub mod OpenChains
 pub mod Stacked
 pub mod LevelIndexes
 pub mod Walk
+pub mod Laws

@@ -1,5 +1,5 @@
 //! A walk over the isolating run sequences of a paragraph body, in the order in which they end (BD13).
-ghost use Rattle.std.specs.Prelude.{◌≡◌, ◌<◌, ◌∷◌, [], ◌≤◌, OnErr, IfOk, length, true, false};
+ghost use Rattle.std.specs.Prelude.{◌≡◌, ◌<◌, ◌∷◌, [], ◌≤◌, All, OnErr, IfOk, length, true, false};
 ghost use Rattle.bx_explicit.specs.LevelIndexes.{indexes_from};
 ghost use Rattle.bx_explicit.specs.OpenChains.{others, newest_sequence};
 ghost use Rattle.bx_explicit.specs.Sequences.{sequences};
@@ -81,6 +81,7 @@ impl<'e> SequenceWalk<'e> {
     pub fn new(alloc: Global, explicit: &'e Explicit) -> Self
         ensures explicit { result.explicit ≡ explicit.now }
         ensures given { AreGiven result.left (sequences explicit.now.level explicit.now.classes.items explicit.now.kept.items) }
+        ensures few { All (λ s. length s.indexes ≤ length explicit.now.kept.items) result.left }
     {
         SequenceWalk {
             explicit,

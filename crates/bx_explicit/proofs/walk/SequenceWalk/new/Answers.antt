@@ -5,6 +5,7 @@ use Rattle.bx_explicit.specs.declared.runs.Run.{Run}
 use Rattle.bx_explicit.specs.Runs.{runs_from}
 use Rattle.bx_explicit.specs.Sequences.{sequences}
 use Rattle.bx_explicit.specs.Walk.{AreGiven, ending, runs_to_come}
+use Rattle.bx_explicit.proofs.Counted.{given_few}
 use Rattle.bx_explicit.proofs.Overtaken.{all_given}
 use Rattle.bx_explicit.proofs.Ending.{come_is}
 use Rattle.bx_explicit.proofs.walk.SequenceWalk.new.Goals as goal
@@ -20,3 +21,8 @@ returns-clause-given c =
     let none : ending e.level e.classes.items kept [] (runs_to_come kept o) ≡ ending e.level e.classes.items kept c.new.result.chains (runs_to_come kept o) =
     ap (λ cs. ending e.level e.classes.items kept cs (runs_to_come kept o)) (sym c.new.ensures.none) in
     subst (λ g. AreGiven g (sequences e.level e.classes.items kept)) none (all_given e (runs_to_come kept o) e.by_rules e.paragraph runs)
+
+pub returns-clause-few : goal.returns-clause-few
+returns-clause-few c =
+    let e : Explicit = c.args.explicit.now in
+    given_few e.level e.classes.items e.kept.items _ (returns-clause-given c)
