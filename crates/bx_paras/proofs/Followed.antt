@@ -14,7 +14,7 @@ use Rattle.bx_paras.specs.Capacity.{block_capacity}
 use Rattle.bx_paras.specs.Positions.{bytes_of, total}
 use Rattle.bx_paras.specs.Ended.{ended_within}
 use Rattle.bx_text.specs.Text.{HasRoomFor}
-use Rattle.bx_paras.specs.Index.{HasSpares}
+use Rattle.bx_paras.specs.Index.{CoversBytes, HasSpares}
 use Rattle.bx_paras.specs.Flat.{IsPosition}
 use Rattle.bx_paras.specs.Touched.{IsTouched}
 use Rattle.bx_paras.proofs.Cuts.{unended}
@@ -227,4 +227,9 @@ pub room_for_bytes : (class : ℕ → Class) (old : List ℕ) (c : Change) (new 
     → (room : Option ℕ) (n : ℕ) → room ≡ Some n → c.added ≤ n → HasRoomFor room (separator_count class (take c.added (drop c.start new)))
 room_for_bytes class old c new utf8 utf8' leads room n e enough =
     let few : separator_count class (take c.added (drop c.start new)) ≤ n = omega (arith, few_separators class old c new utf8 utf8' leads, enough) in
+    rw e few
+
+pub covers_bytes : (room : Option ℕ) (n : ℕ) → room ≡ Some n → CoversBytes room n
+covers_bytes room n e class text utf8 enough =
+    let few : separator_count class text ≤ n = omega (arith, few_lengths class text utf8, enough) in
     rw e few

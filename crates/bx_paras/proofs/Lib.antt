@@ -4,6 +4,7 @@ pub mod Flats
 pub mod Spliced
 mod Rows
 pub mod Cuts
+pub mod Bodies
 mod Seams
 mod Counts
 mod Edits

@@ -1,10 +1,13 @@
 -- What an index is seen as: how many bytes each paragraph has, and the room that was made for the next edit.
-use Rattle.std.specs.Prelude.{ℕ, ◌+◌, ◌*◌, ◌≤◌, min, List, [], ◌∷◌, ◌++◌, length, Option, IfSome}
+use Rattle.std.specs.Prelude.{ℕ, ◌+◌, ◌*◌, ◌≤◌, min, List, [], ◌∷◌, ◌++◌, length, Option, IfSome, IsUtf8}
+use Rattle.bx_ucd.specs.declared.class.Class.{Class}
 use Rattle.bx_text.specs.Edits.{largest_text}
+use Rattle.bx_text.specs.Text.{HasRoomFor}
 use Rattle.bx_paras.specs.declared.lengths.Lengths.{Lengths}
 use Rattle.bx_paras.specs.declared.index.Index.TheInside.{Inside}
 use Rattle.bx_paras.specs.Capacity.{block_capacity}
 use Rattle.bx_paras.specs.Flat.{flat}
+use Rattle.bx_paras.specs.Paragraphs.{separator_count}
 use Rattle.bx_paras.specs.Positions.{total}
 
 pub record IndexState : Type 0 where
@@ -23,3 +26,7 @@ pub record IsIndex (i : Inside) : Type 0 where
   pub short : total (flat i.front.blocks ++ record { body = i.last; separator = 0 } ∷ []) ≤ largest_text
   pub few : length (flat i.front.blocks) ≤ largest_text
   pub has_room : IfSome i.room (HasSpares i.front.spares)
+
+-- a room covers the separators of each text of so many bytes
+abbrev pub CoversBytes : Option ℕ → ℕ → Type 0
+CoversBytes room bytes = (class : ℕ → Class) (text : List ℕ) → IsUtf8 text → length text ≤ bytes → HasRoomFor room (separator_count class text)

@@ -12,3 +12,4 @@ pub mod Touched
 pub mod Blocks
 pub mod Index
 pub mod Walk
+pub mod Laws

@@ -9,7 +9,7 @@ ghost use Rattle.bx_paras.specs.Positions.{total, spans, separators, paragraph_o
 ghost use Rattle.bx_paras.specs.Flat.{flat};
 ghost use Rattle.bx_paras.specs.Spots.{closed};
 ghost use Rattle.bx_paras.specs.Touched.{IsTouched};
-ghost use Rattle.bx_paras.specs.Index.{IndexState};
+ghost use Rattle.bx_paras.specs.Index.{CoversBytes, IndexState};
 ghost use Rattle.bx_paras.specs.Windows.{IsWindow};
 
 use crate::block::BLOCK_CAPACITY;
@@ -161,12 +161,14 @@ impl Index {
     }
 
     /// Makes room: after Ok an edit can be followed with no memory if what it adds has at most so many
-    /// separators, and it has no more of them than bytes. What is left of the room is given back then.
+    /// separators. No text has more of them than bytes, so a count of bytes will do. What is left of the room is given
+    /// back then.
     ///
     /// Errors: `OutOfMemory`, and the index and the room made before are unchanged.
     pub fn ready(&mut self, separators: usize) -> Result<(), ParasError>
         ensures paragraphs { self.new.paragraphs ≡ self.old.paragraphs }
         ensures ok { OnOk result (self.new.room ≡ Some separators) }
+        ensures bytes { OnOk result (CoversBytes self.new.room separators) }
         ensures err { OnErr result (self.new ≡ self.old) }
     {
         let blocks = separators.min(LARGEST_TEXT) / BLOCK_CAPACITY + 4;

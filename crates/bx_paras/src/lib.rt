@@ -8,6 +8,7 @@ mod blocks;
 mod error;
 mod fill;
 mod index;
+mod laws;
 mod leads;
 mod lengths;
 mod position;
@@ -19,4 +20,5 @@ mod window;
 
 pub use error::ParasError;
 pub use index::Index;
+pub use laws::{bodies_stand_at_spans, paragraphs_join_to_text};
 pub use walk::ParagraphWalk;

@@ -1,0 +1,8 @@
+use Rattle.bx_paras.proofs.Bodies.{end_with_separators, join_to_text}
+use Rattle.bx_paras.proofs.laws.paragraphs_join_to_text.Goals as goal
+
+pub returns-clause-joined : goal.returns-clause-joined
+returns-clause-joined c = join_to_text
+
+pub returns-clause-separators : goal.returns-clause-separators
+returns-clause-separators c = end_with_separators
