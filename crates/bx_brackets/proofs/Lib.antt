@@ -4,6 +4,7 @@ pub mod Close
 pub mod Missed
 pub mod Closers
 pub mod Insert
+pub mod Nested
 pub mod Marks
 pub mod Context
 pub mod ClearRanges

@@ -2,3 +2,4 @@ pub mod Pairs
 pub mod Search
 pub mod Resolve
 pub mod Clear
+pub mod Laws

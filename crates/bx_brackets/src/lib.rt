@@ -2,11 +2,13 @@
 #![tactic(auto)]
 
 mod error;
+mod laws;
 mod pairs_of;
 mod resolve;
 mod search;
 
 pub use error::BracketError;
+pub use laws::pairs_are_nested;
 pub use pairs_of::pairs;
 pub use resolve::resolve_pairs;
 pub use search::PairSearch;

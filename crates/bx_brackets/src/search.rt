@@ -36,6 +36,7 @@ fn need_entries(closers: &mut Vec<u32>, count: usize) -> Result<(), AllocError>
     requires long { (length closers.old.items ≡ 0) ⊎ (length closers.old.items ≡ count) }
     ensures long { OnOk result (length closers.new.items ≡ count) }
     ensures pairs { pairs_in 0 closers.new.items ≡ pairs_in 0 closers.old.items }
+    ensures err { OnErr result (closers.new.items ≡ closers.old.items) }
     ensures searched { (j : ℕ) (os : List (ℕ × ℕ)) → j < count → IsSearched count j os closers.old.items → IsSearched count j os closers.new.items }
 {
     if closers.is_empty() {
@@ -58,6 +59,8 @@ fn meet_opener(
     ensures searched { IsSearched count (index + 1) «open».new closers.new.items }
     ensures turn { IfOk result (λ r. progress «open».new (pairs_in 0 closers.new.items) r
         ≡ turn index 0 (Some (Opener, closer)) (progress «open».old (pairs_in 0 closers.old.items) false)) }
+    ensures same_open { OnErr result («open».new ≡ «open».old) }
+    ensures same_closers { OnErr result (closers.new.items ≡ closers.old.items) }
 {
     if open.is_full() {
         return Ok(true);
@@ -115,6 +118,8 @@ fn meet_bracket(
     ensures searched { IsSearched count (index + 1) «open».new closers.new.items }
     ensures turn { IfOk result (λ r. progress «open».new (pairs_in 0 closers.new.items) r
         ≡ turn index c (Some bracket) (progress «open».old (pairs_in 0 closers.old.items) false)) }
+    ensures same_open { OnErr result («open».new ≡ «open».old) }
+    ensures same_closers { OnErr result (closers.new.items ≡ closers.old.items) }
 {
     match bracket {
         (Side::Opener, closer) => meet_opener(open, closers, count, index, closer),
@@ -159,27 +164,24 @@ impl PairSearch {
         }
     }
 
-    /// Begins a search of a sequence of so many characters. More than 4,294,967,295 are refused as if there were no memory.
-    pub fn begin(&mut self, count: usize) -> Result<(), BracketError>
-        ensures next { OnOk result (self.new.next ≡ 0) }
-        ensures count { OnOk result (self.new.count ≡ count) }
-        ensures pairs { OnOk result ((bracket : ℕ → Option (Side × ℕ)) (cs : List ℕ) (ts : List Class) → pairs_after bracket self.new.progress 0 cs ts
-            ≡ pairs bracket cs ts) }
+    /// Begins a search of a sequence of so many characters, each of whose indexes has room in 4 bytes. It takes no memory.
+    pub fn begin(&mut self, count: usize)
+        requires small { count ≤ 2 ^ 32 }
+        ensures next { self.new.next ≡ 0 }
+        ensures count { self.new.count ≡ count }
+        ensures pairs { (bracket : ℕ → Option (Side × ℕ)) (cs : List ℕ) (ts : List Class) → pairs_after bracket self.new.progress 0 cs ts
+            ≡ pairs bracket cs ts }
     {
-        if count > u32::MAX as usize {
-            return Err(BracketError::OutOfMemory);
-        }
         self.openers.clear();
         self.closers.clear();
         self.count = count;
         self.next = 0;
         self.is_over = false;
-        Ok(())
     }
 
     /// Takes the character of the sequence at an index, of a current type. Those whose type is not ON may be left out.
     /// Memory is taken at the first opener, 4 bytes for each character of the longest sequence so far, and want of it is the
-    /// only refusal.
+    /// only refusal: then the search is as it was, and the character can be taken again.
     #[inline(always)]
     pub fn meet<D: BidiData>(
         &mut self,
@@ -193,6 +195,7 @@ impl PairSearch {
         ensures progress { OnOk result (self.new.progress ≡ after index c (bracket_at (D.bracket_of source.now) c t) self.old.progress) }
         ensures next { self.new.next ≤ index + 1 }
         ensures count { self.new.count ≡ self.old.count }
+        ensures err { OnErr result (self.new ≡ self.old) }
     {
         if self.is_over {
             return Ok(());
@@ -200,7 +203,6 @@ impl PairSearch {
         let Some(bracket) = bracket_at(source, c, t) else {
             return Ok(());
         };
-        self.next = index + 1;
         self.is_over = meet_bracket(
             &mut self.openers,
             &mut self.closers,
@@ -209,6 +211,7 @@ impl PairSearch {
             c,
             bracket,
         )?;
+        self.next = index + 1;
         Ok(())
     }
 

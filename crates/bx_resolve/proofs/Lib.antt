@@ -3,6 +3,7 @@ pub mod Run
 pub mod NoBrackets
 pub mod ReadOn
 pub mod TextEnds
+pub mod Small
 pub mod PairsLeft
 pub mod Fused
 pub mod Written

@@ -1,5 +1,5 @@
 //! The bracket pairs of a sequence, found as its characters are read from the body.
-ghost use Rattle.std.specs.Prelude.{◌≡◌, ℕ, ◌≤◌, ◌++◌, List, IfOk, OnOk, chars, drop, length};
+ghost use Rattle.std.specs.Prelude.{◌≡◌, ℕ, ◌≤◌, ◌^◌, ◌++◌, List, IfOk, OnOk, chars, drop, length};
 ghost use Rattle.bx_ucd.specs.Class.{direction};
 ghost use Rattle.bx_brackets.specs.Pairs.{pairs};
 ghost use Rattle.bx_brackets.specs.Resolve.{resolve_pairs};
@@ -115,6 +115,7 @@ pub fn resolve_brackets_of<D: BidiData>(
     types: &mut [Class],
     ends: Ends,
 ) -> Result<(), ResolveError>
+    requires small { length types.old ≤ 2 ^ 32 }
     requires marks { length scratch.old.marks.items ≡ length types.old }
     ensures { OnOk result (types.new ≡ resolve_pairs (direction ends.level) ends.sos scratch.old.marks.items
         (pairs (D.bracket_of source.now) (chars body.now) types.old) types.old) }
@@ -122,7 +123,7 @@ pub fn resolve_brackets_of<D: BidiData>(
     if !may_have_brackets(types) {
         return Ok(());
     }
-    scratch.search.begin(types.len())?;
+    scratch.search.begin(types.len());
     meet_text(&mut scratch.search, body, types, source)?;
     scratch.resolve_brackets(types, ends);
     Ok(())
@@ -140,6 +141,7 @@ pub fn resolve_brackets_in<D: BidiData>(
     ends: Ends,
 ) -> Result<(), ResolveError>
     requires as_long { length body.old ≡ length kept.now }
+    requires small { length types.old ≤ 2 ^ 32 }
     requires marks { length scratch.old.marks.items ≡ length types.old }
     ensures types { OnOk result (types.new ≡ resolve_pairs (direction ends.level) ends.sos scratch.old.marks.items
         (pairs (D.bracket_of source.now) (chars_at body.old (indexes_from ends.level kept.now firsts.now)) types.old) types.old) }
@@ -149,7 +151,7 @@ pub fn resolve_brackets_in<D: BidiData>(
         return Ok(());
     }
     body.read()?;
-    scratch.search.begin(types.len())?;
+    scratch.search.begin(types.len());
     meet_sequence(
         &mut scratch.search,
         body,

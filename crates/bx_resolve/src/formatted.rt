@@ -129,6 +129,7 @@ fn write_sequence<D: BidiData>(
 ) -> Result<(), ResolveError>
     requires lent { walk.now.has_current ≡ true }
     requires same { kept.now ≡ walk.now.explicit.kept.items }
+    requires small { length walk.now.current.indexes ≤ 2 ^ 32 }
     requires as_long { length body.old ≡ length kept.now }
     requires types { types.old ≡ types_at kept.now walk.now.current.indexes }
     requires all { length each.old.items ≡ length kept.now }
@@ -167,6 +168,7 @@ fn write_lent<D: BidiData>(
 ) -> Result<(), ResolveError>
     requires lent { walk.now.has_current ≡ true }
     requires same { kept.now ≡ walk.now.explicit.kept.items }
+    requires small { length walk.now.current.indexes ≤ 2 ^ 32 }
     requires as_long { length room.old.body ≡ length kept.now }
     requires all { length each.old.items ≡ length kept.now }
     ensures written { OnOk result (each.new.items ≡ with_levels walk.now.current.indexes

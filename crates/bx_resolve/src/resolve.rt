@@ -1,5 +1,5 @@
 //! The levels of a paragraph.
-ghost use Rattle.std.specs.Prelude.{◌≡◌, ◌≤◌, IfOk, Some, chars, length, map, true};
+ghost use Rattle.std.specs.Prelude.{◌≡◌, ◌≤◌, ◌<◌, ◌^◌, IfOk, Some, chars, length, map, true};
 ghost use Rattle.bx_explicit.specs.Stack.{max_depth};
 ghost use Rattle.bx_resolve.specs.Weak.{weak};
 ghost use Rattle.bx_resolve.specs.Neutral.{implicit_at};
@@ -63,6 +63,7 @@ fn unformatted_levels<D: BidiData>(
 ) -> Result<Levels, ResolveError>
     requires classes { classes.old ≡ map (D.class_of source.now) (chars body.now) }
     requires low { paragraph ≤ 1 }
+    requires small { length body.now < 2 ^ 32 }
     requires unformatted { all_pass is_unformatted classes.old ≡ true }
     ensures paragraph { IfOk result (λ v. v.paragraph ≡ paragraph) }
     ensures each { IfOk result (λ v. v.each.items ≡ paragraph_levels (D.class_of source.now) (D.bracket_of source.now) paragraph (chars body.now)) }

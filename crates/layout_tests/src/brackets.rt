@@ -69,13 +69,13 @@ fn pairs_of_one_sequence_after_another(rt: HostRuntime) -> Result<(), Fail> {
     let mut search = PairSearch::new(rt.alloc());
     // B (G), and then (( from left to right
     let mut types = [Class::R, Class::ON, Class::R, Class::ON];
-    search.begin(4)?;
+    search.begin(4);
     search.meet(1, '(', Class::ON, &tables)?;
     search.meet(3, ')', Class::ON, &tables)?;
     search.resolve(&mut types, &[false; 4], 0, Class::L);
     assert_eq!(rt; types.as_slice(), [Class::R; 4].as_slice());
     let mut types = [Class::ON; 2];
-    search.begin(2)?;
+    search.begin(2);
     search.meet(0, '(', Class::ON, &tables)?;
     search.meet(1, '(', Class::ON, &tables)?;
     search.resolve(&mut types, &[false; 2], 0, Class::L);

@@ -1,6 +1,7 @@
 -- What is written, and what the sequences that are left write over it.
-use Rattle.std.proofs.Common.{◌≡◌, chars, length, replicate, None}
-use Rattle.bx_explicit.specs.Sequences.{sequences}
+use Rattle.std.proofs.Common.{◌≡◌, ◌≤◌, chars, length, replicate, None}
+use Rattle.std.specs.Prelude.{All}
+use Rattle.bx_explicit.specs.Sequences.{RunSequence, sequences}
 use Rattle.bx_resolve.specs.Levels.{with_sequences}
 use Rattle.bx_resolve.proofs.formatted.each_level.Given as goal
 
@@ -9,6 +10,7 @@ invariant-loop-walk g l = record {
   own : l.walk.explicit ≡ l.explicit;
   text : l.room.body ≡ chars l.body;
   all : length l.each.items ≡ length (chars l.body);
+  few : All (λ (s : RunSequence). length s.indexes ≤ length l.explicit.kept.items) l.walk.left;
   written : with_sequences (g.D.BidiData.bracket_of l.source) (chars l.body) l.explicit.kept.items
       (sequences l.explicit.level l.explicit.classes.items l.explicit.kept.items) (replicate (length (chars l.body)) None)
       ≡ with_sequences (g.D.BidiData.bracket_of l.source) (chars l.body) l.explicit.kept.items l.walk.left l.each.items;

@@ -1,9 +1,20 @@
-use Rattle.std.proofs.Common.{◌≡◌, ℕ, List, Option, chars}
+use Rattle.std.proofs.Common.{◌≡◌, ◌∙◌, ℕ, List, Option, ap, arith, chars, length}
+use Rattle.std.proofs.lemmas.List.{length-map}
 use Rattle.bx_ucd.specs.declared.class.Class.{Class}
 use Rattle.bx_ucd.specs.declared.data.Side.{Side}
 use Rattle.bx_resolve.specs.Levels.{sequence_types}
+use Rattle.bx_resolve.proofs.PlainLengths.{weak_length}
 use Rattle.bx_resolve.proofs.PlainLevels.{types_from, found_from}
+use Rattle.bx_resolve.proofs.Small.{few_chars}
 use Rattle.bx_resolve.proofs.resolve.unformatted_levels.Goals as goal
+
+pub resolve_brackets_of-requires-clause-small : goal.resolve_brackets_of-requires-clause-small
+resolve_brackets_of-requires-clause-small g c =
+    let class : ℕ → Class = g.D.BidiData.class_of c.args.source.now in
+    let same : length c.resolve_weak.new.types ≡ length c.args.classes.now =
+    ap length c.in_ok-resolve_weak.ensures.types ∙ weak_length c.direction-side.result c.args.classes.now in
+    let count : length c.args.classes.now ≡ length (chars c.args.body.now) = ap length c.requires.classes ∙ length-map (chars c.args.body.now) class in
+    omega (arith, same, count, few_chars c.args.body.now c.utf8.body, c.requires.small)
 
 pub returns-clause-each : goal.returns-clause-each
 returns-clause-each g c =
