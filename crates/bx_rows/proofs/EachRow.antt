@@ -48,10 +48,14 @@ any-face-fits class w cs =
     face-fits w (sized_face w n) (is_tab (only_char cs)) (Rattle.std.specs.List.list_any is_control cs) (format_letter class (only_char cs))
     (sized-fits w n (n == 0) (nat_lt w n) refl refl)
 
-units-fit : (class : ℕ → Class) (w : ℕ) (body : List ℕ) → IsUtf8 body → All (λ u. FitsWindow w u.face) (units class w body)
-units-fit class w body valid =
+-- units that show the faces of their texts
+pub faces-fit : (class : ℕ → Class) (w : ℕ) (body : List ℕ) (us : List Unit) → All (HasFace class w body) us → All (λ u. FitsWindow w u.face) us
+faces-fit class w body us h =
     All-weaker (HasFace class w body) (λ u. FitsWindow w u.face)
-    (λ u e. subst (FitsWindow w) (sym e) (any-face-fits class w (chars (unit_text body u)))) (units class w body) (faces-units class w body valid)
+    (λ u e. subst (FitsWindow w) (sym e) (any-face-fits class w (chars (unit_text body u)))) us h
+
+pub units-fit : (class : ℕ → Class) (w : ℕ) (body : List ℕ) → IsUtf8 body → All (λ u. FitsWindow w u.face) (units class w body)
+units-fit class w body valid = faces-fit class w body (units class w body) (faces-units class w body valid)
 
 -- ---- a row has a unit
 
@@ -65,7 +69,7 @@ some-len true n m h = h
 some-len false n zero h = h
 some-len false n (suc k) h = omega arith
 
-row-some : (p : Unit → Bool) (w : ℕ) (u : Unit) (us : List Unit) → 0 < w → FitsWindow w u.face → 0 < row_len p w (u ∷ us)
+pub row-some : (p : Unit → Bool) (w : ℕ) (u : Unit) (us : List Unit) → 0 < w → FitsWindow w u.face → 0 < row_len p w (u ∷ us)
 row-some p w u us h k =
     let n = fit_count w (u ∷ us) in
     let one = fit_cons w 0 u us h (first-fits w u.face h k) in
@@ -94,7 +98,7 @@ first-row : (p : Unit → Bool) (w i : ℕ) (us : List Unit) → next_from (i + 
 first-row p w i [] = omega arith
 first-row p w i (u ∷ us) = refl
 
-same-row : (a b : Row) → Some a ≡ Some b → a ≡ b
+pub same-row : (a b : Row) → Some a ≡ Some b → a ≡ b
 same-row a b e = cc
 
 row-and-next : (p : Unit → Bool) (w : ℕ) (k i : ℕ) (us : List Unit) → All (λ u. FitsWindow w u.face) us → (r : Row)
@@ -134,7 +138,7 @@ row-and-next p w (suc k) i (u ∷ us) fit r e =
 
 -- ---- the units of a row, from its start and the next one's
 
-found-row : (f : Row → RowStart) (rows : List Row) (k : ℕ) (s : RowStart) → slice_get (map f rows) k ≡ Some s
+pub found-row : (f : Row → RowStart) (rows : List Row) (k : ℕ) (s : RowStart) → slice_get (map f rows) k ≡ Some s
     → (r : Row) × (slice_get rows k ≡ Some r) × (f r ≡ s)
 found-row f [] k s e = cc
 found-row f (r ∷ rs) zero s e = (r, refl, cc)

@@ -31,3 +31,6 @@ mod Rows
 pub mod Unmirrored
 pub mod PlainRows
 pub mod PlainDrawn
+pub mod Permutes
+pub mod Joined
+pub mod RowsLeft

@@ -92,7 +92,7 @@ row-fits p w i u us all e =
     let units : row_units all (record { start = i; stop = i + n }) ≡ take n (u ∷ us) = ap (λ k. take k (drop i all)) whole ∙ ap (take n) (sym e) in
     (omega arith, omega (arith, within, len, count, some), subst (λ xs. columns_used w xs ≤ w) (sym units) (fits-used w n (u ∷ us) within))
 
-rest-of : (i : ℕ) (u : Unit) (us all : List Unit) → u ∷ us ≡ drop i all → us ≡ drop (suc i) all
+pub rest-of : (i : ℕ) (u : Unit) (us all : List Unit) → u ∷ us ≡ drop i all → us ≡ drop (suc i) all
 rest-of i u us all e = let one : i + 1 ≡ suc i = omega arith in ap (drop 1) e ∙ drop-drop 1 i all ∙ ap (λ k. drop k all) one
 
 rows-fit : (p : Unit → Bool) (w i k : ℕ) (us all : List Unit) → us ≡ drop i all → All (IsRowOf w all) (rows_from p w i k us)

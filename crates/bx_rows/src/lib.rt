@@ -9,6 +9,7 @@ mod error;
 mod few_levels;
 mod glyph_order;
 mod glyphs;
+mod laws;
 mod level_read;
 mod mirrors;
 mod narrow_run;
@@ -27,6 +28,9 @@ mod wrapping;
 
 pub use drawn::{Drawn, RowPicture};
 pub use error::RowError;
+pub use laws::{
+    orders_are_permutations, rows_are_of_rest, rows_cut_units, rows_meet_again, units_make_body,
+};
 pub use numbered_row::row_picture;
 pub use one_row::has_one_row;
 pub use order::visual;

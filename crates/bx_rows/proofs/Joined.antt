@@ -1,0 +1,83 @@
+-- Units and rows joined: the units of a body are the body, and the rows of units are the units.
+use Rattle.std.proofs.Common.{◌≡◌, ℕ, zero, suc, ◌+◌, ◌-◌, ◌<◌, ◌≤◌, true, Bool, List, [], ◌∷◌, ◌++◌, length, take, drop, map, slice_range, All}
+use Rattle.std.proofs.Common.{refl, sym, ap, ap₂, ◌∙◌, arith, take-append-drop, drop-drop}
+use Rattle.std.specs.Prelude.{flat_map}
+use Rattle.std.specs.Str.{IsUtf8, IsCharBoundary}
+use Rattle.std.proofs.lemmas.List.Elements.{All-cons, All-nil, All-tail}
+use Rattle.std.proofs.lemmas.Str.{IsCharBoundary-start, IsUtf8-drop}
+use Rattle.std.proofs.Math.Seq.{drop-nil}
+use Rattle.unicode_segmentation.specs.Grapheme.{graphemes}
+use Rattle.unicode_segmentation.specs.Segments.{with_offsets}
+use Rattle.bx_ucd.specs.declared.class.Class.{Class}
+use Rattle.bx_cells.specs.declared.unit.Unit.{Unit}
+use Rattle.bx_cells.specs.Units.{unit_at, unit_text, units}
+use Rattle.bx_cells.proofs.Rest.{next-cluster, no-cluster}
+use Rattle.bx_rows.specs.Laws.{CutUnits}
+use Rattle.bx_rows.specs.Wrapping.{FitsWindow, is_break, row_len, row_units, rows_from, rows_of, wrap}
+use Rattle.bx_rows.proofs.EachRow.{row-some}
+use Rattle.bx_rows.proofs.RowsFit.{fit_if_wrapped, rest-of}
+
+-- ---- units
+
+text-here : (body : List ℕ) (at n : ℕ) → slice_range body at (at + n) ++ drop (at + n) body ≡ drop at body
+text-here body at n =
+    let count : at + n - at ≡ n = omega arith in
+    ap₂ (λ x y. x ++ y) (ap (λ k. take k (drop at body)) count) (sym (drop-drop n at body)) ∙ take-append-drop n (drop at body)
+
+units-joined : (class : ℕ → Class) (w : ℕ) (body : List ℕ) → IsUtf8 body → (ps : List (List ℕ)) (at : ℕ) → IsCharBoundary body at
+    → graphemes true (drop at body) ≡ ps → flat_map (unit_text body) (map (unit_at class w) (with_offsets at ps)) ≡ drop at body
+unfolding with_offsets
+units-joined class w body valid [] at b e = sym (no-cluster (drop at body) (IsUtf8-drop body at valid b) e)
+units-joined class w body valid (p ∷ ps) at b e =
+    let n = next-cluster class w body at p ps valid b e in
+    ap (λ x. slice_range body at (at + length p) ++ x) (units-joined class w body valid ps (at + length p) n.boundary (sym n.own))
+    ∙ text-here body at (length p)
+
+pub units-make-body : (class : ℕ → Class) (w : ℕ) (body : List ℕ) → IsUtf8 body → flat_map (unit_text body) (units class w body) ≡ body
+units-make-body class w body valid = units-joined class w body valid (graphemes true body) 0 (IsCharBoundary-start body valid) refl
+
+-- ---- rows
+
+row-here : (us all : List Unit) (i n : ℕ) → us ≡ drop i all → row_units all (record { start = i; stop = i + n }) ≡ take n us
+row-here us all i n e = let count : i + n - i ≡ n = omega arith in ap (λ k. take k (drop i all)) count ∙ ap (take n) (sym e)
+
+-- the first `taken` units are in the row before
+rows-joined : (p : Unit → Bool) (w i taken : ℕ) (us all : List Unit) → 1 ≤ w → All (λ u. FitsWindow w u.face) us → us ≡ drop i all
+    → flat_map (row_units all) (rows_from p w i taken us) ≡ drop taken us
+rows-joined p w i taken [] all h fit e = sym (drop-nil taken)
+rows-joined p w i (suc taken) (u ∷ us) all h fit e =
+    rows-joined p w (suc i) taken us all h (All-tail (λ u. FitsWindow w u.face) u us fit) (rest-of i u us all e)
+rows-joined p w i zero (u ∷ us) all h fit e =
+    let n = row_len p w (u ∷ us) in
+    let some : 0 < n = row-some p w u us h (fit 0 u (omega arith)) in
+    let less : suc (n - 1) ≡ n = omega (arith, some) in
+    ap₂ (λ x y. x ++ y) (row-here (u ∷ us) all i n e)
+    (rows-joined p w (suc i) (n - 1) us all h (All-tail (λ u. FitsWindow w u.face) u us fit) (rest-of i u us all e) ∙ ap (λ k. drop k (u ∷ us)) less)
+    ∙ take-append-drop n (u ∷ us)
+
+rows-some : (p : Unit → Bool) (w i taken : ℕ) (us : List Unit) → 1 ≤ w → All (λ u. FitsWindow w u.face) us
+    → All (λ r. r.start < r.stop) (rows_from p w i taken us)
+rows-some p w i taken [] h fit = All-nil (λ r. r.start < r.stop)
+rows-some p w i (suc taken) (u ∷ us) h fit = rows-some p w (suc i) taken us h (All-tail (λ u. FitsWindow w u.face) u us fit)
+rows-some p w i zero (u ∷ us) h fit =
+    let n = row_len p w (u ∷ us) in
+    let some : 0 < n = row-some p w u us h (fit 0 u (omega arith)) in
+    All-cons (λ r. r.start < r.stop) (record { start = i; stop = i + n }) (rows_from p w (suc i) (n - 1) us) (omega (arith, some))
+    (rows-some p w (suc i) (n - 1) us h (All-tail (λ u. FitsWindow w u.face) u us fit))
+
+joined-of : (p : Unit → Bool) (w : ℕ) (us : List Unit) → 1 ≤ w → All (λ u. FitsWindow w u.face) us → flat_map (row_units us) (rows_of p w us) ≡ us
+joined-of p w [] h fit = refl
+joined-of p w (u ∷ us) h fit = rows-joined p w 0 0 (u ∷ us) (u ∷ us) h fit refl
+
+some-of : (p : Unit → Bool) (w : ℕ) (us : List Unit) → 1 ≤ w → All (λ u. FitsWindow w u.face) us → 0 < length us
+    → All (λ r. r.start < r.stop) (rows_of p w us)
+some-of p w [] h fit some = absurd (omega (arith, some))
+some-of p w (u ∷ us) h fit some = rows-some p w 0 0 (u ∷ us) h fit
+
+pub rows-cut : (class : ℕ → Class) (w : ℕ) (body : List ℕ) (us : List Unit) → 1 ≤ w → All (λ u. FitsWindow w u.face) us
+    → CutUnits w us (wrap class w body us)
+rows-cut class w body us h fit = record {
+  joined = joined-of (is_break class body) w us h fit;
+  some = some-of (is_break class body) w us h fit;
+  fit = fit_if_wrapped class w body us (wrap class w body us) refl;
+}

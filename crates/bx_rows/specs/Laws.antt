@@ -1,0 +1,56 @@
+-- What holds of units, rows and orders, whatever the body.
+use Rattle.std.specs.Prelude.{◌≡◌, ◌+◌, ◌-◌, ◌<◌, ◌≤◌, ℕ, All, IsPermutation, IsUtf8, List, Some, drop, flat_map, length, map, slice_get}
+use Rattle.std.specs.List.{range_with_len}
+use Rattle.bx_ucd.specs.declared.class.Class.{Class}
+use Rattle.bx_cells.specs.declared.unit.Unit.{Unit}
+use Rattle.bx_cells.specs.Units.{units, unit_text}
+use Rattle.bx_rows.specs.declared.row.Row.{Row}
+use Rattle.bx_rows.specs.declared.start_search.RowStart.{RowStart}
+use Rattle.bx_rows.specs.RowStarts.{row_starts}
+use Rattle.bx_rows.specs.Shown.{IsRowOf}
+use Rattle.bx_rows.specs.VisualOrder.{visual}
+use Rattle.bx_rows.specs.Wrapping.{FitsWindow, row_units, wrap}
+
+-- the units of a body joined are the body
+abbrev pub UnitsMakeBody : Type 0
+UnitsMakeBody = (class : ℕ → Class) (w : ℕ) (body : List ℕ) → IsUtf8 body → flat_map (unit_text body) (units class w body) ≡ body
+
+-- each unit of a body fits in the window
+abbrev pub UnitsFitWindow : Type 0
+UnitsFitWindow = (class : ℕ → Class) (w : ℕ) (body : List ℕ) → IsUtf8 body → All (λ u. FitsWindow w u.face) (units class w body)
+
+-- Rows that cut units: joined they are the units, so none is lost, and none stands in two rows. Each row has a unit, where
+-- there is one, and no more columns than the window.
+pub record CutUnits (w : ℕ) (us : List Unit) (rows : List Row) : Type 0 where
+  pub joined : flat_map (row_units us) rows ≡ us
+  pub some : 0 < length us → All (λ r. r.start < r.stop) rows
+  pub fit : All (IsRowOf w us) rows
+
+-- the rows of units that each fit in a window of some columns
+abbrev pub RowsCutUnits : Type 0
+RowsCutUnits = (class : ℕ → Class) (w : ℕ) (body : List ℕ) (us : List Unit) → 1 ≤ w → All (λ u. FitsWindow w u.face) us
+    → CutUnits w us (wrap class w body us)
+
+-- a visual order has the number of each unit once
+abbrev pub OrdersArePermutations : Type 0
+OrdersArePermutations = (levels : List ℕ) → IsPermutation (range_with_len 0 (length levels)) (visual levels)
+
+-- where a row begins in a body of which it is known where it begins in what is left from another row's start on
+abbrev pub behind : RowStart → RowStart → RowStart
+behind s r = record { offset = s.offset + r.offset; units = s.units + r.units; chars = s.chars + r.chars }
+
+-- from any row on, the rows of a body are those of what is left, taken as a body of its own
+abbrev pub RowsAreOfRest : Type 0
+RowsAreOfRest = (class : ℕ → Class) (w : ℕ) (body : List ℕ) (k : ℕ) (s : RowStart) → IsUtf8 body → slice_get (row_starts class w body) k ≡ Some s
+    → drop k (row_starts class w body) ≡ map (behind s) (row_starts class w (drop s.offset body))
+
+-- where a row begins that begins as far behind `r` as `t` begins behind `s`
+abbrev pub moved : RowStart → RowStart → RowStart → RowStart
+moved s r t = record { offset = r.offset + (t.offset - s.offset); units = r.units + (t.units - s.units); chars = r.chars + (t.chars - s.chars) }
+
+-- Two bodies that are the same from the start `s` of a row of the one and the start `r` of a row of the other on: their rows
+-- are the same from there on, each moved by what `r` differs from `s`.
+abbrev pub RowsMeetAgain : Type 0
+RowsMeetAgain = (class : ℕ → Class) (w : ℕ) (body other : List ℕ) (k j : ℕ) (s r : RowStart) → IsUtf8 body → IsUtf8 other
+    → slice_get (row_starts class w body) k ≡ Some s → slice_get (row_starts class w other) j ≡ Some r → drop s.offset body ≡ drop r.offset other
+    → drop j (row_starts class w other) ≡ map (moved s r) (drop k (row_starts class w body))
