@@ -23,3 +23,7 @@ pub mod Printed
 mod AtOnce
 mod Still
 mod Marks
+pub mod Items
+pub mod ItemsRead
+pub mod InTokens
+pub mod TokenBytes

@@ -131,7 +131,7 @@ no_run_by : (t : Terminal) (p : ℕ × ℕ) (fits : Bool) (new : List Col) → n
 no_run_by t p true new e = rw e refl
 no_run_by t p false new e = rw e refl
 
-no_run : (t : Terminal) (q : Option (ℕ × ℕ)) (n : Option Bool) (run : List ℕ) → t.run ≡ run → (run_put t q n run).run ≡ []
+pub no_run : (t : Terminal) (q : Option (ℕ × ℕ)) (n : Option Bool) (run : List ℕ) → t.run ≡ run → (run_put t q n run).run ≡ []
 no_run t q n [] h = h
 no_run t (Some p) (Some negative) (b ∷ bs) h =
     let new = run_columns negative (b ∷ bs) in no_run_by t p (nat_le 1 (length new) && nat_le (p.1 + length new) t.width) new refl
