@@ -1,6 +1,6 @@
 -- Units and rows joined: the units of a body are the body, and the rows of units are the units.
 use Rattle.std.proofs.Common.{◌≡◌, ℕ, zero, suc, ◌+◌, ◌-◌, ◌<◌, ◌≤◌, true, Bool, List, [], ◌∷◌, ◌++◌, length, take, drop, map, slice_range, All}
-use Rattle.std.proofs.Common.{refl, sym, ap, ap₂, ◌∙◌, arith, take-append-drop, drop-drop}
+use Rattle.std.proofs.Common.{refl, sym, ap, ap₂, subst, ◌∙◌, arith, take-append-drop, drop-drop}
 use Rattle.std.specs.Prelude.{flat_map}
 use Rattle.std.specs.Str.{IsUtf8, IsCharBoundary}
 use Rattle.std.proofs.lemmas.List.Elements.{All-cons, All-nil, All-tail}
@@ -12,6 +12,7 @@ use Rattle.bx_ucd.specs.declared.class.Class.{Class}
 use Rattle.bx_cells.specs.declared.unit.Unit.{Unit}
 use Rattle.bx_cells.specs.Units.{unit_at, unit_text, units}
 use Rattle.bx_cells.proofs.Rest.{next-cluster, no-cluster}
+use Rattle.bx_rows.specs.declared.row.Row.{Row}
 use Rattle.bx_rows.specs.Laws.{CutUnits}
 use Rattle.bx_rows.specs.Wrapping.{FitsWindow, is_break, row_len, row_units, rows_from, rows_of, wrap}
 use Rattle.bx_rows.proofs.EachRow.{row-some}
@@ -81,3 +82,7 @@ rows-cut class w body us h fit = record {
   some = some-of (is_break class body) w us h fit;
   fit = fit_if_wrapped class w body us (wrap class w body us) refl;
 }
+
+pub cut_if_wrapped : (class : ℕ → Class) (w : ℕ) (body : List ℕ) (us : List Unit) (rows : List Row) → 1 ≤ w → All (λ u. FitsWindow w u.face) us
+    → rows ≡ wrap class w body us → CutUnits w us rows
+cut_if_wrapped class w body us rows h fit e = subst (CutUnits w us) (sym e) (rows-cut class w body us h fit)

@@ -1,6 +1,7 @@
 //! Wrapping.
 ghost use Rattle.std.specs.Prelude.{◌≡◌, ◌≤◌, All, IfOk, length};
-ghost use Rattle.bx_cells.specs.Units.{StandsIn};
+ghost use Rattle.bx_cells.specs.Units.{HasFace, StandsIn};
+ghost use Rattle.bx_rows.specs.Laws.{CutUnits};
 ghost use Rattle.bx_rows.specs.Shown.{IsRowOf};
 ghost use Rattle.bx_rows.specs.Wrapping.{columns_at, fit_count, is_blank, is_break, up_to_last, row_len, wrap};
 
@@ -124,7 +125,8 @@ fn all_rows<D: BidiData>(
 }
 
 /// The rows of a body's units in a window of `w` columns: a row ends after the last blank or tab among the units that fit,
-/// where not all that are left fit. A body of no units has one row of none.
+/// where not all that are left fit. A body of no units has one row of none. The units show the faces of their texts in this
+/// window, so each fits in it, and no row leaves one out.
 pub fn wrap<D: BidiData>(
     alloc: Global,
     body: &str,
@@ -132,9 +134,11 @@ pub fn wrap<D: BidiData>(
     source: &D,
     w: u16,
 ) -> Result<Vec<Row>, RowError>
-    requires { All (StandsIn body.now) units.now }
+    requires stand { All (StandsIn body.now) units.now }
+    requires faces { All (HasFace (D.class_of source.now) w body.now) units.now }
     ensures rows { IfOk result (λ v. v.items ≡ wrap (D.class_of source.now) w body.now units.now) }
     ensures fit { IfOk result (λ v. All (IsRowOf w units.now) v.items) }
+    ensures cut { 1 ≤ w → IfOk result (λ v. CutUnits w units.now v.items) }
 {
     let rows = all_rows(alloc, body, units, source, w)?;
     Ok(rows)
