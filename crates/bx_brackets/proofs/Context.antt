@@ -7,7 +7,7 @@ use Rattle.bx_ucd.specs.declared.class.Class.TheVariants.{L, R}
 use Rattle.bx_brackets.specs.Resolve.{nearest, is_left, is_right, context_of, change_marks, change_bracket, pair_direction, resolve_in, IsPairWithin}
 use Rattle.bx_brackets.specs.Clear.{IsKnown, known_first}
 
-nearest-append : (sos : Class) (xs ys : List Class) → nearest sos (xs ++ ys) ≡ nearest (nearest sos ys) xs
+pub nearest-append : (sos : Class) (xs ys : List Class) → nearest sos (xs ++ ys) ≡ nearest (nearest sos ys) xs
 nearest-append sos [] ys = refl
 nearest-append sos (t ∷ xs) ys =
     elim (is_left t) as (λ a. elim a as (λ x. Class) [ true ↦ L | false ↦ elim (is_right t) as (λ x. Class) [ true ↦ R | false ↦ nearest sos (xs ++ ys) ] ]

@@ -18,3 +18,18 @@ pub mod RightMarks
 pub mod RightLevels
 pub mod PlainLevels
 pub mod Mapped
+pub mod Cuts
+pub mod MovedPairs
+pub mod FramedPairs
+pub mod MiddlePairs
+pub mod PairPlaces
+pub mod CutPairs
+pub mod CutLevels
+pub mod CutClasses
+pub mod CutEnds
+pub mod EndLevels
+pub mod CutParagraph
+pub mod EditedLevels
+pub mod FollowedEdits
+pub mod Spliced
+mod CutExamples

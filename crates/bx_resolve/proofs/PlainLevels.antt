@@ -72,7 +72,7 @@ by_classes bracket p chars (c ∷ cs) n e f =
     ∙ ap (λ ls. with_levels (indexes_from 0 n) ls (replicate n None)) (levels_whole bracket p chars (c ∷ cs) n e f)
     ∙ levels_at_all n levels (levels_length bracket p (direction p) (direction p) chars (c ∷ cs) ∙ f)
 
-each_pass : (p : Class → Bool) (cs : List Class) → all_pass p cs ≡ true → Each p cs
+pub each_pass : (p : Class → Bool) (cs : List Class) → all_pass p cs ≡ true → Each p cs
 each_pass p [] e = tt
 each_pass p (c ∷ cs) e = (elim (p c) as (λ b. p c ≡ b → elim b as (λ x. Bool) [ true ↦ all_pass p cs | false ↦ false ] ≡ true → (p c ≡ true) × Each p cs) [
   | true ↦ λ q k. (q, each_pass p cs k)

@@ -72,3 +72,17 @@ search_inside bracket n j (c ∷ cs) (t ∷ ts) s l h =
 pub pairs_inside : (bracket : ℕ → Option (Side × ℕ)) (cs : List ℕ) (ts : List Class) → AreInside (length ts) (pairs bracket cs ts)
 pairs_inside bracket cs ts = search_inside bracket (length ts) 0 cs ts (record { openers = []; pairs = []; is_over = false }) (omega arith)
     (record { falling = tt; inside = tt })
+
+pub sound_later : (m n : ℕ) (s : Search) → m ≤ n → IsSound m s → IsSound n s
+sound_later m n s l h = record { falling = falling_later m n s.openers l h.falling; inside = inside_later m n s.pairs l h.inside }
+
+pub search_sound : (bracket : ℕ → Option (Side × ℕ)) (n j : ℕ) (cs : List ℕ) (ts : List Class) (s : Search) → j + length ts ≤ n → IsSound j s
+    → IsSound n (search_from bracket s j cs ts)
+search_sound bracket n j [] ts s l h = sound_later j n s (omega arith) h
+search_sound bracket n j (c ∷ cs) [] s l h = sound_later j n s (omega arith) h
+search_sound bracket n j (c ∷ cs) (t ∷ ts) s l h =
+    let u : Search = meet s j c (bracket_at bracket c t) in
+    elim (s.is_over) as (λ b. IsSound n (elim b as (λ x. Search) [ true ↦ s | false ↦ search_from bracket u (j + 1) cs ts ])) [
+      | true ↦ sound_later j n s (omega arith) h
+      | false ↦ search_sound bracket n (j + 1) cs ts u (omega arith) (meet_sound j c s (bracket_at bracket c t) h)
+    ]

@@ -235,6 +235,10 @@ no_right (WS ∷ ts) h = no_right ts h.1
 no_right (ON ∷ ts) h = no_right ts h.1
 no_right (t ∷ ts) h = let e : is_rest t ≡ true = h.0 in absurd (cc)
 
+-- the weak rules make nothing of the other direction of a plain list
+pub left_kept : (ts : List Class) → Each is_plain ts → list_any (counts_as R) (weak L ts) ≡ false
+left_kept ts h = no_right (weak L ts) (weak_plain ts h)
+
 pair_by : (a b c : Bool) → b ≡ false
     → ((elim a as (λ x. Option Class) [
       | true ↦ Some L

@@ -227,6 +227,10 @@ no_left (WS ∷ ts) h = no_left ts h.1
 no_left (ON ∷ ts) h = no_left ts h.1
 no_left (t ∷ ts) h = let e : is_rest t ≡ true = h.0 in absurd (cc)
 
+-- the weak rules make nothing of the other direction of a list without L
+pub right_kept : (ts : List Class) → Each is_from_right ts → list_any (counts_as L) (weak R ts) ≡ false
+right_kept ts h = no_left (weak R ts) (weak_rest ts h)
+
 abbrev taken_by : Bool → Bool → Bool → Option Class
 taken_by a b c = elim a as (λ x. Option Class) [
   | true ↦ Some R

@@ -5,4 +5,5 @@ pub mod Turns
 pub mod Neutral
 pub mod Levels
 pub mod Plain
+pub mod Edited
 pub mod TestTables

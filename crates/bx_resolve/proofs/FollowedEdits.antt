@@ -1,0 +1,57 @@
+-- The levels that follow an edit are those of the new text.
+use Rattle.std.proofs.Common.{◌≡◌, ◌+◌, ◌∙◌, ℕ, List, ◌++◌, length, take, drop, ap, ap₂, sym, Option}
+use Rattle.bx_ucd.specs.declared.class.Class.{Class}
+use Rattle.bx_ucd.specs.declared.data.Side.{Side}
+use Rattle.bx_explicit.specs.declared.base.Base.{Base}
+use Rattle.bx_resolve.specs.declared.paragraph.Levels.{Levels}
+use Rattle.bx_resolve.specs.Levels.{paragraph_levels, levels_under}
+use Rattle.bx_resolve.specs.Edited.{AreLevelsOf, Edit, FollowsBetween, FollowsFromStart, FollowsToEnd}
+use Rattle.bx_resolve.specs.Edited.{IsCutBetween, IsCutFromStart, IsCutToEnd, old_index, old_text, new_text}
+use Rattle.bx_resolve.specs.Edited.{end_piece, piece, start_piece}
+use Rattle.bx_resolve.proofs.EditedLevels.{edited_paragraph_level, edited_under, edited_from_start, level_to_end, edited_to_end}
+
+module _ (class : ℕ → Class) (bracket : ℕ → Option (Side × ℕ)) (chars : List ℕ) (was now : Levels) (level : now.paragraph ≡ was.paragraph) where
+  alone : List (Option ℕ)
+  alone = paragraph_levels class bracket was.paragraph chars
+
+  pub follows_between : (first last : ℕ)
+      → now.each.items ≡ take first was.each.items ++ (paragraph_levels class bracket was.paragraph chars ++ drop last was.each.items)
+      → FollowsBetween class bracket chars first last was now
+  follows_between first last n base e j h c l o =
+      let old : List (Option ℕ) = levels_under class bracket base (old_text e) in
+      record {
+        paragraph_is = level ∙ o.paragraph_is ∙ sym (edited_paragraph_level class bracket base e.before e.removed e.inserted e.behind first j
+            h.in_before h.in_behind h.strong_before h.strong_behind h.old_unformatted h.new_unformatted h.old_safe h.new_safe);
+        each_is = n
+            ∙ ap₂ (λ ls k. take first ls ++ (paragraph_levels class bracket was.paragraph chars ++ drop k ls)) o.each_is l
+            ∙ ap₂ (λ p cs. take first old ++ (paragraph_levels class bracket p cs ++ drop (old_index e j) old)) o.paragraph_is c
+            ∙ sym (edited_under class bracket base e.before e.removed e.inserted e.behind first j
+            h.in_before h.in_behind h.strong_before h.strong_behind h.old_unformatted h.new_unformatted h.old_safe h.new_safe);
+      }
+
+  pub follows_from_start : (last : ℕ) → now.each.items ≡ paragraph_levels class bracket was.paragraph chars ++ drop last was.each.items
+      → FollowsFromStart class bracket chars last was now
+  follows_from_start last n base e j h c l o =
+      let old : List (Option ℕ) = levels_under class bracket base (old_text e) in
+      record {
+        paragraph_is = level ∙ o.paragraph_is ∙ sym h.same_level;
+        each_is = n
+            ∙ ap₂ (λ ls k. paragraph_levels class bracket was.paragraph chars ++ drop k ls) o.each_is l
+            ∙ ap₂ (λ p cs. paragraph_levels class bracket p cs ++ drop (old_index e j) old) o.paragraph_is c
+            ∙ sym (edited_from_start class bracket base e.before e.removed e.inserted e.behind j
+            h.in_behind h.strong_behind h.old_unformatted h.new_unformatted h.old_bare h.new_bare h.same_level);
+      }
+
+  pub follows_to_end : (first : ℕ) → now.each.items ≡ take first was.each.items ++ paragraph_levels class bracket was.paragraph chars
+      → FollowsToEnd class bracket chars first was now
+  follows_to_end first n base e h c o =
+      let old : List (Option ℕ) = levels_under class bracket base (old_text e) in
+      record {
+        paragraph_is = level ∙ o.paragraph_is ∙ sym (level_to_end class bracket base e.before e.removed e.inserted e.behind first
+            h.in_before h.strong_before h.old_unformatted h.new_unformatted h.old_bare h.new_bare);
+        each_is = n
+            ∙ ap (λ ls. take first ls ++ paragraph_levels class bracket was.paragraph chars) o.each_is
+            ∙ ap₂ (λ p cs. take first old ++ paragraph_levels class bracket p cs) o.paragraph_is c
+            ∙ sym (edited_to_end class bracket base e.before e.removed e.inserted e.behind first
+            h.in_before h.strong_before h.old_unformatted h.new_unformatted h.old_bare h.new_bare);
+      }
