@@ -280,6 +280,14 @@ module _ (paragraph : ℕ) (cs : List Class) (kept : List (Option Kept)) (law : 
       subst (AreGiven (ending paragraph cs kept (with_run stay q) rest)) (sym t.1) (given_all rest (done ++ q ∷ []) (with_run stay q) (q.last + 1) later t.0) in
       over_all done from q rest n go chains w
 
+-- the sequences of a text, in the order in which their chains end
+pub given_by_levels : (level : ℕ) (cs : List Class) → level ≤ 1
+    → AreGiven (ending level cs (explicit_levels level cs) [] (runs_from 0 (explicit_levels level cs))) (sequences level cs (explicit_levels level cs))
+given_by_levels level cs low =
+    let kept : List (Option Kept) = explicit_levels level cs in
+    let begin_within : IsMet cs kept [] [] 0 = record { split = refl; waits = tt; joined = λ i d h. refl } in
+    given_all level cs kept (joined_by_level level cs low) (runs_from 0 kept) [] [] 0 refl begin_within
+
 -- the sequences of a paragraph body, in the order in which their chains end
 pub all_given : (e : Explicit) (runs : List Run) → e.kept.items ≡ explicit_levels e.level e.classes.items → e.level ≤ 1 → runs ≡ runs_from 0 e.kept.items
     → AreGiven (ending e.level e.classes.items e.kept.items [] runs) (sequences e.level e.classes.items e.kept.items)

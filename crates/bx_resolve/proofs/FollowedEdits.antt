@@ -1,13 +1,11 @@
 -- The levels that follow an edit are those of the new text.
-use Rattle.std.proofs.Common.{◌≡◌, ◌+◌, ◌∙◌, ℕ, List, ◌++◌, length, take, drop, ap, ap₂, sym, Option}
+use Rattle.std.proofs.Common.{◌≡◌, ◌∙◌, ℕ, List, ◌++◌, take, drop, ap, ap₂, sym, Option}
 use Rattle.bx_ucd.specs.declared.class.Class.{Class}
 use Rattle.bx_ucd.specs.declared.data.Side.{Side}
-use Rattle.bx_explicit.specs.declared.base.Base.{Base}
 use Rattle.bx_resolve.specs.declared.paragraph.Levels.{Levels}
 use Rattle.bx_resolve.specs.Levels.{paragraph_levels, levels_under}
-use Rattle.bx_resolve.specs.Edited.{AreLevelsOf, Edit, FollowsBetween, FollowsFromStart, FollowsToEnd}
-use Rattle.bx_resolve.specs.Edited.{IsCutBetween, IsCutFromStart, IsCutToEnd, old_index, old_text, new_text}
-use Rattle.bx_resolve.specs.Edited.{end_piece, piece, start_piece}
+use Rattle.bx_resolve.specs.Edited.{FollowsBetween, FollowsFromStart, FollowsToEnd}
+use Rattle.bx_resolve.specs.Edited.{old_index, old_text}
 use Rattle.bx_resolve.proofs.EditedLevels.{edited_paragraph_level, edited_under, edited_from_start, level_to_end, edited_to_end}
 
 module _ (class : ℕ → Class) (bracket : ℕ → Option (Side × ℕ)) (chars : List ℕ) (was now : Levels) (level : now.paragraph ≡ was.paragraph) where

@@ -18,6 +18,8 @@ pub mod RightMarks
 pub mod RightLevels
 pub mod PlainLevels
 pub mod Mapped
+pub mod EachOnce
+pub mod KeptLevels
 pub mod Cuts
 pub mod MovedPairs
 pub mod FramedPairs

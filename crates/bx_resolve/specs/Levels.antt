@@ -1,12 +1,13 @@
 -- The levels of a paragraph: all rules, one after another.
-use Rattle.std.specs.Prelude.{◌≡◌, ℕ, List, [], ◌∷◌, ◌++◌, Option, Some, None, drop, length, map, replicate, slice_index_or, slice_set}
+use Rattle.std.specs.Prelude.{◌≡◌, ℕ, ◌+◌, Bool, true, false, List, [], ◌∷◌, ◌++◌, Option, Some, None, drop, length, map, replicate, slice_index_or, slice_set}
 use Rattle.bx_ucd.specs.declared.class.Class.{Class}
-use Rattle.bx_ucd.specs.declared.class.Class.TheVariants.{ON}
+use Rattle.bx_ucd.specs.declared.class.Class.TheVariants.{BN, LRE, LRO, ON, PDF, RLE, RLO}
 use Rattle.bx_ucd.specs.declared.data.Side.{Side}
 use Rattle.bx_explicit.specs.declared.entry.Kept.{Kept}
 use Rattle.bx_explicit.specs.declared.base.Base.{Base}
 use Rattle.bx_explicit.specs.ParagraphLevel.{base_level}
 use Rattle.bx_explicit.specs.Explicit.{explicit_levels}
+use Rattle.bx_explicit.specs.Stack.{max_depth}
 use Rattle.bx_explicit.specs.Sequences.{RunSequence, sequences, direction}
 use Rattle.bx_brackets.specs.Pairs.{pairs}
 use Rattle.bx_brackets.specs.Resolve.{resolve_pairs}
@@ -69,6 +70,20 @@ paragraph_level_under class base chars = base_level base (map class chars)
 
 abbrev pub levels_under : (ℕ → Class) → (ℕ → Option (Side × ℕ)) → Base → List ℕ → List (Option ℕ)
 levels_under class bracket base chars = paragraph_levels class bracket (paragraph_level_under class base chars) chars
+
+-- X9 keeps a character of a class, which so has a level
+abbrev pub is_kept : Class → Bool
+is_kept RLE = false
+is_kept LRE = false
+is_kept RLO = false
+is_kept LRO = false
+is_kept PDF = false
+is_kept BN = false
+is_kept _ = true
+
+-- the highest level: I1 and I2 raise the highest explicit one, which is odd, by one, and the one below it by two
+abbrev pub max_level : ℕ
+max_level = max_depth + 1
 
 -- the characters at the indexes `ps` are handed to a search, which goes on from there
 abbrev pub MeetsRun : (ℕ → Option (Side × ℕ)) → List ℕ → List Class → List ℕ → Progress → ℕ → Progress → ℕ → Type 0

@@ -6,4 +6,5 @@ pub mod Neutral
 pub mod Levels
 pub mod Plain
 pub mod Edited
+pub mod Laws
 pub mod TestTables

@@ -1,9 +1,9 @@
 //! The levels of a paragraph.
-ghost use Rattle.std.specs.Prelude.{◌≡◌, ◌≤◌, ◌<◌, ◌^◌, IfOk, Some, chars, length, map, true};
+ghost use Rattle.std.specs.Prelude.{◌≡◌, ◌≤◌, ◌<◌, ◌^◌, All, IfOk, IfSome, Some, chars, is_some, length, map, true};
 ghost use Rattle.bx_explicit.specs.Stack.{max_depth};
 ghost use Rattle.bx_resolve.specs.Weak.{weak};
 ghost use Rattle.bx_resolve.specs.Neutral.{implicit_at};
-ghost use Rattle.bx_resolve.specs.Levels.{paragraph_levels, paragraph_level_under, levels_under};
+ghost use Rattle.bx_resolve.specs.Levels.{is_kept, levels_under, max_level, paragraph_levels, paragraph_level_under};
 ghost use Rattle.bx_resolve.specs.Plain.{is_unformatted, all_pass};
 
 use crate::body::classes_of;
@@ -82,11 +82,11 @@ fn unformatted_levels<D: BidiData>(
     Ok(Levels { paragraph, each })
 }
 
-/// The levels of a paragraph body under a base (UAX #9, 3.3). A text of one direction in which no class needs a rule pays
-/// for none, one from right to left without L for W1 to W7 alone, and one with no formatting characters for no explicit
-/// rule. A body of 4 GiB goes by the rules one after another.
+/// The levels of a paragraph body under a base. A text of one direction in which no class needs a rule pays for none, one
+/// from right to left without L for W1 to W7 alone, and one with no formatting characters for no explicit rule. A body of
+/// 4 GiB goes by the rules one after another.
 #[tactic(auto, using(crate::proofs::PlainLevels::plain_levels, crate::proofs::PlainLevels::plain_right_levels, crate::proofs::PlainLevels::from_right_levels))]
-pub fn levels<D: BidiData>(
+fn resolved_levels<D: BidiData>(
     alloc: Global,
     body: &str,
     source: &D,
@@ -116,4 +116,20 @@ pub fn levels<D: BidiData>(
         return unformatted_levels(alloc, body, source, &mut classes, paragraph);
     }
     formatted_levels(alloc, body, source, classes, paragraph)
+}
+
+/// The levels of a paragraph body under a base (UAX #9, 3.3).
+pub fn levels<D: BidiData>(
+    alloc: Global,
+    body: &str,
+    source: &D,
+    base: Base,
+) -> Result<Levels, ResolveError>
+    ensures paragraph { IfOk result (λ v. v.paragraph ≡ paragraph_level_under (D.class_of source.now) base (chars body.now)) }
+    ensures each { IfOk result (λ v. v.each.items ≡ levels_under (D.class_of source.now) (D.bracket_of source.now) base (chars body.now)) }
+    ensures kept { IfOk result (λ v. map is_some v.each.items ≡ map is_kept (map (D.class_of source.now) (chars body.now))) }
+    ensures low { IfOk result (λ v. All (λ l. IfSome l (λ n. n ≤ max_level)) v.each.items) }
+{
+    let levels = resolved_levels(alloc, body, source, base)?;
+    Ok(levels)
 }
