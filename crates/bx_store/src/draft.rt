@@ -3,7 +3,7 @@
 use crate::target::folder_of;
 use std::alloc::Global;
 use std::fs::{Metadata, OpenFile, OpenOptions, Permissions};
-use std::io::{self, ErrorKind, Write};
+use std::io::{self, BufWriter, ErrorKind, Write};
 use std::os::fd::AsFd;
 use std::os::unix::fs::{MetadataExt, OpenOptionsExt, PermissionsExt, fchown};
 use std::rt::Files;
@@ -19,10 +19,13 @@ const OWNERS_ALONE: u32 = 0o600;
 /// The permissions of a file that is made where none was, of which the system takes away what the user's mask says.
 const NEW_FILE: u32 = 0o666;
 
+/// How many bytes are gathered for one write.
+const BUFFER_SIZE: usize = 65_536;
+
 /// A file that is written beside the one that it will replace.
 #[derive(Drop)]
 pub struct Draft<F: Write + OpenFile + AsFd + Drop> {
-    file: F,
+    file: BufWriter<F>,
     path: String,
     target: String,
 }
@@ -89,6 +92,18 @@ fn take_place<F: OpenFile + AsFd>(file: &F, old: &Metadata) -> io::Result<()> {
     file.set_permissions(Permissions::from_mode(mode & 0o7777))
 }
 
+/// A buffer in front of a new file, which gets the owner and the permissions of what was last there, if anything was.
+fn buffered<F: Write + OpenFile + AsFd + Drop>(
+    alloc: Global,
+    file: F,
+    old: Option<&Metadata>,
+) -> io::Result<BufWriter<F>> {
+    if let Some(old) = old {
+        take_place(&file, old)?;
+    }
+    BufWriter::with_capacity(alloc, BUFFER_SIZE, file)
+}
+
 impl<F: Write + OpenFile + AsFd + Drop> Draft<F> {
     /// An empty draft beside a file, with the owner and the permissions of what was last there, if anything was.
     pub fn beside<R: Files<File = F>>(
@@ -103,24 +118,25 @@ impl<F: Write + OpenFile + AsFd + Drop> Draft<F> {
             NEW_FILE
         };
         let (file, path) = make_beside(files, alloc, target.as_str(), mode)?;
-        let draft = Draft { file, path, target };
-        if let Some(old) = old {
-            if let Err(error) = take_place(&draft.file, old) {
-                draft.remove(files);
-                return Err(error);
+        match buffered(alloc, file, old) {
+            Ok(file) => Ok(Draft { file, path, target }),
+            Err(error) => {
+                // the fault that is told is the first
+                let _ = files.remove_file(path.as_str());
+                Err(error)
             }
         }
-        Ok(draft)
     }
 
-    /// Puts the next bytes.
+    /// Puts the next bytes, of which the last ones may wait in the buffer.
     pub fn put(&mut self, bytes: &[u8]) -> io::Result<()> {
         self.file.write_all(bytes)
     }
 
-    /// Puts what was written on the disk.
-    pub fn sync(&self) -> io::Result<()> {
-        self.file.sync_all()
+    /// Writes what waits, and puts all on the disk.
+    pub fn sync(&mut self) -> io::Result<()> {
+        self.file.flush()?;
+        self.file.get_ref().sync_all()
     }
 
     /// Takes the place of the file that it replaces.
@@ -138,12 +154,19 @@ impl<F: Write + OpenFile + AsFd + Drop> Draft<F> {
 
     /// The file as it is now.
     pub fn metadata(&self) -> io::Result<Metadata> {
-        self.file.metadata()
+        self.file.get_ref().metadata()
     }
 
     /// Takes away a draft that replaces nothing.
     pub fn remove<R: Files<File = F>>(self, files: &R) {
+        let Draft {
+            file,
+            path,
+            target: _,
+        } = self;
+        // what waits is written no more
+        let _ = file.into_parts();
         // the fault that ended it is told already
-        let _ = files.remove_file(self.path.as_str());
+        let _ = files.remove_file(path.as_str());
     }
 }

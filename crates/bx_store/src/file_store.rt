@@ -82,7 +82,7 @@ where
     }
 
     /// Gives a draft the place of the file, if that is still as it was seen.
-    fn replace_by(&mut self, draft: &Draft<R::File>) -> io::Result<()>
+    fn replace_by(&mut self, draft: &mut Draft<R::File>) -> io::Result<()>
         ensures { self.new.failures ≡ self.old.failures }
     {
         draft.sync()?;
@@ -150,7 +150,7 @@ where
 
     fn commit(&mut self) -> Result<(), StoreFault> {
         match self.draft.take() {
-            Some(draft) => match self.replace_by(&draft) {
+            Some(mut draft) => match self.replace_by(&mut draft) {
                 Ok(()) => Ok(()),
                 Err(_) => {
                     self.draft = Some(draft);
