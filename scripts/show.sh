@@ -1,12 +1,19 @@
 #!/bin/sh
-# show.sh FILE ROWS COLS [EDITOR WORD..]: prints what a person sees of FILE in a window of that size, from a real run in tmux, in a
-# frame. The editor is ./bidi-edit unless another is named, as in `show.sh note.txt 8 40 emacs -nw -Q`. A letter in negative image,
-# the look of a bidi control, is printed as that letter in a circle. Columns stand as on the screen, so what shows the picture must
-# not reorder it.
+# show.sh [--cells] FILE ROWS COLS [EDITOR WORD..]: prints what a person sees of FILE in a window of that size, from a real run in
+# tmux, in a frame. The editor is ./bidi-edit unless another is named, as in `show.sh note.txt 8 40 emacs -nw -Q`. A letter in negative
+# image, the look of a bidi control, is printed as that letter in a circle. Columns stand as on the screen, so what shows the picture
+# must not reorder it. With --cells it prints a line of the window's rows and columns and the cursor's row and column, from 0, and
+# then the screen as tmux captures it, with its sequences for negative image, as draw_screens.py reads it.
 set -eu
 
+is_plain=''
+if [ "${1:-}" = --cells ]; then
+    is_plain=1
+    shift
+fi
+
 if [ $# -lt 3 ] || ! [ -r "$1" ]; then
-    echo 'usage: show.sh FILE ROWS COLS [EDITOR WORD..]' >&2
+    echo 'usage: show.sh [--cells] FILE ROWS COLS [EDITOR WORD..]' >&2
     exit 2
 fi
 command -v tmux >/dev/null || { echo 'show.sh: there is no tmux' >&2; exit 1; }
@@ -52,6 +59,12 @@ while sleep 0.5 && ! cmp -s "$folder/.before" "$folder/.now"; do
         exit 1
     fi
 done
+
+if [ -n "$is_plain" ]; then
+    tmux -L "$socket" display-message -p -t seen "$rows $cols #{cursor_y} #{cursor_x}"
+    cat "$folder/.now"
+    exit
+fi
 
 # Negative letters into circles, the rest as it is; then the frame.
 line=$(printf '%*s' "$cols" '' | tr ' ' '-')
