@@ -1,0 +1,323 @@
+"""Measures what a user does in several editors, side by side, and prints a table in Markdown; scripts/compare-editors.sh runs it."""
+
+import argparse
+import os
+import random
+import shutil
+import statistics
+import sys
+from dataclasses import dataclass
+from pathlib import Path
+
+from editor_terminal import Late, Terminal
+
+LETTERS, PAGES, BURST, LONG_LETTERS = 30, 20, 200, 10
+LIMIT = 20  # seconds, after which a screen is not waited for
+AT_BEGINNING = 'a letter, at the beginning of 1,000,000 bytes'
+AT_END = 'a letter, at the end of 1,000,000 bytes'
+
+# ---- texts
+
+HEBREW = 'אבגדהוזחטיכלמנסעפצרשת'
+ARABIC = 'ابتثجحخدذرزسشصضطعغفكلمنهوي'
+LATIN = 'abcdefghijklmnoprstuvwxyz'
+
+
+@dataclass
+class Kind:
+    """A kind of text, with a letter that it never holds."""
+
+    name: str
+    alphabets: tuple
+    letter: str
+
+    def words(self, source):
+        """Words without end."""
+        while True:
+            letters = source.choice(self.alphabets)
+            word = ''.join(source.choices(letters, k=source.randint(2, 8)))
+            yield source.choice((word, word, word, word, f'({word})', str(source.randint(1, 9999))))
+
+
+KINDS = (
+    Kind('ASCII', (LATIN,), 'Q'),
+    Kind('Hebrew', (HEBREW,), 'ק'),
+    Kind('Arabic', (ARABIC,), 'ظ'),
+    Kind('mixed', (HEBREW, ARABIC, LATIN), 'ק'),
+)
+SHOWN, LAST, FIRST_NUMBER = 'line-nineteen', 'last-line', '314159'
+
+
+def lines_of(kind, size):
+    """A text of about so many bytes in lines of some 44 columns, in which the 19th and the last are known."""
+    source = random.Random(kind.name)
+    words = kind.words(source)
+    lines, bytes_left = [], size
+    while bytes_left > 0:
+        line = next(words)
+        while len(line) < 40:
+            line += ' ' + next(words)
+        lines.append(SHOWN if len(lines) == 18 else line)
+        bytes_left -= len(lines[-1].encode()) + 1
+    return '\n'.join([*lines, LAST, ''])
+
+
+def paragraph_of(kind, size):
+    """One paragraph of about so many bytes, with a number at its beginning that is known."""
+    source = random.Random(kind.name)
+    words = kind.words(source)
+    parts, bytes_left = [], size
+    while bytes_left > 0:
+        parts.append(next(words))
+        bytes_left -= len(parts[-1].encode()) + 1
+    return ' '.join([FIRST_NUMBER, *parts]) + '\n'
+
+
+# ---- editors
+
+@dataclass
+class Editor:
+    """How an editor is started, and its keys."""
+
+    name: str
+    words: list
+    down: bytes
+    row_end: bytes
+    page: bytes
+    save: bytes
+    text_end: bytes
+    leave: bytes
+    insert: bytes = b''  # what letters begin with
+    append: bytes = b''  # what letters at a line's end begin with, where they need another word
+    command: bytes = b''  # what ends typing
+
+
+def editors(bidi_edit, paragraph_pages):
+    """The editors by name."""
+    large = ['--eval', '(setq large-file-warning-threshold nil)']
+    known = (
+        Editor('bidi_edit', [bidi_edit], b'\x1b[B', b'\x1b[F', b'\x1b[6~', b'\x13', b'\x1b[6~' * paragraph_pages + b'\x02', b'\x11'),
+        Editor('emacs', ['emacs', '-nw', '-Q', *large], b'\x0e', b'\x05', b'\x16', b'\x18\x13', b'\x1b>\x02', b'\x18\x03'),
+        Editor(
+            'vim', ['vim', '-N', '-u', 'NONE', '-i', 'NONE'], b'j', b'$', b'\x06', b':w\r', b'G$', b':q!\r', b'i', b'a', b'\x1b'
+        ),
+        Editor('nano', ['nano', '--ignorercfiles'], b'\x0e', b'\x05', b'\x16', b'\x13', b'\x1b/\x02', b'\x18'),
+        Editor('joe', ['joe'], b'\x0e', b'\x05', b'\x16', b'\x0bd\r', b'\x0bv\x02', b'\x03'),
+    )
+    return {editor.name: editor for editor in known}
+
+
+# ---- what is measured
+
+class Figures:
+    """What was measured: by what is done, the text and the editor a list of pairs, of seconds and of seconds of processor time."""
+
+    def __init__(self):
+        self.found = {}
+
+    def note(self, what, kind, editor, pair):
+        self.found.setdefault((what, kind.name, editor.name), []).append(pair)
+
+    def is_late(self, what, kind, editor):
+        """Whether its screen did not come once."""
+        return None in self.found.get((what, kind.name, editor.name), [])
+
+    def median(self, what, kind, editor):
+        """The median of each part; None where nothing was measured, or a screen did not come."""
+        pairs = self.found.get((what, kind, editor), [])
+        if not pairs or None in pairs:
+            return None
+        return tuple(statistics.median(part) for part in zip(*pairs))
+
+
+class Task:
+    """One editor on a copy of one text."""
+
+    def __init__(self, figures, folder, kind, editor, text):
+        self.figures, self.kind, self.editor = figures, kind, editor
+        self.folder = folder / 'work'
+        shutil.rmtree(self.folder, ignore_errors=True)
+        self.folder.mkdir()
+        self.file = self.folder / 'text.txt'
+        shutil.copyfile(text, self.file)
+
+    def started(self, *words):
+        # no place of the cursor is remembered, and no session that was broken off is offered again
+        home = Path(os.environ['HOME'])
+        shutil.rmtree(home, ignore_errors=True)
+        home.mkdir()
+        return Terminal([*self.editor.words, *words, self.file.name], self.folder)
+
+    def note(self, what, pair):
+        self.figures.note(what, self.kind, self.editor, pair)
+
+    def measured(self, what, terminal, count, action):
+        """Notes what one of several actions takes, the median and the mean of processor time, or that its screen did not come."""
+        terminal.settle()
+        before = terminal.processor_seconds()
+        try:
+            seconds = [action() for _ in range(count)]
+        except Late:
+            self.note(what, None)
+            raise
+        self.note(what, (statistics.median(seconds), (terminal.processor_seconds() - before) / count))
+
+    def opening(self, what, shown, *words):
+        """Opens the text and quits."""
+        with self.started(*words) as terminal:
+            seconds = terminal.await_screen(shown.encode(), 0.1) - terminal.started
+            terminal.settle()
+            self.note(what, (seconds, terminal.end(self.editor.leave)))
+
+    def type_letters(self, what, terminal, begin, count):
+        """Types one letter after another, and leaves the mode for typing."""
+        letter = self.kind.letter.encode()
+        terminal.send(begin)
+        self.measured(what, terminal, count, lambda: terminal.do(letter, letter, limit=LIMIT))
+
+    def leave_typing(self, terminal):
+        terminal.send(self.editor.command)
+        terminal.settle(1.2 if self.editor.command else 0.1)
+
+    def keys(self):
+        """All that is done in a text of many lines."""
+        editor, letter = self.editor, self.kind.letter.encode()
+        with self.started() as terminal:
+            terminal.await_screen(SHOWN.encode(), 0.1)
+            terminal.send(editor.down * 8)
+            self.type_letters('a letter, at a line\'s beginning', terminal, editor.insert, LETTERS)
+            self.leave_typing(terminal)
+            terminal.send(editor.down)
+            terminal.settle()
+            terminal.send(editor.row_end)
+            self.type_letters('a letter, at a line\'s end', terminal, editor.append, LETTERS)
+            self.measured(
+                f'{BURST} letters in one write', terminal, 1, lambda: terminal.do(letter * BURST, letter, 0.2, LIMIT)
+            )
+            self.leave_typing(terminal)
+            self.measured('a page down', terminal, PAGES, lambda: terminal.do(editor.page, limit=LIMIT))
+            self.save(terminal, len(letter) * (2 * LETTERS + BURST))
+            self.note('most memory', (terminal.peak_bytes(), 0))
+
+    def save(self, terminal, added):
+        """Saves, until the file has the new bytes and the screen stands."""
+        wanted = self.file.stat().st_size + added
+        terminal.settle()
+        before = terminal.processor_seconds()
+        seconds = terminal.do(self.editor.save, quiet=0.5, limit=LIMIT)
+        if self.file.stat().st_size != wanted:
+            raise Late
+        self.note('a save', (seconds, terminal.processor_seconds() - before))
+
+    def paragraph(self):
+        """A letter at each end of one long paragraph."""
+        with self.started() as terminal:
+            terminal.await_screen(FIRST_NUMBER.encode(), 0.3)
+            self.type_letters(AT_BEGINNING, terminal, self.editor.insert, LONG_LETTERS)
+            self.leave_typing(terminal)
+            # an editor that did not come to the end is not asked again
+            if self.figures.is_late(AT_END, self.kind, self.editor):
+                return
+            try:
+                terminal.do(self.editor.text_end, quiet=1)
+            except Late:
+                self.note(AT_END, None)
+                raise
+            self.type_letters(AT_END, terminal, self.editor.append, LONG_LETTERS)
+
+
+# ---- the run
+
+def say(words):
+    print(words, file=sys.stderr, flush=True)
+
+
+def run_task(what, task, action):
+    """Runs a part, of which a screen that does not come is told."""
+    say(f'{what}: {task.kind.name}, {task.editor.name}')
+    try:
+        action()
+    except Late:
+        say('    a screen did not come')
+
+
+def measure(found, folder, rounds, part):
+    """Measures all editors on all texts."""
+    figures = Figures()
+    size, long_size = 16_000_000 // part, 1_000_000 // part
+    for kind in KINDS:
+        (folder / f'{kind.name}.lines').write_text(lines_of(kind, size), encoding='utf-8')
+        (folder / f'{kind.name}.paragraph').write_text(paragraph_of(kind, long_size), encoding='utf-8')
+    for number in range(1, rounds + 1):
+        for kind in KINDS:
+            for editor in found:
+                lines, paragraph = folder / f'{kind.name}.lines', folder / f'{kind.name}.paragraph'
+                last = lines.read_bytes().count(b'\n')
+                task = Task(figures, folder, kind, editor, lines)
+                run_task(f'round {number}, opening', task, lambda: task.opening('opened', SHOWN))
+                run_task(f'round {number}, opening at the end', task, lambda: task.opening('opened at its last line', LAST, f'+{last}'))
+                run_task(f'round {number}, keys', task, task.keys)
+                task = Task(figures, folder, kind, editor, paragraph)
+                run_task(f'round {number}, a paragraph', task, task.paragraph)
+    return figures
+
+
+def number(value):
+    """A figure of two digits that count."""
+    if value >= 100:
+        return f'{float(f"{value:.3g}"):.0f}'
+    return f'{value:.2g}'
+
+
+def milliseconds(pair):
+    if pair is None:
+        return '-'
+    return f'{number(1000 * pair[0])} / {number(1000 * pair[1])}'
+
+
+def megabytes(pair):
+    return '-' if pair is None else number(pair[0] / 1e6)
+
+
+ROWS = (
+    ('opened', milliseconds),
+    ('opened at its last line', milliseconds),
+    ('a letter, at a line\'s beginning', milliseconds),
+    ('a letter, at a line\'s end', milliseconds),
+    (f'{BURST} letters in one write', milliseconds),
+    ('a page down', milliseconds),
+    ('a save', milliseconds),
+    ('most memory', megabytes),
+    (AT_BEGINNING, milliseconds),
+    (AT_END, milliseconds),
+)
+
+
+def print_table(figures, found):
+    """The table: of each thing that is done a row for each text."""
+    print('| What | Text | ' + ' | '.join(editor.name for editor in found) + ' |')
+    print('|---|---|' + '---|' * len(found))
+    for what, shown in ROWS:
+        for kind in KINDS:
+            cells = [shown(figures.median(what, kind.name, editor.name)) for editor in found]
+            print(f'| {what} | {kind.name} | ' + ' | '.join(cells) + ' |')
+
+
+def main():
+    parser = argparse.ArgumentParser()
+    parser.add_argument('--quick', action='store_true')
+    parser.add_argument('--rounds', type=int)
+    parser.add_argument('bidi_edit')
+    parser.add_argument('folder', type=Path)
+    parser.add_argument('editors', nargs='+')
+    words = parser.parse_args()
+    part = 16 if words.quick else 1
+    known = editors(words.bidi_edit, 800 // part)
+    found = [known[name] for name in words.editors]
+    print(f'Load {os.getloadavg()[0]:.1f} on {os.cpu_count()} processors at the beginning.')
+    figures = measure(found, words.folder, words.rounds or (1 if words.quick else 3), part)
+    print(f'Load {os.getloadavg()[0]:.1f} at the end.\n')
+    print_table(figures, found)
+
+
+main()

@@ -1,0 +1,158 @@
+"""A program on a terminal of its own, for compare_editors.py: what is sent to it, when its screen stands, and what it takes."""
+
+import fcntl
+import os
+import pty
+import select
+import signal
+import struct
+import termios
+import time
+
+ROWS, COLUMNS = 24, 80
+QUIET = 0.03  # seconds without a byte, after which a screen stands
+# What a terminal is asked for at a start, and how a plain xterm answers: emacs waits for it.
+QUESTIONS, ANSWER = (b'\x1b[>0c', b'\x1b[>c'), b'\x1b[>0;95;0c'
+
+
+class Late(Exception):
+    """A screen that did not come in time."""
+
+
+def processes_of(session):
+    """The numbers of the processes of a session, which a program on a terminal of its own leads."""
+    found = []
+    for name in filter(str.isdigit, os.listdir('/proc')):
+        try:
+            with open(f'/proc/{name}/stat', 'rb') as file:
+                fields = file.read().rpartition(b')')[2].split()
+        except OSError:
+            continue
+        if int(fields[3]) == session:
+            found.append(int(name))
+    return found
+
+
+def thread_seconds(path):
+    """The processor time of a thread or process: in nanoseconds where the system counts them, else in ticks."""
+    try:
+        with open(f'{path}/schedstat') as file:
+            return int(file.read().split()[0]) / 1e9
+    except OSError:
+        with open(f'{path}/stat', 'rb') as file:
+            fields = file.read().rpartition(b')')[2].split()
+        return (int(fields[11]) + int(fields[12])) / os.sysconf('SC_CLK_TCK')
+
+
+def processor_seconds(process):
+    """The processor time of a process with all of its threads; none where it is gone."""
+    folder = f'/proc/{process}/task'
+    try:
+        return sum(thread_seconds(f'{folder}/{thread}') for thread in os.listdir(folder))
+    except OSError:
+        return 0
+
+
+def peak_bytes(process):
+    """The most memory that a process had."""
+    try:
+        with open(f'/proc/{process}/status') as file:
+            return sum(1024 * int(line.split()[1]) for line in file if line.startswith('VmHWM:'))
+    except OSError:
+        return 0
+
+
+class Terminal:
+    """A program that was started on a terminal, and leads a session there; a `with` ends it."""
+
+    def __init__(self, words, folder):
+        self.started = time.perf_counter()
+        self.process, self.line = pty.fork()
+        if self.process == 0:
+            try:
+                fcntl.ioctl(0, termios.TIOCSWINSZ, struct.pack('HHHH', ROWS, COLUMNS, 0, 0))
+                os.chdir(folder)
+                os.execvp(words[0], words)
+            finally:
+                os._exit(127)
+        os.set_blocking(self.line, False)
+        self.is_over = self.is_reaped = False
+
+    def __enter__(self):
+        return self
+
+    def __exit__(self, *_):
+        for process in processes_of(self.process):
+            try:
+                os.kill(process, signal.SIGKILL)
+            except ProcessLookupError:
+                pass
+        os.close(self.line)
+        if not self.is_reaped:
+            os.waitpid(self.process, 0)
+
+    def send(self, keys):
+        """Sends keys in one write, or in as many as the terminal takes."""
+        while keys:
+            select.select([], [self.line], [])
+            keys = keys[os.write(self.line, keys):]
+
+    def read(self, seconds):
+        """What comes within so many seconds, as soon as anything does; none where nothing comes or the program has ended."""
+        if not select.select([self.line], [], [], seconds)[0]:
+            return b''
+        try:
+            part = os.read(self.line, 1 << 16)
+        except OSError:
+            self.is_over = True
+            return b''
+        if any(question in part for question in QUESTIONS):
+            os.write(self.line, ANSWER)
+        return part
+
+    def await_screen(self, wanted=b'', quiet=QUIET, limit=60):
+        """When the last byte of a screen came: the wanted bytes were among it, and then nothing came for a while."""
+        end = time.perf_counter() + limit
+        seen, last, is_there = b'', None, False
+        while True:
+            part = self.read(quiet if is_there else 0.2)
+            now = time.perf_counter()
+            if part:
+                last = now
+                seen = seen[-len(wanted):] + part if wanted else part
+                is_there = is_there or wanted in seen
+            elif is_there:
+                return last
+            if now > end or self.is_over:
+                raise Late
+
+    def do(self, keys, wanted=b'', quiet=QUIET, limit=60):
+        """Sends keys, and gives the seconds until their screen stands."""
+        before = time.perf_counter()
+        self.send(keys)
+        return self.await_screen(wanted, quiet, limit) - before
+
+    def settle(self, seconds=0.3):
+        """Passes over all that still comes, up to a pause."""
+        while self.read(seconds):
+            pass
+
+    def processor_seconds(self):
+        """The processor time so far, of all processes that live."""
+        return sum(processor_seconds(process) for process in processes_of(self.process))
+
+    def peak_bytes(self):
+        """The most memory of each process that lives, together."""
+        return sum(peak_bytes(process) for process in processes_of(self.process))
+
+    def end(self, keys, limit=60):
+        """Sends the keys that quit, and gives the processor time of the whole run, of processes that ended before too."""
+        self.send(keys)
+        end = time.perf_counter() + limit
+        while time.perf_counter() < end:
+            self.read(0.02)
+            process, _, usage = os.wait4(self.process, os.WNOHANG)
+            if process:
+                self.is_reaped = True
+                return usage.ru_utime + usage.ru_stime
+        raise Late
