@@ -13,8 +13,18 @@ from editor_terminal import Late, Terminal
 
 LETTERS, PAGES, BURST, LONG_LETTERS = 30, 20, 200, 10
 LIMIT = 20  # seconds, after which a screen is not waited for
-AT_BEGINNING = 'a letter, at the beginning of 1,000,000 bytes'
-AT_END = 'a letter, at the end of 1,000,000 bytes'
+
+# ---- what is measured, as the table calls it
+
+OPENED, OPENED_AT_END = 'opened', 'opened at its last line'
+LETTER, LETTER_AT_END = "a letter at a line's beginning", "a letter at a line's end"
+MANY_LETTERS, PAGE, SAVE = f'{BURST} letters in one write', 'a page down', 'a save'
+MEMORY = 'most memory, MB'
+LONG_LETTER = 'a letter at the beginning of a paragraph of 1,000,000 bytes'
+LONG_LETTER_AT_END = 'a letter at its end'
+ALL = (
+    OPENED, OPENED_AT_END, LETTER, LETTER_AT_END, MANY_LETTERS, PAGE, SAVE, MEMORY, LONG_LETTER, LONG_LETTER_AT_END
+)
 
 # ---- texts
 
@@ -84,30 +94,42 @@ class Editor:
     down: bytes
     row_end: bytes
     page: bytes
-    save: bytes
     text_end: bytes
+    save: bytes
     leave: bytes
     insert: bytes = b''  # what letters begin with
-    append: bytes = b''  # what letters at a line's end begin with, where they need another word
+    append: bytes = b''  # what letters at a line's end begin with
     command: bytes = b''  # what ends typing
+    shapes: bool = False  # whether it sends Arabic letters in their joined forms
 
 
 def editors(bidi_edit, paragraph_pages):
-    """The editors by name."""
-    large = ['--eval', '(setq large-file-warning-threshold nil)']
+    """The editors by name. One step back from a text's end leads behind its last letter, where it ends with a line feed."""
+    page = b'\x1b[6~'
+    emacs = ['emacs', '-nw', '-Q', '--eval', '(setq large-file-warning-threshold nil)']
+    vim = ['vim', '-N', '-u', 'NONE', '-i', 'NONE']
+    control = {'down': b'\x0e', 'row_end': b'\x05', 'page': b'\x16'}
+    modes = {'insert': b'i', 'append': b'a', 'command': b'\x1b', 'shapes': True}
     known = (
-        Editor('bidi_edit', [bidi_edit], b'\x1b[B', b'\x1b[F', b'\x1b[6~', b'\x13', b'\x1b[6~' * paragraph_pages + b'\x02', b'\x11'),
-        Editor('emacs', ['emacs', '-nw', '-Q', *large], b'\x0e', b'\x05', b'\x16', b'\x18\x13', b'\x1b>\x02', b'\x18\x03'),
         Editor(
-            'vim', ['vim', '-N', '-u', 'NONE', '-i', 'NONE'], b'j', b'$', b'\x06', b':w\r', b'G$', b':q!\r', b'i', b'a', b'\x1b'
+            'bidi_edit',
+            [bidi_edit],
+            down=b'\x1b[B',
+            row_end=b'\x1b[F',
+            page=page,
+            text_end=page * paragraph_pages + b'\x02',
+            save=b'\x13',
+            leave=b'\x11',
         ),
-        Editor('nano', ['nano', '--ignorercfiles'], b'\x0e', b'\x05', b'\x16', b'\x13', b'\x1b/\x02', b'\x18'),
-        Editor('joe', ['joe'], b'\x0e', b'\x05', b'\x16', b'\x0bd\r', b'\x0bv\x02', b'\x03'),
+        Editor('emacs', emacs, **control, text_end=b'\x1b>\x02', save=b'\x18\x13', leave=b'\x18\x03'),
+        Editor('vim', vim, down=b'j', row_end=b'$', page=b'\x06', text_end=b'G$', save=b':w\r', leave=b':q!\r', **modes),
+        Editor('nano', ['nano', '--ignorercfiles'], **control, text_end=b'\x1b/\x02', save=b'\x13', leave=b'\x18'),
+        Editor('joe', ['joe'], **control, text_end=b'\x0bv\x02', save=b'\x0bd\r', leave=b'\x03'),
     )
     return {editor.name: editor for editor in known}
 
 
-# ---- what is measured
+# ---- one editor on one text
 
 class Figures:
     """What was measured: by what is done, the text and the editor a list of pairs, of seconds and of seconds of processor time."""
@@ -169,11 +191,17 @@ class Task:
             terminal.settle()
             self.note(what, (seconds, terminal.end(self.editor.leave)))
 
+    def shown_letter(self):
+        """The bytes that show a typed letter; none where they are not known."""
+        if self.editor.shapes and self.kind.name == 'Arabic':
+            return b''
+        return self.kind.letter.encode()
+
     def type_letters(self, what, terminal, begin, count):
-        """Types one letter after another, and leaves the mode for typing."""
+        """Types one letter after another, and stays in the mode for typing, where an editor has one."""
         letter = self.kind.letter.encode()
         terminal.send(begin)
-        self.measured(what, terminal, count, lambda: terminal.do(letter, letter, limit=LIMIT))
+        self.measured(what, terminal, count, lambda: terminal.do(letter, self.shown_letter(), limit=LIMIT))
 
     def leave_typing(self, terminal):
         terminal.send(self.editor.command)
@@ -185,19 +213,17 @@ class Task:
         with self.started() as terminal:
             terminal.await_screen(SHOWN.encode(), 0.1)
             terminal.send(editor.down * 8)
-            self.type_letters('a letter, at a line\'s beginning', terminal, editor.insert, LETTERS)
+            self.type_letters(LETTER, terminal, editor.insert, LETTERS)
             self.leave_typing(terminal)
             terminal.send(editor.down)
             terminal.settle()
             terminal.send(editor.row_end)
-            self.type_letters('a letter, at a line\'s end', terminal, editor.append, LETTERS)
-            self.measured(
-                f'{BURST} letters in one write', terminal, 1, lambda: terminal.do(letter * BURST, letter, 0.2, LIMIT)
-            )
+            self.type_letters(LETTER_AT_END, terminal, editor.append, LETTERS)
+            self.measured(MANY_LETTERS, terminal, 1, lambda: terminal.do(letter * BURST, self.shown_letter(), 0.2, LIMIT))
             self.leave_typing(terminal)
-            self.measured('a page down', terminal, PAGES, lambda: terminal.do(editor.page, limit=LIMIT))
+            self.measured(PAGE, terminal, PAGES, lambda: terminal.do(editor.page, limit=LIMIT))
             self.save(terminal, len(letter) * (2 * LETTERS + BURST))
-            self.note('most memory', (terminal.peak_bytes(), 0))
+            self.note(MEMORY, (terminal.peak_bytes(), 0))
 
     def save(self, terminal, added):
         """Saves, until the file has the new bytes and the screen stands."""
@@ -207,23 +233,23 @@ class Task:
         seconds = terminal.do(self.editor.save, quiet=0.5, limit=LIMIT)
         if self.file.stat().st_size != wanted:
             raise Late
-        self.note('a save', (seconds, terminal.processor_seconds() - before))
+        self.note(SAVE, (seconds, terminal.processor_seconds() - before))
 
     def paragraph(self):
         """A letter at each end of one long paragraph."""
         with self.started() as terminal:
             terminal.await_screen(FIRST_NUMBER.encode(), 0.3)
-            self.type_letters(AT_BEGINNING, terminal, self.editor.insert, LONG_LETTERS)
+            self.type_letters(LONG_LETTER, terminal, self.editor.insert, LONG_LETTERS)
             self.leave_typing(terminal)
             # an editor that did not come to the end is not asked again
-            if self.figures.is_late(AT_END, self.kind, self.editor):
+            if self.figures.is_late(LONG_LETTER_AT_END, self.kind, self.editor):
                 return
             try:
                 terminal.do(self.editor.text_end, quiet=1)
             except Late:
-                self.note(AT_END, None)
+                self.note(LONG_LETTER_AT_END, None)
                 raise
-            self.type_letters(AT_END, terminal, self.editor.append, LONG_LETTERS)
+            self.type_letters(LONG_LETTER_AT_END, terminal, self.editor.append, LONG_LETTERS)
 
 
 # ---- the run
@@ -251,15 +277,20 @@ def measure(found, folder, rounds, part):
     for number in range(1, rounds + 1):
         for kind in KINDS:
             for editor in found:
-                lines, paragraph = folder / f'{kind.name}.lines', folder / f'{kind.name}.paragraph'
-                last = lines.read_bytes().count(b'\n')
-                task = Task(figures, folder, kind, editor, lines)
-                run_task(f'round {number}, opening', task, lambda: task.opening('opened', SHOWN))
-                run_task(f'round {number}, opening at the end', task, lambda: task.opening('opened at its last line', LAST, f'+{last}'))
-                run_task(f'round {number}, keys', task, task.keys)
-                task = Task(figures, folder, kind, editor, paragraph)
-                run_task(f'round {number}, a paragraph', task, task.paragraph)
+                measure_editor(figures, folder, kind, editor, f'round {number}')
     return figures
+
+
+def measure_editor(figures, folder, kind, editor, number):
+    """Measures one editor on both texts of a kind."""
+    lines = folder / f'{kind.name}.lines'
+    last = lines.read_bytes().count(b'\n')
+    task = Task(figures, folder, kind, editor, lines)
+    run_task(f'{number}, opening', task, lambda: task.opening(OPENED, SHOWN))
+    run_task(f'{number}, opening at the end', task, lambda: task.opening(OPENED_AT_END, LAST, f'+{last}'))
+    run_task(f'{number}, keys', task, task.keys)
+    task = Task(figures, folder, kind, editor, folder / f'{kind.name}.paragraph')
+    run_task(f'{number}, a paragraph', task, task.paragraph)
 
 
 def number(value):
@@ -279,25 +310,12 @@ def megabytes(pair):
     return '-' if pair is None else number(pair[0] / 1e6)
 
 
-ROWS = (
-    ('opened', milliseconds),
-    ('opened at its last line', milliseconds),
-    ('a letter, at a line\'s beginning', milliseconds),
-    ('a letter, at a line\'s end', milliseconds),
-    (f'{BURST} letters in one write', milliseconds),
-    ('a page down', milliseconds),
-    ('a save', milliseconds),
-    ('most memory', megabytes),
-    (AT_BEGINNING, milliseconds),
-    (AT_END, milliseconds),
-)
-
-
 def print_table(figures, found):
     """The table: of each thing that is done a row for each text."""
     print('| What | Text | ' + ' | '.join(editor.name for editor in found) + ' |')
     print('|---|---|' + '---|' * len(found))
-    for what, shown in ROWS:
+    for what in ALL:
+        shown = megabytes if what == MEMORY else milliseconds
         for kind in KINDS:
             cells = [shown(figures.median(what, kind.name, editor.name)) for editor in found]
             print(f'| {what} | {kind.name} | ' + ' | '.join(cells) + ' |')
@@ -314,6 +332,8 @@ def main():
     part = 16 if words.quick else 1
     known = editors(words.bidi_edit, 800 // part)
     found = [known[name] for name in words.editors]
+    if words.quick:
+        print('Texts are a sixteenth of what the table says.')
     print(f'Load {os.getloadavg()[0]:.1f} on {os.cpu_count()} processors at the beginning.')
     figures = measure(found, words.folder, words.rounds or (1 if words.quick else 3), part)
     print(f'Load {os.getloadavg()[0]:.1f} at the end.\n')
