@@ -1,5 +1,5 @@
 //! Units of printable ASCII, a byte each.
-ghost use Rattle.std.specs.Prelude.{◌≡◌, ◌≤◌, ◌<◌, ◌++◌, ℕ, IfOk, get_or, length, true};
+ghost use Rattle.std.specs.Prelude.{◌≡◌, ◌≤◌, ◌<◌, ◌++◌, ℕ, IfOk, get_or, length, false, true};
 ghost use Rattle.bx_terms.specs.Characters.{is_ascii_printable};
 ghost use Rattle.std.specs.Str.{IsCharBoundary};
 ghost use Rattle.bx_cells.specs.Units.{units_from};
@@ -40,6 +40,7 @@ pub fn printable_stop(bytes: &[u8], at: usize) -> usize
     ensures order { at ≤ result }
     ensures inside { result ≤ length bytes.now }
     ensures printable { (i : ℕ) → at ≤ i → i < result → is_ascii_printable (get_or bytes.now i 0) ≡ true }
+    ensures stops { result < length bytes.now → is_ascii_printable (get_or bytes.now result 0) ≡ false }
 {
     let mut stop = blocks_stop(bytes, at);
     while stop < bytes.len() && is_ascii_printable(bytes[stop]) {
