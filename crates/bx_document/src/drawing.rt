@@ -21,6 +21,7 @@ pub fn put_row(grid: &mut Grid, row: u16, picture: &RowPicture<'_>) -> Result<()
     ensures ok { OnOk result (grid.new ≡ with_row grid.old row (side_by_side (map glyph_of picture.now.glyphs.items))) }
     ensures memory { OnErr result (result ≡ Err GridError.OutOfMemory) }
 {
+    // tell the proof how wide a grid may be and how many columns the grid has
     let _width = grid.width();
     let _columns = grid.columns();
     let mut column: u16 = 1;

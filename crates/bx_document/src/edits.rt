@@ -12,18 +12,20 @@ use bx_paras::Index;
 use bx_terms::LARGEST_TEXT;
 use bx_text::{Change, Text};
 use bx_ucd::BidiData;
+use bx_view::Source;
 
 /// Follows an edit, where room was made for as many separators as it adds bytes. No memory.
-fn follow<D: BidiData>(index: &mut Index, text: &Text, source: &D, change: &Change)
+fn follow<D: BidiData>(index: &mut Index, text: &Text, tables: &D, change: &Change)
     requires was { (old : List ℕ)
         × IsUtf8 old
-        × (index.old.paragraphs ≡ lengths (D.class_of source.now) old)
+        × (index.old.paragraphs ≡ lengths (D.class_of tables.now) old)
         × Leads old change.now text.now.edited.text }
     requires room { index.old.room ≡ Some change.now.added }
-    ensures { index.new.paragraphs ≡ lengths (D.class_of source.now) text.now.edited.text }
+    ensures { index.new.paragraphs ≡ lengths (D.class_of tables.now) text.now.edited.text }
 {
+    // tells the proof that the text is UTF-8
     let _utf8 = text.len();
-    index.edited(text, source, change);
+    index.edited(text, tables, change);
 }
 
 impl<D: BidiData + Drop> Document<D> {
@@ -38,17 +40,15 @@ impl<D: BidiData + Drop> Document<D> {
         ensures boundary { IfOk result (λ o. IsCharBoundary (splice self.old.document.content.text start stop new.now) o) }
         ensures memory { OnErr result (IsErrOf result DocumentError.OutOfMemory) }
     {
+        // tell the proof that the text is UTF-8 and what sides a window may have
         let _utf8 = self.text.len();
         let _side = self.layout.width();
-        let (first, characters) = window(
-            self.alloc,
-            &self.text,
-            &self.index,
-            &self.tables,
-            start,
-            stop,
-            new,
-        )?;
+        let source = Source {
+            text: &self.text,
+            index: &self.index,
+            tables: &self.tables,
+        };
+        let (first, characters) = window(self.alloc, &source, start, stop, new)?;
         // They are no more bytes than the text has after the edit.
         let offset = start - first + new.len();
         let place = place_in(
@@ -109,6 +109,7 @@ impl<D: BidiData + Drop> Document<D> {
         ensures err { OnErr result (self.new ≡ self.old) }
         ensures memory { OnErr result (IsErrOf result DocumentError.OutOfMemory) }
     {
+        // tells the proof that the text is short
         let _short = self.text.len();
         let after = self.place_behind(start, stop, "")?;
         self.index.ready(0)?;
@@ -129,6 +130,7 @@ impl<D: BidiData + Drop> Document<D> {
         ensures err { OnErr result (self.new ≡ self.old) }
         ensures memory { OnErr result (IsErrOf result DocumentError.OutOfMemory) }
     {
+        // tells the proof that the text is UTF-8
         let _utf8 = self.text.len();
         let Some(next) = self.text.next_undo() else {
             return Ok(None);
@@ -151,6 +153,7 @@ impl<D: BidiData + Drop> Document<D> {
         ensures err { OnErr result (self.new ≡ self.old) }
         ensures memory { OnErr result (IsErrOf result DocumentError.OutOfMemory) }
     {
+        // tells the proof that the text is UTF-8
         let _utf8 = self.text.len();
         let Some(next) = self.text.next_redo() else {
             return Ok(None);

@@ -13,6 +13,7 @@ use crate::drawn_rows::draw_rows;
 use crate::error::DocumentError;
 use bx_grid::Grid;
 use bx_ucd::BidiData;
+use bx_view::Source;
 
 impl<D: BidiData + Drop> Document<D> {
     /// The offset at which the rows begin to be shown, `t` of them, among which the row of the place is: the row that the
@@ -26,11 +27,15 @@ impl<D: BidiData + Drop> Document<D> {
         ensures among { IfOk result (λ o. IsAmong (rows (⟦<D as Answers>⟧.data self.old.tables) self.old.document) o place t) }
         ensures memory { OnErr result (IsErrOf result DocumentError.OutOfMemory) }
     {
+        // tell the proof that the text is UTF-8 and what sides a window may have
         let _utf8 = self.text.len();
         let _side = self.layout.width();
-        let top = self
-            .layout
-            .follow(&self.text, &self.index, &self.tables, top, place, t)?;
+        let source = Source {
+            text: &self.text,
+            index: &self.index,
+            tables: &self.tables,
+        };
+        let top = self.layout.follow(&source, top, place, t)?;
         Ok(top)
     }
 
@@ -43,11 +48,15 @@ impl<D: BidiData + Drop> Document<D> {
         ensures inside { IfOk result (λ column. (1 ≤ column) × (column ≤ self.old.document.w)) }
         ensures memory { OnErr result (IsErrOf result DocumentError.OutOfMemory) }
     {
+        // tell the proof that the text is UTF-8 and what sides a window may have
         let _utf8 = self.text.len();
         let _side = self.layout.width();
-        let column = self
-            .layout
-            .cell_of(&self.text, &self.index, &self.tables, place)?;
+        let source = Source {
+            text: &self.text,
+            index: &self.index,
+            tables: &self.tables,
+        };
+        let column = self.layout.cell_of(&source, place)?;
         Ok(column)
     }
 
@@ -55,6 +64,7 @@ impl<D: BidiData + Drop> Document<D> {
     pub fn paragraph_number(&self, offset: usize) -> usize
         ensures { result ≡ paragraph_number (D.class_of self.now.tables) self.now.document.content.text offset + 1 }
     {
+        // tell the proof that the text is UTF-8 and that there is a paragraph
         let _utf8 = self.text.len();
         let _count = self.index.count();
         self.index.paragraph_of(offset) + 1
@@ -68,9 +78,8 @@ impl<D: BidiData + Drop> Document<D> {
         ensures number { IfOk result (λ n. n ≡ unit_number (D.class_of self.old.tables) self.old.document.w self.old.document.content.text place) }
         ensures memory { OnErr result (IsErrOf result DocumentError.OutOfMemory) }
     {
-        let number = self
-            .layout
-            .unit_number(&self.text, &self.index, &self.tables, place)?;
+        let source = Source::of(&self.text, &self.index, &self.tables);
+        let number = self.layout.unit_number(&source, place)?;
         Ok(number)
     }
 
@@ -98,14 +107,11 @@ impl<D: BidiData + Drop> Document<D> {
         ensures among { IfOk result (λ n. n < count) }
         ensures memory { OnErr result (IsErrOf result DocumentError.OutOfMemory) }
     {
-        let at = self
-            .layout
-            .row_at(&self.text, &self.index, &self.tables, top)?;
+        let source = Source::of(&self.text, &self.index, &self.tables);
+        let at = self.layout.row_at(&source, top)?;
         let above = draw_rows(
             &mut self.layout,
-            &self.text,
-            &self.index,
-            &self.tables,
+            &source,
             at,
             place,
             grid,

@@ -1,43 +1,37 @@
 //! The part of a text that tells the place behind an edit: the paragraphs that the edit touches, as they are after it.
 ghost use Rattle.std.specs.Prelude.{◌≡◌, ◌≤◌, ◌++◌, true, IfOk, IsCharBoundary, IsErrOf, OnErr, OnOk, slice_range, string_bytes};
 ghost use Rattle.bx_text.specs.Edits.{IsRange, fits};
-ghost use Rattle.bx_paras.specs.Paragraphs.{lengths};
 ghost use Rattle.bx_view.specs.Cursor.{rows_by};
 ghost use Rattle.bx_view.specs.Holding.{IsViewBy, Keeps};
 ghost use Rattle.bx_view.specs.Moves.{place_from};
+ghost use Rattle.bx_view.specs.Source.{bytes};
 ghost use Rattle.bx_document.specs.Window.{window, window_start, window_stop};
 
 use crate::error::DocumentError;
 use bx_paras::Index;
 use bx_text::Text;
 use bx_ucd::BidiData;
-use bx_view::Layout;
+use bx_view::{Layout, Source};
 use std::alloc::{AllocError, Global};
 
 /// Where the paragraph begins that the byte before an offset stands in. No memory.
-fn start_before<D: BidiData>(text: &Text, index: &Index, source: &D, start: usize) -> usize
-    requires index { index.now.paragraphs ≡ lengths (D.class_of source.now) text.now.edited.text }
-    requires bounds { IsCharBoundary text.now.edited.text start }
-    ensures start { result ≡ window_start (D.class_of source.now) text.now.edited.text start }
-    ensures range { IsRange text.now.edited.text result start }
+fn start_before<D: BidiData>(source: &Source<'_, D>, start: usize) -> usize
+    requires bounds { IsCharBoundary (bytes source.now) start }
+    ensures start { result ≡ window_start (D.class_of source.now.tables.now) (bytes source.now) start }
+    ensures range { IsRange (bytes source.now) result start }
 {
-    let _utf8 = text.len();
-    let _ = source;
-    let number = index.paragraph_of(start.saturating_sub(1));
-    index.span(number).0
+    let number = source.index.paragraph_of(start.saturating_sub(1));
+    source.index.span(number).0
 }
 
 /// The end, with its separator, of the paragraph that an offset falls in. No memory.
-fn stop_behind<D: BidiData>(text: &Text, index: &Index, source: &D, stop: usize) -> usize
-    requires index { index.now.paragraphs ≡ lengths (D.class_of source.now) text.now.edited.text }
-    requires bounds { IsCharBoundary text.now.edited.text stop }
-    ensures stop { result ≡ window_stop (D.class_of source.now) text.now.edited.text stop }
-    ensures range { IsRange text.now.edited.text stop result }
+fn stop_behind<D: BidiData>(source: &Source<'_, D>, stop: usize) -> usize
+    requires bounds { IsCharBoundary (bytes source.now) stop }
+    ensures stop { result ≡ window_stop (D.class_of source.now.tables.now) (bytes source.now) stop }
+    ensures range { IsRange (bytes source.now) stop result }
 {
-    let _utf8 = text.len();
-    let _ = source;
-    let number = index.paragraph_of(stop);
-    index.span(number).1 + index.separator(number)
+    let number = source.index.paragraph_of(stop);
+    source.index.span(number).1 + source.index.separator(number)
 }
 
 /// Puts what stands from one offset of a text to another behind some characters.
@@ -62,28 +56,24 @@ fn push_range(
 /// Where the paragraphs begin that an edit touches, and their text after it.
 pub(crate) fn window<D: BidiData>(
     alloc: Global,
-    text: &Text,
-    index: &Index,
-    source: &D,
+    source: &Source<'_, D>,
     start: usize,
     stop: usize,
     new: &str,
 ) -> Result<(usize, String), AllocError>
-    requires index { index.now.paragraphs ≡ lengths (D.class_of source.now) text.now.edited.text }
-    requires range { IsRange text.now.edited.text start stop }
-    requires fits { fits text.now.edited.text start stop new.now ≡ true }
-    ensures start { IfOk result (λ w. w.0 ≡ window_start (D.class_of source.now) text.now.edited.text start) }
+    requires range { IsRange (bytes source.now) start stop }
+    requires fits { fits (bytes source.now) start stop new.now ≡ true }
+    ensures start { IfOk result (λ w. w.0 ≡ window_start (D.class_of source.now.tables.now) (bytes source.now) start) }
     ensures order { IfOk result (λ w. w.0 ≤ start) }
-    ensures text { IfOk result (λ w. string_bytes w.1 ≡ window (D.class_of source.now) text.now.edited.text start stop new.now) }
+    ensures text { IfOk result (λ w. string_bytes w.1 ≡ window (D.class_of source.now.tables.now) (bytes source.now) start stop new.now) }
 {
-    let _short = text.len();
-    let first = start_before(text, index, source, start);
-    let last = stop_behind(text, index, source, stop);
+    let first = start_before(source, start);
+    let last = stop_behind(source, stop);
     let size = start - first + new.len() + (last - stop);
     let mut characters = String::with_capacity(alloc, size)?;
-    push_range(text, first, start, &mut characters)?;
+    push_range(source.text, first, start, &mut characters)?;
     characters.push_str(new)?;
-    push_range(text, stop, last, &mut characters)?;
+    push_range(source.text, stop, last, &mut characters)?;
     Ok((first, characters))
 }
 
@@ -93,20 +83,20 @@ pub(crate) fn window<D: BidiData>(
 pub(crate) fn place_in<D: BidiData>(
     alloc: Global,
     characters: String,
-    source: &D,
+    tables: &D,
     layout: &mut Layout,
     offset: usize,
 ) -> Result<usize, DocumentError>
-    requires data { IsViewBy (D.class_of source.now) (D.bracket_of source.now) layout.old }
-    ensures keeps { Keeps (D.class_of source.now) (D.bracket_of source.now) layout.old layout.new }
+    requires data { IsViewBy (D.class_of tables.now) (D.bracket_of tables.now) layout.old }
+    ensures keeps { Keeps (D.class_of tables.now) (D.bracket_of tables.now) layout.old layout.new }
     ensures place { IfOk result (λ o. o ≡ place_from
-        (rows_by (D.class_of source.now) (D.bracket_of source.now) layout.old (string_bytes characters)) offset) }
+        (rows_by (D.class_of tables.now) (D.bracket_of tables.now) layout.old (string_bytes characters)) offset) }
     ensures memory { OnErr result (IsErrOf result DocumentError.OutOfMemory) }
 {
     let Ok(text) = Text::open(alloc, characters) else {
         return Err(DocumentError::OutOfMemory);
     };
-    let index = Index::build(alloc, &text, source)?;
-    let place = layout.place_from(&text, &index, source, offset)?;
+    let index = Index::build(alloc, &text, tables)?;
+    let place = layout.place_from(&Source::of(&text, &index, tables), offset)?;
     Ok(place)
 }

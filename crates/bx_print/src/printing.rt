@@ -2,7 +2,7 @@
 ghost use Rattle.std.specs.Prelude.{◌≡◌, ◌↔◌, ◌<◌, [], IsErrOf, OnOk, length, string_bytes};
 ghost use Rattle.std.specs.Io.KnownBytes.{Appends};
 ghost use Rattle.bx_text.specs.Edits.{largest_text};
-ghost use Rattle.bx_paras.specs.Paragraphs.{lengths};
+ghost use Rattle.bx_view.specs.Source.{bytes};
 ghost use Rattle.bx_print.specs.Page.{page};
 ghost use Rattle.bx_print.specs.Writing.{WritesFront};
 
@@ -13,34 +13,32 @@ use crate::style::Style;
 use bx_paras::Index;
 use bx_text::{Text, TextError};
 use bx_ucd::BidiData;
+use bx_view::Source;
 use std::alloc::Global;
 use std::io::Write;
 
 /// Prints the paragraphs of a text, with a list for what is not yet written.
 fn print_paragraphs<D: BidiData, W: Write>(
     pending: &mut Vec<u8>,
-    text: &Text,
-    index: &Index,
-    source: &D,
+    source: &Source<'_, D>,
     style: Style,
     writer: &mut W,
 ) -> Result<(), PrintError>
     requires empty { pending.old.items ≡ [] }
-    requires index { index.now.paragraphs ≡ lengths (D.class_of source.now) text.now.edited.text }
     ensures page { OnOk result (Appends (W.contents writer.old) (W.contents writer.new)
-        (page (D.class_of source.now) (D.bracket_of source.now) (D.mirror_of source.now) style.marks style.base style.columns text.now.edited.text)) }
+        (page (D.class_of source.now.tables.now) (D.bracket_of source.now.tables.now) (D.mirror_of source.now.tables.now) style.marks style.base style.columns (bytes source.now))) }
     ensures front { WritesFront
-        (page (D.class_of source.now) (D.bracket_of source.now) (D.mirror_of source.now) style.marks style.base style.columns text.now.edited.text)
+        (page (D.class_of source.now.tables.now) (D.bracket_of source.now.tables.now) (D.mirror_of source.now.tables.now) style.marks style.base style.columns (bytes source.now))
         (W.contents writer.old) (W.contents writer.new) }
     ensures cause { IsErrOf result PrintError.TooLong → ⊥ }
 {
-    let count = index.count();
-    push_paragraph(pending, text, index, 0, source, style)?;
+    let count = source.index.count();
+    push_paragraph(pending, source, 0, style)?;
     // no line feed stands in front of the first row
     pending.remove(0);
     for number in 1..count {
         send_full(writer, pending)?;
-        push_paragraph(pending, text, index, number, source, style)?;
+        push_paragraph(pending, source, number, style)?;
     }
     finish(writer, pending)
 }
@@ -51,14 +49,14 @@ fn print_paragraphs<D: BidiData, W: Write>(
 pub fn print<D: BidiData, W: Write>(
     alloc: Global,
     text: String,
-    source: &D,
+    tables: &D,
     style: Style,
     writer: &mut W,
 ) -> Result<(), PrintError>
     ensures page { OnOk result (Appends (W.contents writer.old) (W.contents writer.new)
-        (page (D.class_of source.now) (D.bracket_of source.now) (D.mirror_of source.now) style.marks style.base style.columns (string_bytes text))) }
+        (page (D.class_of tables.now) (D.bracket_of tables.now) (D.mirror_of tables.now) style.marks style.base style.columns (string_bytes text))) }
     ensures front { WritesFront
-        (page (D.class_of source.now) (D.bracket_of source.now) (D.mirror_of source.now) style.marks style.base style.columns (string_bytes text))
+        (page (D.class_of tables.now) (D.bracket_of tables.now) (D.mirror_of tables.now) style.marks style.base style.columns (string_bytes text))
         (W.contents writer.old) (W.contents writer.new) }
     ensures too_long { IsErrOf result PrintError.TooLong ↔ (largest_text < length (string_bytes text)) }
 {
@@ -67,7 +65,8 @@ pub fn print<D: BidiData, W: Write>(
         Err(TextError::TooLong) => return Err(PrintError::TooLong),
         Err(_) => return Err(PrintError::OutOfMemory),
     };
-    let index = Index::build(alloc, &text, source)?;
+    let index = Index::build(alloc, &text, tables)?;
     let mut pending = Vec::new(alloc);
-    print_paragraphs(&mut pending, &text, &index, source, style, writer)
+    let source = Source::of(&text, &index, tables);
+    print_paragraphs(&mut pending, &source, style, writer)
 }

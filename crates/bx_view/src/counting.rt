@@ -4,75 +4,69 @@ ghost use Rattle.bx_terms.specs.Sizes.{is_side};
 ghost use Rattle.bx_text.specs.Edits.{IsRange, largest_text};
 ghost use Rattle.bx_paras.specs.Paragraphs.{lengths};
 ghost use Rattle.bx_rows.specs.RowStarts.{row_starts};
-ghost use Rattle.bx_view.specs.Cursor.{rows_by};
-ghost use Rattle.bx_view.specs.Holding.{IsViewBy, Keeps};
-ghost use Rattle.bx_view.specs.Standing.{body_at, count, rows_ahead, start_at};
+ghost use Rattle.bx_view.specs.Source.{IsViewBy, Keeps, body_at, bytes, count, rows, start_at};
+ghost use Rattle.bx_view.specs.Standing.{rows_ahead};
 ghost use Rattle.bx_view.specs.TextRows.{first, row_of};
 
 use crate::error::ViewError;
 use crate::layout::Layout;
+use crate::source::Source;
 use bx_explicit::Base;
-use bx_paras::{Index, ParagraphWalk};
+use bx_paras::ParagraphWalk;
 use bx_rows::{RowStart, row_starts};
-use bx_text::Text;
 use bx_ucd::BidiData;
 use std::alloc::Global;
 
 /// Where the body of the paragraph begins and ends at which a walk stands.
-fn walked_span<D: BidiData>(text: &Text, walk: &ParagraphWalk<'_>, source: &D) -> (usize, usize)
-    requires walk { walk.now.paragraphs ≡ lengths (D.class_of source.now) text.now.edited.text }
-    requires number { walk.now.number < count (D.class_of source.now) text.now.edited.text }
-    ensures start { result.0 ≡ start_at (D.class_of source.now) text.now.edited.text walk.now.number }
-    ensures body { slice_range text.now.edited.text result.0 result.1 ≡ body_at (D.class_of source.now) text.now.edited.text walk.now.number }
-    ensures range { IsRange text.now.edited.text result.0 result.1 }
+fn walked_span<D: BidiData>(source: &Source<'_, D>, walk: &ParagraphWalk<'_>) -> (usize, usize)
+    requires walk { walk.now.paragraphs ≡ lengths (D.class_of source.now.tables.now) (bytes source.now) }
+    requires number { walk.now.number < count source.now }
+    ensures start { result.0 ≡ start_at source.now walk.now.number }
+    ensures body { slice_range (bytes source.now) result.0 result.1 ≡ body_at source.now walk.now.number }
+    ensures range { IsRange (bytes source.now) result.0 result.1 }
 {
+    // the contract alone speaks of it
     let _ = source;
-    let _utf8 = text.len();
     walk.span()
 }
 
 /// Where the rows of that paragraph begin in its body.
 fn starts_in<D: BidiData>(
     alloc: Global,
-    text: &Text,
+    source: &Source<'_, D>,
     walk: &ParagraphWalk<'_>,
-    source: &D,
     w: u16,
 ) -> Result<Vec<RowStart>, ViewError>
-    requires walk { walk.now.paragraphs ≡ lengths (D.class_of source.now) text.now.edited.text }
-    requires number { walk.now.number < count (D.class_of source.now) text.now.edited.text }
-    ensures { IfOk result (λ v. v.items ≡ row_starts (D.class_of source.now) w
-        (body_at (D.class_of source.now) text.now.edited.text walk.now.number)) }
+    requires walk { walk.now.paragraphs ≡ lengths (D.class_of source.now.tables.now) (bytes source.now) }
+    requires number { walk.now.number < count source.now }
+    ensures { IfOk result (λ v. v.items ≡ row_starts (D.class_of source.now.tables.now) w (body_at source.now walk.now.number)) }
 {
-    let (start, stop) = walked_span(text, walk, source);
-    let body = text.copy_range(start, stop)?;
-    let starts = row_starts(alloc, body.as_str(), source, w)?;
+    let (start, stop) = walked_span(source, walk);
+    let body = source.text.copy_range(start, stop)?;
+    let starts = row_starts(alloc, body.as_str(), source.tables, w)?;
     Ok(starts)
 }
 
 /// How many rows the paragraphs have that stand before the one of a number.
 fn rows_before<D: BidiData>(
     alloc: Global,
-    text: &Text,
-    index: &Index,
-    source: &D,
+    source: &Source<'_, D>,
     base: Base,
     w: u16,
     number: usize,
 ) -> Result<usize, ViewError>
-    requires index { index.now.paragraphs ≡ lengths (D.class_of source.now) text.now.edited.text }
     requires side { is_side w ≡ true }
-    requires number { number ≤ count (D.class_of source.now) text.now.edited.text }
-    ensures { IfOk result (λ n. n ≡ rows_ahead (D.class_of source.now) (D.bracket_of source.now) base w text.now.edited.text number) }
+    requires number { number ≤ count source.now }
+    ensures { IfOk result (λ n. n ≡ rows_ahead (D.class_of source.now.tables.now) (D.bracket_of source.now.tables.now) base w (bytes source.now) number) }
 {
-    let _utf8 = text.len();
-    let _some = index.count();
+    // tells the proof that there is a paragraph; the contract alone speaks of the base
+    let _some = source.index.count();
     let _ = base;
-    let mut walk = index.walk_at(0);
+    let mut walk = source.index.walk_at(0);
     let mut ahead = 0;
     let mut done = 0;
     while done < number {
-        let starts = starts_in(alloc, text, &walk, source, w)?;
+        let starts = starts_in(alloc, source, &walk, w)?;
         ahead += starts.len();
         let _more = walk.to_next();
         done += 1;
@@ -84,19 +78,12 @@ impl Layout {
     /// How many rows the text has. It walks over all of the text and holds none of it.
     ///
     /// Errors: `OutOfMemory`.
-    pub fn row_count<D: BidiData>(
-        &self,
-        text: &Text,
-        index: &Index,
-        source: &D,
-    ) -> Result<usize, ViewError>
-        requires index { index.now.paragraphs ≡ lengths (D.class_of source.now) text.now.edited.text }
-        ensures { IfOk result (λ n. n ≡ length (rows_by (D.class_of source.now) (D.bracket_of source.now) self.now text.now.edited.text)) }
+    pub fn row_count<D: BidiData>(&self, source: &Source<'_, D>) -> Result<usize, ViewError>
+        ensures { IfOk result (λ n. n ≡ length (rows source.now self.now)) }
     {
-        let _utf8 = text.len();
         let alloc = *self.held.allocator();
-        let count = index.count();
-        let rows = rows_before(alloc, text, index, source, self.base, self.w, count)?;
+        let count = source.index.count();
+        let rows = rows_before(alloc, source, self.base, self.w, count)?;
         Ok(rows)
     }
 
@@ -105,20 +92,17 @@ impl Layout {
     /// Errors: `OutOfMemory`.
     pub fn row_of<D: BidiData>(
         &mut self,
-        text: &Text,
-        index: &Index,
-        source: &D,
+        source: &Source<'_, D>,
         offset: usize,
     ) -> Result<usize, ViewError>
-        requires data { IsViewBy (D.class_of source.now) (D.bracket_of source.now) self.old }
-        requires index { index.now.paragraphs ≡ lengths (D.class_of source.now) text.now.edited.text }
-        ensures keeps { Keeps (D.class_of source.now) (D.bracket_of source.now) self.old self.new }
-        ensures row { IfOk result (λ n. n ≡ row_of (rows_by (D.class_of source.now) (D.bracket_of source.now) self.old text.now.edited.text) offset) }
+        requires data { IsViewBy source.now self.old }
+        ensures keeps { Keeps source.now self.old self.new }
+        ensures row { IfOk result (λ n. n ≡ row_of (rows source.now self.old) offset) }
     {
-        let at = self.row_at(text, index, source, offset)?;
+        let at = self.row_at(source, offset)?;
         let (base, w) = (self.base(), self.width());
         let alloc = *self.held.allocator();
-        let ahead = rows_before(alloc, text, index, source, base, w, at.paragraph)?;
+        let ahead = rows_before(alloc, source, base, w, at.paragraph)?;
         Ok(ahead + at.row)
     }
 
@@ -127,26 +111,21 @@ impl Layout {
     /// Errors: `OutOfMemory`.
     pub fn first<D: BidiData>(
         &self,
-        text: &Text,
-        index: &Index,
-        source: &D,
+        source: &Source<'_, D>,
         row: usize,
     ) -> Result<Option<usize>, ViewError>
-        requires index { index.now.paragraphs ≡ lengths (D.class_of source.now) text.now.edited.text }
-        ensures { IfOk result (λ o. o ≡ option_map first
-            (slice_get (rows_by (D.class_of source.now) (D.bracket_of source.now) self.now text.now.edited.text) row)) }
+        ensures { IfOk result (λ o. o ≡ option_map first (slice_get (rows source.now self.now) row)) }
     {
-        let _utf8 = text.len();
         let alloc = *self.held.allocator();
         let w = self.width();
-        let count = index.count();
-        let mut walk = index.walk_at(0);
+        let count = source.index.count();
+        let mut walk = source.index.walk_at(0);
         let mut left = row;
         let mut done = 0;
         while done < count {
-            let starts = starts_in(alloc, text, &walk, source, w)?;
+            let starts = starts_in(alloc, source, &walk, w)?;
             if left < starts.len() {
-                let (start, _) = walked_span(text, &walk, source);
+                let (start, _) = walked_span(source, &walk);
                 return Ok(Some(start + starts[left].offset));
             }
             left -= starts.len();

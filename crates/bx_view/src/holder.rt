@@ -67,11 +67,12 @@ fn bytes_held(held: &[ParagraphLayout]) -> usize {
 }
 
 /// Where many are held, drops the one that was held first.
-fn drop_oldest<D: BidiData>(held: &mut Vec<ParagraphLayout>, source: &D, base: Base)
-    requires { All (IsHeld (D.class_of source.now) (D.bracket_of source.now) base) held.old.items }
-    ensures { All (IsHeld (D.class_of source.now) (D.bracket_of source.now) base) held.new.items }
+fn drop_oldest<D: BidiData>(held: &mut Vec<ParagraphLayout>, tables: &D, base: Base)
+    requires { All (IsHeld (D.class_of tables.now) (D.bracket_of tables.now) base) held.old.items }
+    ensures { All (IsHeld (D.class_of tables.now) (D.bracket_of tables.now) base) held.new.items }
 {
-    let _ = source;
+    // the contract alone speaks of them
+    let _ = tables;
     let _ = base;
     if held.len() >= MOST_HELD {
         held.remove(0);
@@ -83,15 +84,16 @@ fn drop_oldest<D: BidiData>(held: &mut Vec<ParagraphLayout>, source: &D, base: B
 pub(crate) fn hold<D: BidiData>(
     held: &mut Vec<ParagraphLayout>,
     new: ParagraphLayout,
-    source: &D,
+    tables: &D,
     base: Base,
 ) -> Result<usize, AllocError>
-    requires held { All (IsHeld (D.class_of source.now) (D.bracket_of source.now) base) held.old.items }
-    requires new { IsHeld (D.class_of source.now) (D.bracket_of source.now) base new }
-    ensures held { All (IsHeld (D.class_of source.now) (D.bracket_of source.now) base) held.new.items }
+    requires held { All (IsHeld (D.class_of tables.now) (D.bracket_of tables.now) base) held.old.items }
+    requires new { IsHeld (D.class_of tables.now) (D.bracket_of tables.now) base new }
+    ensures held { All (IsHeld (D.class_of tables.now) (D.bracket_of tables.now) base) held.new.items }
     ensures new { IfOk result (HoldsBody new.body new.w held.new.items) }
 {
-    let _ = source;
+    // the contract alone speaks of them
+    let _ = tables;
     let _ = base;
     let count = held.len();
     let bytes = bytes_held(held).saturating_add(new.body().len());
@@ -100,7 +102,7 @@ pub(crate) fn hold<D: BidiData>(
         held[0] = new;
         return Ok(0);
     }
-    drop_oldest(held, source, base);
+    drop_oldest(held, tables, base);
     held.push(new)?;
     Ok(held.len() - 1)
 }
@@ -111,19 +113,20 @@ pub(crate) fn hold<D: BidiData>(
 pub(crate) fn lay_out_in<D: BidiData>(
     held: &mut Vec<ParagraphLayout>,
     i: usize,
-    source: &D,
+    tables: &D,
     base: Base,
     w: u16,
 ) -> Result<(), ViewError>
-    requires held { All (IsHeld (D.class_of source.now) (D.bracket_of source.now) base) held.old.items }
+    requires held { All (IsHeld (D.class_of tables.now) (D.bracket_of tables.now) base) held.old.items }
     requires within { i < length held.old.items }
     requires side { is_side w ≡ true }
-    ensures held { All (IsHeld (D.class_of source.now) (D.bracket_of source.now) base) held.new.items }
+    ensures held { All (IsHeld (D.class_of tables.now) (D.bracket_of tables.now) base) held.new.items }
     ensures body { OnOk result ((body : List ℕ) → HasBody body held.old.items i → HoldsBody body w held.new.items i) }
 {
+    // the contract alone speaks of it
     let _ = base;
     if held[i].width() != w {
-        held[i].set_width(source, w)?;
+        held[i].set_width(tables, w)?;
     }
     Ok(())
 }

@@ -15,6 +15,7 @@ pub(crate) fn stands_at(text: &Text, start: usize, bytes: &[u8]) -> bool
     requires { start + length bytes.now ≤ length text.now.edited.text }
     ensures { IsTrue result → take (length bytes.now) (drop start text.now.edited.text) ≡ bytes.now }
 {
+    // tells the proof that the text is short
     let _short = text.len();
     let mut at = 0;
     while at < bytes.len() {

@@ -1,23 +1,21 @@
 //! The layout of a text.
-ghost use Rattle.std.specs.Prelude.{◌≡◌, ℕ, ◌<◌, ◌≤◌, [], true, length, slice_range, IfOk, IsUtf8};
+ghost use Rattle.std.specs.Prelude.{◌≡◌, ℕ, ◌<◌, ◌≤◌, [], true, length, slice_range, IfOk};
 ghost use Rattle.std.specs.Str.{IsCharBoundary};
 ghost use Rattle.bx_terms.specs.Sizes.{is_side};
 ghost use Rattle.bx_text.specs.Edits.{IsRange, largest_text};
-ghost use Rattle.bx_paras.specs.Paragraphs.{lengths};
-ghost use Rattle.bx_view.specs.Cursor.{IsBefore, IsNext, IsSameAtEnd, StandsOn};
-ghost use Rattle.bx_view.specs.Holding.{HoldsBody, IsOfText, IsViewBy, Keeps};
+ghost use Rattle.bx_view.specs.Cursor.{IsSameAtEnd};
+ghost use Rattle.bx_view.specs.Holding.{HoldsBody};
 ghost use Rattle.bx_view.specs.Moves.{row_home};
-ghost use Rattle.bx_view.specs.Standing.{body_at};
-ghost use Rattle.bx_view.specs.TextRows.{cell_of, row_of, text_rows};
+ghost use Rattle.bx_view.specs.Source.{IsBefore, IsNext, IsOfText, IsViewBy, Keeps, Stands, StandsOn, body_at, bytes, rows};
+ghost use Rattle.bx_view.specs.TextRows.{cell_of, row_of};
 
 use crate::cursor::RowAt;
 use crate::error::ViewError;
 use crate::holder::{hold, lay_out_in, position};
+use crate::source::Source;
 use crate::span::{body_span, paragraph_under};
 use bx_explicit::Base;
 use bx_paragraph::ParagraphLayout;
-use bx_paras::Index;
-use bx_text::Text;
 use bx_ucd::BidiData;
 use std::alloc::Global;
 use std::marker::Model;
@@ -89,30 +87,30 @@ impl Layout {
     /// Errors: `OutOfMemory`.
     pub(crate) fn find<D: BidiData>(
         &mut self,
-        text: &Text,
-        source: &D,
+        source: &Source<'_, D>,
         number: usize,
         start: usize,
         stop: usize,
     ) -> Result<usize, ViewError>
-        requires data { IsViewBy (D.class_of source.now) (D.bracket_of source.now) self.old }
-        requires body { slice_range text.now.edited.text start stop ≡ body_at (D.class_of source.now) text.now.edited.text number }
-        requires range { IsRange text.now.edited.text start stop }
+        requires data { IsViewBy source.now self.old }
+        requires body { slice_range (bytes source.now) start stop ≡ body_at source.now number }
+        requires range { IsRange (bytes source.now) start stop }
         requires order { start ≤ stop }
-        requires within { stop ≤ length text.now.edited.text }
-        ensures keeps { Keeps (D.class_of source.now) (D.bracket_of source.now) self.old self.new }
-        ensures body { IfOk result (HoldsBody (body_at (D.class_of source.now) text.now.edited.text number) self.new.w self.new.held) }
+        requires within { stop ≤ length (bytes source.now) }
+        ensures keeps { Keeps source.now self.old self.new }
+        ensures body { IfOk result (HoldsBody (body_at source.now number) self.new.w self.new.held) }
     {
+        // the contract alone speaks of it
         let _ = number;
-        if let Some(i) = position(&self.held, self.recent, text, start, stop) {
-            lay_out_in(&mut self.held, i, source, self.base, self.w)?;
+        if let Some(i) = position(&self.held, self.recent, source.text, start, stop) {
+            lay_out_in(&mut self.held, i, source.tables, self.base, self.w)?;
             self.recent = i;
             return Ok(i);
         }
-        let body = text.copy_range(start, stop)?;
+        let body = source.text.copy_range(start, stop)?;
         let alloc = *self.held.allocator();
-        let layout = ParagraphLayout::of(alloc, body, source, self.w, self.base)?;
-        let i = hold(&mut self.held, layout, source, self.base)?;
+        let layout = ParagraphLayout::of(alloc, body, source.tables, self.w, self.base)?;
+        let i = hold(&mut self.held, layout, source.tables, self.base)?;
         self.recent = i;
         Ok(i)
     }
@@ -120,16 +118,15 @@ impl Layout {
     /// A paragraph of the text that is held.
     pub(crate) fn paragraph<D: BidiData>(
         &self,
-        text: &Text,
-        source: &D,
+        source: &Source<'_, D>,
         number: usize,
         held: usize,
     ) -> &ParagraphLayout
-        requires data { IsViewBy (D.class_of source.now) (D.bracket_of source.now) self.now }
-        requires held { HoldsBody (body_at (D.class_of source.now) text.now.edited.text number) self.now.w self.now.held held }
-        ensures { IsOfText (D.class_of source.now) (D.bracket_of source.now) self.now text.now.edited.text number result.now }
+        requires data { IsViewBy source.now self.now }
+        requires held { HoldsBody (body_at source.now number) self.now.w self.now.held held }
+        ensures { IsOfText source.now self.now number result.now }
     {
-        let _ = text;
+        // the contract alone speaks of them
         let _ = source;
         let _ = number;
         &self.held[held]
@@ -140,23 +137,17 @@ impl Layout {
     /// Errors: `OutOfMemory`.
     pub fn row_at<D: BidiData>(
         &mut self,
-        text: &Text,
-        index: &Index,
-        source: &D,
+        source: &Source<'_, D>,
         offset: usize,
     ) -> Result<RowAt, ViewError>
-        requires data { IsViewBy (D.class_of source.now) (D.bracket_of source.now) self.old }
-        requires index { index.now.paragraphs ≡ lengths (D.class_of source.now) text.now.edited.text }
-        ensures keeps { Keeps (D.class_of source.now) (D.bracket_of source.now) self.old self.new }
-        ensures row { IfOk result (λ at. StandsOn (D.class_of source.now) (D.bracket_of source.now) self.new text.now.edited.text at
-            (row_of (text_rows (D.class_of source.now) (D.bracket_of source.now) self.new.base self.new.w text.now.edited.text) offset)) }
+        requires data { IsViewBy source.now self.old }
+        ensures keeps { Keeps source.now self.old self.new }
+        ensures row { IfOk result (λ at. StandsOn source.now self.new at (row_of (rows source.now self.new) offset)) }
         ensures order { IfOk result (λ at. at.start ≤ offset) }
-        ensures utf8 { IsUtf8 text.now.edited.text }
-        ensures short { length text.now.edited.text ≤ largest_text }
     {
-        let (number, start, stop) = paragraph_under(text, index, source, offset);
-        let held = self.find(text, source, number, start, stop)?;
-        let paragraph = self.paragraph(text, source, number, held);
+        let (number, start, stop) = paragraph_under(source, offset);
+        let held = self.find(source, number, start, stop)?;
+        let paragraph = self.paragraph(source, number, held);
         let row = paragraph.row_of(offset - start);
         Ok(RowAt {
             paragraph: number,
@@ -171,23 +162,16 @@ impl Layout {
     /// Errors: `OutOfMemory`.
     pub fn next_row<D: BidiData>(
         &mut self,
-        text: &Text,
-        index: &Index,
-        source: &D,
+        source: &Source<'_, D>,
         at: RowAt,
     ) -> Result<Option<RowAt>, ViewError>
-        requires data { IsViewBy (D.class_of source.now) (D.bracket_of source.now) self.old }
-        requires index { index.now.paragraphs ≡ lengths (D.class_of source.now) text.now.edited.text }
-        requires row { (n : ℕ) × StandsOn (D.class_of source.now) (D.bracket_of source.now) self.old text.now.edited.text at n }
-        ensures keeps { Keeps (D.class_of source.now) (D.bracket_of source.now) self.old self.new }
-        ensures next { (n : ℕ) → StandsOn (D.class_of source.now) (D.bracket_of source.now) self.old text.now.edited.text at n
-            → IfOk result (IsNext (D.class_of source.now) (D.bracket_of source.now) self.new text.now.edited.text n) }
+        requires data { IsViewBy source.now self.old }
+        requires row { Stands source.now self.old at }
+        ensures keeps { Keeps source.now self.old self.new }
+        ensures next { (n : ℕ) → StandsOn source.now self.old at n → IfOk result (IsNext source.now self.new n) }
         ensures same { IfOk result (IsSameAtEnd self.old self.new) }
     {
-        let _utf8 = text.len();
-        let rows = self
-            .paragraph(text, source, at.paragraph, at.held)
-            .row_count();
+        let rows = self.paragraph(source, at.paragraph, at.held).row_count();
         if at.row + 1 < rows {
             return Ok(Some(RowAt {
                 paragraph: at.paragraph,
@@ -196,13 +180,13 @@ impl Layout {
                 held: at.held,
             }));
         }
-        let count = index.count();
+        let count = source.index.count();
         let number = at.paragraph + 1;
         if number >= count {
             return Ok(None);
         }
-        let (start, stop) = body_span(text, index, source, number);
-        let held = self.find(text, source, number, start, stop)?;
+        let (start, stop) = body_span(source, number);
+        let held = self.find(source, number, start, stop)?;
         Ok(Some(RowAt {
             paragraph: number,
             start,
@@ -216,20 +200,15 @@ impl Layout {
     /// Errors: `OutOfMemory`.
     pub fn row_before<D: BidiData>(
         &mut self,
-        text: &Text,
-        index: &Index,
-        source: &D,
+        source: &Source<'_, D>,
         at: RowAt,
     ) -> Result<Option<RowAt>, ViewError>
-        requires data { IsViewBy (D.class_of source.now) (D.bracket_of source.now) self.old }
-        requires index { index.now.paragraphs ≡ lengths (D.class_of source.now) text.now.edited.text }
-        requires row { (n : ℕ) × StandsOn (D.class_of source.now) (D.bracket_of source.now) self.old text.now.edited.text at n }
-        ensures keeps { Keeps (D.class_of source.now) (D.bracket_of source.now) self.old self.new }
-        ensures before { (n : ℕ) → StandsOn (D.class_of source.now) (D.bracket_of source.now) self.old text.now.edited.text at n
-            → IfOk result (IsBefore (D.class_of source.now) (D.bracket_of source.now) self.new text.now.edited.text n) }
+        requires data { IsViewBy source.now self.old }
+        requires row { Stands source.now self.old at }
+        ensures keeps { Keeps source.now self.old self.new }
+        ensures before { (n : ℕ) → StandsOn source.now self.old at n → IfOk result (IsBefore source.now self.new n) }
         ensures same { IfOk result (IsSameAtEnd self.old self.new) }
     {
-        let _utf8 = text.len();
         if at.row > 0 {
             return Ok(Some(RowAt {
                 paragraph: at.paragraph,
@@ -242,9 +221,9 @@ impl Layout {
             return Ok(None);
         }
         let number = at.paragraph - 1;
-        let (start, stop) = body_span(text, index, source, number);
-        let held = self.find(text, source, number, start, stop)?;
-        let rows = self.paragraph(text, source, number, held).row_count();
+        let (start, stop) = body_span(source, number);
+        let held = self.find(source, number, start, stop)?;
+        let rows = self.paragraph(source, number, held).row_count();
         Ok(Some(RowAt {
             paragraph: number,
             start,
@@ -258,20 +237,16 @@ impl Layout {
     /// Errors: `OutOfMemory`.
     pub fn cell_of<D: BidiData>(
         &mut self,
-        text: &Text,
-        index: &Index,
-        source: &D,
+        source: &Source<'_, D>,
         place: usize,
     ) -> Result<u16, ViewError>
-        requires data { IsViewBy (D.class_of source.now) (D.bracket_of source.now) self.old }
-        requires index { index.now.paragraphs ≡ lengths (D.class_of source.now) text.now.edited.text }
-        ensures keeps { Keeps (D.class_of source.now) (D.bracket_of source.now) self.old self.new }
-        ensures cell { IfOk result (λ column. column
-            ≡ cell_of self.old.w (text_rows (D.class_of source.now) (D.bracket_of source.now) self.old.base self.old.w text.now.edited.text) place) }
+        requires data { IsViewBy source.now self.old }
+        ensures keeps { Keeps source.now self.old self.new }
+        ensures cell { IfOk result (λ column. column ≡ cell_of self.old.w (rows source.now self.old) place) }
     {
-        let at = self.row_at(text, index, source, place)?;
-        let paragraph = self.paragraph(text, source, at.paragraph, at.held);
-        let column = paragraph.column_of(at.row, place - at.start, source)?;
+        let at = self.row_at(source, place)?;
+        let paragraph = self.paragraph(source, at.paragraph, at.held);
+        let column = paragraph.column_of(at.row, place - at.start, source.tables)?;
         Ok(column)
     }
 
@@ -280,20 +255,16 @@ impl Layout {
     /// Errors: `OutOfMemory`.
     pub fn row_home<D: BidiData>(
         &mut self,
-        text: &Text,
-        index: &Index,
-        source: &D,
+        source: &Source<'_, D>,
         place: usize,
     ) -> Result<usize, ViewError>
-        requires data { IsViewBy (D.class_of source.now) (D.bracket_of source.now) self.old }
-        requires index { index.now.paragraphs ≡ lengths (D.class_of source.now) text.now.edited.text }
-        ensures keeps { Keeps (D.class_of source.now) (D.bracket_of source.now) self.old self.new }
-        ensures home { IfOk result (λ home. home
-            ≡ row_home (text_rows (D.class_of source.now) (D.bracket_of source.now) self.old.base self.old.w text.now.edited.text) place) }
-        ensures boundary { IfOk result (λ o. IsCharBoundary text.now.edited.text o) }
+        requires data { IsViewBy source.now self.old }
+        ensures keeps { Keeps source.now self.old self.new }
+        ensures home { IfOk result (λ home. home ≡ row_home (rows source.now self.old) place) }
+        ensures boundary { IfOk result (λ o. IsCharBoundary (bytes source.now) o) }
     {
-        let at = self.row_at(text, index, source, place)?;
-        let paragraph = self.paragraph(text, source, at.paragraph, at.held);
+        let at = self.row_at(source, place)?;
+        let paragraph = self.paragraph(source, at.paragraph, at.held);
         Ok(at.start + paragraph.first(at.row))
     }
 }

@@ -3,21 +3,17 @@ ghost use Rattle.std.specs.Prelude.{◌≡◌, ℕ, ◌+◌, ◌≤◌, true, Al
 ghost use Rattle.std.specs.Cow.{cow_str_bytes};
 ghost use Rattle.bx_terms.specs.Glyphs.{is_one_glyph, run_width};
 ghost use Rattle.bx_text.specs.Edits.{largest_text};
-ghost use Rattle.bx_paragraph.specs.BodyRows.{body_rows};
 ghost use Rattle.bx_paragraph.specs.BodyRows.{row_at as row_at_body};
-ghost use Rattle.bx_paras.specs.Paragraphs.{lengths};
 ghost use Rattle.bx_rows.specs.Shown.{glyph_of};
-ghost use Rattle.bx_view.specs.Cursor.{OfRow, StandsOn, rows_by};
-ghost use Rattle.bx_view.specs.Holding.{IsViewBy, Keeps};
+ghost use Rattle.bx_view.specs.Source.{IsViewBy, Keeps, OfRow, Stands, rows, rows_of_body};
 ghost use Rattle.bx_view.specs.TextRows.{row_at, row_of, slots, text_row_glyphs};
 
 use crate::cursor::RowAt;
 use crate::error::ViewError;
 use crate::layout::Layout;
+use crate::source::Source;
 use bx_paragraph::Slot;
-use bx_paras::Index;
 use bx_rows::RowPicture;
-use bx_text::Text;
 use bx_ucd::BidiData;
 use std::alloc::{AllocError, Global};
 
@@ -39,33 +35,29 @@ impl Layout {
     /// Errors: `OutOfMemory`.
     pub fn picture<D: BidiData>(
         &self,
-        text: &Text,
-        source: &D,
+        source: &Source<'_, D>,
         at: RowAt,
     ) -> Result<RowPicture<'_>, ViewError>
-        requires data { IsViewBy (D.class_of source.now) (D.bracket_of source.now) self.now }
-        requires row { (n : ℕ) × StandsOn (D.class_of source.now) (D.bracket_of source.now) self.now text.now.edited.text at n }
-        ensures picture { OfRow (D.class_of source.now) (D.bracket_of source.now) self.now text.now.edited.text at (λ r. IfOk result
-            (λ p. map glyph_of p.glyphs.items ≡ text_row_glyphs (D.class_of source.now) (D.mirror_of source.now) self.now.w r)) }
+        requires data { IsViewBy source.now self.now }
+        requires row { Stands source.now self.now at }
+        ensures picture { OfRow source.now self.now at (λ r. IfOk result
+            (λ p. map glyph_of p.glyphs.items ≡ text_row_glyphs (D.class_of source.now.tables.now) (D.mirror_of source.now.tables.now) self.now.w r)) }
         ensures glyphs { IfOk result (λ p. All (λ g. is_one_glyph (cow_str_bytes g.text) ≡ true) p.glyphs.items) }
         ensures widths { IfOk result (λ p. All (λ g. run_width (cow_str_bytes g.text) ≡ g.columns) p.glyphs.items) }
         ensures columns { IfOk result (λ p. sum_by (λ g. g.columns) p.glyphs.items ≡ self.now.w) }
     {
-        let _utf8 = text.len();
-        let paragraph = self.paragraph(text, source, at.paragraph, at.held);
-        let picture = paragraph.picture(at.row, source)?;
+        let paragraph = self.paragraph(source, at.paragraph, at.held);
+        let picture = paragraph.picture(at.row, source.tables)?;
         Ok(picture)
     }
 
     /// The body of a row's paragraph, and the number of the row in it, from 0.
-    pub fn row_in_body<D: BidiData>(&self, text: &Text, source: &D, at: RowAt) -> (&str, usize)
-        requires data { IsViewBy (D.class_of source.now) (D.bracket_of source.now) self.now }
-        requires row { (n : ℕ) × StandsOn (D.class_of source.now) (D.bracket_of source.now) self.now text.now.edited.text at n }
-        ensures { OfRow (D.class_of source.now) (D.bracket_of source.now) self.now text.now.edited.text at (λ r. r.row
-            ≡ row_at_body (body_rows (D.class_of source.now) (D.bracket_of source.now) self.now.base self.now.w result.0.now) result.1) }
+    pub fn row_in_body<D: BidiData>(&self, source: &Source<'_, D>, at: RowAt) -> (&str, usize)
+        requires data { IsViewBy source.now self.now }
+        requires row { Stands source.now self.now at }
+        ensures { OfRow source.now self.now at (λ r. r.row ≡ row_at_body (rows_of_body source.now self.now result.0.now) result.1) }
     {
-        let _utf8 = text.len();
-        let paragraph = self.paragraph(text, source, at.paragraph, at.held);
+        let paragraph = self.paragraph(source, at.paragraph, at.held);
         (paragraph.body(), at.row)
     }
 
@@ -74,22 +66,17 @@ impl Layout {
     /// Errors: `OutOfMemory`.
     pub fn slots<D: BidiData>(
         &mut self,
-        text: &Text,
-        index: &Index,
-        source: &D,
+        source: &Source<'_, D>,
         place: usize,
     ) -> Result<Vec<usize>, ViewError>
-        requires data { IsViewBy (D.class_of source.now) (D.bracket_of source.now) self.old }
-        requires index { index.now.paragraphs ≡ lengths (D.class_of source.now) text.now.edited.text }
-        ensures keeps { Keeps (D.class_of source.now) (D.bracket_of source.now) self.old self.new }
-        ensures slots { IfOk result (λ v. v.items ≡ slots self.old.w
-            (row_at (rows_by (D.class_of source.now) (D.bracket_of source.now) self.old text.now.edited.text)
-            (row_of (rows_by (D.class_of source.now) (D.bracket_of source.now) self.old text.now.edited.text) place))) }
+        requires data { IsViewBy source.now self.old }
+        ensures keeps { Keeps source.now self.old self.new }
+        ensures slots { IfOk result (λ v. v.items
+            ≡ slots self.old.w (row_at (rows source.now self.old) (row_of (rows source.now self.old) place))) }
     {
-        let at = self.row_at(text, index, source, place)?;
-        let _short = text.len();
-        let paragraph = self.paragraph(text, source, at.paragraph, at.held);
-        let slots = paragraph.slots(at.row, source)?;
+        let at = self.row_at(source, place)?;
+        let paragraph = self.paragraph(source, at.paragraph, at.held);
+        let slots = paragraph.slots(at.row, source.tables)?;
         let offsets = in_text(*slots.allocator(), at.start, &slots)?;
         Ok(offsets)
     }

@@ -1,40 +1,33 @@
 //! The moves from row to row.
 ghost use Rattle.std.specs.Prelude.{◌≡◌, ℕ, ◌+◌, ◌-◌, IfOk, length, min};
 ghost use Rattle.std.specs.Str.{IsCharBoundary};
-ghost use Rattle.bx_paras.specs.Paragraphs.{lengths};
-ghost use Rattle.bx_view.specs.Cursor.{StandsOn, rows_by};
-ghost use Rattle.bx_view.specs.Holding.{IsViewBy, Keeps};
 ghost use Rattle.bx_view.specs.Moves.{page, row_away, rows_away, vertical};
+ghost use Rattle.bx_view.specs.Source.{IsViewBy, Keeps, Stands, StandsOn, bytes, rows};
 
 use crate::cursor::RowAt;
 use crate::error::ViewError;
 use crate::layout::Layout;
 use crate::moves::Vertical;
-use bx_paras::Index;
-use bx_text::Text;
+use crate::source::Source;
 use bx_ucd::BidiData;
 
 impl Layout {
     /// The row that is so many rows above one, at most the first.
     pub(crate) fn rows_up<D: BidiData>(
         &mut self,
-        text: &Text,
-        index: &Index,
-        source: &D,
+        source: &Source<'_, D>,
         at: RowAt,
         count: usize,
     ) -> Result<RowAt, ViewError>
-        requires data { IsViewBy (D.class_of source.now) (D.bracket_of source.now) self.old }
-        requires index { index.now.paragraphs ≡ lengths (D.class_of source.now) text.now.edited.text }
-        requires row { (n : ℕ) × StandsOn (D.class_of source.now) (D.bracket_of source.now) self.old text.now.edited.text at n }
-        ensures keeps { Keeps (D.class_of source.now) (D.bracket_of source.now) self.old self.new }
-        ensures row { (n : ℕ) → StandsOn (D.class_of source.now) (D.bracket_of source.now) self.old text.now.edited.text at n
-            → IfOk result (λ b. StandsOn (D.class_of source.now) (D.bracket_of source.now) self.new text.now.edited.text b (n - count)) }
+        requires data { IsViewBy source.now self.old }
+        requires row { Stands source.now self.old at }
+        ensures keeps { Keeps source.now self.old self.new }
+        ensures row { (n : ℕ) → StandsOn source.now self.old at n → IfOk result (λ b. StandsOn source.now self.new b (n - count)) }
     {
         let mut here = at;
         let mut done = 0;
         while done < count {
-            let Some(before) = self.row_before(text, index, source, here)? else {
+            let Some(before) = self.row_before(source, here)? else {
                 return Ok(here);
             };
             here = before;
@@ -46,25 +39,20 @@ impl Layout {
     /// The row that is so many rows below one, at most the last.
     fn rows_down<D: BidiData>(
         &mut self,
-        text: &Text,
-        index: &Index,
-        source: &D,
+        source: &Source<'_, D>,
         at: RowAt,
         count: usize,
     ) -> Result<RowAt, ViewError>
-        requires data { IsViewBy (D.class_of source.now) (D.bracket_of source.now) self.old }
-        requires index { index.now.paragraphs ≡ lengths (D.class_of source.now) text.now.edited.text }
-        requires row { (n : ℕ) × StandsOn (D.class_of source.now) (D.bracket_of source.now) self.old text.now.edited.text at n }
-        ensures keeps { Keeps (D.class_of source.now) (D.bracket_of source.now) self.old self.new }
-        ensures row { (n : ℕ) → StandsOn (D.class_of source.now) (D.bracket_of source.now) self.old text.now.edited.text at n
-            → IfOk result (λ b. StandsOn (D.class_of source.now) (D.bracket_of source.now) self.new text.now.edited.text b
-            (min (n + count) (length (rows_by (D.class_of source.now) (D.bracket_of source.now) self.old text.now.edited.text) - 1))) }
+        requires data { IsViewBy source.now self.old }
+        requires row { Stands source.now self.old at }
+        ensures keeps { Keeps source.now self.old self.new }
+        ensures row { (n : ℕ) → StandsOn source.now self.old at n
+            → IfOk result (λ b. StandsOn source.now self.new b (min (n + count) (length (rows source.now self.old) - 1))) }
     {
         let mut here = at;
         let mut done = 0;
-        let _utf8 = text.len();
         while done < count {
-            let Some(next) = self.next_row(text, index, source, here)? else {
+            let Some(next) = self.next_row(source, here)? else {
                 return Ok(here);
             };
             here = next;
@@ -76,28 +64,24 @@ impl Layout {
     /// The row that is so many rows above or below one, at most the first or the last.
     fn row_away<D: BidiData>(
         &mut self,
-        text: &Text,
-        index: &Index,
-        source: &D,
+        source: &Source<'_, D>,
         way: Vertical,
         count: usize,
         at: RowAt,
     ) -> Result<RowAt, ViewError>
-        requires data { IsViewBy (D.class_of source.now) (D.bracket_of source.now) self.old }
-        requires index { index.now.paragraphs ≡ lengths (D.class_of source.now) text.now.edited.text }
-        requires row { (n : ℕ) × StandsOn (D.class_of source.now) (D.bracket_of source.now) self.old text.now.edited.text at n }
-        ensures keeps { Keeps (D.class_of source.now) (D.bracket_of source.now) self.old self.new }
-        ensures row { (n : ℕ) → StandsOn (D.class_of source.now) (D.bracket_of source.now) self.old text.now.edited.text at n
-            → IfOk result (λ b. StandsOn (D.class_of source.now) (D.bracket_of source.now) self.new text.now.edited.text b
-            (row_away (length (rows_by (D.class_of source.now) (D.bracket_of source.now) self.old text.now.edited.text)) way count n)) }
+        requires data { IsViewBy source.now self.old }
+        requires row { Stands source.now self.old at }
+        ensures keeps { Keeps source.now self.old self.new }
+        ensures row { (n : ℕ) → StandsOn source.now self.old at n
+            → IfOk result (λ b. StandsOn source.now self.new b (row_away (length (rows source.now self.old)) way count n)) }
     {
         match way {
             Vertical::Up => {
-                let there = self.rows_up(text, index, source, at, count)?;
+                let there = self.rows_up(source, at, count)?;
                 Ok(there)
             }
             Vertical::Down => {
-                let there = self.rows_down(text, index, source, at, count)?;
+                let there = self.rows_down(source, at, count)?;
                 Ok(there)
             }
         }
@@ -107,29 +91,25 @@ impl Layout {
     /// place; where that is the same row, the place itself.
     fn rows_away<D: BidiData>(
         &mut self,
-        text: &Text,
-        index: &Index,
-        source: &D,
+        source: &Source<'_, D>,
         way: Vertical,
         count: usize,
         place: usize,
     ) -> Result<usize, ViewError>
-        requires data { IsViewBy (D.class_of source.now) (D.bracket_of source.now) self.old }
-        requires index { index.now.paragraphs ≡ lengths (D.class_of source.now) text.now.edited.text }
-        ensures keeps { Keeps (D.class_of source.now) (D.bracket_of source.now) self.old self.new }
-        ensures place { IfOk result (λ o. o ≡ rows_away self.old.w
-            (rows_by (D.class_of source.now) (D.bracket_of source.now) self.old text.now.edited.text) way count place) }
-        ensures boundary { IsCharBoundary text.now.edited.text place → IfOk result (λ o. IsCharBoundary text.now.edited.text o) }
+        requires data { IsViewBy source.now self.old }
+        ensures keeps { Keeps source.now self.old self.new }
+        ensures place { IfOk result (λ o. o ≡ rows_away self.old.w (rows source.now self.old) way count place) }
+        ensures boundary { IsCharBoundary (bytes source.now) place → IfOk result (λ o. IsCharBoundary (bytes source.now) o) }
     {
-        let column = self.cell_of(text, index, source, place)?;
-        let at = self.row_at(text, index, source, place)?;
-        let own = self.first_in(text, source, at);
-        let there = self.row_away(text, index, source, way, count, at)?;
-        let first = self.first_in(text, source, there);
+        let column = self.cell_of(source, place)?;
+        let at = self.row_at(source, place)?;
+        let own = self.first_in(source, at);
+        let there = self.row_away(source, way, count, at)?;
+        let first = self.first_in(source, there);
         if first == own {
             return Ok(place);
         }
-        let entry = self.entry(text, source, there, column)?;
+        let entry = self.entry(source, there, column)?;
         Ok(entry.unwrap_or(place))
     }
 
@@ -139,20 +119,16 @@ impl Layout {
     /// Errors: `OutOfMemory`.
     pub fn vertical<D: BidiData>(
         &mut self,
-        text: &Text,
-        index: &Index,
-        source: &D,
+        source: &Source<'_, D>,
         way: Vertical,
         place: usize,
     ) -> Result<usize, ViewError>
-        requires data { IsViewBy (D.class_of source.now) (D.bracket_of source.now) self.old }
-        requires index { index.now.paragraphs ≡ lengths (D.class_of source.now) text.now.edited.text }
-        ensures keeps { Keeps (D.class_of source.now) (D.bracket_of source.now) self.old self.new }
-        ensures place { IfOk result (λ o. o ≡ vertical self.old.w
-            (rows_by (D.class_of source.now) (D.bracket_of source.now) self.old text.now.edited.text) way place) }
-        ensures boundary { IsCharBoundary text.now.edited.text place → IfOk result (λ o. IsCharBoundary text.now.edited.text o) }
+        requires data { IsViewBy source.now self.old }
+        ensures keeps { Keeps source.now self.old self.new }
+        ensures place { IfOk result (λ o. o ≡ vertical self.old.w (rows source.now self.old) way place) }
+        ensures boundary { IsCharBoundary (bytes source.now) place → IfOk result (λ o. IsCharBoundary (bytes source.now) o) }
     {
-        let place = self.rows_away(text, index, source, way, 1, place)?;
+        let place = self.rows_away(source, way, 1, place)?;
         Ok(place)
     }
 
@@ -162,21 +138,17 @@ impl Layout {
     /// Errors: `OutOfMemory`.
     pub fn page<D: BidiData>(
         &mut self,
-        text: &Text,
-        index: &Index,
-        source: &D,
+        source: &Source<'_, D>,
         way: Vertical,
         t: usize,
         place: usize,
     ) -> Result<usize, ViewError>
-        requires data { IsViewBy (D.class_of source.now) (D.bracket_of source.now) self.old }
-        requires index { index.now.paragraphs ≡ lengths (D.class_of source.now) text.now.edited.text }
-        ensures keeps { Keeps (D.class_of source.now) (D.bracket_of source.now) self.old self.new }
-        ensures place { IfOk result (λ o. o ≡ page self.old.w
-            (rows_by (D.class_of source.now) (D.bracket_of source.now) self.old text.now.edited.text) way t place) }
-        ensures boundary { IsCharBoundary text.now.edited.text place → IfOk result (λ o. IsCharBoundary text.now.edited.text o) }
+        requires data { IsViewBy source.now self.old }
+        ensures keeps { Keeps source.now self.old self.new }
+        ensures place { IfOk result (λ o. o ≡ page self.old.w (rows source.now self.old) way t place) }
+        ensures boundary { IsCharBoundary (bytes source.now) place → IfOk result (λ o. IsCharBoundary (bytes source.now) o) }
     {
-        let place = self.rows_away(text, index, source, way, t, place)?;
+        let place = self.rows_away(source, way, t, place)?;
         Ok(place)
     }
 }

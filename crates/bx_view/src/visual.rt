@@ -1,18 +1,15 @@
 //! The moves to the left and to the right.
 ghost use Rattle.std.specs.Prelude.{◌≡◌, ℕ, [], true, IfOk};
 ghost use Rattle.std.specs.Str.{IsCharBoundary};
-ghost use Rattle.bx_paras.specs.Paragraphs.{lengths};
 ghost use Rattle.bx_paragraph.specs.Slots.{reads_on};
-ghost use Rattle.bx_view.specs.Cursor.{OfRow, StandsOn, rows_by};
-ghost use Rattle.bx_view.specs.Holding.{IsViewBy, Keeps};
 ghost use Rattle.bx_view.specs.Moves.{end_of, past, row_after, row_before, start_of, step_visual};
+ghost use Rattle.bx_view.specs.Source.{IsViewBy, Keeps, OfRow, Stands, StandsOn, bytes, rows};
 
 use crate::cursor::RowAt;
 use crate::error::ViewError;
 use crate::layout::Layout;
+use crate::source::Source;
 use bx_paragraph::Visual;
-use bx_paras::Index;
-use bx_text::Text;
 use bx_ucd::BidiData;
 
 /// Whether a side is where the rows of a paragraph of a level are read on.
@@ -27,85 +24,71 @@ fn is_read_on(side: Visual, level: u8) -> bool
 
 impl Layout {
     /// Whether a side is where a row is read on.
-    fn reads_on<D: BidiData>(&self, text: &Text, source: &D, at: RowAt, side: Visual) -> bool
-        requires data { IsViewBy (D.class_of source.now) (D.bracket_of source.now) self.now }
-        requires row { (n : ℕ) × StandsOn (D.class_of source.now) (D.bracket_of source.now) self.now text.now.edited.text at n }
-        ensures { OfRow (D.class_of source.now) (D.bracket_of source.now) self.now text.now.edited.text at (λ r. result ≡ reads_on side r.row) }
+    fn reads_on<D: BidiData>(&self, source: &Source<'_, D>, at: RowAt, side: Visual) -> bool
+        requires data { IsViewBy source.now self.now }
+        requires row { Stands source.now self.now at }
+        ensures { OfRow source.now self.now at (λ r. result ≡ reads_on side r.row) }
     {
-        let _utf8 = text.len();
-        let paragraph = self.paragraph(text, source, at.paragraph, at.held);
+        let paragraph = self.paragraph(source, at.paragraph, at.held);
         is_read_on(side, paragraph.level())
     }
 
     /// The place at the reading start of the row behind one, if there is such a row.
     fn start_after<D: BidiData>(
         &mut self,
-        text: &Text,
-        index: &Index,
-        source: &D,
+        source: &Source<'_, D>,
         at: RowAt,
     ) -> Result<Option<usize>, ViewError>
-        requires data { IsViewBy (D.class_of source.now) (D.bracket_of source.now) self.old }
-        requires index { index.now.paragraphs ≡ lengths (D.class_of source.now) text.now.edited.text }
-        requires row { (n : ℕ) × StandsOn (D.class_of source.now) (D.bracket_of source.now) self.old text.now.edited.text at n }
-        ensures keeps { Keeps (D.class_of source.now) (D.bracket_of source.now) self.old self.new }
-        ensures place { (n : ℕ) → StandsOn (D.class_of source.now) (D.bracket_of source.now) self.old text.now.edited.text at n
-            → IfOk result (λ o. o ≡ start_of self.old.w (row_after
-            (rows_by (D.class_of source.now) (D.bracket_of source.now) self.old text.now.edited.text) n)) }
+        requires data { IsViewBy source.now self.old }
+        requires row { Stands source.now self.old at }
+        ensures keeps { Keeps source.now self.old self.new }
+        ensures place { (n : ℕ) → StandsOn source.now self.old at n
+            → IfOk result (λ o. o ≡ start_of self.old.w (row_after (rows source.now self.old) n)) }
     {
-        let _utf8 = text.len();
-        let Some(there) = self.next_row(text, index, source, at)? else {
+        let Some(there) = self.next_row(source, at)? else {
             return Ok(None);
         };
-        let place = self.reading_start(text, source, there)?;
+        let place = self.reading_start(source, there)?;
         Ok(place)
     }
 
     /// The place at the reading end of the row before one, if there is such a row.
     fn end_before<D: BidiData>(
         &mut self,
-        text: &Text,
-        index: &Index,
-        source: &D,
+        source: &Source<'_, D>,
         at: RowAt,
     ) -> Result<Option<usize>, ViewError>
-        requires data { IsViewBy (D.class_of source.now) (D.bracket_of source.now) self.old }
-        requires index { index.now.paragraphs ≡ lengths (D.class_of source.now) text.now.edited.text }
-        requires row { (n : ℕ) × StandsOn (D.class_of source.now) (D.bracket_of source.now) self.old text.now.edited.text at n }
-        ensures keeps { Keeps (D.class_of source.now) (D.bracket_of source.now) self.old self.new }
-        ensures place { (n : ℕ) → StandsOn (D.class_of source.now) (D.bracket_of source.now) self.old text.now.edited.text at n
-            → IfOk result (λ o. o ≡ end_of self.old.w (row_before
-            (rows_by (D.class_of source.now) (D.bracket_of source.now) self.old text.now.edited.text) n)) }
+        requires data { IsViewBy source.now self.old }
+        requires row { Stands source.now self.old at }
+        ensures keeps { Keeps source.now self.old self.new }
+        ensures place { (n : ℕ) → StandsOn source.now self.old at n
+            → IfOk result (λ o. o ≡ end_of self.old.w (row_before (rows source.now self.old) n)) }
     {
-        let _utf8 = text.len();
-        let Some(there) = self.row_before(text, index, source, at)? else {
+        let Some(there) = self.row_before(source, at)? else {
             return Ok(None);
         };
-        let place = self.reading_end(text, source, there)?;
+        let place = self.reading_end(source, there)?;
         Ok(place)
     }
 
     /// The place that a move from a row's last slot on a side goes to, if there is a row there.
     fn past<D: BidiData>(
         &mut self,
-        text: &Text,
-        index: &Index,
-        source: &D,
+        source: &Source<'_, D>,
         at: RowAt,
         side: Visual,
     ) -> Result<Option<usize>, ViewError>
-        requires data { IsViewBy (D.class_of source.now) (D.bracket_of source.now) self.old }
-        requires index { index.now.paragraphs ≡ lengths (D.class_of source.now) text.now.edited.text }
-        requires row { (n : ℕ) × StandsOn (D.class_of source.now) (D.bracket_of source.now) self.old text.now.edited.text at n }
-        ensures keeps { Keeps (D.class_of source.now) (D.bracket_of source.now) self.old self.new }
-        ensures place { (n : ℕ) → StandsOn (D.class_of source.now) (D.bracket_of source.now) self.old text.now.edited.text at n
-            → IfOk result (λ o. o ≡ past self.old.w (rows_by (D.class_of source.now) (D.bracket_of source.now) self.old text.now.edited.text) side n) }
+        requires data { IsViewBy source.now self.old }
+        requires row { Stands source.now self.old at }
+        ensures keeps { Keeps source.now self.old self.new }
+        ensures place { (n : ℕ) → StandsOn source.now self.old at n
+            → IfOk result (λ o. o ≡ past self.old.w (rows source.now self.old) side n) }
     {
-        if self.reads_on(text, source, at, side) {
-            let place = self.start_after(text, index, source, at)?;
+        if self.reads_on(source, at, side) {
+            let place = self.start_after(source, at)?;
             return Ok(place);
         }
-        let place = self.end_before(text, index, source, at)?;
+        let place = self.end_before(source, at)?;
         Ok(place)
     }
 
@@ -115,24 +98,20 @@ impl Layout {
     /// Errors: `OutOfMemory`.
     pub fn step_visual<D: BidiData>(
         &mut self,
-        text: &Text,
-        index: &Index,
-        source: &D,
+        source: &Source<'_, D>,
         side: Visual,
         place: usize,
     ) -> Result<usize, ViewError>
-        requires data { IsViewBy (D.class_of source.now) (D.bracket_of source.now) self.old }
-        requires index { index.now.paragraphs ≡ lengths (D.class_of source.now) text.now.edited.text }
-        ensures keeps { Keeps (D.class_of source.now) (D.bracket_of source.now) self.old self.new }
-        ensures step { IfOk result (λ o. o ≡ step_visual self.old.w
-            (rows_by (D.class_of source.now) (D.bracket_of source.now) self.old text.now.edited.text) side place) }
-        ensures boundary { IsCharBoundary text.now.edited.text place → IfOk result (λ o. IsCharBoundary text.now.edited.text o) }
+        requires data { IsViewBy source.now self.old }
+        ensures keeps { Keeps source.now self.old self.new }
+        ensures step { IfOk result (λ o. o ≡ step_visual self.old.w (rows source.now self.old) side place) }
+        ensures boundary { IsCharBoundary (bytes source.now) place → IfOk result (λ o. IsCharBoundary (bytes source.now) o) }
     {
-        let at = self.row_at(text, index, source, place)?;
-        if let Some(next) = self.beside(text, source, at, side, place)? {
+        let at = self.row_at(source, place)?;
+        if let Some(next) = self.beside(source, at, side, place)? {
             return Ok(next);
         }
-        let past = self.past(text, index, source, at, side)?;
+        let past = self.past(source, at, side)?;
         Ok(past.unwrap_or(place))
     }
 }

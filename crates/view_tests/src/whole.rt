@@ -8,7 +8,7 @@ use bx_paras::Index;
 use bx_terms::is_side;
 use bx_text::Text;
 use bx_ucd::{BidiData, Tables, sample_tables};
-use bx_view::Layout;
+use bx_view::{Layout, Source};
 use std::alloc::Global;
 use std::test::Fail;
 
@@ -47,23 +47,27 @@ impl Whole {
         self.alloc
     }
 
+    fn source(&self) -> Source<'_, Tables> {
+        Source::of(&self.text, &self.index, &self.tables)
+    }
+
     pub(crate) fn row_count(&self) -> Result<usize, Fail> {
         let layout = Layout::of(self.alloc, self.w, self.base);
-        Ok(layout.row_count(&self.text, &self.index, &self.tables)?)
+        Ok(layout.row_count(&self.source())?)
     }
 
     pub(crate) fn row_of(&self, place: usize) -> Result<usize, Fail> {
         let mut layout = Layout::of(self.alloc, self.w, self.base);
-        Ok(layout.row_of(&self.text, &self.index, &self.tables, place)?)
+        Ok(layout.row_of(&self.source(), place)?)
     }
 
     pub(crate) fn first(&self, row: usize) -> Result<Option<usize>, Fail> {
         let layout = Layout::of(self.alloc, self.w, self.base);
-        Ok(layout.first(&self.text, &self.index, &self.tables, row)?)
+        Ok(layout.first(&self.source(), row)?)
     }
 
     pub(crate) fn slots(&self, place: usize) -> Result<Vec<usize>, Fail> {
         let mut layout = Layout::of(self.alloc, self.w, self.base);
-        Ok(layout.slots(&self.text, &self.index, &self.tables, place)?)
+        Ok(layout.slots(&self.source(), place)?)
     }
 }

@@ -4,36 +4,44 @@ use Rattle.bx_document.proofs.WindowTold.{stop_inside, stop_range, stop_told, th
 use Rattle.bx_document.proofs.window.stop_behind.Goals as goal
 
 pub span-requires : goal.span-requires
-span-requires g c = there (g.D.BidiData.class_of c.args.source.now) c.args.text.now.edited.text c.args.index.now.paragraphs c.len-utf8.ensures.utf8
-    c.requires.index c.args.stop c.paragraph_of-number.result c.paragraph_of-number.ensures
+span-requires g c =
+    let s = c.args.source.now in
+    there (g.D.BidiData.class_of s.tables.now) s.text.now.edited.text s.index.now.paragraphs s.utf8
+    s.indexed c.args.stop c.paragraph_of-number.result c.paragraph_of-number.ensures
 
 pub separator-requires : goal.separator-requires
-separator-requires g c = there (g.D.BidiData.class_of c.args.source.now) c.args.text.now.edited.text c.args.index.now.paragraphs c.len-utf8.ensures.utf8
-    c.requires.index c.args.stop c.paragraph_of-number.result c.paragraph_of-number.ensures
+separator-requires g c =
+    let s = c.args.source.now in
+    there (g.D.BidiData.class_of s.tables.now) s.text.now.edited.text s.index.now.paragraphs s.utf8
+    s.indexed c.args.stop c.paragraph_of-number.result c.paragraph_of-number.ensures
 
 pub overflow_add-result : goal.overflow_add-result
 overflow_add-result g c =
-    let told = stop_told (g.D.BidiData.class_of c.args.source.now) c.args.text.now.edited.text c.args.index.now.paragraphs c.len-utf8.ensures.utf8
-    c.requires.index c.args.stop c.paragraph_of-number.result c.span.result c.separator.result c.paragraph_of-number.ensures c.span.ensures
+    let s = c.args.source.now in
+    let told = stop_told (g.D.BidiData.class_of s.tables.now) s.text.now.edited.text s.index.now.paragraphs s.utf8
+    s.indexed c.args.stop c.paragraph_of-number.result c.span.result c.separator.result c.paragraph_of-number.ensures c.span.ensures
     c.separator.ensures in
     omega (
       arith,
       told,
-      stop_inside (g.D.BidiData.class_of c.args.source.now) c.args.text.now.edited.text c.args.index.now.paragraphs c.len-utf8.ensures.utf8 c.requires.index
+      stop_inside (g.D.BidiData.class_of s.tables.now) s.text.now.edited.text s.index.now.paragraphs s.utf8 s.indexed
           c.args.stop c.requires.bounds,
-      c.len-utf8.ensures.short,
+      s.short,
     )
 
 pub returns-clause-stop : goal.returns-clause-stop
-returns-clause-stop g c = stop_told (g.D.BidiData.class_of c.args.source.now) c.args.text.now.edited.text c.args.index.now.paragraphs c.len-utf8.ensures.utf8
-    c.requires.index c.args.stop c.paragraph_of-number.result c.span.result c.separator.result c.paragraph_of-number.ensures c.span.ensures
+returns-clause-stop g c =
+    let s = c.args.source.now in
+    stop_told (g.D.BidiData.class_of s.tables.now) s.text.now.edited.text s.index.now.paragraphs s.utf8
+    s.indexed c.args.stop c.paragraph_of-number.result c.span.result c.separator.result c.paragraph_of-number.ensures c.span.ensures
     c.separator.ensures
 
 pub returns-clause-range : goal.returns-clause-range
 returns-clause-range g c =
-    subst (IsRange c.args.text.now.edited.text c.args.stop)
-    (sym (stop_told (g.D.BidiData.class_of c.args.source.now) c.args.text.now.edited.text c.args.index.now.paragraphs c.len-utf8.ensures.utf8
-    c.requires.index c.args.stop c.paragraph_of-number.result c.span.result c.separator.result c.paragraph_of-number.ensures c.span.ensures
+    let s = c.args.source.now in
+    subst (IsRange s.text.now.edited.text c.args.stop)
+    (sym (stop_told (g.D.BidiData.class_of s.tables.now) s.text.now.edited.text s.index.now.paragraphs s.utf8
+    s.indexed c.args.stop c.paragraph_of-number.result c.span.result c.separator.result c.paragraph_of-number.ensures c.span.ensures
     c.separator.ensures))
-    (stop_range (g.D.BidiData.class_of c.args.source.now) c.args.text.now.edited.text c.args.index.now.paragraphs c.len-utf8.ensures.utf8 c.requires.index
+    (stop_range (g.D.BidiData.class_of s.tables.now) s.text.now.edited.text s.index.now.paragraphs s.utf8 s.indexed
     c.args.stop c.requires.bounds)

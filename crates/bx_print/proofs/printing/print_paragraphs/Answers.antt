@@ -8,18 +8,18 @@ use Rattle.bx_print.proofs.Parts.{all-sent, front-sent, more-sent, none-sent, so
 use Rattle.bx_print.proofs.Written.{then-ok}
 use Rattle.bx_print.proofs.printing.print_paragraphs.Goals as goal
 
-pub push_paragraph-requires-clause-number : goal.push_paragraph-requires-clause-number
-push_paragraph-requires-clause-number g c =
-    let class = g.D.BidiData.class_of c.args.source.now in
-    let all = lengths-count class c.args.text.now.edited.text in
-    omega (arith, c.count-count.ensures.some, c.count-count.ensures.count, ap length c.requires.index, all)
+pub push_paragraph-requires : goal.push_paragraph-requires
+push_paragraph-requires g c =
+    let class = g.D.BidiData.class_of c.args.source.now.tables.now in
+    let all = lengths-count class c.args.source.now.text.now.edited.text in
+    omega (arith, c.count-count.ensures.some, c.count-count.ensures.count, ap length c.args.source.now.indexed, all)
 
 pub returns-in_err-send_full-clause-front : goal.returns-in_err-send_full-clause-front
 returns-in_err-send_full-clause-front g c =
-    let class = g.D.BidiData.class_of c.args.source.now in
-    let bracket = g.D.BidiData.bracket_of c.args.source.now in
-    let mirror = g.D.BidiData.mirror_of c.args.source.now in
-    let text = c.args.text.now.edited.text in
+    let class = g.D.BidiData.class_of c.args.source.now.tables.now in
+    let bracket = g.D.BidiData.bracket_of c.args.source.now.tables.now in
+    let mirror = g.D.BidiData.mirror_of c.args.source.now.tables.now in
+    let text = c.args.source.now.text.now.edited.text in
     let style = c.args.style in
     let lines = lines_of class bracket mirror style.marks style.base style.columns in
     let h = c.loop-number.invariant in
@@ -29,10 +29,10 @@ returns-in_err-send_full-clause-front g c =
 
 pub returns-in_err-push_paragraph-2-clause-front : goal.returns-in_err-push_paragraph-2-clause-front
 returns-in_err-push_paragraph-2-clause-front g c =
-    let class = g.D.BidiData.class_of c.args.source.now in
-    let bracket = g.D.BidiData.bracket_of c.args.source.now in
-    let mirror = g.D.BidiData.mirror_of c.args.source.now in
-    let text = c.args.text.now.edited.text in
+    let class = g.D.BidiData.class_of c.args.source.now.tables.now in
+    let bracket = g.D.BidiData.bracket_of c.args.source.now.tables.now in
+    let mirror = g.D.BidiData.mirror_of c.args.source.now.tables.now in
+    let text = c.args.source.now.text.now.edited.text in
     let style = c.args.style in
     let lines = lines_of class bracket mirror style.marks style.base style.columns in
     let h = c.loop-number.invariant in
@@ -43,16 +43,16 @@ returns-in_err-push_paragraph-2-clause-front g c =
 
 pub loop-number-preserved : goal.loop-number-preserved
 loop-number-preserved g c =
-    let class = g.D.BidiData.class_of c.args.source.now in
-    let bracket = g.D.BidiData.bracket_of c.args.source.now in
-    let mirror = g.D.BidiData.mirror_of c.args.source.now in
-    let text = c.args.text.now.edited.text in
+    let class = g.D.BidiData.class_of c.args.source.now.tables.now in
+    let bracket = g.D.BidiData.bracket_of c.args.source.now.tables.now in
+    let mirror = g.D.BidiData.mirror_of c.args.source.now.tables.now in
+    let text = c.args.source.now.text.now.edited.text in
     let style = c.args.style in
     let lines = lines_of class bracket mirror style.marks style.base style.columns in
     let h = c.loop-number.invariant in
     let s = c.in_ok-send_full.ensures.sent in
     let within : c.loop-number.number < length (paragraphs class text) =
-    omega (arith, c.loop-number-test.true, c.count-count.ensures.count, ap length c.requires.index, lengths-count class text) in (
+    omega (arith, c.loop-number-test.true, c.count-count.ensures.count, ap length c.args.source.now.indexed, lengths-count class text) in (
       h.0 ++ s.0,
       more-sent lines (paragraphs class text) _ _ _ _ (h.0 ++ s.0)
           (some-sent lines (paragraphs class text) _ _ _ _ h.0 h.1 _ c.send_full.new.pending.items s.0 s.1 s.2 s.3) (bare []) _ within
@@ -61,16 +61,16 @@ loop-number-preserved g c =
 
 pub returns-clause-page : goal.returns-clause-page
 returns-clause-page g c =
-    let class = g.D.BidiData.class_of c.args.source.now in
-    let bracket = g.D.BidiData.bracket_of c.args.source.now in
-    let mirror = g.D.BidiData.mirror_of c.args.source.now in
-    let text = c.args.text.now.edited.text in
+    let class = g.D.BidiData.class_of c.args.source.now.tables.now in
+    let bracket = g.D.BidiData.bracket_of c.args.source.now.tables.now in
+    let mirror = g.D.BidiData.mirror_of c.args.source.now.tables.now in
+    let text = c.args.source.now.text.now.edited.text in
     let style = c.args.style in
     let lines = lines_of class bracket mirror style.marks style.base style.columns in
     let h = c.loop-number.invariant in
     let old = g.W.Write.contents c.args.writer.now in
     let new = g.W.Write.contents c.finish.new.writer in
-    let last : length (paragraphs class text) ≤ c.loop-number.number = omega (arith, c.loop-number-test.false, c.count-count.ensures.count, ap length c.requires.index, lengths-count class text) in
+    let last : length (paragraphs class text) ≤ c.loop-number.number = omega (arith, c.loop-number-test.false, c.count-count.ensures.count, ap length c.args.source.now.indexed, lengths-count class text) in
     then-ok c.finish.result _ _
     (λ all. subst (λ bs. Appends old new bs) (sym (page-is class bracket mirror style.marks style.base style.columns text))
     (all-sent lines (paragraphs class text) _ _ _ _ h.0 h.1 new last
@@ -79,10 +79,10 @@ returns-clause-page g c =
 
 pub returns-clause-front : goal.returns-clause-front
 returns-clause-front g c =
-    let class = g.D.BidiData.class_of c.args.source.now in
-    let bracket = g.D.BidiData.bracket_of c.args.source.now in
-    let mirror = g.D.BidiData.mirror_of c.args.source.now in
-    let text = c.args.text.now.edited.text in
+    let class = g.D.BidiData.class_of c.args.source.now.tables.now in
+    let bracket = g.D.BidiData.bracket_of c.args.source.now.tables.now in
+    let mirror = g.D.BidiData.mirror_of c.args.source.now.tables.now in
+    let text = c.args.source.now.text.now.edited.text in
     let style = c.args.style in
     let lines = lines_of class bracket mirror style.marks style.base style.columns in
     let h = c.loop-number.invariant in

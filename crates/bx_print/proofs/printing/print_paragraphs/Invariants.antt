@@ -7,7 +7,7 @@ use Rattle.bx_print.proofs.printing.print_paragraphs.Given as goal
 
 abbrev pub invariant-loop-number : goal.invariant-loop-number
 invariant-loop-number g l =
-    let class = g.D.BidiData.class_of l.source in
+    let class = g.D.BidiData.class_of l.source.tables.now in
     (written : List ℕ) × IsSent
-    (lines_of class (g.D.BidiData.bracket_of l.source) (g.D.BidiData.mirror_of l.source) l.style.marks l.style.base l.style.columns)
-    (paragraphs class l.text.edited.text) (g.W.Write.contents l.fn.writer) (g.W.Write.contents l.writer) l.pending.items l.number written
+    (lines_of class (g.D.BidiData.bracket_of l.source.tables.now) (g.D.BidiData.mirror_of l.source.tables.now) l.style.marks l.style.base l.style.columns)
+    (paragraphs class l.source.text.now.edited.text) (g.W.Write.contents l.fn.writer) (g.W.Write.contents l.writer) l.pending.items l.number written

@@ -1,16 +1,21 @@
 -- What was counted are the rows of the paragraphs before the one at which the walk stands.
 use Rattle.std.proofs.Common.{◌≡◌, ◌-◌, ◌<◌, ◌≤◌}
 use Rattle.bx_paras.specs.Paragraphs.{lengths}
-use Rattle.bx_view.specs.Standing.{count, rows_ahead}
+use Rattle.bx_view.specs.Source.{bytes, count}
+use Rattle.bx_view.specs.Standing.{rows_ahead}
 use Rattle.bx_view.proofs.counting.rows_before.Given as goal
 
 abbrev pub invariant-loop-done : goal.invariant-loop-done
-invariant-loop-done g l = record {
-  paragraphs : l.walk.paragraphs ≡ lengths (g.D.BidiData.class_of l.source) l.text.edited.text;
-  number : l.done < count (g.D.BidiData.class_of l.source) l.text.edited.text → l.walk.number ≡ l.done;
-  within : l.done ≤ l.number;
-  ahead : l.ahead ≡ rows_ahead (g.D.BidiData.class_of l.source) (g.D.BidiData.bracket_of l.source) l.fn.base l.w l.text.edited.text l.done;
-}
+invariant-loop-done g l =
+    let class = g.D.BidiData.class_of l.source.tables.now in
+    let bracket = g.D.BidiData.bracket_of l.source.tables.now in
+    let text = bytes l.source in
+    record {
+      paragraphs : l.walk.paragraphs ≡ lengths class text;
+      number : l.done < count l.source → l.walk.number ≡ l.done;
+      within : l.done ≤ l.number;
+      ahead : l.ahead ≡ rows_ahead class bracket l.fn.base l.w text l.done;
+    }
 
 abbrev pub decreases-loop-done : goal.decreases-loop-done
 decreases-loop-done g l = l.number - l.done

@@ -2,13 +2,19 @@ use Rattle.bx_view.proofs.Numbers.{span-told}
 use Rattle.bx_view.proofs.counting.walked_span.Goals as goal
 
 pub returns-clause-start : goal.returns-clause-start
-returns-clause-start g c = (span-told (g.D.BidiData.class_of c.args.source.now) c.args.text.now.edited.text c.args.walk.now.paragraphs
-    c.args.walk.now.number c.span.result.0 c.span.result.1 c.len-utf8.ensures.utf8 c.requires.number c.requires.walk c.span.ensures).start
+returns-clause-start g c =
+    let s = c.args.source.now in
+    (span-told (g.D.BidiData.class_of s.tables.now) s.text.now.edited.text c.args.walk.now.paragraphs
+    c.args.walk.now.number c.span.result.0 c.span.result.1 s.utf8 c.requires.number c.requires.walk c.span.ensures).start
 
 pub returns-clause-body : goal.returns-clause-body
-returns-clause-body g c = (span-told (g.D.BidiData.class_of c.args.source.now) c.args.text.now.edited.text c.args.walk.now.paragraphs
-    c.args.walk.now.number c.span.result.0 c.span.result.1 c.len-utf8.ensures.utf8 c.requires.number c.requires.walk c.span.ensures).body
+returns-clause-body g c =
+    let s = c.args.source.now in
+    (span-told (g.D.BidiData.class_of s.tables.now) s.text.now.edited.text c.args.walk.now.paragraphs
+    c.args.walk.now.number c.span.result.0 c.span.result.1 s.utf8 c.requires.number c.requires.walk c.span.ensures).body
 
 pub returns-clause-range : goal.returns-clause-range
-returns-clause-range g c = (span-told (g.D.BidiData.class_of c.args.source.now) c.args.text.now.edited.text c.args.walk.now.paragraphs
-    c.args.walk.now.number c.span.result.0 c.span.result.1 c.len-utf8.ensures.utf8 c.requires.number c.requires.walk c.span.ensures).range
+returns-clause-range g c =
+    let s = c.args.source.now in
+    (span-told (g.D.BidiData.class_of s.tables.now) s.text.now.edited.text c.args.walk.now.paragraphs
+    c.args.walk.now.number c.span.result.0 c.span.result.1 s.utf8 c.requires.number c.requires.walk c.span.ensures).range

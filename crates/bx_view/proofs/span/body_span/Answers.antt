@@ -2,21 +2,31 @@ use Rattle.bx_view.proofs.Numbers.{span-told}
 use Rattle.bx_view.proofs.span.body_span.Goals as goal
 
 pub returns-clause-start : goal.returns-clause-start
-returns-clause-start g c = (span-told (g.D.BidiData.class_of c.args.source.now) c.args.text.now.edited.text c.args.index.now.paragraphs c.args.number
-    c.span.result.0 c.span.result.1 c.len-short.ensures.utf8 c.requires.number c.requires.index c.span.ensures).start
+returns-clause-start g c =
+    let s = c.args.source.now in
+    (span-told (g.D.BidiData.class_of s.tables.now) s.text.now.edited.text s.index.now.paragraphs c.args.number
+    c.span.result.0 c.span.result.1 s.utf8 c.requires.number s.indexed c.span.ensures).start
 
 pub returns-clause-body : goal.returns-clause-body
-returns-clause-body g c = (span-told (g.D.BidiData.class_of c.args.source.now) c.args.text.now.edited.text c.args.index.now.paragraphs c.args.number
-    c.span.result.0 c.span.result.1 c.len-short.ensures.utf8 c.requires.number c.requires.index c.span.ensures).body
+returns-clause-body g c =
+    let s = c.args.source.now in
+    (span-told (g.D.BidiData.class_of s.tables.now) s.text.now.edited.text s.index.now.paragraphs c.args.number
+    c.span.result.0 c.span.result.1 s.utf8 c.requires.number s.indexed c.span.ensures).body
 
 pub returns-clause-range : goal.returns-clause-range
-returns-clause-range g c = (span-told (g.D.BidiData.class_of c.args.source.now) c.args.text.now.edited.text c.args.index.now.paragraphs c.args.number
-    c.span.result.0 c.span.result.1 c.len-short.ensures.utf8 c.requires.number c.requires.index c.span.ensures).range
+returns-clause-range g c =
+    let s = c.args.source.now in
+    (span-told (g.D.BidiData.class_of s.tables.now) s.text.now.edited.text s.index.now.paragraphs c.args.number
+    c.span.result.0 c.span.result.1 s.utf8 c.requires.number s.indexed c.span.ensures).range
 
 pub returns-clause-order : goal.returns-clause-order
-returns-clause-order g c = (span-told (g.D.BidiData.class_of c.args.source.now) c.args.text.now.edited.text c.args.index.now.paragraphs c.args.number
-    c.span.result.0 c.span.result.1 c.len-short.ensures.utf8 c.requires.number c.requires.index c.span.ensures).order
+returns-clause-order g c =
+    let s = c.args.source.now in
+    (span-told (g.D.BidiData.class_of s.tables.now) s.text.now.edited.text s.index.now.paragraphs c.args.number
+    c.span.result.0 c.span.result.1 s.utf8 c.requires.number s.indexed c.span.ensures).order
 
 pub returns-clause-within : goal.returns-clause-within
-returns-clause-within g c = (span-told (g.D.BidiData.class_of c.args.source.now) c.args.text.now.edited.text c.args.index.now.paragraphs c.args.number
-    c.span.result.0 c.span.result.1 c.len-short.ensures.utf8 c.requires.number c.requires.index c.span.ensures).within
+returns-clause-within g c =
+    let s = c.args.source.now in
+    (span-told (g.D.BidiData.class_of s.tables.now) s.text.now.edited.text s.index.now.paragraphs c.args.number
+    c.span.result.0 c.span.result.1 s.utf8 c.requires.number s.indexed c.span.ensures).within

@@ -1,15 +1,20 @@
 -- The row is as far behind the paragraph at which the walk stands as rows are left.
 use Rattle.std.proofs.Common.{◌≡◌, ◌+◌, ◌-◌, ◌<◌}
 use Rattle.bx_paras.specs.Paragraphs.{lengths}
-use Rattle.bx_view.specs.Standing.{count, rows_ahead}
+use Rattle.bx_view.specs.Source.{bytes, count}
+use Rattle.bx_view.specs.Standing.{rows_ahead}
 use Rattle.bx_view.proofs.layout.Layout.first.Given as goal
 
 abbrev pub invariant-loop-done : goal.invariant-loop-done
-invariant-loop-done g l = record {
-  paragraphs : l.walk.paragraphs ≡ lengths (g.D.BidiData.class_of l.source) l.text.edited.text;
-  number : l.done < count (g.D.BidiData.class_of l.source) l.text.edited.text → l.walk.number ≡ l.done;
-  ahead : l.left + rows_ahead (g.D.BidiData.class_of l.source) (g.D.BidiData.bracket_of l.source) l.fn.self.base l.w l.text.edited.text l.done ≡ l.fn.row;
-}
+invariant-loop-done g l =
+    let class = g.D.BidiData.class_of l.source.tables.now in
+    let bracket = g.D.BidiData.bracket_of l.source.tables.now in
+    let text = bytes l.source in
+    record {
+      paragraphs : l.walk.paragraphs ≡ lengths class text;
+      number : l.done < count l.source → l.walk.number ≡ l.done;
+      ahead : l.left + rows_ahead class bracket l.fn.self.base l.w text l.done ≡ l.fn.row;
+    }
 
 abbrev pub decreases-loop-done : goal.decreases-loop-done
 decreases-loop-done g l = l.count - l.done

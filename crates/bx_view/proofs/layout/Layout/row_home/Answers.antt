@@ -8,29 +8,30 @@ use Rattle.bx_view.proofs.layout.Layout.row_home.Goals as goal
 
 pub overflow_add-result : goal.overflow_add-result
 overflow_add-result g c =
-    let class = g.D.BidiData.class_of c.args.source.now in
-    let bracket = g.D.BidiData.bracket_of c.args.source.now in
+    let class = g.D.BidiData.class_of c.args.source.now.tables.now in
+    let bracket = g.D.BidiData.bracket_of c.args.source.now.tables.now in
     let first : c.first.result ≡ first_of (row_by class bracket c.paragraph-paragraph.result.now c.in_ok-at.at.row) =
     c.first.ensures class bracket c.paragraph-paragraph.ensures.by in
-    let fits : c.in_ok-at.at.start + first_of (row_by class bracket c.paragraph-paragraph.result.now c.in_ok-at.at.row) ≤ length c.args.text.now.edited.text =
-    first-fits class bracket c.row_at.new.self c.args.text.now.edited.text c.in_ok-at.at _ c.paragraph-paragraph.result.now c.row_at.ensures.utf8
+    let text = c.args.source.now.text.now.edited.text in
+    let fits : c.in_ok-at.at.start + first_of (row_by class bracket c.paragraph-paragraph.result.now c.in_ok-at.at.row) ≤ length text =
+    first-fits class bracket c.row_at.new.self text c.in_ok-at.at _ c.paragraph-paragraph.result.now c.args.source.now.utf8
     c.in_ok-at.ensures.row c.paragraph-paragraph.ensures in
-    omega (arith, first, fits, c.row_at.ensures.short)
+    omega (arith, first, fits, c.args.source.now.short)
 
 pub returns-clause-home : goal.returns-clause-home
 returns-clause-home g c =
-    let class = g.D.BidiData.class_of c.args.source.now in
-    let bracket = g.D.BidiData.bracket_of c.args.source.now in
-    home-told class bracket c.args.self.now c.row_at.new.self c.args.text.now.edited.text c.args.place c.in_ok-at.at c.paragraph-paragraph.result.now
-    c.row_at.ensures.keeps c.row_at.ensures.utf8 c.in_ok-at.ensures.row c.paragraph-paragraph.ensures c.first.result
+    let class = g.D.BidiData.class_of c.args.source.now.tables.now in
+    let bracket = g.D.BidiData.bracket_of c.args.source.now.tables.now in
+    home-told class bracket c.args.self.now c.row_at.new.self c.args.source.now.text.now.edited.text c.args.place c.in_ok-at.at c.paragraph-paragraph.result.now
+    c.row_at.ensures.keeps c.args.source.now.utf8 c.in_ok-at.ensures.row c.paragraph-paragraph.ensures c.first.result
     (c.first.ensures class bracket c.paragraph-paragraph.ensures.by)
 
 pub returns-clause-boundary : goal.returns-clause-boundary
 returns-clause-boundary g c =
-    let class = g.D.BidiData.class_of c.args.source.now in
-    let bracket = g.D.BidiData.bracket_of c.args.source.now in
-    let text = c.args.text.now.edited.text in
+    let class = g.D.BidiData.class_of c.args.source.now.tables.now in
+    let bracket = g.D.BidiData.bracket_of c.args.source.now.tables.now in
+    let text = c.args.source.now.text.now.edited.text in
     let old = c.args.self.now in
-    let utf8 = c.row_at.ensures.utf8 in
+    let utf8 = c.args.source.now.utf8 in
     let some = side-kept class bracket old c.row_at.new.self text c.args.place c.in_ok-at.at utf8 c.row_at.ensures.keeps c.in_ok-at.ensures.row in
     subst (IsCharBoundary text) (sym (returns-clause-home g c)) (boundary-row_home class bracket old.base old.w some text utf8 c.args.place)

@@ -1,0 +1,49 @@
+//! A text with its paragraphs and the tables that lay it out.
+ghost use Rattle.std.specs.Prelude.{◌≡◌, ◌≤◌, ⊤, length, IsUtf8};
+ghost use Rattle.bx_text.specs.Edits.{largest_text};
+ghost use Rattle.bx_paras.specs.Paragraphs.{lengths};
+ghost use Rattle.std.proofs.Props.{props};
+
+use bx_paras::Index;
+use bx_text::Text;
+use bx_ucd::BidiData;
+use std::alloc::AllocError;
+
+/// A text, the index of its paragraphs, and the tables that both are read by.
+pub struct Source<'a, D: BidiData> {
+    pub text: &'a Text,
+    pub index: &'a Index,
+    pub tables: &'a D,
+    pub ghost indexed: { index.now.paragraphs ≡ lengths (D.class_of tables.now) text.now.edited.text },
+    pub ghost utf8: { IsUtf8 text.now.edited.text } by { Prim.hlevel props },
+    pub ghost short: { length text.now.edited.text ≤ largest_text },
+}
+
+impl<'a, D: BidiData> Copy for Source<'a, D> {}
+
+impl<'a, D: BidiData> Clone for Source<'a, D> {
+    ghost is_clone = { λ s t. t ≡ s };
+
+    ghost is_infallible = { λ _. ⊤ };
+
+    fn clone(&self) -> Result<Source<'a, D>, AllocError> {
+        Ok(*self)
+    }
+}
+
+impl<'a, D: BidiData> Source<'a, D> {
+    /// A text with the index that is its own by some tables.
+    pub fn of(text: &'a Text, index: &'a Index, tables: &'a D) -> Source<'a, D>
+        requires { index.now.paragraphs ≡ lengths (D.class_of tables.now) text.now.edited.text }
+        ensures text { result.text.now ≡ text.now }
+        ensures tables { result.tables.now ≡ tables.now }
+    {
+        // tells the proof that the text is UTF-8 and short
+        let _utf8 = text.len();
+        Source {
+            text,
+            index,
+            tables,
+        }
+    }
+}
