@@ -1,0 +1,25 @@
+-- What holds of the places of every text, in every window.
+use Rattle.std.specs.Prelude.{◌≡◌, ℕ, ◌-◌, true, List, length, slice_get, Option, Some, All, IsUtf8, IsCharBoundary}
+use Rattle.std.specs.List.{concat}
+use Rattle.std.specs.List.Sorted.{IsStrictlyIncreasing}
+use Rattle.bx_terms.specs.Sizes.{is_side}
+use Rattle.bx_ucd.specs.declared.class.Class.{Class}
+use Rattle.bx_ucd.specs.declared.data.Side.{Side}
+use Rattle.bx_explicit.specs.declared.base.Base.{Base}
+use Rattle.bx_view.specs.Places.{pieces, text_places}
+use Rattle.bx_view.specs.TextRows.{TextRow, text_rows}
+
+-- what is true of the rows of every text, in every window and direction
+abbrev pub InEachWindow : ((ℕ → Class) → List ℕ → ℕ → List TextRow → Type 0) → Type 0
+InEachWindow P =
+    (class : ℕ → Class) (bracket : ℕ → Option (Side × ℕ)) (base : Base) (w : ℕ) (text : List ℕ) → is_side w ≡ true → IsUtf8 text
+    → P class text w (text_rows class bracket base w text)
+
+-- The pieces of a text together are the text. Its places lie between characters and rise strictly, the first is the text's
+-- begin and the last its end.
+pub record SpansText (class : ℕ → Class) (text : List ℕ) : Type 0 where
+  pub whole : concat (pieces class text) ≡ text
+  pub first : slice_get (text_places class text) 0 ≡ Some 0
+  pub last : slice_get (text_places class text) (length (text_places class text) - 1) ≡ Some (length text)
+  pub rise : IsStrictlyIncreasing (text_places class text)
+  pub between : All (IsCharBoundary text) (text_places class text)

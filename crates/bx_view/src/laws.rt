@@ -1,0 +1,14 @@
+//! What holds of the places of every text. The functions do nothing: their contracts are the laws.
+
+ghost use Rattle.std.specs.Prelude.{◌≡◌, ℕ, List, IsUtf8};
+ghost use Rattle.bx_ucd.specs.declared.class.Class.{Class};
+ghost use Rattle.bx_view.specs.Laws.{InEachWindow, SpansText};
+ghost use Rattle.bx_view.specs.Places.{text_places};
+ghost use Rattle.bx_view.specs.TextRows.{places};
+
+/// The places of a text's rows are the boundaries of its clusters and separators, whatever the window and the direction,
+/// and go from the text's begin to its end.
+pub fn places_are_boundaries()
+    ensures rows { InEachWindow (λ class text w rows. places rows ≡ text_places class text) }
+    ensures span { (class : ℕ → Class) (text : List ℕ) → IsUtf8 text → SpansText class text }
+{}
