@@ -1,13 +1,18 @@
 -- What holds of the places of every text, in every window.
-use Rattle.std.specs.Prelude.{◌≡◌, ℕ, ◌-◌, true, List, length, slice_get, Option, Some, All, IsUtf8, IsCharBoundary}
+use Rattle.std.specs.Prelude.{◌≡◌, ℕ, ◌-◌, ◌<◌, true, List, length, slice_get, Option, Some, IfSome, All, IsUtf8, IsCharBoundary}
 use Rattle.std.specs.List.{concat}
 use Rattle.std.specs.List.Sorted.{IsStrictlyIncreasing}
 use Rattle.bx_terms.specs.Sizes.{is_side}
 use Rattle.bx_ucd.specs.declared.class.Class.{Class}
 use Rattle.bx_ucd.specs.declared.data.Side.{Side}
 use Rattle.bx_explicit.specs.declared.base.Base.{Base}
+use Rattle.bx_paragraph.specs.declared.moves.Visual.{Visual}
+use Rattle.bx_view.specs.declared.moves.Logical.{Logical}
+use Rattle.bx_view.specs.declared.moves.Vertical.{Vertical}
+use Rattle.bx_view.specs.Moves.{entry_in, page, place_from, row_end, row_home, step_logical, step_visual, vertical}
 use Rattle.bx_view.specs.Places.{pieces, text_places}
-use Rattle.bx_view.specs.TextRows.{TextRow, text_rows}
+use Rattle.bx_view.specs.TextRows.{TextRow, row_at, text_rows}
+use Rattle.bx_view.specs.Top.{follow}
 
 -- what is true of the rows of every text, in every window and direction
 abbrev pub InEachWindow : ((ℕ → Class) → List ℕ → ℕ → List TextRow → Type 0) → Type 0
@@ -23,3 +28,15 @@ pub record SpansText (class : ℕ → Class) (text : List ℕ) : Type 0 where
   pub last : slice_get (text_places class text) (length (text_places class text) - 1) ≡ Some (length text)
   pub rise : IsStrictlyIncreasing (text_places class text)
   pub between : All (IsCharBoundary text) (text_places class text)
+
+-- each move leads from an offset that passes to one that does
+pub record MovesKeep (w : ℕ) (rows : List TextRow) (P : ℕ → Type 0) : Type 0 where
+  pub from : (offset : ℕ) → P (place_from rows offset)
+  pub logical : (way : Logical) (place : ℕ) → P place → P (step_logical rows way place)
+  pub visual : (side : Visual) (place : ℕ) → P place → P (step_visual w rows side place)
+  pub vertical : (way : Vertical) (place : ℕ) → P place → P (vertical w rows way place)
+  pub page : (way : Vertical) (t place : ℕ) → P place → P (page w rows way t place)
+  pub entry : (k column : ℕ) → k < length rows → IfSome (entry_in w (row_at rows k) column) P
+  pub home : (offset : ℕ) → P (row_home rows offset)
+  pub end : (offset : ℕ) → P (row_end rows offset)
+  pub top : (top place t : ℕ) → 0 < t → P (follow rows top place t)

@@ -2,8 +2,8 @@
 
 ghost use Rattle.std.specs.Prelude.{◌≡◌, ℕ, List, IsUtf8};
 ghost use Rattle.bx_ucd.specs.declared.class.Class.{Class};
-ghost use Rattle.bx_view.specs.Laws.{InEachWindow, SpansText};
-ghost use Rattle.bx_view.specs.Places.{text_places};
+ghost use Rattle.bx_view.specs.Laws.{InEachWindow, MovesKeep, SpansText};
+ghost use Rattle.bx_view.specs.Places.{text_places, IsTextPlace};
 ghost use Rattle.bx_view.specs.TextRows.{places};
 
 /// The places of a text's rows are the boundaries of its clusters and separators, whatever the window and the direction,
@@ -11,4 +11,9 @@ ghost use Rattle.bx_view.specs.TextRows.{places};
 pub fn places_are_boundaries()
     ensures rows { InEachWindow (λ class text w rows. places rows ≡ text_places class text) }
     ensures span { (class : ℕ → Class) (text : List ℕ) → IsUtf8 text → SpansText class text }
+{}
+
+/// Each move leads from a place to a place.
+pub fn moves_keep_places()
+    ensures { InEachWindow (λ class text w rows. MovesKeep w rows (IsTextPlace class text)) }
 {}

@@ -1,0 +1,291 @@
+-- Each move leads from a place to a place.
+use Rattle.std.proofs.Common.{◌≡◌, ℕ, zero, suc, ◌+◌, ◌-◌, ◌<◌, ◌≤◌, ◌==◌, nat_le, nat_lt, Bool, true, false, List, [], ◌∷◌, map, length, find, get_or}
+use Rattle.std.proofs.Common.{reverse, slice_get, Option, Some, None, unwrap_or, cond, count_by, IsUtf8, chars, refl, sym, ap, subst, ◌∙◌}
+use Rattle.std.proofs.Common.{arith, eq-eqb}
+use Rattle.std.specs.Prelude.{All, Contains, IfSome}
+use Rattle.std.proofs.lemmas.Bool.{eqb-true}
+use Rattle.std.proofs.lemmas.List.{get_or-map, length-map}
+use Rattle.std.proofs.lemmas.List.Concat.{flat_map-cons}
+use Rattle.std.proofs.lemmas.List.Elements.{All-append, All-cons, All-contains_itself, All-head, All-map, All-nil, All-tail, All-weaker}
+use Rattle.std.proofs.lemmas.List.Elements.{Contains-append_left, Contains-append_right}
+use Rattle.std.proofs.lemmas.List.Sums.{get_or-le-sum_by, sum_by-cons}
+use Rattle.bx_ucd.specs.declared.class.Class.{Class}
+use Rattle.bx_ucd.specs.declared.data.Side.{Side}
+use Rattle.bx_explicit.specs.declared.base.Base.{Base}
+use Rattle.bx_resolve.specs.Levels.{paragraph_level_under, levels_under}
+use Rattle.bx_cells.specs.declared.unit.Unit.{Unit}
+use Rattle.bx_rows.specs.RowStarts.{first_offset}
+use Rattle.bx_rows.proofs.Resets.{one_each}
+use Rattle.bx_paras.specs.Paragraphs.{Paragraph, lengths_of, paragraphs}
+use Rattle.bx_paras.specs.Positions.{bytes_of}
+use Rattle.bx_paragraph.specs.declared.moves.Visual.{Visual}
+use Rattle.bx_paragraph.specs.BodyRows.{BodyRow, body_rows, last_offset, offsets_of, row_with, rows_units, with_last}
+use Rattle.bx_paragraph.specs.Slots.{AreReordered, beside, entry, or_else, reading_end, reading_start, reads_on, slot_offsets}
+use Rattle.bx_paragraph.proofs.OnceEach.{once-each}
+use Rattle.bx_view.specs.declared.moves.Logical.{Logical}
+use Rattle.bx_view.specs.declared.moves.Logical.TheVariants.{Back, Forward}
+use Rattle.bx_view.specs.declared.moves.Vertical.{Vertical}
+use Rattle.bx_view.specs.Moves.{end_of, entry_in, past, place_from, place_in, row_after, row_away}
+use Rattle.bx_view.specs.Moves.{row_before, row_end, row_home, rows_away, start_of, step_logical, step_visual}
+use Rattle.bx_view.specs.Laws.{MovesKeep}
+use Rattle.bx_view.specs.Places.{IsTextPlace}
+use Rattle.bx_view.specs.TextRows.{TextRow, IsPlace, cell_of, first, no_text_row, places, places_of, row_at, row_of, text_row, text_rows}
+use Rattle.bx_view.specs.Top.{follow, nearest_top}
+use Rattle.bx_view.proofs.Around.{from, own}
+use Rattle.bx_view.proofs.KeptRows.{away-within}
+use Rattle.bx_view.proofs.Nearest.{falls-within}
+use Rattle.bx_view.proofs.Rising.{rank-few}
+use Rattle.bx_view.proofs.TextPlaces.{begin-is-place, places-are, starts-are-places}
+use Rattle.bx_view.proofs.Walking.{text-rank}
+use Rattle.bx_view.proofs.Within.{Lies, LiesIn, Within, beside-fits, either-lies, end-fits, entry-fits, find-lies, last-fits, last-lies, start-fits}
+use Rattle.bx_view.proofs.Within.{within-reverse}
+
+-- ---- what some offsets contain
+
+within-of-all : (P : ℕ → Type 0) (os : List ℕ) → All P os → Within P os
+within-of-all P [] a = tt
+within-of-all P (o ∷ os) a = (All-head P o os a, within-of-all P os (All-tail P o os a))
+
+-- what each of some offsets is
+pub within-of : (P : ℕ → Type 0) (os : List ℕ) → ((o : ℕ) → Contains os o → P o) → Within P os
+within-of P os each = within-of-all P os (All-weaker (Contains os) P each os (All-contains_itself os))
+
+pub contains-moved : (start : ℕ) (os : List ℕ) (o : ℕ) → Contains os o → Contains (map (λ k. start + k) os) (start + o)
+contains-moved start os o c =
+    (c.0, omega (arith, c.1, length-map os (λ k. start + k)), get_or-map (λ k. start + k) os c.0 o (start + o) c.1 ∙ ap (λ k. start + k) c.2)
+
+-- how often an offset stands among some
+abbrev pub times : ℕ → List ℕ → ℕ
+times o os = count_by (λ p. p == o) os
+
+-- one for an offset itself, and nothing for others
+abbrev pub one-at : ℕ → ℕ → ℕ
+one-at o p = cond (p == o) 1 0
+
+counted-at : (p : ℕ) (os : List ℕ) (o : ℕ) (b : Bool) → (p == o) ≡ b → 0 < times o (p ∷ os) → (0 < times o os → Contains os o) → Contains (p ∷ os) o
+counted-at p os o true e h rest = (0, omega arith, eqb-true p o e)
+counted-at p os o false e h rest =
+    let sum = sum_by-cons (one-at o) p os in
+    let none : one-at o p ≡ 0 = ap (λ b. cond b 1 0) e in
+    Contains-append_right (p ∷ []) os o (rest (omega (arith, h, sum, none)))
+
+pub contains-counted : (os : List ℕ) (o : ℕ) → 0 < times o os → Contains os o
+contains-counted [] o h = absurd (omega (arith, h))
+contains-counted (p ∷ os) o h = counted-at p os o (p == o) refl h (λ more. contains-counted os o more)
+
+pub counted-contains : (os : List ℕ) (o : ℕ) → Contains os o → 0 < times o os
+counted-contains os o c =
+    let here : one-at o (get_or os c.0 o) ≡ 1 = ap (λ b. cond b 1 0) (eq-eqb (get_or os c.0 o) o c.2) in
+    omega (arith, here, get_or-le-sum_by (one-at o) os c.0 o c.1)
+
+pub reordered-contains : (os ps : List ℕ) (o : ℕ) → AreReordered os ps → Contains os o → Contains ps o
+reordered-contains os ps o same c = contains-counted ps o (omega (arith, counted-contains os o c, same (one-at o)))
+
+-- ---- each row has its places in its slots
+
+abbrev pub HasLevels : BodyRow → Type 0
+HasLevels r = length r.levels ≡ length r.units
+
+leveled-last : (row : Bool → List Unit → BodyRow) → ((b : Bool) (us : List Unit) → HasLevels (row b us)) → (xs : List (List Unit))
+    → All HasLevels (with_last row xs)
+leveled-last row each [] = All-nil HasLevels
+leveled-last row each (us ∷ []) = All-cons HasLevels (row true us) [] (each true us) (All-nil HasLevels)
+leveled-last row each (us ∷ vs ∷ rest) =
+    All-cons HasLevels (row false us) (with_last row (vs ∷ rest)) (each false us) (leveled-last row each (vs ∷ rest))
+
+module _ (class : ℕ → Class) (bracket : ℕ → Option (Side × ℕ)) (base : Base) (w : ℕ) where
+  leveled-body : (body : List ℕ) → All HasLevels (body_rows class bracket base w body)
+  leveled-body body =
+      let paragraph = paragraph_level_under class base (chars body) in
+      let each = levels_under class bracket base (chars body) in
+      leveled-last (row_with class body paragraph each) (λ b us. one_each class body paragraph each us _ refl) (rows_units class w body)
+
+  leveled-from : (start : ℕ) (ps : List Paragraph) → All (λ r. HasLevels r.row) (from class bracket base w start ps)
+  leveled-from start [] = All-nil (λ (r : TextRow). HasLevels r.row)
+  leveled-from start (p ∷ ps) =
+      let next = start + bytes_of (lengths_of p) in
+      All-append (λ (r : TextRow). HasLevels r.row) (map (text_row start) (own class bracket base w p)) (from class bracket base w next ps)
+      (All-map (λ (r : TextRow). HasLevels r.row) (text_row start) (own class bracket base w p) (leveled-body p.body)) (leveled-from next ps)
+
+  -- each unit of a row has a level
+  pub rows-leveled : (text : List ℕ) → All (λ r. HasLevels r.row) (text_rows class bracket base w text)
+  rows-leveled text = leveled-from 0 (paragraphs class text)
+
+-- ---- what the places of rows are, their slots are
+
+in-places : (rows : List TextRow) (k : ℕ) (d : TextRow) → k < length rows → (o : ℕ) → Contains (places_of (get_or rows k d)) o → Contains (places rows) o
+in-places [] k d h o c = absurd (omega (arith, h))
+in-places (r ∷ rs) zero d h o c =
+    subst (λ os. Contains os o) (sym (flat_map-cons places_of r rs)) (Contains-append_left (places_of r) (places rs) o c)
+in-places (r ∷ rs) (suc k) d h o c =
+    subst (λ os. Contains os o) (sym (flat_map-cons places_of r rs))
+    (Contains-append_right (places_of r) (places rs) o (in-places rs k d (omega (arith, h)) o c))
+
+-- the offsets of a row's slots and units are places of the text
+abbrev pub IsOfPlaces : List TextRow → ℕ → TextRow → Type 0
+IsOfPlaces rows w r = LiesIn (λ o. IsPlace rows (r.start + o)) w r.row
+
+row-of-places : (rows : List TextRow) (w : ℕ) (r : TextRow) → ((o : ℕ) → Contains (places_of r) o → IsPlace rows o) → HasLevels r.row → IsPlace rows r.start
+    → IsOfPlaces rows w r
+row-of-places rows w r all levels start =
+    let P : ℕ → Type 0 = λ o. IsPlace rows (r.start + o) in
+    let own-places : (o : ℕ) → Contains (offsets_of r.row) o → P o = λ o c. all (r.start + o) (contains-moved r.start (offsets_of r.row) o c) in
+    let none : r.start ≡ r.start + 0 = omega arith in record {
+      start = subst (IsPlace rows) none start;
+      slots = within-of P (slot_offsets w r.row)
+          (λ o c. own-places o (reordered-contains (slot_offsets w r.row) (offsets_of r.row) o (once-each w r.row levels) c));
+      units = within-of P (map (λ u. u.start) r.row.units) (λ o c. own-places o (Contains-append_left (map (λ u. u.start) r.row.units) _ o c));
+      places = within-of P (offsets_of r.row) own-places;
+    }
+
+-- ---- the moves, from what passes to what passes
+
+-- a row passes, if there is one
+abbrev IfRow : (TextRow → Type 0) → Option TextRow → Type 0
+IfRow Q None = Prim.Unit {0}
+IfRow Q (Some r) = Q r
+
+each-get : (Q : TextRow → Type 0) (rs : List TextRow) (n : ℕ) → All Q rs → IfRow Q (slice_get rs n)
+each-get Q [] n a = tt
+each-get Q (r ∷ rs) zero a = All-head Q r rs a
+each-get Q (r ∷ rs) (suc n) a = each-get Q rs n (All-tail Q r rs a)
+
+first-lies-at : (P : ℕ → Type 0) (us : List Unit) → P 0 → Within P (map (λ u. u.start) us) → P (first_offset us)
+first-lies-at P [] start a = start
+first-lies-at P (u ∷ us) start a = a.0
+
+module _ (w : ℕ) (rows : List TextRow) (P : ℕ → Type 0) (each : All (λ r. LiesIn (λ o. P (r.start + o)) w r.row) rows) (all : Within P (places rows))
+    (some : 0 < length rows) (begin : P 0) where
+  abbrev Row : TextRow → Type 0
+  Row r = LiesIn (λ o. P (r.start + o)) w r.row
+
+  own-row : (offset : ℕ) → row_of rows offset < length rows
+  own-row offset = falls-within rows offset some
+
+  row-lies : (k : ℕ) → k < length rows → Row (row_at rows k)
+  row-lies k within = each k no_text_row within
+
+  else-lies : (o : Option ℕ) (place : ℕ) → Lies P o → P place → P (unwrap_or o place)
+  else-lies None place a b = b
+  else-lies (Some o) place a b = a
+
+  in-row-lies : (r : TextRow) (o : Option ℕ) → Lies (λ k. P (r.start + k)) o → Lies P (place_in r o)
+  in-row-lies r None a = tt
+  in-row-lies r (Some o) a = a
+
+  pub kept-place_from : (offset : ℕ) → P (place_from rows offset)
+  kept-place_from offset =
+      else-lies (find (nat_le offset) (places rows)) (last_offset (places rows)) (find-lies P (nat_le offset) (places rows) all)
+      (last-lies P begin (places rows) all)
+
+  pub kept-step_logical : (way : Logical) (place : ℕ) → P place → P (step_logical rows way place)
+  kept-step_logical Forward place b = else-lies (find (nat_lt place) (places rows)) place (find-lies P (nat_lt place) (places rows) all) b
+  kept-step_logical Back place b =
+      else-lies (find (λ p. nat_lt p place) (reverse (places rows))) place
+      (find-lies P (λ p. nat_lt p place) (reverse (places rows)) (within-reverse P (places rows) all)) b
+
+  start-lies : (o : Option TextRow) → IfRow Row o → Lies P (start_of w o)
+  start-lies None a = tt
+  start-lies (Some r) a = in-row-lies r (reading_start w r.row) (start-fits (λ k. P (r.start + k)) w r.row a)
+
+  end-lies : (o : Option TextRow) → IfRow Row o → Lies P (end_of w o)
+  end-lies None a = tt
+  end-lies (Some r) a = in-row-lies r (reading_end w r.row) (end-fits (λ k. P (r.start + k)) w r.row a)
+
+  before-lies : (k : ℕ) → IfRow Row (row_before rows k)
+  before-lies zero = tt
+  before-lies (suc k) = each-get Row rows k each
+
+  past-at : (on : Bool) (k : ℕ) → Lies P (elim on [ true ↦ start_of w (row_after rows k) | false ↦ end_of w (row_before rows k) ])
+  past-at true k = start-lies (row_after rows k) (each-get Row rows (k + 1) each)
+  past-at false k = end-lies (row_before rows k) (before-lies k)
+
+  past-lies : (side : Visual) (k : ℕ) → Lies P (past w rows side k)
+  past-lies side k = past-at (reads_on side (row_at rows k).row) k
+
+  pub kept-step_visual : (side : Visual) (place : ℕ) → P place → P (step_visual w rows side place)
+  kept-step_visual side place b =
+      let k = row_of rows place in
+      let r = row_at rows k in
+      let next = place_in r (beside w r.row side (place - r.start)) in
+      let near : Lies P next =
+      in-row-lies r (beside w r.row side (place - r.start))
+      (beside-fits (λ o. P (r.start + o)) w r.row (row-lies k (own-row place)) side (place - r.start)) in
+      else-lies (or_else next (past w rows side k)) place (either-lies P next (past w rows side k) near (past-lies side k)) b
+
+  pub kept-entry : (k column : ℕ) → k < length rows → Lies P (entry_in w (row_at rows k) column)
+  kept-entry k column within =
+      let r = row_at rows k in
+      in-row-lies r (entry w r.row column) (entry-fits (λ o. P (r.start + o)) w r.row (row-lies k within) column)
+
+  to-row-at : (same : Bool) (place k : ℕ) → k < length rows → P place
+      → P (elim same [ true ↦ place | false ↦ unwrap_or (entry_in w (row_at rows k) (cell_of w rows place)) place ])
+  to-row-at true place k within b = b
+  to-row-at false place k within b =
+      let column = cell_of w rows place in else-lies (entry_in w (row_at rows k) column) place (kept-entry k column within) b
+
+  pub kept-rows_away : (way : Vertical) (n place : ℕ) → P place → P (rows_away w rows way n place)
+  kept-rows_away way n place b =
+      let k = row_away (length rows) way n (row_of rows place) in
+      to-row-at (k == row_of rows place) place k (away-within (length rows) way n (row_of rows place) (own-row place)) b
+
+  entered : (o : Option ℕ) → Lies P o → IfSome o P
+  entered None a = tt
+  entered (Some o) a = a
+
+  first-kept : (k : ℕ) → k < length rows → P (first (row_at rows k))
+  first-kept k within =
+      let r = row_at rows k in
+      let lies = row-lies k within in
+      first-lies-at (λ o. P (r.start + o)) r.row.units lies.start lies.units
+
+  pub kept-row_home : (offset : ℕ) → P (row_home rows offset)
+  kept-row_home offset = first-kept (row_of rows offset) (own-row offset)
+
+  pub kept-row_end : (offset : ℕ) → P (row_end rows offset)
+  kept-row_end offset =
+      let r = row_at rows (row_of rows offset) in last-fits (λ o. P (r.start + o)) w r.row (row-lies (row_of rows offset) (own-row offset))
+
+  pub kept-follow : (top place t : ℕ) → 0 < t → P (follow rows top place t)
+  kept-follow top place t shown =
+      let above = own-row top in
+      let below = own-row place in
+      first-kept (nearest_top (row_of rows top) (row_of rows place) t) (omega (arith, above, below, shown))
+
+  -- each move
+  pub moves-keep : MovesKeep w rows P
+  moves-keep = record {
+    from = kept-place_from;
+    logical = kept-step_logical;
+    visual = kept-step_visual;
+    vertical = λ way place b. kept-rows_away way 1 place b;
+    page = kept-rows_away;
+    entry = λ k column within. entered (entry_in w (row_at rows k) column) (kept-entry k column within);
+    home = kept-row_home;
+    end = kept-row_end;
+    top = kept-follow;
+  }
+
+-- ---- of a text
+
+module _ (class : ℕ → Class) (bracket : ℕ → Option (Side × ℕ)) (base : Base) (w : ℕ) (some : 1 ≤ w) (text : List ℕ) (utf8 : IsUtf8 text) where
+  abbrev rows : List TextRow
+  rows = text_rows class bracket base w text
+
+  some-row : 0 < length rows
+  some-row = omega (arith, text-rank class bracket base w some text utf8 0, rank-few 0 (map first rows), length-map rows first)
+
+  rows-of-places : All (IsOfPlaces rows w) rows
+  rows-of-places = λ k d h.
+      row-of-places rows w (get_or rows k d) (in-places rows k d h) (rows-leveled class bracket base w text k d h)
+      (starts-are-places class bracket base w some text utf8 k d h)
+
+  -- each move leads from a place of the rows to a place
+  pub places-kept : MovesKeep w rows (IsPlace rows)
+  places-kept =
+      moves-keep w rows (IsPlace rows) rows-of-places (within-of (IsPlace rows) (places rows) (λ o c. c)) some-row
+      (begin-is-place class bracket base w some text utf8)
+
+  -- and so from a place of the text to a place
+  pub text-places-kept : MovesKeep w rows (IsTextPlace class text)
+  text-places-kept = subst (λ os. MovesKeep w rows (λ p. Contains os p)) (places-are class bracket base w some text utf8) places-kept
