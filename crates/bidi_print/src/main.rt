@@ -9,7 +9,7 @@ mod fault;
 mod printing;
 mod words;
 
-use bx_words::{FileFault, bytes_of, finish, refuse, refuse_words, text_of};
+use bx_words::{FileFault, UnicodeFiles, bytes_of, finish, refuse, refuse_words, text_of};
 use fault::ProgramFault;
 use printing::print_bytes;
 use std::env;
@@ -32,15 +32,12 @@ fn program<'a, W: Write>(
     let Some(bytes) = text_of(rt, options.file)? else {
         return Err(FileFault::Unreadable(options.file).into());
     };
-    print_bytes(
-        rt.alloc(),
-        writer,
-        bytes.as_slice(),
-        classes.as_slice(),
-        brackets.as_slice(),
-        mirroring.as_slice(),
-        options.style,
-    )
+    let unicode = UnicodeFiles {
+        classes: classes.as_slice(),
+        brackets: brackets.as_slice(),
+        mirroring: mirroring.as_slice(),
+    };
+    print_bytes(rt.alloc(), writer, bytes.as_slice(), unicode, options.style)
 }
 
 /// The words after the program's name.

@@ -7,6 +7,7 @@ use crate::fault::ProgramFault;
 use bx_print::{PrintError, Style, print};
 use bx_terms::LARGEST_TEXT;
 use bx_ucd::Tables;
+use bx_words::UnicodeFiles;
 use simdutf8::compat::from_utf8;
 use std::alloc::{AllocError, Global};
 use std::io::Write;
@@ -25,14 +26,12 @@ pub fn print_bytes<W: Write>(
     alloc: Global,
     writer: &mut W,
     bytes: &[u8],
-    classes: &[u8],
-    brackets: &[u8],
-    mirroring: &[u8],
+    unicode: UnicodeFiles<'_>,
     style: Style,
 ) -> Result<(), ProgramFault<'static>>
-    ensures { OnOk result (refusal classes.now brackets.now mirroring.now ≡ None) }
+    ensures { OnOk result (refusal unicode.entry.classes.now unicode.entry.brackets.now unicode.entry.mirroring.now ≡ None) }
 {
-    let tables = Tables::read(alloc, classes, brackets, mirroring)?;
+    let tables = Tables::read(alloc, unicode.classes, unicode.brackets, unicode.mirroring)?;
     // A file that is too long was not read to its end, and may be cut inside a character.
     if bytes.len() > LARGEST_TEXT {
         return Err(PrintError::TooLong.into());

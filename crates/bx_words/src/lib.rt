@@ -7,4 +7,4 @@ mod files;
 
 pub use arguments::{direction, direction_of, side, side_of, table};
 pub use ending::{finish, refuse, refuse_words};
-pub use files::{FileFault, bytes_of, text_of};
+pub use files::{FileFault, UnicodeFiles, bytes_of, text_of};
