@@ -28,6 +28,7 @@ pub opening_is : {D : Type 0} (says : D → Data) (tables : D) (text : List ℕ)
       top = 0;
       rest = rest;
       painted = None;
+      known = None;
       painting_owed = false;
       pending = drop 0 queue;
     })
@@ -40,6 +41,7 @@ opening_is {D} says tables text height width base e rest queue new is waits empt
       top = 0;
       rest = rest;
       painted = None;
+      known = None;
       painting_owed = false;
       pending = drop 0 queue;
     })) is
@@ -80,7 +82,7 @@ same_pending_after d saved s (Some key) = refl
 
 -- it does not depend on how a Save ends
 same_screen_after : (d : Data) (saved : Bool) (s : Session) (key : Option Key)
-    → (session_after_any d saved s key).painted ≡ (session_after_any d true s key).painted
+    → (session_after_any d saved s key).known ≡ (session_after_any d true s key).known
 same_screen_after d true s key = refl
 same_screen_after d false s None = refl
 same_screen_after d false s (Some (Insert c)) = refl
@@ -106,16 +108,16 @@ same_screen_after d false s (Some (keys.Size height width)) = refl
 
 pub byte_paints : {D : Type 0} (says : D → Data) (saved : Bool) (old mid : SessionState D) (new : Session) (b : ℕ)
     → mid ≡ record old { session = unpainted_after_byte (says old.tables) saved old.session b }
-    → QueuesPicture (says mid.tables) mid.session.pending mid.session.painted new → FeedPaints (says old.tables) old.session b new
+    → QueuesPicture (says mid.tables) mid.session.pending mid.session.known new → FeedPaints (says old.tables) old.session b new
 byte_paints {D} says saved old mid new b e h =
     let d = says old.tables in
     let s = after_spending old.session b in
     let key = key_of_byte old.session b in
     let pending : (session_after_any d saved s key).pending ≡ old.session.pending =
     same_pending_after d saved s key ∙ same_pending old.session.editor.ended old.session (head_of (rest_after old.session.rest b)) in
-    subst (λ (q : List ℕ). QueuesPicture d q (session_after_any d true s key).painted new) pending
+    subst (λ (q : List ℕ). QueuesPicture d q (session_after_any d true s key).known new) pending
     (subst (λ (p : Option PictureState). QueuesPicture d (session_after_any d saved s key).pending p new) (same_screen_after d saved s key)
-    (subst (λ (x : SessionState D). QueuesPicture (says x.tables) x.session.pending x.session.painted new) e h))
+    (subst (λ (x : SessionState D). QueuesPicture (says x.tables) x.session.pending x.session.known new) e h))
 
 -- ---- a told size
 

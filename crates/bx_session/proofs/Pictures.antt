@@ -28,21 +28,22 @@ longer_queue n queue more new fits is = ap (drop n) is ∙ drop-append-le n queu
 
 -- a session with this painting queued
 pub painting_is : (d : Data) (s : Session) (e : Editor) (top : ℕ) (p : PictureState) (pending : List ℕ) → e ≡ s.editor
-    → top ≡ next_top d s.editor s.top → p ≡ picture d s.editor top → pending ≡ s.pending ++ painting s.painted p
-    → record s { editor = e; top = top; painted = Some p; painting_owed = false; pending = pending } ≡ with_painting d s
+    → top ≡ next_top d s.editor s.top → p ≡ picture d s.editor top → pending ≡ s.pending ++ painting s.known p
+    → record s { editor = e; top = top; painted = Some p; known = Some p; painting_owed = false; pending = pending } ≡ with_painting d s
 painting_is d s e top p pending same follows is appends = rw (appends, is, follows, same) refl
 
 pub painting_queues : (d : Data) (s : Session) (e : Editor) (top : ℕ) (p : PictureState) (pending : List ℕ) → e ≡ s.editor
-    → p ≡ picture d s.editor top → pending ≡ s.pending ++ painting s.painted p → AreWholeTokens (painting s.painted p)
-    → Leads s.painted (painting s.painted p) p → IsPicture p
-    → QueuesPicture d s.pending s.painted (record s { editor = e; top = top; painted = Some p; painting_owed = false; pending = pending })
+    → p ≡ picture d s.editor top → pending ≡ s.pending ++ painting s.known p → AreWholeTokens (painting s.known p)
+    → Leads s.known (painting s.known p) p → IsPicture p
+    → QueuesPicture d s.pending s.known (record s { editor = e; top = top; painted = Some p; known = Some p; painting_owed = false; pending = pending })
 painting_queues d s e top p pending same is appends tokens leads sized = (
-  painting s.painted p,
+  painting s.known p,
   record {
     appends = appends;
     tokens = tokens;
     leads = rw (same, ← is) leads;
     painted = rw (same, ← is) refl;
+    known = rw (same, ← is) refl;
     is_picture = rw (same, ← is) sized;
   },
 )

@@ -26,8 +26,8 @@ prefixed p s = record s { pending = p ++ s.pending }
 with_painting-prefixed : (d : Data) (p : List ℕ) (s : Session) → with_painting d (prefixed p s) ≡ prefixed p (with_painting d s)
 with_painting-prefixed d p s =
     let top = next_top d s.editor s.top in
-    ap (λ (q : List ℕ). record s { top = top; painted = Some (picture d s.editor top); painting_owed = false; pending = q })
-    (append_assoc p s.pending (painting s.painted (picture d s.editor top)))
+    ap (λ (q : List ℕ). record s { top = top; painted = Some (picture d s.editor top); known = Some (picture d s.editor top); painting_owed = false; pending = q })
+    (append_assoc p s.pending (painting s.known (picture d s.editor top)))
 
 spending_at : (ended : Bool) (p : List ℕ) (s : Session) (rest : List ℕ)
     → (if ended then prefixed p s else record (prefixed p s) { rest = rest }) ≡ prefixed p (if ended then s else record s { rest = rest })

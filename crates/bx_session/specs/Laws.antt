@@ -11,9 +11,10 @@ use Rattle.bx_editor.specs.Picture.{picture}
 use Rattle.bx_session.specs.Session.{Session, at_opening, after_spending, after_byte, owing_after_byte, after_told, owing_after_told, after_sending}
 use Rattle.bx_session.specs.Session.{after_replay, is_replayed}
 
--- where no painting is owed, the picture last painted is that of the session's state
+-- where no painting is owed, the picture last painted is that of the session's state, and the screen is taken to show it
 abbrev pub ShowsState : Data → Session → Type 0
-ShowsState d s = s.painting_owed ≡ false → s.painted ≡ Some (picture d s.editor s.top)
+ShowsState d s =
+    s.painting_owed ≡ false → (s.painted ≡ Some (picture d s.editor s.top)) × (s.known ≡ Some (picture d s.editor s.top))
 
 -- so it is at opening, and so it stays, whatever is answered
 pub record AlwaysShowsState : Type 0 where

@@ -14,12 +14,13 @@ abbrev pub Leads : Option PictureState → List ℕ → PictureState → Type 0
 Leads (Some old) bytes new = (t : Terminal) → Shows t old → Shows (reads t bytes) new
 Leads None bytes new = (t : Terminal) → IsIdle t → t.height ≡ new.height → t.width ≡ new.width → Shows (reads t bytes) new
 
--- of what was pending, and known of the screen, before: whole tokens were queued behind it that lead to the session's picture
-pub record Paints (d : Data) (before : List ℕ) (known : Option PictureState) (new : Session) (bytes : List ℕ) : Type 0 where
+-- of what was pending, and what the screen was taken to show, before: whole tokens were queued behind it that lead to the session's picture
+pub record Paints (d : Data) (before : List ℕ) (old : Option PictureState) (new : Session) (bytes : List ℕ) : Type 0 where
   pub appends : new.pending ≡ before ++ bytes
   pub tokens : AreWholeTokens bytes
-  pub leads : Leads known bytes (picture d new.editor new.top)
+  pub leads : Leads old bytes (picture d new.editor new.top)
   pub painted : new.painted ≡ Some (picture d new.editor new.top)
+  pub known : new.known ≡ Some (picture d new.editor new.top)
   pub is_picture : IsPicture (picture d new.editor new.top)
 
 abbrev pub QueuesPicture : Data → List ℕ → Option PictureState → Session → Type 0
@@ -27,7 +28,7 @@ QueuesPicture d before known new = (bytes : List ℕ) × Paints d before known n
 
 -- a byte that was not refused and is not idle; how a Save ends does not matter to what is known of the screen
 abbrev pub FeedPaints : Data → Session → ℕ → Session → Type 0
-FeedPaints d old b new = QueuesPicture d old.pending (unpainted_after_byte d true old b).painted new
+FeedPaints d old b new = QueuesPicture d old.pending (unpainted_after_byte d true old b).known new
 
 -- a told size that was not refused: nothing is known of the screen
 abbrev pub ToldPaints : Data → Session → Session → Type 0

@@ -20,8 +20,10 @@ pub record Session : Type 0 where
   pub top : ℕ
   -- input that waits for more, as far as a key can still come of it
   pub rest : List ℕ
-  -- the picture last painted, which the screen is taken to show once all is read; none where nothing is known of the screen
+  -- the picture last painted; none before the first
   pub painted : Option PictureState
+  -- what the screen is taken to show once all is read; none where nothing is known of it
+  pub known : Option PictureState
   -- a painting was refused, and none was queued since
   pub painting_owed : Bool
   -- bytes for the terminal
@@ -34,6 +36,10 @@ pub record SessionState (D : Type 0) : Type 0 where
 
 -- ---- painting
 
+-- the picture last painted, where the screen is taken to show it
+abbrev pub known_if : Bool → Option PictureState → Option PictureState
+known_if is_known painted = if is_known then painted else None
+
 -- the bytes that lead to a picture: what differs from the one that is shown, or the whole where none is known to be
 abbrev pub painting : Option PictureState → PictureState → List ℕ
 painting None new = whole_bytes new
@@ -43,8 +49,9 @@ abbrev pub with_picture : Session → ℕ → PictureState → Session
 with_picture s top new = record s {
   top = top;
   painted = Some new;
+  known = Some new;
   painting_owed = false;
-  pending = s.pending ++ painting s.painted new;
+  pending = s.pending ++ painting s.known new;
 }
 
 -- the top follows the cursor, and the picture is painted
@@ -63,6 +70,7 @@ before_painting text height width base = record {
   top = 0;
   rest = [];
   painted = None;
+  known = None;
   painting_owed = false;
   pending = [];
 }
@@ -81,14 +89,14 @@ abbrev pub after_spending : Session → ℕ → Session
 after_spending s b = if s.editor.ended then s else record s { rest = head_of (rest_after s.rest b) }
 
 -- what is known of the screen after a key that leaves the editor so: nothing where the key asks for that, or at the end
-abbrev pub painted_after : Option PictureState → Key → Editor → Option PictureState
-painted_after painted key e = if asks_for_whole key || e.ended then None else painted
+abbrev pub known_after : Option PictureState → Key → Editor → Option PictureState
+known_after known key e = if asks_for_whole key || e.ended then None else known
 
 -- a key is applied, and not yet painted; `saved` tells how a Save ends
 abbrev pub session_after_key : Data → Bool → Session → Key → Session
 session_after_key d saved s key =
     let e = after_key d saved s.editor key in
-    record s { editor = e; painted = painted_after s.painted key e }
+    record s { editor = e; known = known_after s.known key e }
 
 abbrev pub session_after_any : Data → Bool → Session → Option Key → Session
 session_after_any d saved s None = s
@@ -133,7 +141,7 @@ after_replay d s b = with_painting_owed (after_replayed_key d (after_spending s 
 
 -- nothing is known of a screen of another size
 abbrev pub unpainted_after_told : Session → ℕ → ℕ → Session
-unpainted_after_told s height width = record s { editor = with_size s.editor height width; painted = None }
+unpainted_after_told s height width = record s { editor = with_size s.editor height width; known = None }
 
 abbrev pub after_told : Data → Session → ℕ → ℕ → Session
 after_told d s height width = with_painting d (unpainted_after_told s height width)

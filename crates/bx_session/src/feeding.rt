@@ -115,7 +115,7 @@ impl<D: BidiData + Drop> Session<D> {
     {
         apply(&mut self.editor, key, store)?;
         if asks_for_whole(key) || self.editor.ended() {
-            self.painted = None;
+            self.is_known = false;
         }
         Ok(())
     }
@@ -190,6 +190,6 @@ impl<D: BidiData + Drop> Session<D> {
         ensures { self.new ≡ record self.old { session = unpainted_after_told self.old.session height width } }
     {
         self.editor.resize(height, width);
-        self.painted = None;
+        self.is_known = false;
     }
 }

@@ -43,6 +43,7 @@ impl<D: BidiData + Drop> Session<D> {
             top: 0,
             decoder: Decoder::new(),
             painted: None,
+            is_known: false,
             painting_owed: false,
             queue: Vec::new(alloc),
             taken: 0,

@@ -3,7 +3,7 @@
 ghost use Rattle.std.specs.Prelude.{◌≡◌, ◌++◌, IfSome, OnErr, OnOk};
 ghost use Rattle.bx_grid.specs.Picture.{AreWholeTokens, IsPicture};
 ghost use Rattle.bx_session.specs.Painting.{Leads, QueuesPicture};
-ghost use Rattle.bx_session.specs.Session.{painting, with_painting, with_painting_owed};
+ghost use Rattle.bx_session.specs.Session.{known_if, painting, with_painting, with_painting_owed};
 
 use crate::error::Refused;
 use crate::session::Session;
@@ -12,26 +12,28 @@ use bx_grid::Picture;
 use bx_paint::{PaintError, changes_into, whole_into};
 use bx_ucd::BidiData;
 
-/// Appends the bytes that lead from one picture to another of its size, or that paint it whole where there is none.
+/// Appends the bytes that lead from the picture last painted, where the screen is taken to show it, to another of its size, or
+/// else those that paint the other whole.
 ///
 /// Errors: `OutOfMemory`, and nothing is appended.
 fn append(
     queue: &mut Vec<u8>,
     painted: &Option<Picture>,
+    is_known: bool,
     picture: &Picture,
 ) -> Result<(), PaintError>
-    requires fits { IfSome painted.now (λ p. (p.height ≡ picture.now.height) × (p.width ≡ picture.now.width)) }
-    ensures bytes { OnOk result (queue.new.items ≡ queue.old.items ++ painting painted.now picture.now) }
+    requires fits { IfSome (known_if is_known painted.now) (λ p. (p.height ≡ picture.now.height) × (p.width ≡ picture.now.width)) }
+    ensures bytes { OnOk result (queue.new.items ≡ queue.old.items ++ painting (known_if is_known painted.now) picture.now) }
     ensures err { OnErr result (queue.new.items ≡ queue.old.items) }
-    ensures leads { Leads painted.now (painting painted.now picture.now) picture.now }
-    ensures tokens { AreWholeTokens (painting painted.now picture.now) }
+    ensures leads { Leads (known_if is_known painted.now) (painting (known_if is_known painted.now) picture.now) picture.now }
+    ensures tokens { AreWholeTokens (painting (known_if is_known painted.now) picture.now) }
     ensures is_picture { IsPicture picture.now }
 {
     // whose contract says that it is a picture
     let _grid = picture.grid();
     match painted {
-        Some(old) => changes_into(queue, old, picture),
-        None => whole_into(queue, picture),
+        Some(old) if is_known => changes_into(queue, old, picture),
+        _ => whole_into(queue, picture),
     }
 }
 
@@ -44,7 +46,7 @@ impl<D: BidiData + Drop> Session<D> {
         ensures tables { self.new.tables ≡ self.old.tables }
         ensures ok { OnOk result (self.new.session ≡ with_painting (⟦<D as Answers>⟧.data self.old.tables) self.old.session) }
         ensures paints { OnOk result (QueuesPicture (⟦<D as Answers>⟧.data self.old.tables) self.old.session.pending
-            self.old.session.painted self.new.session) }
+            self.old.session.known self.new.session) }
         ensures err { OnErr result (self.new.session ≡ with_painting_owed self.old.session) }
         ensures memory { OnErr result (result ≡ Err Refused.Paint) }
     {
@@ -53,11 +55,12 @@ impl<D: BidiData + Drop> Session<D> {
         let Ok((top, picture)) = self.editor.picture(alloc, self.top) else {
             return Err(Refused::Paint);
         };
-        let Ok(()) = append(&mut self.queue, &self.painted, &picture) else {
+        let Ok(()) = append(&mut self.queue, &self.painted, self.is_known, &picture) else {
             return Err(Refused::Paint);
         };
         self.top = top;
         self.painted = Some(picture);
+        self.is_known = true;
         self.painting_owed = false;
         Ok(())
     }

@@ -37,7 +37,7 @@ impl<D: BidiData + Drop> Session<D> {
     {
         apply_unsaved(&mut self.editor, key)?;
         if asks_for_whole(key) || self.editor.ended() {
-            self.painted = None;
+            self.is_known = false;
         }
         Ok(())
     }

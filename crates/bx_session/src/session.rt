@@ -18,8 +18,10 @@ pub struct Session<D: BidiData + Drop> {
     // the offset that the top row was last shown from
     pub(crate) top: usize,
     pub(crate) decoder: Decoder,
-    // the picture last painted; none where nothing is known of the screen
+    // the picture last painted; none before the first
     pub(crate) painted: Option<Picture>,
+    // the screen is taken to show it once all is read
+    pub(crate) is_known: bool,
     pub(crate) painting_owed: bool,
     pub(crate) queue: Vec<u8>,
     // how many bytes of the queue have gone
@@ -29,7 +31,7 @@ pub struct Session<D: BidiData + Drop> {
 impl<D: BidiData + Drop> Model for Session<D> {
     ghost use Rattle.std.specs.Prelude.{◌≤◌, drop, length};
     ghost use Rattle.bx_session.specs.Painting.{FitsEditor};
-    ghost use Rattle.bx_session.specs.Session.{SessionState};
+    ghost use Rattle.bx_session.specs.Session.{SessionState, known_if};
 
     ghost Value = { SessionState D };
 
@@ -40,12 +42,13 @@ impl<D: BidiData + Drop> Model for Session<D> {
         top = s.top;
         rest = s.decoder;
         painted = s.painted;
+        known = known_if s.is_known s.painted;
         painting_owed = s.painting_owed;
         pending = drop s.taken s.queue.items;
       };
     } };
 
-    ghost invariant = { λ s. (s.taken ≤ length s.queue.items) × FitsEditor s.painted s.editor.editor };
+    ghost invariant = { λ s. (s.taken ≤ length s.queue.items) × FitsEditor (known_if s.is_known s.painted) s.editor.editor };
 }
 
 impl<D: BidiData + Drop> Session<D> {
@@ -110,7 +113,7 @@ impl<D: BidiData + Drop> Session<D> {
         decoder.feed(byte)
     }
 
-    /// Whether a terminal shows the picture last painted; none is, where nothing is known of the screen. No memory.
+    /// Whether a terminal shows the picture last painted. No memory.
     pub fn is_shown_on(&self, screen: &Screen) -> bool
         ensures { IsTrue result ↔ IsShownOn self.now.session.painted screen.now }
     {

@@ -51,7 +51,7 @@ pub spent_in_step : (d : Data) (w : World) (b : ℕ) (told : Bool) → IsInStep 
 spent_in_step d w b told was stays =
     let s = spent w.session b in
     kept d w (after_spending w.session b) told was s.pending (always_shows.refused_key d w.session b was.state)
-    (λ on. known w.session.painted (after_spending w.session b).painted (sym s.painted) (stays on))
+    (λ on. known w.session.known (after_spending w.session b).known (sym s.known) (stays on))
     (λ on. rw s.editor (was.size (stays on))) where
       known : (old new : Option PictureState) → old ≡ new → w.told ≡ true → IfSome new (λ p. (w.told ≡ true) × (old ≡ Some p))
       known old None is on = tt
@@ -68,7 +68,7 @@ owing_in_step d saved w b was =
 pub fed_in_step : (d : Data) (saved : Bool) (w : World) (b : ℕ) (new : Session) → IsInStep d w
     → new ≡ with_painting d (unpainted_after_byte d saved w.session b) → FeedPaints d w.session b new → IsInStep d (with_byte w b new)
 fed_in_step d saved w b new was is queued =
-    painted d w new (told_after_key w (key_of_byte w.session b)) (unpainted_after_byte d true w.session b).painted was queued
+    painted d w new (told_after_key w (key_of_byte w.session b)) (unpainted_after_byte d true w.session b).known was queued
     (byte_keeps d true w b).known
     (λ on. rw is ((byte_keeps d saved w b).size was.size on))
 

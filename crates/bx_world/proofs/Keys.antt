@@ -76,7 +76,7 @@ pressing_size d saved again e (Size height width) = (refl, refl)
 -- has the window's size, and what is known of the screen is what was known of it
 pub record Keeps (w : World) (s new : Session) (told : Bool) : Type 0 where
   pub size : (w.told ≡ true → FitsWindow w.height w.width s.editor) → told ≡ true → FitsWindow w.height w.width new.editor
-  pub known : told ≡ true → IfSome new.painted (λ p. (w.told ≡ true) × (s.painted ≡ Some p))
+  pub known : told ≡ true → IfSome new.known (λ p. (w.told ≡ true) × (s.known ≡ Some p))
 
 known_if : (g told : Bool) (painted : Option PictureState) → told ≡ true
     → IfSome (if g then None else painted) (λ p. (told ≡ true) × (painted ≡ Some p))
@@ -89,7 +89,7 @@ other_key : (d : Data) (saved : Bool) (w : World) (s : Session) (key : Key) → 
     → told_after_key w (Some key) ≡ w.told → Keeps w s (session_after_key d saved s key) (told_after_key w (Some key))
 other_key d saved w s key size stays = record {
   size = λ fits on. (let was = fits (sym stays ∙ on) in (size.0 ∙ was.0, size.1 ∙ was.1));
-  known = λ on. known_if (asks_for_whole key || (after_key d saved s.editor key).ended) w.told s.painted (sym stays ∙ on);
+  known = λ on. known_if (asks_for_whole key || (after_key d saved s.editor key).ended) w.told s.known (sym stays ∙ on);
 }
 
 pub both : (a b : Bool) → a && b ≡ true → (a ≡ true) × (b ≡ true)
@@ -131,7 +131,7 @@ key_keeps d saved w s Direction = other_key d saved w s Direction (pressing_size
 key_keeps d saved w s (Size height width) = size_key d saved w s height width
 
 any_keeps : (d : Data) (saved : Bool) (w : World) (s : Session) (key : Option Key) → Keeps w s (session_after_any d saved s key) (told_after_key w key)
-any_keeps d saved w s None = record { size = λ fits on. fits on; known = λ on. known_if false w.told s.painted on }
+any_keeps d saved w s None = record { size = λ fits on. fits on; known = λ on. known_if false w.told s.known on }
 any_keeps d saved w s (Some key) = key_keeps d saved w s key
 
 -- ---- what a byte leaves
@@ -141,12 +141,13 @@ pub record IsSpent (old new : Session) : Type 0 where
   pub editor : new.editor ≡ old.editor
   pub top : new.top ≡ old.top
   pub painted : new.painted ≡ old.painted
+  pub known : new.known ≡ old.known
   pub owed : new.painting_owed ≡ old.painting_owed
   pub pending : new.pending ≡ old.pending
 
 spent_if : (ended : Bool) (s : Session) (rest : List ℕ) → IsSpent s (if ended then s else record s { rest = rest })
-spent_if true s rest = record { editor = refl; top = refl; painted = refl; owed = refl; pending = refl }
-spent_if false s rest = record { editor = refl; top = refl; painted = refl; owed = refl; pending = refl }
+spent_if true s rest = record { editor = refl; top = refl; painted = refl; known = refl; owed = refl; pending = refl }
+spent_if false s rest = record { editor = refl; top = refl; painted = refl; known = refl; owed = refl; pending = refl }
 
 pub spent : (s : Session) (b : ℕ) → IsSpent s (after_spending s b)
 spent s b = spent_if s.editor.ended s (head_of (rest_after s.rest b))
@@ -158,8 +159,8 @@ byte_keeps d saved w b =
     let first = spent w.session b in
     let then_key = any_keeps d saved w (after_spending w.session b) (key_of_byte w.session b) in record {
       size = λ fits on. then_key.size (λ told. rw first.editor (fits told)) on;
-      known = λ on. subst (λ painted. IfSome (unpainted_after_byte d saved w.session b).painted (λ p. (w.told ≡ true) × (painted ≡ Some p)))
-          first.painted (then_key.known on);
+      known = λ on. subst (λ painted. IfSome (unpainted_after_byte d saved w.session b).known (λ p. (w.told ≡ true) × (painted ≡ Some p)))
+          first.known (then_key.known on);
     }
 
 any_pending : (d : Data) (saved : Bool) (s : Session) (key : Option Key) → (session_after_any d saved s key).pending ≡ s.pending

@@ -23,7 +23,7 @@ use Rattle.bx_world.specs.Showing.{AfterAll, IsInStep, WillShow, ShowsWhenRead}
 use Rattle.bx_world.proofs.Keys.{spent}
 
 pub will_show : (d : Data) (w : World) → IsInStep d w → WillShow d w
-will_show d w was told owed = subst (λ painted. IfSome painted (λ p. AfterAll w (λ t. Shows t p))) (was.state owed) (was.follows told)
+will_show d w was told owed = subst (λ painted. IfSome painted (λ p. AfterAll w (λ t. Shows t p))) (was.state owed).1 (was.follows told)
 
 -- ---- one step more
 

@@ -21,16 +21,16 @@ with_session w s told = record w { session = s; told = told }
 
 -- where nothing was queued
 pub kept : (d : Data) (w : World) (s : Session) (told : Bool) → IsInStep d w → s.pending ≡ w.session.pending → ShowsState d s
-    → (told ≡ true → IfSome s.painted (λ p. (w.told ≡ true) × (w.session.painted ≡ Some p)))
+    → (told ≡ true → IfSome s.known (λ p. (w.told ≡ true) × (w.session.known ≡ Some p)))
     → (told ≡ true → FitsWindow w.height w.width s.editor) → IsInStep d (with_session w s told)
 kept d w s told was pending state known fits = record {
   state = state;
-  follows = λ on. known_follows s.painted (known on);
+  follows = λ on. known_follows s.known (known on);
   whole = subst (λ bytes. IfSome w.screen (λ t. IsIdle (reads t (w.line ++ bytes)))) (sym pending) was.whole;
   screen = was.screen;
   size = fits;
 } where
-  known_follows : (painted : Option PictureState) → IfSome painted (λ p. (w.told ≡ true) × (w.session.painted ≡ Some p))
+  known_follows : (painted : Option PictureState) → IfSome painted (λ p. (w.told ≡ true) × (w.session.known ≡ Some p))
       → IfSome painted (λ p. IfSome w.screen (λ t. Shows (reads t (w.line ++ s.pending)) p))
   known_follows None h = tt
   known_follows (Some p) h =
@@ -56,11 +56,11 @@ leads_on w (Some q) bytes p t idle size fits shown leads = leads (reads t (unrea
 -- where a picture was queued
 pub painted : (d : Data) (w : World) (s : Session) (told : Bool) (known : Option PictureState) → IsInStep d w
     → QueuesPicture d w.session.pending known s
-    → (told ≡ true → IfSome known (λ p. (w.told ≡ true) × (w.session.painted ≡ Some p)))
+    → (told ≡ true → IfSome known (λ p. (w.told ≡ true) × (w.session.known ≡ Some p)))
     → (told ≡ true → FitsWindow w.height w.width s.editor) → IsInStep d (with_session w s told)
 painted d w s told known was queued stays fits = record {
-  state = λ owed. paints.painted;
-  follows = λ on. subst (λ painted. IfSome painted (λ p. IfSome w.screen (λ t. Shows (reads t (w.line ++ s.pending)) p))) (sym paints.painted)
+  state = λ owed. (paints.painted, paints.known);
+  follows = λ on. subst (λ painted. IfSome painted (λ p. IfSome w.screen (λ t. Shows (reads t (w.line ++ s.pending)) p))) (sym paints.known)
       (shows_at w.screen was.whole was.screen (known_at known (stays on)) on);
   whole = whole_at w.screen was.whole;
   screen = was.screen;
@@ -75,7 +75,7 @@ painted d w s told known was queued stays fits = record {
   new : PictureState
   new = picture d s.editor s.top
 
-  known_at : (known : Option PictureState) → IfSome known (λ p. (w.told ≡ true) × (w.session.painted ≡ Some p))
+  known_at : (known : Option PictureState) → IfSome known (λ p. (w.told ≡ true) × (w.session.known ≡ Some p))
       → IfSome known (λ p. IfSome w.screen (λ t. Shows (reads t (unread w)) p))
   known_at None h = tt
   known_at (Some p) h = subst (λ painted. IfSome painted (λ q. AfterAll w (λ t. Shows t q))) h.1 (was.follows h.0)
@@ -109,8 +109,8 @@ opened d s height width queued fits =
     let t = unknown_terminal height width in
     let idle : IsIdle t = record { no_run = refl; no_token = refl } in
     let p = picture_of d s in record {
-      state = λ owed. paints.painted;
-      follows = λ on. subst (λ painted. IfSome painted (λ q. Shows (reads t s.pending) q)) (sym paints.painted)
+      state = λ owed. (paints.painted, paints.known);
+      follows = λ on. subst (λ painted. IfSome painted (λ q. Shows (reads t s.pending) q)) (sym paints.known)
           (subst (λ bytes. Shows (reads t bytes) p) (sym paints.appends)
           (paints.leads t idle (sym fits.0 ∙ sym (picture_height d s.editor s.top)) (sym fits.1 ∙ sym (picture_width d s.editor s.top))));
       whole = subst (λ bytes. IsIdle (reads t bytes)) (sym paints.appends) (paints.tokens t idle);
@@ -147,7 +147,7 @@ sent d w count was =
     let same : unread w ≡ (w.line ++ take count p) ++ drop count p =
     ap (λ xs. w.line ++ xs) (sym (take-append-drop count p)) ∙ sym (append_assoc w.line (take count p) (drop count p)) in record {
       state = was.state;
-      follows = λ on. subst (λ bytes. IfSome w.session.painted (λ q. IfSome w.screen (λ t. Shows (reads t bytes) q))) same (was.follows on);
+      follows = λ on. subst (λ bytes. IfSome w.session.known (λ q. IfSome w.screen (λ t. Shows (reads t bytes) q))) same (was.follows on);
       whole = subst (λ bytes. IfSome w.screen (λ t. IsIdle (reads t bytes))) same was.whole;
       screen = was.screen;
       size = was.size;
@@ -156,7 +156,7 @@ sent d w count was =
 pub received : (d : Data) (w : World) (count : ℕ) → IsInStep d w → IsInStep d (after_read w count)
 received d w count was = record {
   state = was.state;
-  follows = λ on. follows_at w.session.painted (was.follows on);
+  follows = λ on. follows_at w.session.known (was.follows on);
   whole = all_at w.screen IsIdle was.whole;
   screen = screen_at w.screen was.screen;
   size = was.size;
@@ -188,7 +188,7 @@ received d w count was = record {
 pub failed : (d : Data) (w : World) (line : List ℕ) → IsInStep d w → IsInStep d (with_failed_screen (record w { line = line }))
 failed d w line was = record {
   state = was.state;
-  follows = λ on. nothing w.session.painted;
+  follows = λ on. nothing w.session.known;
   whole = tt;
   screen = tt;
   size = was.size;

@@ -52,10 +52,10 @@ abbrev pub FitsWindow : ℕ → ℕ → Editor → Type 0
 FitsWindow height width e = (e.height ≡ height) × (e.width ≡ width)
 
 pub record IsInStep (d : Data) (w : World) : Type 0 where
-  -- where no painting is owed, the picture last painted is the state's
+  -- where no painting is owed, the picture last painted is the state's, and the screen is taken to show it
   pub state : ShowsState d w.session
-  -- where the size was told, the terminal will show the picture last painted
-  pub follows : w.told ≡ true → IfSome w.session.painted (λ p. AfterAll w (λ t. Shows t p))
+  -- where the size was told, the terminal will show what the screen is taken to show
+  pub follows : w.told ≡ true → IfSome w.session.known (λ p. AfterAll w (λ t. Shows t p))
   pub whole : StaysWhole w
   pub screen : IfSome w.screen (λ t. HasSize w.height w.width t × NoRunInSequence t)
   pub size : w.told ≡ true → FitsWindow w.height w.width w.session.editor

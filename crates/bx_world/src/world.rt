@@ -1,11 +1,12 @@
 //! The world's state.
 
-ghost use Rattle.std.specs.Prelude.{◌≡◌, ◌↔◌, true, IfErr, IfOk, IsTrue, IsUtf8, OnOk};
+ghost use Rattle.std.specs.Prelude.{◌≡◌, ◌↔◌, true, false, IfErr, IfOk, IsTrue, IsUtf8, OnOk};
 ghost use Rattle.bx_grid.specs.Picture.{is_size};
+ghost use Rattle.bx_grid.specs.Screens.{IfShown};
 ghost use Rattle.bx_editor.specs.Opening.{Causes};
 ghost use Rattle.bx_session.specs.Painting.{IsShownOn};
 ghost use Rattle.bx_session.specs.Session.{at_opening};
-ghost use Rattle.bx_world.specs.Showing.{IsInStep, StaysWhole, WillShow};
+ghost use Rattle.bx_world.specs.Showing.{IsInStep, StaysWhole, WillShow, picture_of};
 ghost use Rattle.bx_world.specs.World.{around};
 
 use bx_document::Answers;
@@ -121,10 +122,13 @@ impl<D: BidiData + Drop> World<D> {
         self.told
     }
 
-    /// Whether the terminal shows the picture last painted. No memory.
+    /// Whether the terminal shows the picture last painted, which is that of the state where no painting is owed. No memory.
     pub fn shows(&self) -> bool
-        ensures { IsTrue result ↔ IsShownOn self.now.world.session.painted self.now.world.screen }
+        ensures painted { IsTrue result ↔ IsShownOn self.now.world.session.painted self.now.world.screen }
+        ensures state { self.now.world.session.painting_owed ≡ false
+            → (IsTrue result ↔ IfShown self.now.world.screen (picture_of (⟦<D as Answers>⟧.data self.now.tables) self.now.world.session)) }
     {
+        self.keep_up();
         self.session.is_shown_on(&self.screen)
     }
 

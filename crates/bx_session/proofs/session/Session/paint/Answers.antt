@@ -4,7 +4,7 @@ use Rattle.bx_grid.specs.Picture.{PictureState}
 use Rattle.bx_editor.specs.Data.{Data}
 use Rattle.bx_editor.specs.Editor.{Editor, EditorState}
 use Rattle.bx_session.proofs.Pictures.{picture_height, picture_width, longer_queue, painting_is, painting_queues}
-use Rattle.bx_session.specs.Session.{Session, painting}
+use Rattle.bx_session.specs.Session.{Session, known_if, painting}
 use Rattle.bx_session.proofs.session.Session.paint.Goals as goal
 
 pub invariant_of-self-2 : goal.invariant_of-self-2
@@ -20,7 +20,7 @@ invariant_of-self-2 g c =
         arith,
         c.self.invariant.0,
         ap length c.in-Ok-append.ensures.bytes,
-        length-append c.self.inside.queue.items (painting c.self.inside.painted c.in-Ok.picture),
+        length-append c.self.inside.queue.items (painting (known_if c.self.inside.is_known c.self.inside.painted) c.in-Ok.picture),
       ),
       (
         ap (λ (p : PictureState). p.height) c.in-Ok.ensures.picture ∙ picture_height d e c.in-Ok.top ∙ ap (λ (x : Editor). x.height) (sym same),
@@ -40,13 +40,14 @@ returns-clause-ok g c =
       top = c.self.inside.top;
       rest = c.self.inside.decoder;
       painted = c.self.inside.painted;
+      known = known_if c.self.inside.is_known c.self.inside.painted;
       painting_owed = c.self.inside.painting_owed;
       pending = drop c.self.inside.taken c.self.inside.queue.items;
     } in
     rw (← c.self.view_is)
     (painting_is d s c.picture.new.self.editor c.in-Ok.top c.in-Ok.picture (drop c.self.inside.taken c.append.new.queue.items)
     (ap (λ (x : EditorState g.row.D.Denot). x.editor) c.in-Ok.ensures.same) c.in-Ok.ensures.top c.in-Ok.ensures.picture
-    (longer_queue c.self.inside.taken c.self.inside.queue.items (painting c.self.inside.painted c.in-Ok.picture) c.append.new.queue.items c.self.invariant.0
+    (longer_queue c.self.inside.taken c.self.inside.queue.items (painting (known_if c.self.inside.is_known c.self.inside.painted) c.in-Ok.picture) c.append.new.queue.items c.self.invariant.0
     c.in-Ok-append.ensures.bytes))
 
 pub returns-clause-paints : goal.returns-clause-paints
@@ -61,11 +62,12 @@ returns-clause-paints g c =
       top = c.self.inside.top;
       rest = c.self.inside.decoder;
       painted = c.self.inside.painted;
+      known = known_if c.self.inside.is_known c.self.inside.painted;
       painting_owed = c.self.inside.painting_owed;
       pending = drop c.self.inside.taken c.self.inside.queue.items;
     } in
     rw (← c.self.view_is)
     (painting_queues d s c.picture.new.self.editor c.in-Ok.top c.in-Ok.picture (drop c.self.inside.taken c.append.new.queue.items)
     (ap (λ (x : EditorState g.row.D.Denot). x.editor) c.in-Ok.ensures.same) c.in-Ok.ensures.picture
-    (longer_queue c.self.inside.taken c.self.inside.queue.items (painting c.self.inside.painted c.in-Ok.picture) c.append.new.queue.items c.self.invariant.0
+    (longer_queue c.self.inside.taken c.self.inside.queue.items (painting (known_if c.self.inside.is_known c.self.inside.painted) c.in-Ok.picture) c.append.new.queue.items c.self.invariant.0
     c.in-Ok-append.ensures.bytes) c.append.ensures.tokens c.append.ensures.leads c.append.ensures.is_picture)
