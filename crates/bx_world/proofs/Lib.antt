@@ -3,3 +3,8 @@ pub mod Keys
 pub mod Steps
 pub mod Calls
 pub mod Schedules
+pub mod Ended
+pub mod Brought
+pub mod Opened
+pub mod Sights
+pub mod Runs

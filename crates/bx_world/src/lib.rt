@@ -1,10 +1,12 @@
 //! The world of a session: what is on its way to the terminal, the window and the terminal, under any schedule of steps.
 #![tactic(auto)]
 
+mod laws;
 mod playing;
 mod step;
 mod stepping;
 mod world;
 
+pub use laws::runs_are_plays;
 pub use step::{Step, StepFault};
 pub use world::World;

@@ -1,8 +1,11 @@
 //! A whole schedule.
 
-ghost use Rattle.std.specs.Prelude.{◌≡◌, ◌≤◌, [], Bool, IfOk, OnErr, length, not, vec_capacity};
+ghost use Rattle.std.specs.Prelude.{◌≡◌, ◌≤◌, ℕ, List, [], Bool, IfOk, OnErr, length, not, vec_capacity};
 ghost use Rattle.std.specs.List.{zip};
 ghost use Rattle.bx_session.specs.Saving.{store_state};
+ghost use Rattle.bx_world.specs.Events.{Event};
+ghost use Rattle.bx_world.specs.Headline.{Follows, HeadlineFromOpening};
+ghost use Rattle.bx_world.specs.Reading.{PlaysReading, SeesPromised};
 ghost use Rattle.bx_world.specs.Showing.{ShowsWhenRead, StaysWhole, WillShow};
 ghost use Rattle.bx_world.specs.Steps.{PlaysTo, is_last_accepted};
 
@@ -33,7 +36,9 @@ impl<D: BidiData + Drop> World<D> {
     }
 
     /// Takes a schedule's steps in order, whatever those before answered, and gives the answers. Where the last call was not
-    /// refused, the window's last size was told since and all bytes are read, the terminal shows the picture of the state.
+    /// refused, the window's last size was told since and all bytes are read, the terminal shows the picture of the state, which
+    /// is what the accepted keys make of the file. Their keys are the input grammar's for all bytes of the schedule as a whole,
+    /// up to the session's end, and each save that succeeded stored the text of its moment.
     ///
     /// Errors: `Line` for want of memory for the answers: no step was taken.
     pub fn play<S: Store>(
@@ -46,10 +51,26 @@ impl<D: BidiData + Drop> World<D> {
             (store_state S.contents S.failure_count store.new)) }
         ensures count { IfOk result (λ answers. length answers.items ≡ length steps.now) }
         ensures tables { self.new.tables ≡ self.old.tables }
+
+        // What the user did, and what came of it.
+        ensures headline { IfOk result (λ answers. HeadlineFromOpening (⟦<D as Answers>⟧.data self.old.tables) self.old.world
+            (store_state S.contents S.failure_count store.old) (zip steps.now answers.items) self.new.world
+            (store_state S.contents S.failure_count store.new)) }
+        ensures follows { IfOk result (λ answers. (events : List Event) × Follows (⟦<D as Answers>⟧.data self.old.tables) self.old.world
+            (store_state S.contents S.failure_count store.old) (zip steps.now answers.items) self.new.world
+            (store_state S.contents S.failure_count store.new) events) }
+
+        // What is seen, also in the midst of a schedule.
+        ensures seen { IfOk result (λ answers. (read : List ℕ) × PlaysReading (⟦<D as Answers>⟧.data self.old.tables) self.old.world
+            (store_state S.contents S.failure_count store.old) (zip steps.now answers.items) self.new.world
+            (store_state S.contents S.failure_count store.new) read
+            × SeesPromised (⟦<D as Answers>⟧.data self.old.tables) self.old.world (zip steps.now answers.items) read self.new.world) }
         ensures shows { IfOk result (λ answers. ShowsWhenRead (is_last_accepted (not self.old.world.session.painting_owed) (zip steps.now answers.items))
             (⟦<D as Answers>⟧.data self.new.tables) self.new.world) }
         ensures will_show { WillShow (⟦<D as Answers>⟧.data self.new.tables) self.new.world }
         ensures whole { StaysWhole self.new.world }
+
+        // Where no memory was left for the answers.
         ensures untouched { OnErr result (self.new ≡ self.old) }
         ensures store { OnErr result (store.new ≡ store.old) }
         ensures fault { OnErr result (result ≡ Err StepFault.Line) }

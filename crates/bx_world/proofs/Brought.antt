@@ -1,0 +1,360 @@
+-- What steps bring to the editor, and what they make of it.
+use Rattle.std.proofs.Common.{◌≡◌, ℕ, ◌+◌, suc, ◌<◌, ◌≤◌, ◌⊎◌, inl, inr, min, Bool, true, false, List, [], ◌∷◌, ◌++◌, Option, Some, None, Result, Ok, Err}
+use Rattle.std.proofs.Common.{refl, sym, ap, subst, ◌∙◌, arith, if◌then◌else◌}
+use Rattle.std.specs.Prelude.{not, ◌&&◌, is_some, option_to_list}
+use Rattle.std.proofs.Math.Nat.{min-eq_left, min-eq_right}
+use Rattle.std.proofs.lemmas.Bool.{cases_lt}
+use Rattle.bx_grid.specs.declared.error.GridError.TheVariants as grid
+use Rattle.bx_grid.specs.Picture.{is_size}
+use Rattle.bx_keys.specs.declared.key.Key.{Key}
+use Rattle.bx_keys.specs.Keys.{key_after, rest_after}
+use Rattle.bx_keys.specs.Waiting.{head_of}
+use Rattle.bx_store.specs.Stores.{greatest}
+use Rattle.bx_editor.specs.Data.{Data}
+use Rattle.bx_editor.specs.Editor.{Editor}
+use Rattle.bx_session.specs.declared.error.Refused.TheVariants as refused
+use Rattle.bx_session.specs.Session.{Session, key_of_byte, after_spending, session_after_any, unpainted_after_byte, with_painting, is_idle, after_byte}
+use Rattle.bx_session.specs.Saving.{StoreState, StoreAfter, is_save_key, is_save_byte}
+use Rattle.bx_session.specs.Laws.{keys_from}
+use Rattle.bx_session.proofs.Input.{keys_of_input}
+use Rattle.bx_world.specs.declared.step.Step.{Step}
+use Rattle.bx_world.specs.declared.step.Step.TheVariants.{Byte, Window, Told, Send, Read}
+use Rattle.bx_world.specs.declared.step.StepFault.{StepFault}
+use Rattle.bx_world.specs.declared.step.StepFault.TheVariants as faults
+use Rattle.bx_world.specs.World.{World, after_window, after_send, after_read, with_failed_screen}
+use Rattle.bx_world.specs.Steps.{StepsTo, PlaysTo, AfterByteStep, AfterToldStep, AfterWindowStep, AfterSendStep, AfterReadStep}
+use Rattle.bx_world.specs.Events.{Event, Input, Telling, after_input, after_event, after_events, after_save_of, stored_after, stored_after_all, failed_saves}
+use Rattle.bx_world.specs.Events.{input_of, keys_of, HasKeysOfAll, is_applied, Brings, AreEvents}
+use Rattle.bx_world.specs.Headline.{Follows}
+use Rattle.bx_world.proofs.Ended.{after_both, has_input}
+use Rattle.bx_world.proofs.Keys.{spent}
+
+-- ---- events in two parts
+
+stored_both : (d : Data) (e : Editor) (store : StoreState) (first others : List Event)
+    → stored_after_all d e store (first ++ others) ≡ stored_after_all d (after_events d e first) (stored_after_all d e store first) others
+stored_both d e store [] others = refl
+stored_both d e store (event ∷ first) others = stored_both d (after_event d e event) (stored_after e store event) first others
+
+-- ---- the keys of events
+
+-- each byte has the key that it ends behind what a session keeps of those before
+abbrev pub AreDecoded : List ℕ → List Event → Type 0
+AreDecoded rest [] = Unit {0}
+AreDecoded rest (Input byte key applied saved ∷ more) = (key ≡ key_after rest byte) × AreDecoded (head_of (rest_after rest byte)) more
+AreDecoded rest (Telling height width ∷ more) = AreDecoded rest more
+
+decoded_keys : (rest : List ℕ) (events : List Event) → AreDecoded rest events → keys_of events ≡ keys_from rest (input_of events)
+decoded_keys rest [] are = refl
+decoded_keys rest (Input byte key applied saved ∷ more) are =
+    ap (λ k. option_to_list k ++ keys_of more) are.0
+    ∙ ap (λ ks. option_to_list (key_after rest byte) ++ ks) (decoded_keys (head_of (rest_after rest byte)) more are.1)
+decoded_keys rest (Telling height width ∷ more) are = decoded_keys rest more are
+
+front_decoded : (rest : List ℕ) (front back : List Event) → AreDecoded rest (front ++ back) → AreDecoded rest front
+front_decoded rest [] back are = tt
+front_decoded rest (Input byte key applied saved ∷ front) back are =
+    (are.0, front_decoded (head_of (rest_after rest byte)) front back are.1)
+front_decoded rest (Telling height width ∷ front) back are = front_decoded rest front back are
+
+pub decoded_as_whole : (events : List Event) → AreDecoded [] events → HasKeysOfAll events
+decoded_as_whole events are front back is =
+    decoded_keys [] front (front_decoded [] front back (subst (AreDecoded []) is are)) ∙ keys_of_input (input_of front)
+
+-- ---- a byte
+
+-- what a byte leaves of the editor and of what waits
+record IsFed (d : Data) (applied saved : Bool) (s : Session) (b : ℕ) (new : Session) : Type 0 where
+  pub editor : new.editor ≡ after_input d applied saved s.editor (key_of_byte s b)
+  pub rest : new.rest ≡ (after_spending s b).rest
+
+any_editor : (d : Data) (saved : Bool) (s : Session) (key : Option Key) → (session_after_any d saved s key).editor ≡ after_input d true saved s.editor key
+any_editor d saved s None = refl
+any_editor d saved s (Some key) = refl
+
+any_rest : (d : Data) (saved : Bool) (s : Session) (key : Option Key) → (session_after_any d saved s key).rest ≡ s.rest
+any_rest d saved s None = refl
+any_rest d saved s (Some key) = refl
+
+unpainted_editor : (d : Data) (saved : Bool) (s : Session) (b : ℕ)
+    → (unpainted_after_byte d saved s b).editor ≡ after_input d true saved s.editor (key_of_byte s b)
+unpainted_editor d saved s b =
+    any_editor d saved (after_spending s b) (key_of_byte s b)
+    ∙ ap (λ (e : Editor). after_input d true saved e (key_of_byte s b)) (spent s b).editor
+
+unpainted_rest : (d : Data) (saved : Bool) (s : Session) (b : ℕ) → (unpainted_after_byte d saved s b).rest ≡ (after_spending s b).rest
+unpainted_rest d saved s b = any_rest d saved (after_spending s b) (key_of_byte s b)
+
+idle_input : (d : Data) (saved owed : Bool) (e : Editor) (key : Option Key) → not (is_some key) && not owed ≡ true → e ≡ after_input d true saved e key
+idle_input d saved owed e None idle = refl
+idle_input d saved owed e (Some key) idle = absurd (cc idle)
+
+refused_input : (d : Data) (saved : Bool) (e : Editor) (key : Option Key) → e ≡ after_input d false saved e key
+refused_input d saved e None = refl
+refused_input d saved e (Some key) = refl
+
+painted_fed : (d : Data) (saved : Bool) (s : Session) (b : ℕ) → IsFed d true saved s b (after_byte d saved s b)
+painted_fed d saved s b = by_idle (is_idle s b) refl where
+  by_idle : (idle : Bool) → is_idle s b ≡ idle
+      → IsFed d true saved s b (if idle then after_spending s b else with_painting d (unpainted_after_byte d saved s b))
+  by_idle true idle = record {
+    editor = (spent s b).editor ∙ idle_input d saved s.painting_owed s.editor (key_of_byte s b) idle;
+    rest = refl;
+  }
+  by_idle false other = record { editor = unpainted_editor d saved s b; rest = unpainted_rest d saved s b }
+
+byte_fed : (d : Data) (saved : Bool) (old new : World) (b : ℕ) (answer : Result (Unit {0}) StepFault) → AfterByteStep d saved old b answer new
+    → IsFed d (is_applied answer) saved old.session b new.session
+byte_fed d saved old new b (Ok done) is =
+    subst (λ (w : World). IsFed d true saved old.session b w.session) (sym is) (painted_fed d saved old.session b)
+byte_fed d saved old new b (Err (faults.Session refused.Paint)) is =
+    subst (λ (w : World). IsFed d true saved old.session b w.session) (sym is.0)
+    (record { editor = unpainted_editor d saved old.session b; rest = unpainted_rest d saved old.session b })
+byte_fed d saved old new b (Err (faults.Session refused.Edit)) is =
+    subst (λ (w : World). IsFed d false saved old.session b w.session) (sym is.0)
+    (record { editor = (spent old.session b).editor ∙ refused_input d saved old.session.editor (key_of_byte old.session b); rest = refl })
+byte_fed d saved old new b (Err (faults.Session refused.Size)) is = absurd is
+byte_fed d saved old new b (Err (faults.Screen fault)) is = absurd is
+byte_fed d saved old new b (Err faults.Line) is = absurd is
+
+-- the key of a byte, and what waits behind it, after the session's end and before
+key_if : (ended : Bool) (key : Option Key) → ended ≡ true → (if ended then None else key) ≡ None
+key_if true key on = refl
+key_if false key on = absurd (cc on)
+
+key_if_not : (ended : Bool) (key : Option Key) → ended ≡ false → (if ended then None else key) ≡ key
+key_if_not true key off = absurd (cc off)
+key_if_not false key off = refl
+
+rest_if : (ended : Bool) (s : Session) (rest : List ℕ) → ended ≡ true → (if ended then s else record s { rest = rest }).rest ≡ s.rest
+rest_if true s rest on = refl
+rest_if false s rest on = absurd (cc on)
+
+rest_if_not : (ended : Bool) (s : Session) (rest : List ℕ) → ended ≡ false → (if ended then s else record s { rest = rest }).rest ≡ rest
+rest_if_not true s rest off = absurd (cc off)
+rest_if_not false s rest off = refl
+
+-- ---- a step
+
+-- what a step brings, and what that makes of editor, store and the input that waits
+record StepBrings (d : Data) (old new : World) (store store' : StoreState) (step : Step) (answer : Result (Unit {0}) StepFault) : Type 0 where
+  pub first : List Event
+  pub brings : Brings old.session.editor.ended step answer first
+  pub editor : new.session.editor ≡ after_events d old.session.editor first
+  pub stored : store' ≡ stored_after_all d old.session.editor store first
+  pub decoded : (others : List Event) → AreDecoded new.session.rest others → AreDecoded old.session.rest (first ++ others)
+
+store_is : (saves saved : Bool) (text : List ℕ) (store store' : StoreState) → StoreAfter saves saved text store store'
+    → store' ≡ (if saves then after_save_of text saved store else store)
+store_is true true text store store' is = is
+store_is true false text store store' is =
+    ap (λ (c : Option (List ℕ)). record { contents = c; failures = store'.failures }) is.0
+    ∙ ap (λ (n : ℕ). record { contents = store.contents; failures = n }) is.1
+store_is false saved text store store' is = is
+
+byte_brings : (ended : Bool) (d : Data) (saved : Bool) (old new : World) (store store' : StoreState) (b : ℕ) (answer : Result (Unit {0}) StepFault)
+    → old.session.editor.ended ≡ ended → StoreAfter (is_save_byte old.session b) saved old.session.editor.content.text store store'
+    → IsFed d (is_applied answer) saved old.session b new.session → StepBrings d old new store store' (Byte b) answer
+byte_brings true d saved old new store store' b answer on stores fed =
+    let s = old.session in
+    let none : key_of_byte s b ≡ None = key_if s.editor.ended (key_after s.rest b) on in
+    let same : new.session.rest ≡ s.rest = fed.rest ∙ rest_if s.editor.ended s (head_of (rest_after s.rest b)) on in record {
+      first = [];
+      brings = subst (λ ended. Brings ended (Byte b) answer []) (sym on) refl;
+      editor = fed.editor ∙ ap (λ key. after_input d (is_applied answer) saved s.editor key) none;
+      stored = subst (λ key. StoreAfter (is_save_key key) saved s.editor.content.text store store') none stores;
+      decoded = λ others are. subst (λ rest. AreDecoded rest others) same are;
+    }
+byte_brings false d saved old new store store' b answer off stores fed =
+    let s = old.session in
+    let key = key_of_byte s b in
+    let next : new.session.rest ≡ head_of (rest_after s.rest b) =
+    fed.rest ∙ rest_if_not s.editor.ended s (head_of (rest_after s.rest b)) off in record {
+      first = Input b key (is_applied answer) saved ∷ [];
+      brings = subst (λ ended. Brings ended (Byte b) answer (Input b key (is_applied answer) saved ∷ [])) (sym off) (key, saved, refl);
+      editor = fed.editor;
+      stored = store_is (is_save_key key) saved s.editor.content.text store store' stores;
+      decoded = λ others are. (
+        key_if_not s.editor.ended (key_after s.rest b) off,
+        subst (λ rest. AreDecoded rest others) next are,
+      );
+    }
+
+size_if : (sized : Bool) (event : Event) → sized ≡ true → event ∷ [] ≡ (if sized then event ∷ [] else [])
+size_if true event on = refl
+size_if false event on = absurd (cc on)
+
+no_size_if : (sized : Bool) (event : Event) → sized ≡ false → [] ≡ (if sized then event ∷ [] else [])
+no_size_if true event off = absurd (cc off)
+no_size_if false event off = refl
+
+telling_brings : (d : Data) (old new : World) (store store' : StoreState) (height width : ℕ) (answer : Result (Unit {0}) StepFault)
+    → is_size height width ≡ true → new.session.editor ≡ after_events d old.session.editor (Telling height width ∷ [])
+    → new.session.rest ≡ old.session.rest → store' ≡ store → StepBrings d old new store store' (Told height width) answer
+telling_brings d old new store store' height width answer sized editor rest same = record {
+  first = Telling height width ∷ [];
+  brings = size_if (is_size height width) (Telling height width) sized;
+  editor = editor;
+  stored = same;
+  decoded = λ others are. subst (λ rest. AreDecoded rest others) rest are;
+}
+
+told_brings : (d : Data) (old new : World) (store store' : StoreState) (height width : ℕ) (answer : Result (Unit {0}) StepFault)
+    → AfterToldStep d old height width answer new → store' ≡ store → StepBrings d old new store store' (Told height width) answer
+told_brings d old new store store' height width (Ok done) is same =
+    telling_brings d old new store store' height width (Ok done) is.0 (ap (λ (w : World). w.session.editor) is.1) (ap (λ (w : World). w.session.rest) is.1) same
+told_brings d old new store store' height width (Err (faults.Session refused.Paint)) is same =
+    telling_brings d old new store store' height width (Err (faults.Session refused.Paint)) is.0 (ap (λ (w : World). w.session.editor) is.1)
+    (ap (λ (w : World). w.session.rest) is.1) same
+told_brings d old new store store' height width (Err (faults.Session refused.Size)) is same = record {
+  first = [];
+  brings = no_size_if (is_size height width) (Telling height width) is.0;
+  editor = ap (λ (w : World). w.session.editor) is.1;
+  stored = same;
+  decoded = λ others are. subst (λ (w : World). AreDecoded w.session.rest others) is.1 are;
+}
+told_brings d old new store store' height width (Err (faults.Session refused.Edit)) is same = absurd is
+told_brings d old new store store' height width (Err (faults.Screen fault)) is same = absurd is
+told_brings d old new store store' height width (Err faults.Line) is same = absurd is
+
+-- editor and waiting input are as they were
+record IsUntouched (old new : World) : Type 0 where
+  pub editor : new.session.editor ≡ old.session.editor
+  pub rest : new.session.rest ≡ old.session.rest
+
+untouched_as : (old w new : World) → new ≡ w → IsUntouched old w → IsUntouched old new
+untouched_as old w new is same = subst (IsUntouched old) (sym is) same
+
+window_untouched : (old new : World) (height width : ℕ) (answer : Result (Unit {0}) StepFault) → AfterWindowStep old height width answer new
+    → IsUntouched old new
+window_untouched old new height width (Ok done) is =
+    untouched_as old (after_window old height width) new is.2 (record { editor = refl; rest = refl })
+window_untouched old new height width (Err (faults.Screen grid.SizeOutOfRange)) is = untouched_as old old new is.2 (record { editor = refl; rest = refl })
+window_untouched old new height width (Err (faults.Screen grid.OutOfMemory)) is =
+    untouched_as old (with_failed_screen old) new is.1 (record { editor = refl; rest = refl })
+window_untouched old new height width (Err (faults.Session fault)) is = absurd is
+window_untouched old new height width (Err faults.Line) is = absurd is
+
+send_untouched : (old new : World) (count : ℕ) (answer : Result (Unit {0}) StepFault) → AfterSendStep old count answer new → IsUntouched old new
+send_untouched old new count (Ok done) is = untouched_as old (after_send old count) new is (record { editor = refl; rest = refl })
+send_untouched old new count (Err faults.Line) is = untouched_as old old new is (record { editor = refl; rest = refl })
+send_untouched old new count (Err (faults.Session fault)) is = absurd is
+send_untouched old new count (Err (faults.Screen fault)) is = absurd is
+
+read_untouched : (old new : World) (count : ℕ) (answer : Result (Unit {0}) StepFault) → AfterReadStep old count answer new → IsUntouched old new
+read_untouched old new count (Ok done) is = untouched_as old (after_read old count) new is.1 (record { editor = refl; rest = refl })
+read_untouched old new count (Err (faults.Screen grid.OutOfMemory)) is =
+    subst (IsUntouched old) (sym is.1) (record { editor = refl; rest = refl })
+read_untouched old new count (Err (faults.Screen grid.SizeOutOfRange)) is = absurd is
+read_untouched old new count (Err (faults.Session fault)) is = absurd is
+read_untouched old new count (Err faults.Line) is = absurd is
+
+nothing_brought : (d : Data) (old new : World) (store store' : StoreState) (step : Step) (answer : Result (Unit {0}) StepFault)
+    → Brings old.session.editor.ended step answer [] → IsUntouched old new → store' ≡ store → StepBrings d old new store store' step answer
+nothing_brought d old new store store' step answer none untouched same = record {
+  first = [];
+  brings = none;
+  editor = untouched.editor;
+  stored = same;
+  decoded = λ others are. subst (λ rest. AreDecoded rest others) untouched.rest are;
+}
+
+step_brings : (d : Data) (old new : World) (store store' : StoreState) (step : Step) (answer : Result (Unit {0}) StepFault)
+    → StepsTo d old store step answer new store' → StepBrings d old new store store' step answer
+step_brings d old new store store' (Byte b) answer is =
+    byte_brings old.session.editor.ended d is.0 old new store store' b answer refl is.1 (byte_fed d is.0 old new b answer is.2)
+step_brings d old new store store' (Told height width) answer is = told_brings d old new store store' height width answer is.0 is.1
+step_brings d old new store store' (Window height width) answer is =
+    nothing_brought d old new store store' (Window height width) answer refl (window_untouched old new height width answer is.0) is.1
+step_brings d old new store store' (Send count) answer is =
+    nothing_brought d old new store store' (Send count) answer refl (send_untouched old new count answer is.0) is.1
+step_brings d old new store store' (Read count) answer is =
+    nothing_brought d old new store store' (Read count) answer refl (read_untouched old new count answer is.0) is.1
+
+-- ---- a schedule
+
+record Brought (d : Data) (old new : World) (store store' : StoreState) (all : List (Step × Result (Unit {0}) StepFault)) : Type 0 where
+  pub events : List Event
+  pub events_are : AreEvents d old.session.editor all events
+  pub editor : new.session.editor ≡ after_events d old.session.editor events
+  pub stored : store' ≡ stored_after_all d old.session.editor store events
+  pub decoded : AreDecoded old.session.rest events
+
+brought : (d : Data) (old new : World) (store store' : StoreState) (all : List (Step × Result (Unit {0}) StepFault))
+    → PlaysTo d old store all new store' → Brought d old new store store' all
+brought d old new store store' [] played = record {
+  events = [];
+  events_are = refl;
+  editor = ap (λ (w : World). w.session.editor) played.0;
+  stored = played.1;
+  decoded = tt;
+}
+brought d old new store store' (s ∷ more) played =
+    let one = step_brings d old played.0 store played.1 s.0 s.1 played.2 in
+    let others = brought d played.0 new played.1 store' more played.3 in
+    let e = old.session.editor in record {
+      events = one.first ++ others.events;
+      events_are = (
+        one.first,
+        others.events,
+        refl,
+        one.brings,
+        subst (λ (x : Editor). AreEvents d x more others.events) one.editor others.events_are,
+      );
+      editor = others.editor ∙ ap (λ (x : Editor). after_events d x others.events) one.editor ∙ sym (after_both d e one.first others.events);
+      stored = others.stored
+          ∙ ap (λ (x : Editor). stored_after_all d x played.1 others.events) one.editor
+          ∙ ap (λ (x : StoreState). stored_after_all d (after_events d e one.first) x others.events) one.stored
+          ∙ sym (stored_both d e store one.first others.events);
+      decoded = one.decoded others.events others.decoded;
+    }
+
+-- ---- saves that failed
+
+-- a count that rises up to a greatest number, where it is below that at the end
+below : (g n k now : ℕ) → (min g (suc n) + k < g) → now ≡ min g (suc n) + k → now ≡ n + suc k
+below g n k now low is = by (cases_lt g (suc n)) where
+  by : (g < suc n) ⊎ (suc n ≤ g) → now ≡ n + suc k
+  by (inl over) = let full : min g (suc n) ≡ g = min-eq_left (omega (arith, over)) in absurd (omega (arith, full, low))
+  by (inr fits) = let one : min g (suc n) ≡ suc n = min-eq_right fits in omega (arith, one, is)
+
+failed_are : (d : Data) (e : Editor) (store : StoreState) (events : List Event) → (stored_after_all d e store events).failures < greatest
+    → (stored_after_all d e store events).failures ≡ store.failures + failed_saves events
+failed_are d e store [] low = omega arith
+failed_are d e store (Telling height width ∷ more) low = failed_are d (after_event d e (Telling height width)) store more low
+failed_are d e store (Input byte key applied saved ∷ more) low =
+    by_save (is_save_key key) saved (λ (now : StoreState). failed_are d (after_input d applied saved e key) now more) low where
+      next : Editor
+      next = after_input d applied saved e key
+
+      by_save : (saves saved : Bool)
+          → ((now : StoreState) → (stored_after_all d next now more).failures < greatest
+          → (stored_after_all d next now more).failures ≡ now.failures + failed_saves more)
+          → (stored_after_all d next (if saves then after_save_of e.content.text saved store else store) more).failures < greatest
+          → (stored_after_all d next (if saves then after_save_of e.content.text saved store else store) more).failures
+          ≡ store.failures + (if saves && not saved then suc (failed_saves more) else failed_saves more)
+      by_save true true others low = others (after_save_of e.content.text true store) low
+      by_save true false others low =
+          let count = others (after_save_of e.content.text false store) low in
+          below greatest store.failures (failed_saves more) _ (subst (λ n. n < greatest) count low) count
+      by_save false saved others low = others store low
+
+pub follows : (d : Data) (old new : World) (store store' : StoreState) (all : List (Step × Result (Unit {0}) StepFault))
+    → PlaysTo d old store all new store' → (events : List Event) × Follows d old store all new store' events
+follows d old new store store' all played =
+    let b = brought d old new store store' all played in
+    let i = has_input d old.session.editor all b.events b.events_are in
+    let failures : store'.failures < greatest → store'.failures ≡ store.failures + failed_saves b.events =
+    subst (λ (x : StoreState). x.failures < greatest → x.failures ≡ store.failures + failed_saves b.events) (sym b.stored)
+    (failed_are d old.session.editor store b.events) in (
+      b.events,
+      record {
+        events_are = b.events_are;
+        input = (i.dropped, i.bytes, λ some. ap (λ (e : Editor). e.ended) b.editor ∙ i.drops some);
+        keys = decoded_keys old.session.rest b.events b.decoded;
+        as_whole = λ none. decoded_as_whole b.events (subst (λ rest. AreDecoded rest b.events) none b.decoded);
+        editor = b.editor;
+        stored = b.stored;
+        failures = failures;
+      },
+    )

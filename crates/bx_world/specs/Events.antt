@@ -1,0 +1,117 @@
+-- What a schedule brings to the editor: the bytes of input with the keys that they end, and the sizes that are told.
+use Rattle.std.specs.Prelude.{◌≡◌, ◌≢◌, ℕ, suc, Bool, true, false, not, ◌&&◌, List, [], ◌∷◌, ◌++◌, Option, Some, None, option_to_list}
+use Rattle.std.specs.Prelude.{Result, Err, if◌then◌else◌}
+use Rattle.bx_keys.specs.declared.key.Key.{Key}
+use Rattle.bx_keys.specs.Keys.{decoding}
+use Rattle.bx_grid.specs.Picture.{is_size}
+use Rattle.bx_store.specs.Stores.{one_more}
+use Rattle.bx_editor.specs.Data.{Data}
+use Rattle.bx_editor.specs.Editor.{Editor, with_size}
+use Rattle.bx_editor.specs.Keys.{after_key}
+use Rattle.bx_session.specs.declared.error.Refused.TheVariants as refused
+use Rattle.bx_session.specs.Saving.{StoreState, with_text, is_save_key}
+use Rattle.bx_world.specs.declared.step.Step.{Step}
+use Rattle.bx_world.specs.declared.step.Step.TheVariants.{Byte, Window, Told, Send, Read}
+use Rattle.bx_world.specs.declared.step.StepFault.{StepFault}
+use Rattle.bx_world.specs.declared.step.StepFault.TheVariants as faults
+
+pub data Event : Type 0 where
+  -- a byte of input before the session's end, with the key that it ends, if any: whether that was applied, and whether its Save
+  -- succeeded
+  Input : (byte : ℕ) (key : Option Key) (applied saved : Bool) → Event
+  -- the session was told that the window has so many rows and columns
+  Telling : (height width : ℕ) → Event
+
+-- ---- what events make of an editor and of a store
+
+-- a key that was refused changes nothing
+abbrev pub after_input : Data → Bool → Bool → Editor → Option Key → Editor
+after_input d applied saved e None = e
+after_input d applied saved e (Some key) = if applied then after_key d saved e key else e
+
+abbrev pub after_event : Data → Editor → Event → Editor
+after_event d e (Input byte key applied saved) = after_input d applied saved e key
+after_event d e (Telling height width) = with_size e height width
+
+abbrev pub after_events : Data → Editor → List Event → Editor
+after_events d e [] = e
+after_events d e (event ∷ more) = after_events d (after_event d e event) more
+
+-- a save that succeeded stored the text; of one that failed the store counts a call more that failed
+abbrev pub after_save_of : List ℕ → Bool → StoreState → StoreState
+after_save_of text true store = with_text text store
+after_save_of text false store = record store { failures = one_more store.failures }
+
+abbrev pub stored_after : Editor → StoreState → Event → StoreState
+stored_after e store (Input byte key applied saved) = if is_save_key key then after_save_of e.content.text saved store else store
+stored_after e store (Telling height width) = store
+
+-- each save with the text of its moment
+abbrev pub stored_after_all : Data → Editor → StoreState → List Event → StoreState
+stored_after_all d e store [] = store
+stored_after_all d e store (event ∷ more) = stored_after_all d (after_event d e event) (stored_after e store event) more
+
+abbrev pub failed_saves : List Event → ℕ
+failed_saves [] = 0
+failed_saves (Input byte key applied saved ∷ more) = if is_save_key key && not saved then suc (failed_saves more) else failed_saves more
+failed_saves (Telling height width ∷ more) = failed_saves more
+
+-- ---- the input of events, and its keys
+
+abbrev pub input_of : List Event → List ℕ
+input_of [] = []
+input_of (Input byte key applied saved ∷ more) = byte ∷ input_of more
+input_of (Telling height width ∷ more) = input_of more
+
+abbrev pub keys_of : List Event → List Key
+keys_of [] = []
+keys_of (Input byte key applied saved ∷ more) = option_to_list key ++ keys_of more
+keys_of (Telling height width ∷ more) = keys_of more
+
+-- the bytes of input of a schedule
+abbrev pub byte_of : Step → List ℕ
+byte_of (Byte b) = b ∷ []
+byte_of (Told height width) = []
+byte_of (Window height width) = []
+byte_of (Send count) = []
+byte_of (Read count) = []
+
+abbrev pub bytes_of_schedule : {A : Type 0} → List (Step × Result A StepFault) → List ℕ
+bytes_of_schedule [] = []
+bytes_of_schedule (s ∷ more) = byte_of s.0 ++ bytes_of_schedule more
+
+-- the input is all bytes of a schedule, or those up to the session's end, where others follow
+abbrev pub HasBytesUntilEnd : {A : Type 0} → List (Step × Result A StepFault) → List Event → Editor → Type 0
+HasBytesUntilEnd schedule events e =
+    (dropped : List ℕ) × (bytes_of_schedule schedule ≡ input_of events ++ dropped) × (dropped ≢ [] → e.ended ≡ true)
+
+-- at every moment the keys are those that the input grammar gives for all bytes until then as a whole
+abbrev pub HasKeysOfAll : List Event → Type 0
+HasKeysOfAll events = (front back : List Event) → events ≡ front ++ back → keys_of front ≡ (decoding (input_of front)).keys
+
+-- ---- the events of a schedule
+
+-- a byte's key was applied, unless there was no memory for that
+abbrev pub is_applied : {A : Type 0} → Result A StepFault → Bool
+is_applied (Err (faults.Session refused.Edit)) = false
+is_applied _ = true
+
+-- what a byte brings, where the session has ended or not: after the end, nothing
+abbrev pub BringsByte : {A : Type 0} → Bool → ℕ → Result A StepFault → List Event → Type 0
+BringsByte true b answer events = events ≡ []
+BringsByte false b answer events = (key : Option Key) × (saved : Bool) × (events ≡ Input b key (is_applied answer) saved ∷ [])
+
+-- what a step brings; a size that no window may have is none
+abbrev pub Brings : {A : Type 0} → Bool → Step → Result A StepFault → List Event → Type 0
+Brings ended (Byte b) answer events = BringsByte ended b answer events
+Brings ended (Told height width) answer events = events ≡ (if is_size height width then Telling height width ∷ [] else [])
+Brings ended (Window height width) answer events = events ≡ []
+Brings ended (Send count) answer events = events ≡ []
+Brings ended (Read count) answer events = events ≡ []
+
+-- what a schedule brings to an editor, step by step
+abbrev pub AreEvents : {A : Type 0} → Data → Editor → List (Step × Result A StepFault) → List Event → Type 0
+AreEvents d e [] events = events ≡ []
+AreEvents d e (s ∷ more) events =
+    (first : List Event) × (others : List Event) × (events ≡ first ++ others) × Brings e.ended s.0 s.1 first
+    × AreEvents d (after_events d e first) more others

@@ -1,0 +1,46 @@
+-- What the terminal reads in a schedule, and when a picture that was promised is seen.
+use Rattle.std.specs.Prelude.{◌≡◌, ℕ, Bool, true, false, ◌||◌, List, [], ◌∷◌, ◌++◌, length, take, Result, IfSome}
+use Rattle.bx_grid.specs.Picture.{Shows}
+use Rattle.bx_editor.specs.Data.{Data}
+use Rattle.bx_session.specs.Saving.{StoreState}
+use Rattle.bx_world.specs.declared.step.Step.{Step}
+use Rattle.bx_world.specs.declared.step.Step.TheVariants.{Byte, Window, Told, Send, Read}
+use Rattle.bx_world.specs.declared.step.StepFault.{StepFault}
+use Rattle.bx_world.specs.World.{World, unread}
+use Rattle.bx_world.specs.Steps.{StepsTo, is_ok}
+use Rattle.bx_world.specs.Showing.{picture_of}
+
+-- the bytes that a step has the terminal read
+abbrev pub read_at : World → Step → List ℕ
+read_at w (Read count) = take count w.line
+read_at w (Byte b) = []
+read_at w (Told height width) = []
+read_at w (Window height width) = []
+read_at w (Send count) = []
+
+-- steps with their answers, one after another, in which the terminal reads these bytes
+abbrev pub PlaysReading : {A : Type 0} → Data → World → StoreState → List (Step × Result A StepFault) → World → StoreState → List ℕ → Type 0
+PlaysReading d old store [] new store' read = (new ≡ old) × (store' ≡ store) × (read ≡ [])
+PlaysReading d old store (s ∷ more) new store' read =
+    (mid : World) × (mid_store : StoreState) × (others : List ℕ) × StepsTo d old store s.0 s.1 mid mid_store × (read ≡ read_at old s.0 ++ others)
+    × PlaysReading d mid mid_store more new store' others
+
+-- the window got a size
+abbrev pub is_change : {A : Type 0} → Step → Result A StepFault → Bool
+is_change (Window height width) answer = is_ok answer
+is_change (Byte b) answer = false
+is_change (Told height width) answer = false
+is_change (Send count) answer = false
+is_change (Read count) answer = false
+
+abbrev pub is_window_changed : {A : Type 0} → List (Step × Result A StepFault) → Bool
+is_window_changed [] = false
+is_window_changed (s ∷ more) = is_change s.0 s.1 || is_window_changed more
+
+-- A picture that was promised is seen as its last byte is read, whatever was queued behind it: where the window's size was
+-- told and no painting was owed, the window has not changed since, and the terminal has read as many bytes as were on their
+-- way to it then, it shows the picture of then.
+abbrev pub SeesPromised : {A : Type 0} → Data → World → List (Step × Result A StepFault) → List ℕ → World → Type 0
+SeesPromised d old schedule read new =
+    old.told ≡ true → old.session.painting_owed ≡ false → is_window_changed schedule ≡ false → length read ≡ length (unread old)
+    → IfSome new.screen (λ t. Shows t (picture_of d old.session))
