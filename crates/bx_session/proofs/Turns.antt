@@ -1,12 +1,13 @@
 -- Feeding, writing and reading in turns.
 use Rattle.std.proofs.Common.{◌≡◌, ◌≢◌, ℕ, ◌+◌, ◌<◌, ◌≤◌, Bool, true, false, List, [], ◌∷◌, ◌++◌, length, take, drop}
-use Rattle.std.proofs.Common.{Option, Some, None, Result, Ok, Err, refl, sym, ap, subst, ◌∙◌, append_assoc, if◌then◌else◌, arith}
+use Rattle.std.proofs.Common.{Option, Some, None, Result, Ok, Err, OnOk, refl, sym, ap, subst, ◌∙◌, append_assoc, if◌then◌else◌, arith}
 use Rattle.std.specs.Io.KnownBytes.{Appends, Consumes, Keeps}
 use Rattle.std.proofs.KnownBytes.{Consumes-nil, Consumes-trans, Appends-nil, Appends-trans, Appends-kept}
 use Rattle.std.proofs.lemmas.List.{append-nil, length-append, map-append, take-append-drop, length-drop}
 use Rattle.bx_keys.specs.declared.key.Key.{Key}
 use Rattle.bx_keys.specs.Keys.{rest_after}
 use Rattle.bx_keys.specs.Waiting.{head_of}
+use Rattle.bx_grid.specs.Picture.{PictureState}
 use Rattle.bx_editor.specs.Data.{Data}
 use Rattle.bx_editor.specs.Picture.{picture, next_top}
 use Rattle.bx_session.specs.declared.status.Status.{Status}
@@ -14,8 +15,10 @@ use Rattle.bx_session.specs.declared.error.Refused.{Refused}
 use Rattle.bx_session.specs.declared.error.Refused.TheVariants.{Edit, Paint, Size}
 use Rattle.bx_session.specs.Session.{Session, painting, with_painting, with_painting_owed, key_of_byte, after_spending, session_after_any}
 use Rattle.bx_session.specs.Session.{unpainted_after_byte, is_idle}
+use Rattle.bx_session.specs.Painting.{FeedPaints, QueuesPicture}
 use Rattle.bx_session.specs.Saving.{StoreState, AfterByte, Feeds}
 use Rattle.bx_session.specs.Running.{ByteAnswer, bytes_of, FeedsAll, FedUntilEnd, HasRead, Sent, HasRun}
+use Rattle.bx_session.specs.Running.{Turn, TakesTurn, TakesTurns, fed_in, written_in}
 
 -- ---- what was pending before does not matter
 
@@ -66,11 +69,37 @@ Feeds-prefixed : (d : Data) (p : List ℕ) (s : Session) (store : StoreState) (b
     → Feeds d s store b a s' store' → Feeds d (prefixed p s) store b a (prefixed p s') store'
 Feeds-prefixed d p s store b a s' store' h = (h.0, h.1, AfterByte-prefixed d h.0 p s b a s' h.2)
 
+FeedPaints-prefixed : (d : Data) (p : List ℕ) (s : Session) (b : ℕ) (s' : Session) → FeedPaints d s b s' → FeedPaints d (prefixed p s) b (prefixed p s')
+FeedPaints-prefixed d p s b s' h =
+    subst (λ (known : Option PictureState). QueuesPicture d (p ++ s.pending) known (prefixed p s'))
+    (sym (ap (λ (x : Session). x.known) (unpainted-prefixed d true p s b))) (
+      h.0,
+      record {
+        appends = ap (λ xs. p ++ xs) h.1.appends ∙ sym (append_assoc p s.pending h.0);
+        tokens = h.1.tokens;
+        leads = h.1.leads;
+        painted = h.1.painted;
+        known = h.1.known;
+        is_picture = h.1.is_picture;
+      },
+    )
+
+paints-prefixed : (d : Data) (p : List ℕ) (s : Session) (b : ℕ) (a : Result Status Refused) (s' : Session) → OnOk a (FeedPaints d s b s')
+    → OnOk a (FeedPaints d (prefixed p s) b (prefixed p s'))
+paints-prefixed d p s b (Ok status) s' h = FeedPaints-prefixed d p s b s' h
+paints-prefixed d p s b (Err refused) s' h = h
+
 FeedsAll-prefixed : (d : Data) (p : List ℕ) (s : Session) (store : StoreState) (answered : List ByteAnswer) (s' : Session) (store' : StoreState)
     → FeedsAll d s store answered s' store' → FeedsAll d (prefixed p s) store answered (prefixed p s') store'
 FeedsAll-prefixed d p s store [] s' store' h = (ap (prefixed p) h.0, h.1)
-FeedsAll-prefixed d p s store (a ∷ answered) s' store' h =
-    (prefixed p h.0, h.1, h.2, Feeds-prefixed d p s store a.0 a.1 h.0 h.1 h.3, FeedsAll-prefixed d p h.0 h.1 answered s' store' h.4)
+FeedsAll-prefixed d p s store (a ∷ answered) s' store' h = (
+  prefixed p h.0,
+  h.1,
+  h.2,
+  Feeds-prefixed d p s store a.0 a.1 h.0 h.1 h.3,
+  (λ asks. paints-prefixed d p s a.0 a.1 h.0 (h.4 asks)),
+  FeedsAll-prefixed d p h.0 h.1 answered s' store' h.5,
+)
 
 FeedsAll-append : (d : Data) (s : Session) (store : StoreState) (first second : List ByteAnswer) (m : Session) (m_store : StoreState)
     (s' : Session) (store' : StoreState) → FeedsAll d s store first m m_store → FeedsAll d m m_store second s' store'
@@ -78,7 +107,7 @@ FeedsAll-append : (d : Data) (s : Session) (store : StoreState) (first second : 
 FeedsAll-append d s store [] second m m_store s' store' h k =
     subst (λ (x : Session). FeedsAll d x store second s' store') h.0 (subst (λ (x : StoreState). FeedsAll d m x second s' store') h.1 k)
 FeedsAll-append d s store (a ∷ first) second m m_store s' store' h k =
-    (h.0, h.1, h.2, h.3, FeedsAll-append d h.0 h.1 first second m m_store s' store' h.4 k)
+    (h.0, h.1, h.2, h.3, h.4, FeedsAll-append d h.0 h.1 first second m m_store s' store' h.5 k)
 
 -- ---- turns
 
@@ -90,14 +119,17 @@ pub record Fed (d : Data) (old : Session) (store : StoreState) (bytes : List ℕ
 -- the tables are the same all along
 pub fed_more : {D : Type 0} (says : D → Data) (tables tables1 : D) (old now new : Session) (store store1 store2 : StoreState) (bytes : List ℕ)
     (i b : ℕ) (a : Result Status Refused) (answered : List ByteAnswer) → Fed (says tables) old store bytes i now store1 answered → tables1 ≡ tables
-    → now.editor.ended ≡ false → Feeds (says tables1) now store1 b a new store2 → take (i + 1) bytes ≡ take i bytes ++ b ∷ []
+    → now.editor.ended ≡ false → Feeds (says tables1) now store1 b a new store2
+    → (is_idle now b ≡ false → OnOk a (FeedPaints (says tables1) now b new)) → take (i + 1) bytes ≡ take i bytes ++ b ∷ []
     → Fed (says tables) old store bytes (i + 1) new store2 (answered ++ (b, a) ∷ [])
-fed_more {D} says tables tables1 old now new store store1 store2 bytes i b a answered before same running feeds more =
+fed_more {D} says tables tables1 old now new store store1 store2 bytes i b a answered before same running feeds paints more =
     let feeds' : Feeds (says tables) now store1 b a new store2 = subst (λ (t : D). Feeds (says t) now store1 b a new store2) same feeds in
+    let paints' : is_idle now b ≡ false → OnOk a (FeedPaints (says tables) now b new) =
+    subst (λ (t : D). is_idle now b ≡ false → OnOk a (FeedPaints (says t) now b new)) same paints in
     record {
       so_far = map-append (λ (x : ByteAnswer). x.0) answered ((b, a) ∷ []) ∙ ap (λ xs. xs ++ b ∷ []) before.so_far ∙ sym more;
       feeds = FeedsAll-append (says tables) old store answered ((b, a) ∷ []) now store1 new store2 before.feeds
-          (new, store2, running, feeds', (refl, refl));
+          (new, store2, running, feeds', paints', (refl, refl));
     }
 
 pub fed_until : (d : Data) (old now : Session) (store store1 : StoreState) (bytes : List ℕ) (i : ℕ) (answered : List ByteAnswer)
@@ -140,6 +172,31 @@ took s s1 w w1 count buffer is written e =
 pub sent_kept : (s s1 : Session) (w w1 w2 : Option (List ℕ)) (written : List ℕ) → Sent s s1 w w1 written → Keeps w1 w2 → Sent s s1 w w2 written
 sent_kept s s1 w w1 w2 written a k = record { writes = Appends-kept w w1 w2 written a.writes k; order = a.order; session = a.session }
 
+-- one turn more
+turns_more : (d : Data) (old mid new all : Session) (store mid_store store' : StoreState) (turns : List Turn) (turn : Turn)
+    → TakesTurns d old store turns mid mid_store → TakesTurn d mid mid_store turn new store' all
+    → TakesTurns d old store (turns ++ turn ∷ []) new store'
+turns_more d old mid new all store mid_store store' [] turn before takes = (
+  new,
+  store',
+  all,
+  subst (λ (x : Session). TakesTurn d x store turn new store' all) before.0
+      (subst (λ (x : StoreState). TakesTurn d mid x turn new store' all) before.1 takes),
+  (refl, refl),
+)
+turns_more d old mid new all store mid_store store' (first ∷ turns) turn before takes =
+    (before.0, before.1, before.2, before.3, turns_more d before.0 mid new all before.1 mid_store store' turns turn before.4 takes)
+
+fed_more_turns : (turns : List Turn) (turn : Turn) → fed_in (turns ++ turn ∷ []) ≡ fed_in turns ++ turn.fed
+fed_more_turns [] turn = append-nil turn.fed
+fed_more_turns (first ∷ turns) turn =
+    ap (λ xs. first.fed ++ xs) (fed_more_turns turns turn) ∙ sym (append_assoc first.fed (fed_in turns) turn.fed)
+
+wrote_more_turns : (turns : List Turn) (turn : Turn) → written_in (turns ++ turn ∷ []) ≡ written_in turns ++ turn.written
+wrote_more_turns [] turn = append-nil turn.written
+wrote_more_turns (first ∷ turns) turn =
+    ap (λ xs. first.written ++ xs) (wrote_more_turns turns turn) ∙ sym (append_assoc first.written (written_in turns) turn.written)
+
 pub started : (d : Data) (s s1 : Session) (store : StoreState) (r w w1 : Option (List ℕ)) (written : List ℕ) → Sent s s1 w w1 written
     → HasRun d s s1 store store r r w w1 [] [] written s
 started d s s1 store r w w1 written a = record {
@@ -149,6 +206,12 @@ started d s s1 store r w w1 written a = record {
   writes = a.writes;
   order = a.order;
   session = a.session;
+  in_turns = record {
+    turns = record { fed = []; written = written } ∷ [];
+    takes = (s1, store, s, record { feeds = (refl, refl); order = a.order; session = a.session }, (refl, refl));
+    fed = refl;
+    wrote = append-nil written;
+  };
 }
 
 none_dropped : (dropped : List ℕ) (ended : Bool) → (dropped ≢ [] → ended ≡ true) → ended ≡ false → dropped ≡ []
@@ -175,6 +238,8 @@ turned {D} says tables tables1 old s s2 s3 store store1 store2 r r1 r2 w w1 w2 a
     ∙ ap (λ xs. bytes_of answered ++ xs) feeds.all
     ∙ sym (append_assoc (bytes_of answered) (bytes_of answered') dropped')
     ∙ ap (λ xs. xs ++ dropped') (sym (map-append (λ (x : ByteAnswer). x.0) answered answered')) in
+    let turn : Turn = record { fed = answered'; written = written' } in
+    let before = run.in_turns in
     let kept : all.pending ≡ written = run.order ∙ ap (λ xs. written ++ xs) empty ∙ append-nil written in
     record {
       feeds = FeedsAll-append d old store answered answered' all store1 (prefixed all.pending s2) store2 run.feeds
@@ -185,6 +250,13 @@ turned {D} says tables tables1 old s s2 s3 store store1 store2 r r1 r2 w w1 w2 a
       writes = Appends-trans w w1 w2 written written' run.writes sends.writes;
       order = ap (λ xs. xs ++ s2.pending) kept ∙ ap (λ xs. written ++ xs) sends.order ∙ sym (append_assoc written written' s3.pending);
       session = sends.session;
+      in_turns = record {
+        turns = before.turns ++ turn ∷ [];
+        takes = turns_more d old s s3 s2 store store1 store2 before.turns turn before.takes
+            (record { feeds = fed; order = sends.order; session = sends.session });
+        fed = fed_more_turns before.turns turn ∙ ap (λ xs. xs ++ answered') before.fed;
+        wrote = wrote_more_turns before.turns turn ∙ ap (λ xs. xs ++ written') before.wrote;
+      };
     }
 
 -- one more read that gave a byte

@@ -1,5 +1,5 @@
 -- A session run over a reader, a writer and a store.
-use Rattle.std.specs.Prelude.{◌≡◌, ◌≢◌, ◌≤◌, length, ℕ, true, false, List, [], ◌∷◌, ◌++◌, map, Option, Result, Ok, Err}
+use Rattle.std.specs.Prelude.{◌≡◌, ◌≢◌, ◌≤◌, length, ℕ, true, false, List, [], ◌∷◌, ◌++◌, map, Option, Result, Ok, Err, OnOk}
 use Rattle.std.specs.Io.KnownBytes.{Appends, Consumes, IsAtEnd}
 use Rattle.bx_editor.specs.Data.{Data}
 use Rattle.bx_session.specs.declared.status.Status.{Status}
@@ -8,8 +8,9 @@ use Rattle.bx_session.specs.declared.end.End.{End}
 use Rattle.bx_session.specs.declared.end.End.TheVariants.{Quit, InputEnded}
 use Rattle.bx_session.specs.declared.end.RunFault.{RunFault}
 use Rattle.bx_session.specs.declared.end.RunFault.TheVariants.{ReadFault, WriteFault, ReadLimit}
-use Rattle.bx_session.specs.Session.{Session}
+use Rattle.bx_session.specs.Session.{Session, is_idle}
 use Rattle.bx_session.specs.Saving.{StoreState, Feeds}
+use Rattle.bx_session.specs.Painting.{FeedPaints}
 
 -- a byte, and what it was answered
 abbrev pub ByteAnswer : Type 0
@@ -18,12 +19,13 @@ ByteAnswer = ℕ × Result Status Refused
 abbrev pub bytes_of : List ByteAnswer → List ℕ
 bytes_of answered = map (λ a. a.0) answered
 
--- session and store after these bytes, all fed before the session's end; nothing of what is pending is taken
+-- session and store after these bytes, all fed before the session's end, each as it was answered; nothing of what is pending
+-- is taken
 abbrev pub FeedsAll : Data → Session → StoreState → List ByteAnswer → Session → StoreState → Type 0
 FeedsAll d old store [] new store' = (new ≡ old) × (store' ≡ store)
 FeedsAll d old store (a ∷ answered) new store' =
     (mid : Session) × (mid_store : StoreState) × (old.editor.ended ≡ false) × Feeds d old store a.0 a.1 mid mid_store
-    × FeedsAll d mid mid_store answered new store'
+    × (is_idle old a.0 ≡ false → OnOk a.1 (FeedPaints d old a.0 mid)) × FeedsAll d mid mid_store answered new store'
 
 -- bytes were fed up to the session's end, and the others dropped
 pub record FedUntilEnd (d : Data) (old : Session) (store : StoreState) (bytes : List ℕ) (new : Session) (store' : StoreState)
@@ -37,6 +39,40 @@ pub record Sent (old new : Session) (writer writer' : Option (List ℕ)) (writte
   pub writes : Appends writer writer' written
   pub order : old.pending ≡ written ++ new.pending
   pub session : new ≡ record old { pending = new.pending }
+
+-- a turn of a run: bytes that were fed, and then bytes that were written
+pub record Turn : Type 0 where
+  pub fed : List ByteAnswer
+  pub written : List ℕ
+
+-- session and store after a turn, where the bytes fed leave the session `all`: a prefix of what is pending was written
+pub record TakesTurn (d : Data) (old : Session) (store : StoreState) (turn : Turn) (new : Session) (store' : StoreState) (all : Session)
+    : Type 0 where
+  pub feeds : FeedsAll d old store turn.fed all store'
+  pub order : all.pending ≡ turn.written ++ new.pending
+  pub session : new ≡ record all { pending = new.pending }
+
+-- turns one after another
+abbrev pub TakesTurns : Data → Session → StoreState → List Turn → Session → StoreState → Type 0
+TakesTurns d old store [] new store' = (new ≡ old) × (store' ≡ store)
+TakesTurns d old store (turn ∷ more) new store' =
+    (mid : Session) × (mid_store : StoreState) × (all : Session) × TakesTurn d old store turn mid mid_store all
+    × TakesTurns d mid mid_store more new store'
+
+abbrev pub fed_in : List Turn → List ByteAnswer
+fed_in [] = []
+fed_in (turn ∷ more) = turn.fed ++ fed_in more
+
+abbrev pub written_in : List Turn → List ℕ
+written_in [] = []
+written_in (turn ∷ more) = turn.written ++ written_in more
+
+-- all that was fed and written, in turns
+pub record InTurns (d : Data) (old new : Session) (store store' : StoreState) (answered : List ByteAnswer) (written : List ℕ) : Type 0 where
+  pub turns : List Turn
+  pub takes : TakesTurns d old store turns new store'
+  pub fed : fed_in turns ≡ answered
+  pub wrote : written_in turns ≡ written
 
 -- so many bytes at least were read
 abbrev pub HasRead : ℕ → Option (List ℕ) → Option (List ℕ) → Type 0
@@ -53,6 +89,7 @@ pub record HasRun (d : Data) (old new : Session) (store store' : StoreState) (re
   pub writes : Appends writer writer' written
   pub order : all.pending ≡ written ++ new.pending
   pub session : new ≡ record all { pending = new.pending }
+  pub in_turns : InTurns d old new store store' answered written
 
 abbrev pub Runs : Data → Session → Session → StoreState → StoreState → Option (List ℕ) → Option (List ℕ) → Option (List ℕ) → Option (List ℕ) → Type 0
 Runs d old new store store' reader reader' writer writer' =

@@ -1,6 +1,6 @@
 -- What steps bring to the editor, and what they make of it.
-use Rattle.std.proofs.Common.{◌≡◌, ℕ, ◌+◌, suc, ◌<◌, ◌≤◌, ◌⊎◌, inl, inr, min, Bool, true, false, List, [], ◌∷◌, ◌++◌, Option, Some, None, Result, Ok, Err}
-use Rattle.std.proofs.Common.{refl, sym, ap, subst, ◌∙◌, arith, if◌then◌else◌}
+use Rattle.std.proofs.Common.{◌≡◌, ℕ, ◌+◌, suc, ◌<◌, ◌≤◌, ◌⊎◌, inl, inr, min, Bool, true, false, List, [], ◌∷◌, ◌++◌}
+use Rattle.std.proofs.Common.{Option, Some, None, Result, Ok, Err, refl, sym, ap, subst, ◌∙◌, arith, if◌then◌else◌}
 use Rattle.std.specs.Prelude.{not, ◌&&◌, is_some, option_to_list}
 use Rattle.std.proofs.Math.Nat.{min-eq_left, min-eq_right}
 use Rattle.std.proofs.lemmas.Bool.{cases_lt}
@@ -202,7 +202,8 @@ telling_brings d old new store store' height width answer sized editor rest same
 told_brings : (d : Data) (old new : World) (store store' : StoreState) (height width : ℕ) (answer : Result (Unit {0}) StepFault)
     → AfterToldStep d old height width answer new → store' ≡ store → StepBrings d old new store store' (Told height width) answer
 told_brings d old new store store' height width (Ok done) is same =
-    telling_brings d old new store store' height width (Ok done) is.0 (ap (λ (w : World). w.session.editor) is.1) (ap (λ (w : World). w.session.rest) is.1) same
+    telling_brings d old new store store' height width (Ok done) is.0 (ap (λ (w : World). w.session.editor) is.1)
+    (ap (λ (w : World). w.session.rest) is.1) same
 told_brings d old new store store' height width (Err (faults.Session refused.Paint)) is same =
     telling_brings d old new store store' height width (Err (faults.Session refused.Paint)) is.0 (ap (λ (w : World). w.session.editor) is.1)
     (ap (λ (w : World). w.session.rest) is.1) same

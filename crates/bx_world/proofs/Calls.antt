@@ -86,7 +86,7 @@ fed d saved w b new was is paints = by_idle (is_idle w.session b) refl is where
       (λ on. sym (idle_told w.height w.width w.told w.session.painting_owed (key_of_byte w.session b) idle) ∙ on))
   by_idle false other same = fed_in_step d saved w b new was same (paints other)
 
-byte_in_step : (d : Data) (w : World) (new : Session) (store store' : StoreState) (b : ℕ) (answer : Result Status Refused) → IsInStep d w
+pub byte_in_step : (d : Data) (w : World) (new : Session) (store store' : StoreState) (b : ℕ) (answer : Result Status Refused) → IsInStep d w
     → Feeds d w.session store b answer new store' → (is_idle w.session b ≡ false → OnOk answer (FeedPaints d w.session b new))
     → IsInStep d (record w { session = new; told = mark_after w.told (told_after_key w (key_of_byte w.session b)) answer })
 byte_in_step d w new store store' b (Ok status) was feeds paints = fed d feeds.0 w b new was feeds.2.0 paints

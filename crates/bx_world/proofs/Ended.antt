@@ -1,5 +1,6 @@
 -- The bytes of a schedule up to the session's end are those of its events.
-use Rattle.std.proofs.Common.{◌≡◌, ◌≢◌, ℕ, Bool, true, false, List, [], ◌∷◌, ◌++◌, Result, refl, sym, ap, subst, ◌∙◌, if◌then◌else◌}
+use Rattle.std.proofs.Common.{◌≡◌, ◌≢◌, ℕ, Bool, true, false, List, [], ◌∷◌, ◌++◌, Result}
+use Rattle.std.proofs.Common.{refl, sym, ap, subst, ◌∙◌, if◌then◌else◌}
 use Rattle.std.proofs.lemmas.List.{append_assoc}
 use Rattle.bx_grid.specs.Picture.{is_size}
 use Rattle.bx_editor.specs.Data.{Data}
@@ -56,7 +57,8 @@ over d e (s ∷ more) events on are =
 
 -- ---- before the end
 
-told_input : (height width : ℕ) (sized : Bool) (events : List Event) → events ≡ (if sized then Telling height width ∷ [] else []) → input_of events ≡ []
+told_input : (height width : ℕ) (sized : Bool) (events : List Event) → events ≡ (if sized then Telling height width ∷ [] else [])
+    → input_of events ≡ []
 told_input height width true events is = ap input_of is
 told_input height width false events is = ap input_of is
 

@@ -52,7 +52,8 @@ queued_by_byte d saved s b = by_idle (is_idle s b) where
       let bytes : List ℕ = painting u.known (picture d u.editor (next_top d u.editor u.top)) in
       (bytes, ap (λ xs. xs ++ bytes) (byte_pending d saved s b))
 
-byte_queues : (d : Data) (saved : Bool) (old new : World) (b : ℕ) (answer : Result (Unit {0}) StepFault) → AfterByteStep d saved old b answer new → Queues old new
+byte_queues : (d : Data) (saved : Bool) (old new : World) (b : ℕ) (answer : Result (Unit {0}) StepFault)
+    → AfterByteStep d saved old b answer new → Queues old new
 byte_queues d saved old new b (Ok done) is =
     let queued = queued_by_byte d saved old.session b in
     subst (Queues old) (sym is) (record { bytes = queued.0; pending = queued.1; line = refl; screen = refl })
@@ -66,7 +67,8 @@ byte_queues d saved old new b (Err (faults.Session refused.Size)) is = absurd is
 byte_queues d saved old new b (Err (faults.Screen fault)) is = absurd is
 byte_queues d saved old new b (Err faults.Line) is = absurd is
 
-told_queues : (d : Data) (old new : World) (height width : ℕ) (answer : Result (Unit {0}) StepFault) → AfterToldStep d old height width answer new → Queues old new
+told_queues : (d : Data) (old new : World) (height width : ℕ) (answer : Result (Unit {0}) StepFault)
+    → AfterToldStep d old height width answer new → Queues old new
 told_queues d old new height width (Ok done) is =
     let u : Session = unpainted_after_told old.session height width in
     subst (Queues old) (sym is.1) (record {
@@ -230,8 +232,8 @@ in_two : (holds : Terminal → Type 0) (screen : Option Terminal) (read first ot
 in_two holds None read first others is h = tt
 in_two holds (Some t) read first others is h = subst holds (ap (reads t) is ∙ reads-append t first others) h
 
-seen : (d : Data) (holds : Terminal → Type 0) (old new : World) (store store' : StoreState) (all : List (Step × Result (Unit {0}) StepFault)) (read : List ℕ)
-    → PlaysReading d old store all new store' read → is_window_changed all ≡ false → IfSome old.screen (λ t. holds (reads t read))
+seen : (d : Data) (holds : Terminal → Type 0) (old new : World) (store store' : StoreState) (all : List (Step × Result (Unit {0}) StepFault))
+    (read : List ℕ) → PlaysReading d old store all new store' read → is_window_changed all ≡ false → IfSome old.screen (λ t. holds (reads t read))
     → IfSome new.screen holds
 seen d holds old new store store' [] read played still h =
     subst (λ (w : World). IfSome w.screen holds) (sym played.0)

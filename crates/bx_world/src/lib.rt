@@ -7,6 +7,6 @@ mod step;
 mod stepping;
 mod world;
 
-pub use laws::runs_are_plays;
+pub use laws::{runs_are_plays, runs_keep_headline, turns_are_plays};
 pub use step::{Step, StepFault};
 pub use world::World;

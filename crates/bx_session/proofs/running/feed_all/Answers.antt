@@ -26,7 +26,7 @@ loop-byte-preserved g c =
         _,
         fed_more says c.args.session.now.tables c.loop-byte.session.tables c.args.session.now.session c.loop-byte.session.session c.feed.new.self.session
             _ _ _ c.args.bytes.now c.loop-byte.byte-index _ c.feed.result h.0 h.1 stay (sym c.ended.ensures ∙ c.if-ended.false) c.feed.ensures.after_byte
-            (take_more c.args.bytes.now c.loop-byte.byte-index 0 c.loop-byte-test.true),
+            c.feed.ensures.paints (take_more c.args.bytes.now c.loop-byte.byte-index 0 c.loop-byte-test.true),
       ),
       c.feed.ensures.tables ∙ stay,
     )
