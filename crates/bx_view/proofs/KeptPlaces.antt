@@ -1,6 +1,6 @@
 -- Each move leads from a place to a place.
 use Rattle.std.proofs.Common.{◌≡◌, ℕ, zero, suc, ◌+◌, ◌-◌, ◌<◌, ◌≤◌, ◌==◌, nat_le, nat_lt, Bool, true, false, List, [], ◌∷◌, map, length, find, get_or}
-use Rattle.std.proofs.Common.{reverse, slice_get, Option, Some, None, unwrap_or, cond, count_by, IsUtf8, chars, refl, sym, ap, subst, ◌∙◌}
+use Rattle.std.proofs.Common.{reverse, slice_get, Option, Some, None, unwrap_or, cond, IsUtf8, chars, refl, sym, ap, subst, ◌∙◌}
 use Rattle.std.proofs.Common.{arith, eq-eqb}
 use Rattle.std.specs.Prelude.{All, Contains, IfSome}
 use Rattle.std.proofs.lemmas.Bool.{eqb-true}
@@ -27,6 +27,7 @@ use Rattle.bx_view.specs.declared.moves.Logical.TheVariants.{Back, Forward}
 use Rattle.bx_view.specs.declared.moves.Vertical.{Vertical}
 use Rattle.bx_view.specs.Moves.{end_of, entry_in, past, place_from, place_in, row_after, row_away}
 use Rattle.bx_view.specs.Moves.{row_before, row_end, row_home, rows_away, start_of, step_logical, step_visual}
+use Rattle.bx_view.specs.Cells.{times}
 use Rattle.bx_view.specs.Laws.{MovesKeep}
 use Rattle.bx_view.specs.Places.{IsTextPlace}
 use Rattle.bx_view.specs.TextRows.{TextRow, IsPlace, cell_of, first, no_text_row, places, places_of, row_at, row_of, text_row, text_rows}
@@ -53,10 +54,6 @@ within-of P os each = within-of-all P os (All-weaker (Contains os) P each os (Al
 pub contains-moved : (start : ℕ) (os : List ℕ) (o : ℕ) → Contains os o → Contains (map (λ k. start + k) os) (start + o)
 contains-moved start os o c =
     (c.0, omega (arith, c.1, length-map os (λ k. start + k)), get_or-map (λ k. start + k) os c.0 o (start + o) c.1 ∙ ap (λ k. start + k) c.2)
-
--- how often an offset stands among some
-abbrev pub times : ℕ → List ℕ → ℕ
-times o os = count_by (λ p. p == o) os
 
 -- one for an offset itself, and nothing for others
 abbrev pub one-at : ℕ → ℕ → ℕ

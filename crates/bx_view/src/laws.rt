@@ -2,6 +2,7 @@
 
 ghost use Rattle.std.specs.Prelude.{◌≡◌, ℕ, List, IsUtf8};
 ghost use Rattle.bx_ucd.specs.declared.class.Class.{Class};
+ghost use Rattle.bx_view.specs.Cells.{HasCells};
 ghost use Rattle.bx_view.specs.Laws.{InEachWindow, MovesKeep, SpansText};
 ghost use Rattle.bx_view.specs.Places.{text_places, IsTextPlace};
 ghost use Rattle.bx_view.specs.TextRows.{places};
@@ -16,4 +17,10 @@ pub fn places_are_boundaries()
 /// Each move leads from a place to a place.
 pub fn moves_keep_places()
     ensures { InEachWindow (λ class text w rows. MovesKeep w rows (IsTextPlace class text)) }
+{}
+
+/// A row's slots are its places. Each place has one slot, in the row that it falls in, and its cell is the column in which
+/// the glyphs of its unit begin.
+pub fn places_have_cells()
+    ensures { InEachWindow (λ class text w rows. HasCells class w rows) }
 {}

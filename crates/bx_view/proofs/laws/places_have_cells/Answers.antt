@@ -1,0 +1,6 @@
+use Rattle.bx_view.proofs.GlyphCells.{has-cells}
+use Rattle.bx_view.proofs.Told.{side-some}
+use Rattle.bx_view.proofs.laws.places_have_cells.Goals as goal
+
+pub returns : goal.returns
+returns c = λ class bracket base w text side utf8. has-cells class bracket base w (side-some w side) text utf8

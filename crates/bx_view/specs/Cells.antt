@@ -1,0 +1,65 @@
+-- Where a place stands: in one slot of one row, in the column in which the glyphs of its unit begin.
+use Rattle.std.specs.Prelude.{◌≡◌, ◌≢◌, ◌⊎◌, ℕ, zero, suc, ◌+◌, ◌-◌, ◌%◌, ◌<◌, ◌==◌, true, List, [], ◌∷◌, ◌++◌, length, count_by, sum_by, flat_map, replicate}
+use Rattle.std.specs.Prelude.{slice_index_or, Contains, HoldsAt, MatchOption, Option}
+use Rattle.bx_ucd.specs.declared.class.Class.{Class}
+use Rattle.bx_rows.specs.RowPicture.{Glyph, blank, columns_used, unit_columns, unit_glyphs}
+use Rattle.bx_rows.specs.VisualOrder.{visual}
+use Rattle.bx_paragraph.specs.BodyRows.{BodyRow}
+use Rattle.bx_paragraph.specs.Slots.{AreReordered, end_column}
+use Rattle.bx_view.specs.Moves.{entry_in}
+use Rattle.bx_view.specs.TextRows.{IsPlace, TextRow, cell_of, places_of, row_at, row_of, slots, text_row_glyphs}
+
+-- how often an offset stands among some
+abbrev pub times : ℕ → List ℕ → ℕ
+times offset offsets = count_by (λ o. o == offset) offsets
+
+-- a place has one slot in the row that it falls in, and none in any other
+pub record HasOneSlot (w : ℕ) (rows : List TextRow) (place : ℕ) : Type 0 where
+  pub row : row_of rows place < length rows
+  pub once : times place (slots w (row_at rows (row_of rows place))) ≡ 1
+  pub elsewhere : (k : ℕ) → k < length rows → k ≢ row_of rows place → times place (slots w (row_at rows k)) ≡ 0
+
+-- the glyphs that a row shows for its unit of a number
+abbrev pub glyphs_of : (ℕ → Class) → (ℕ → Option ℕ) → ℕ → BodyRow → ℕ → List Glyph
+glyphs_of class mirror w r number = slice_index_or (unit_glyphs class mirror w r.body r.units (unit_columns w 0 r.units) r.levels) number []
+
+-- what a row shows left of a unit that has these left of it: its blanks in a paragraph of odd level, and the glyphs of these
+abbrev pub glyphs_before : (ℕ → Class) → (ℕ → Option ℕ) → ℕ → BodyRow → List ℕ → List Glyph
+glyphs_before class mirror w r numbers =
+    elim (r.paragraph % 2) [ zero ↦ [] | suc _ ↦ replicate (w - columns_used w r.units) blank ] ++ flat_map (glyphs_of class mirror w r) numbers
+
+-- A unit of the row begins at the place, and its glyphs in the column: that is the next one behind all that the row shows left of
+-- them, which is the glyphs of the units before it in visual order.
+pub record IsUnitCell (class : ℕ → Class) (mirror : ℕ → Option ℕ) (w : ℕ) (r : TextRow) (place column : ℕ) : Type 0 where
+  pub number : ℕ
+  pub within : number < length r.row.units
+  pub place_is : HoldsAt (λ u. r.start + u.start ≡ place) r.row.units number
+  pub before : List ℕ
+  pub behind : List ℕ
+  pub order : visual r.row.levels ≡ before ++ number ∷ behind
+  pub rest : List Glyph
+  pub shown : text_row_glyphs class mirror w r ≡ glyphs_before class mirror w r.row before ++ (glyphs_of class mirror w r.row number ++ rest)
+  pub column_is : column ≡ sum_by (λ g. g.columns) (glyphs_before class mirror w r.row before) + 1
+
+-- the place is the end of the paragraph, and in the column its slot stands beside all units
+pub record IsEndCell (w : ℕ) (r : TextRow) (place column : ℕ) : Type 0 where
+  pub last : r.row.is_last ≡ true
+  pub place_is : place ≡ r.start + length r.row.body
+  pub column_is : column ≡ end_column w r.row
+
+-- the cell of a place in its row, whatever mirrors are shown
+abbrev pub HasCell : (ℕ → Class) → ℕ → List TextRow → ℕ → Type 0
+HasCell class w rows place =
+    let r = row_at rows (row_of rows place) in
+    let column = cell_of w rows place in (mirror : ℕ → Option ℕ) → IsUnitCell class mirror w r place column ⊎ IsEndCell w r place column
+
+-- a row is entered, in whatever column, at one of its places
+abbrev pub IsEntered : ℕ → TextRow → Type 0
+IsEntered w r = (column : ℕ) → MatchOption (entry_in w r column) ⊥ (Contains (places_of r))
+
+-- the slots of each row are its places, at one of which it is entered, and each place has one slot, in whose column it stands
+pub record HasCells (class : ℕ → Class) (w : ℕ) (rows : List TextRow) : Type 0 where
+  pub slots : (k : ℕ) → k < length rows → AreReordered (slots w (row_at rows k)) (places_of (row_at rows k))
+  pub entered : (k : ℕ) → k < length rows → IsEntered w (row_at rows k)
+  pub one : (place : ℕ) → IsPlace rows place → HasOneSlot w rows place
+  pub cell : (place : ℕ) → IsPlace rows place → HasCell class w rows place
