@@ -11,7 +11,8 @@ use Rattle.bx_paragraph.specs.declared.moves.Visual.{Visual}
 use Rattle.bx_paragraph.specs.declared.moves.Visual.TheVariants.{Left, Right}
 use Rattle.bx_paragraph.specs.declared.slot.Slot.{Slot}
 use Rattle.bx_paragraph.specs.BodyRows.{offsets_of}
-use Rattle.bx_paragraph.specs.Slots.{covering, covering_in, covers, entry, first_in, opposite, or_else, reading_end, reading_side, row_slots, slot_offsets, toward}
+use Rattle.bx_paragraph.specs.Slots.{covering, covering_in, covers, entry, first_in, opposite, or_else, reading_end}
+use Rattle.bx_paragraph.specs.Slots.{reading_side, row_slots, slot_offsets, toward}
 use Rattle.bx_paragraph.proofs.OnceEach.{once-each}
 use Rattle.bx_view.specs.Cells.{IsEntered, times}
 use Rattle.bx_view.specs.Moves.{place_in}
