@@ -85,13 +85,15 @@ is_root() {
 
 # ---- the scenes of a save: three lines, and a letter before each
 
-printf 'ab\ncd\nef\n' >"$folder/old"
+printf 'ab\ncd\nef\n' >"$folder/lines"
 printf 'xab\nycd\nzef\n' >"$folder/edited"
+# more than what the program gathers for one write
+head -c 80000 /dev/zero | tr '\0' a >"$folder/rest"
 # what the same keys make of nothing
 printf 'zyx' >"$folder/typed"
 printf 'theirs\n' >"$folder/theirs"
 printf 'x\033[B\033[Hy\033[B\033[Hz\023' >"$folder/keys"
-scenes='plain secret linked made dangling beset'
+scenes='plain long secret linked made dangling beset'
 ! is_root || scenes="$scenes owned"
 
 put_old() { # PATH MODE
@@ -103,12 +105,17 @@ put_old() { # PATH MODE
 # after each save.
 prepare() { # SCENE
     scene=$1
+    cp "$folder/lines" "$folder/old"
     cp "$folder/edited" "$folder/new"
     rm -rf "$place"
     mkdir -m 755 "$place" "$place/links"
     file=$place/text kept=$place/text mode=640 owner=$(id -u):$(id -g) others='links text'
     case $scene in
     plain) put_old "$kept" 640 ;;
+    long)
+        for text in old new; do cat "$folder/rest" >>"$folder/$text"; done
+        put_old "$kept" 640
+        ;;
     secret)
         mode=600
         put_old "$kept" 600
@@ -565,12 +572,10 @@ check_disks() {
     mount -o remount,rw "$folder/disk"
     check_save 'no longer read-only' new env
 
-    cp "$folder/old" "$folder/short"
     head -c 40000 /dev/zero | tr '\0' a >"$folder/old"
     cp "$folder/old" "$kept"
     check_save '40,000 bytes more on a disk of 64 KiB' old env
     same "what is there" "$(ls -A "$folder/disk")" text
-    mv "$folder/short" "$folder/old"
     umount "$folder/disk" && mounted=''
 
     prepare plain

@@ -9,6 +9,7 @@ use crate::line::{go_to, start_of_line};
 use bx_explicit::Base;
 use bx_session::Session;
 use bx_ucd::Tables;
+use bx_words::UnicodeFiles;
 use std::alloc::Global;
 
 /// What a session begins with.
@@ -34,17 +35,15 @@ pub struct Beginning<'a> {
 /// Errors: those of the tables and of opening, in this order, and want of memory.
 pub fn open(
     alloc: Global,
-    classes: &[u8],
-    brackets: &[u8],
-    mirroring: &[u8],
+    unicode: UnicodeFiles<'_>,
     beginning: Beginning<'_>,
 ) -> Result<Session<Tables>, ProgramFault<'static>>
-    ensures { OnOk result (refusal classes.now brackets.now mirroring.now ≡ None) }
+    ensures { OnOk result (refusal unicode.entry.classes.now unicode.entry.brackets.now unicode.entry.mirroring.now ≡ None) }
 {
     let rows = beginning.rows;
     let cols = beginning.cols;
     let line = beginning.line;
-    let tables = Tables::read(alloc, classes, brackets, mirroring)?;
+    let tables = Tables::read(alloc, unicode.classes, unicode.brackets, unicode.mirroring)?;
     let text = beginning.text.unwrap_or(Vec::new(alloc));
     let start = line.map(|line| start_of_line(text.as_slice(), line));
     let mut session = Session::open(alloc, text, tables, rows, cols, beginning.direction)?;

@@ -9,6 +9,7 @@ use crate::replaying::replay;
 use bx_session::{End, Session, run};
 use bx_store::Store;
 use bx_ucd::Tables;
+use bx_words::UnicodeFiles;
 use std::alloc::Global;
 use std::io::{Read, Write};
 
@@ -49,15 +50,13 @@ pub fn edit<R: Read, W: Write, S: Store>(
     reader: &mut R,
     writer: &mut W,
     store: &mut S,
-    classes: &[u8],
-    brackets: &[u8],
-    mirroring: &[u8],
+    unicode: UnicodeFiles<'_>,
     beginning: Beginning<'_>,
 ) -> Result<Changes, ProgramFault<'static>>
-    ensures { OnOk result (refusal classes.now brackets.now mirroring.now ≡ None) }
+    ensures { OnOk result (refusal unicode.entry.classes.now unicode.entry.brackets.now unicode.entry.mirroring.now ≡ None) }
 {
     let keys = beginning.keys;
-    let mut session = open(alloc, classes, brackets, mirroring, beginning)?;
+    let mut session = open(alloc, unicode, beginning)?;
     let changes = resume(reader, writer, store, &mut session, keys);
     // Here, since each way out would be a proof of what is dropped there.
     drop(session);

@@ -1,7 +1,7 @@
 //! The files that a session begins with.
 
 use crate::words::Options;
-use bx_words::{FileFault, bytes_of, text_of};
+use bx_words::{FileFault, UnicodeFiles, bytes_of, text_of};
 
 /// The files that a session begins with.
 #[derive(Drop)]
@@ -30,5 +30,14 @@ impl Files {
                 None => Vec::new(rt.alloc()),
             },
         })
+    }
+
+    /// The bytes of Unicode's three files.
+    pub fn unicode(&self) -> UnicodeFiles<'_> {
+        UnicodeFiles {
+            classes: self.classes.as_slice(),
+            brackets: self.brackets.as_slice(),
+            mirroring: self.mirroring.as_slice(),
+        }
     }
 }

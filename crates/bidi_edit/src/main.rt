@@ -50,9 +50,7 @@ fn edit_file<'a, R: Read + Drop, W: Write, S: Store>(
         &mut reader,
         writer,
         store,
-        files.classes.as_slice(),
-        files.brackets.as_slice(),
-        files.mirroring.as_slice(),
+        files.unicode(),
         beginning,
     );
     if reader.has_failed() {
@@ -78,9 +76,7 @@ fn recover_to<'a, W: Write, S: Store>(
     let replayed = recover(
         rt.alloc(),
         store,
-        files.classes.as_slice(),
-        files.brackets.as_slice(),
-        files.mirroring.as_slice(),
+        files.unicode(),
         beginning,
         file.as_slice(),
     )?;

@@ -9,6 +9,7 @@ use crate::replaying::{Replayed, replay_beside};
 use bx_session::Session;
 use bx_store::Store;
 use bx_ucd::Tables;
+use bx_words::UnicodeFiles;
 use std::alloc::Global;
 
 /// Replays keys beside the bytes that the file has now, and stores the text.
@@ -32,16 +33,14 @@ fn store_replayed<S: Store>(
 pub fn recover<S: Store>(
     alloc: Global,
     store: &mut S,
-    classes: &[u8],
-    brackets: &[u8],
-    mirroring: &[u8],
+    unicode: UnicodeFiles<'_>,
     beginning: Beginning<'_>,
     file: &[u8],
 ) -> Result<Replayed, ProgramFault<'static>>
-    ensures { OnOk result (refusal classes.now brackets.now mirroring.now ≡ None) }
+    ensures { OnOk result (refusal unicode.entry.classes.now unicode.entry.brackets.now unicode.entry.mirroring.now ≡ None) }
 {
     let keys = beginning.keys;
-    let mut session = open(alloc, classes, brackets, mirroring, beginning)?;
+    let mut session = open(alloc, unicode, beginning)?;
     let replayed = store_replayed(store, &mut session, keys, file);
     // Here, since each way out would be a proof of what is dropped there.
     drop(session);

@@ -3,10 +3,11 @@
 use crate::beginning::Beginning;
 use crate::edit::{Changes, edit};
 use crate::fault::ProgramFault;
+use crate::tests::small_files;
 use bx_explicit::Base;
 use bx_session::{OpenError, RunFault};
 use bx_store::MemoryStore;
-use bx_ucd::sample::{BRACKETS, CLASSES, MIRRORING};
+use bx_words::UnicodeFiles;
 use std::alloc::Global;
 use std::io::{self, ErrorKind, Read, Write};
 use std::test::Fail;
@@ -35,9 +36,7 @@ fn run_over<R: Read, W: Write>(
         reader,
         writer,
         &mut MemoryStore::new(alloc, None),
-        CLASSES.as_bytes(),
-        BRACKETS.as_bytes(),
-        MIRRORING.as_bytes(),
+        small_files(),
         beginning(file),
     )
 }
@@ -56,14 +55,17 @@ fn line_of(
     brackets: &str,
     mirroring: &str,
 ) -> Result<String, Fail> {
+    let unicode = UnicodeFiles {
+        classes: classes.as_bytes(),
+        brackets: brackets.as_bytes(),
+        mirroring: mirroring.as_bytes(),
+    };
     let outcome = edit(
         alloc,
         &mut b"".as_slice(),
         &mut Vec::new(alloc),
         &mut MemoryStore::new(alloc, None),
-        classes.as_bytes(),
-        brackets.as_bytes(),
-        mirroring.as_bytes(),
+        unicode,
         beginning(file),
     );
     match outcome {

@@ -6,10 +6,10 @@ use crate::fault::ProgramFault;
 use crate::line::start_of_line;
 use crate::recover::recover;
 use crate::replaying::{Held, Replayed};
+use crate::tests::small_files;
 use bx_explicit::Base;
 use bx_session::JournalReader;
 use bx_store::MemoryStore;
-use bx_ucd::sample::{BRACKETS, CLASSES, MIRRORING};
 use std::alloc::Global;
 use std::io::{self, ErrorKind, Read, Write};
 use std::test::Fail;
@@ -32,15 +32,7 @@ fn recovered(
     keys: &[u8],
     file: &[u8],
 ) -> Result<Result<Replayed, ProgramFault<'static>>, Fail> {
-    Ok(recover(
-        alloc,
-        store,
-        CLASSES.as_bytes(),
-        BRACKETS.as_bytes(),
-        MIRRORING.as_bytes(),
-        beginning(alloc, keys)?,
-        file,
-    ))
+    Ok(recover(alloc, store, small_files(), beginning(alloc, keys)?, file))
 }
 
 #[test]
@@ -74,9 +66,7 @@ fn resumed(alloc: Global, store: &mut MemoryStore, keys: &[u8]) -> Result<bool, 
         &mut b"y\x13\x11".as_slice(),
         &mut Vec::new(alloc),
         store,
-        CLASSES.as_bytes(),
-        BRACKETS.as_bytes(),
-        MIRRORING.as_bytes(),
+        small_files(),
         beginning(alloc, keys)?,
     );
     Ok(changes == Ok(Changes::Saved))

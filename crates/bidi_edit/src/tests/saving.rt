@@ -3,9 +3,9 @@
 use crate::beginning::Beginning;
 use crate::edit::{Changes, edit};
 use crate::fault::ProgramFault;
+use crate::tests::small_files;
 use bx_explicit::Base;
 use bx_store::{FileStore, MemoryStore, Store};
-use bx_ucd::sample::{BRACKETS, CLASSES, MIRRORING};
 use std::alloc::Global;
 use std::test::Fail;
 use std::{env, fs, process};
@@ -29,9 +29,7 @@ fn save<S: Store>(
         &mut b"x\x13\x11".as_slice(),
         &mut Vec::new(alloc),
         store,
-        CLASSES.as_bytes(),
-        BRACKETS.as_bytes(),
-        MIRRORING.as_bytes(),
+        small_files(),
         beginning,
     )
 }

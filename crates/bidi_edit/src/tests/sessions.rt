@@ -7,10 +7,10 @@ mod vectors;
 
 use crate::beginning::Beginning;
 use crate::edit::edit;
+use crate::tests::small_files;
 use bx_explicit::Base;
 use bx_store::MemoryStore;
 use bx_terms::is_side;
-use bx_ucd::sample::{BRACKETS, CLASSES, MIRRORING};
 use std::alloc::Global;
 use std::process::Abort;
 use std::test::Fail;
@@ -108,9 +108,7 @@ impl Given {
             &mut self.keys.as_slice(),
             written,
             store,
-            CLASSES.as_bytes(),
-            BRACKETS.as_bytes(),
-            MIRRORING.as_bytes(),
+            small_files(),
             beginning,
         );
         match outcome {
@@ -133,6 +131,15 @@ fn are_bytes(alloc: Global, bytes: &[u8], field: &str) -> Result<bool, Fail> {
     Ok(bytes == from_hex(alloc, field)?.as_slice())
 }
 
+/// Whether a store holds what a session saves: a field's bytes or, where the field is empty, none or those of the file.
+fn is_saved(alloc: Global, contents: &[u8], field: &str, given: &str) -> Result<bool, Fail> {
+    if contents.is_empty() || !field.is_empty() {
+        return are_bytes(alloc, contents, field);
+    }
+    let file = given.split('|').nth(3).ok_or("no file")?;
+    Ok(file != "none" && are_bytes(alloc, contents, file)?)
+}
+
 /// The first thing in which a session is not what it should be, if any.
 fn fault_of(
     alloc: Global,
@@ -150,7 +157,7 @@ fn fault_of(
     if !are_bytes(alloc, written, output)? {
         return Ok(Some("output"));
     }
-    if !saved.is_empty() && !are_bytes(alloc, store.contents(), saved)? {
+    if !is_saved(alloc, store.contents(), saved, given)? {
         return Ok(Some("saved"));
     }
     Ok(None)
