@@ -1,6 +1,7 @@
 //! Opening a session.
 
 ghost use Rattle.std.specs.Prelude.{◌≡◌, ◌≤◌, [], true, None, IfErr, IfOk, IsUtf8, OnOk, length};
+ghost use Rattle.bx_terms.specs.Sizes.{largest_text};
 ghost use Rattle.bx_grid.specs.Picture.{is_size};
 ghost use Rattle.bx_editor.specs.Opening.{Causes};
 ghost use Rattle.bx_session.specs.Painting.{QueuesPicture};
@@ -33,6 +34,7 @@ impl<D: BidiData + Drop> Session<D> {
           session = at_opening (⟦<D as Answers>⟧.data tables) bytes.items height width base;
         }) }
         ensures paints { IfOk result (λ s. QueuesPicture (⟦<D as Answers>⟧.data tables) [] None s.session) }
+        ensures short { OnOk result (length bytes.items ≤ largest_text) }
         ensures utf8 { OnOk result (IsUtf8 bytes.items) }
         ensures sized { OnOk result (is_size height width ≡ true) }
         ensures refused { IfErr result (Causes bytes.items height width) }

@@ -1,6 +1,7 @@
 //! The world's state.
 
-ghost use Rattle.std.specs.Prelude.{◌≡◌, ◌↔◌, true, false, IfErr, IfOk, IsTrue, IsUtf8, OnOk};
+ghost use Rattle.std.specs.Prelude.{◌≡◌, ◌≤◌, ◌↔◌, true, false, IfErr, IfOk, IsTrue, IsUtf8, OnOk, length};
+ghost use Rattle.bx_terms.specs.Sizes.{largest_text};
 ghost use Rattle.bx_grid.specs.Picture.{is_size};
 ghost use Rattle.bx_grid.specs.Screens.{IfShown};
 ghost use Rattle.bx_editor.specs.Opening.{Causes};
@@ -82,6 +83,7 @@ impl<D: BidiData + Drop> World<D> {
           tables = tables;
           world = around (at_opening (⟦<D as Answers>⟧.data tables) bytes.items height width base) height width;
         }) }
+        ensures short { OnOk result (length bytes.items ≤ largest_text) }
         ensures utf8 { OnOk result (IsUtf8 bytes.items) }
         ensures sized { OnOk result (is_size height width ≡ true) }
         ensures refused { IfErr result (Causes bytes.items height width) }
