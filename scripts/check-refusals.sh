@@ -44,6 +44,7 @@ top=$(cd "$(dirname "$0")/.." && pwd)
 player=$top/crates/play_scenes/out/play_scenes
 lookup=$top/crates/ucd_lookup/out/ucd_lookup
 editor=$top/crates/bidi_edit/out/bidi_edit
+given=$(readlink -f "${1:-/nowhere}" || :)
 scratch=$(mktemp -d)
 trap 'rm -rf "$scratch"' EXIT
 trap 'exit 1' HUP INT TERM
@@ -86,10 +87,10 @@ if [ -x "$lookup" ]; then
 else
     skip 'the tables, since crates/ucd_lookup is not built (cd crates/ucd_lookup && rt run)'
 fi
-if [ $# = 0 ] || ! [ -e "$1" ]; then
+if ! [ -e "$given" ]; then
     skip 'the sessions, since none are given (scripts/check-refusals.sh SESSIONS)'
 elif [ -x "$editor" ]; then
-    check_sessions "$1"
+    check_sessions "$given"
     want_kinds 'session: out of memory at opening' 'session: a dropped key' 'session: a painting put off' 'session: a failed save' \
         'session: nothing refused'
 else
