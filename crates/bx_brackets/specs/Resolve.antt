@@ -12,7 +12,7 @@ abbrev pub is_left : Class → Bool
 is_left L = true
 is_left _ = false
 
--- R, with EN and AN counted as R
+-- R, with EN and AN counted as R. An AL that is handed in is neither direction: W3 has made each one R before N0
 abbrev pub is_right : Class → Bool
 is_right R = true
 is_right EN = true

@@ -260,7 +260,8 @@ fn resolve_next(
 }
 
 /// Gives the bracket pairs of a sequence their types, pair by pair (N0), in the list. `types` are those after W7,
-/// `was_nsm` says which characters were NSM before W1, and `sos` is the type before the sequence of level `level`.
+/// among which W3 has left no AL (one that is handed in counts as neither direction), `was_nsm` says which characters
+/// were NSM before W1, and `sos` is the type before the sequence of level `level`.
 #[tactic(auto, using(crate::proofs::Marks::pairs_more, crate::proofs::Marks::pairs_all, crate::proofs::Context::first_known))]
 pub fn resolve_pairs(
     types: &mut [Class],

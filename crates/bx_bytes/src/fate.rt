@@ -1,3 +1,5 @@
+//! What a grammar makes of bytes that it has read so far.
+
 /// What bytes are to a grammar, as far as they are read.
 #[derive(Clone, Copy, PartialEq, Eq, Debug)]
 pub enum Fate {

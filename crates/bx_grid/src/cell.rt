@@ -1,3 +1,5 @@
+//! The place of a cell in a grid.
+
 /// A cell of a grid: its line and its column.
 #[derive(Clone, Copy, PartialEq, Eq, Debug)]
 pub struct Cell {

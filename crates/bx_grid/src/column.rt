@@ -1,3 +1,5 @@
+//! What stands in one column of a grid, and when two columns are alike.
+
 ghost use Rattle.std.specs.Prelude.{◌≡◌, ◌↔◌, ◌∷◌, [], IsTrue, ◌≤◌, length, map, IfOk, true, false};
 ghost use Rattle.bx_grid.specs.Columns as spec;
 ghost use Rattle.bx_grid.specs.Columns.{is_blank, blank, col_eq, are_equal};

@@ -1,3 +1,5 @@
+//! Why a grid is refused.
+
 use std::alloc::AllocError;
 use thiserror::Error;
 

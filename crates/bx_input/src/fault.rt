@@ -1,3 +1,5 @@
+//! Why the filter breaks off.
+
 use thiserror::Error;
 
 /// Why a run broke off.

@@ -1,3 +1,5 @@
+//! What the filter puts out for a byte.
+
 /// What goes out for a byte that came in: some bytes, and perhaps one more.
 #[derive(Clone, Copy, Debug)]
 pub struct Output {

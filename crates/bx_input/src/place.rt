@@ -1,3 +1,5 @@
+//! The state of the filter between two bytes.
+
 use crate::beginning::Beginning;
 use crate::held::Held;
 

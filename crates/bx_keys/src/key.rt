@@ -1,3 +1,5 @@
+//! The keys of the editor.
+
 /// What the user asks for.
 #[derive(Clone, Copy, PartialEq, Eq, Debug)]
 pub enum Key {

@@ -1,3 +1,5 @@
+//! Why a picture is not painted.
+
 use std::alloc::AllocError;
 use thiserror::Error;
 

@@ -1,3 +1,5 @@
+//! Why an index of paragraphs is not made.
+
 use std::alloc::AllocError;
 use thiserror::Error;
 

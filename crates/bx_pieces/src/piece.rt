@@ -1,3 +1,5 @@
+//! One piece of a text: a span of one of the two buffers.
+
 ghost use Rattle.std.specs.Prelude.{◌≡◌};
 ghost use Rattle.bx_pieces.specs.Pieces.{goes_on};
 

@@ -1,3 +1,5 @@
+//! How a run over a reader ends.
+
 use thiserror::Error;
 
 /// How a run over a reader ended.

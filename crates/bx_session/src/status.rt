@@ -1,3 +1,5 @@
+//! Whether a session goes on.
+
 /// Whether a session goes on.
 #[derive(Clone, Copy, PartialEq, Eq, Debug)]
 pub enum Status {

@@ -1,3 +1,5 @@
+//! Why a text is not opened or edited.
+
 use std::alloc::AllocError;
 use thiserror::Error;
 

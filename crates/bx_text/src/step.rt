@@ -1,3 +1,5 @@
+//! An edit that can be taken back or made again.
+
 use bx_pieces::Pieces;
 
 /// An edit that can be taken back, or made again: where and with what.
