@@ -1,8 +1,6 @@
 //! The refusals.
 use bx_grid::GridError;
-use bx_paras::ParasError;
-use bx_text::TextError;
-use bx_view::ViewError;
+use bx_terms::OutOfMemory;
 use std::alloc::AllocError;
 use thiserror::Error;
 
@@ -28,24 +26,13 @@ impl From<AllocError> for DocumentError {
     }
 }
 
-impl From<ViewError> for DocumentError {
+impl From<OutOfMemory> for DocumentError {
     ghost use Rattle.std.specs.Prelude.{◌≡◌};
     ghost use Rattle.bx_document.specs.declared.error.DocumentError.TheVariants.{OutOfMemory};
 
     ghost from_gives = { λ e r. r ≡ OutOfMemory };
 
-    fn from(_error: ViewError) -> Self {
-        DocumentError::OutOfMemory
-    }
-}
-
-impl From<ParasError> for DocumentError {
-    ghost use Rattle.std.specs.Prelude.{◌≡◌};
-    ghost use Rattle.bx_document.specs.declared.error.DocumentError.TheVariants.{OutOfMemory};
-
-    ghost from_gives = { λ e r. r ≡ OutOfMemory };
-
-    fn from(_error: ParasError) -> Self {
+    fn from(_error: OutOfMemory) -> Self {
         DocumentError::OutOfMemory
     }
 }

@@ -1,17 +1,6 @@
-//! Why a picture is not painted.
+//! The refusal of the calls that take memory.
 
-use std::alloc::AllocError;
-use thiserror::Error;
+use bx_terms::OutOfMemory;
 
-/// Why a picture was not painted.
-#[derive(Debug, Drop, PartialEq, Eq, Error)]
-pub enum PaintError {
-    #[error("out of memory")]
-    OutOfMemory,
-}
-
-impl From<AllocError> for PaintError {
-    fn from(_error: AllocError) -> Self {
-        PaintError::OutOfMemory
-    }
-}
+/// Why a picture was not painted: memory ran out.
+pub type PaintError = OutOfMemory;

@@ -12,6 +12,7 @@ use crate::error::PaintError;
 use crate::output::Output;
 use crate::writing::{write_move, write_over_blanks, write_rendition, write_rows};
 use bx_grid::{Cell, Grid, Picture};
+use bx_terms::OutOfMemory;
 use std::alloc::{AllocError, Global};
 use std::mem;
 
@@ -84,7 +85,7 @@ pub fn whole_into(out: &mut Vec<u8>, picture: &Picture) -> Result<(), PaintError
         }
         Err(_) => {
             *out = output.into_before();
-            Err(PaintError::OutOfMemory)
+            Err(OutOfMemory)
         }
     }
 }
@@ -117,7 +118,7 @@ pub fn changes_into(out: &mut Vec<u8>, old: &Picture, new: &Picture) -> Result<(
         }
         Err(_) => {
             *out = output.into_before();
-            Err(PaintError::OutOfMemory)
+            Err(OutOfMemory)
         }
     }
 }

@@ -5,12 +5,12 @@ ghost use Rattle.bx_paragraph.specs.Layout.{IsLayoutBy, row_by};
 ghost use Rattle.bx_paragraph.specs.Slots.{beside, column_of, covering, entry, opposite, or_else};
 ghost use Rattle.bx_paragraph.specs.Slots.{reading_end, reading_side, reading_start, slot_offsets, toward};
 
-use crate::error::ParagraphError;
 use crate::layout::ParagraphLayout;
 use crate::moves::Visual;
 use crate::reading::{column_in, covering_in, first_in, last_offset, next_in, offsets_toward};
 use crate::row_parts::RowParts;
 use bx_cells::Unit;
+use bx_terms::OutOfMemory;
 use bx_ucd::BidiData;
 use std::alloc::{AllocError, Global};
 
@@ -58,7 +58,7 @@ impl ParagraphLayout {
     /// last row where the body ends.
     ///
     /// Errors: `OutOfMemory`.
-    pub fn offsets<D: BidiData>(&self, row: usize, source: &D) -> Result<Vec<usize>, ParagraphError>
+    pub fn offsets<D: BidiData>(&self, row: usize, source: &D) -> Result<Vec<usize>, OutOfMemory>
         requires data { IsLayoutBy (D.class_of source.now) (D.bracket_of source.now) self.now }
         requires row { row < length self.now.starts }
         ensures { IfOk result (λ v. v.items ≡ offsets_of (row_by (D.class_of source.now) (D.bracket_of source.now) self.now row)) }
@@ -71,7 +71,7 @@ impl ParagraphLayout {
     /// The offset of a row's last place: the body's end in the last row, else where the row's last unit begins.
     ///
     /// Errors: `OutOfMemory`.
-    pub fn last<D: BidiData>(&self, row: usize, source: &D) -> Result<usize, ParagraphError>
+    pub fn last<D: BidiData>(&self, row: usize, source: &D) -> Result<usize, OutOfMemory>
         requires data { IsLayoutBy (D.class_of source.now) (D.bracket_of source.now) self.now }
         requires row { row < length self.now.starts }
         ensures { IfOk result (λ o. o ≡ last_of (row_by (D.class_of source.now) (D.bracket_of source.now) self.now row)) }
@@ -86,7 +86,7 @@ impl ParagraphLayout {
         row: usize,
         side: Visual,
         source: &D,
-    ) -> Result<Vec<usize>, ParagraphError>
+    ) -> Result<Vec<usize>, OutOfMemory>
         requires data { IsLayoutBy (D.class_of source.now) (D.bracket_of source.now) self.now }
         requires row { row < length self.now.starts }
         ensures { IfOk result (λ v. v.items
@@ -106,7 +106,7 @@ impl ParagraphLayout {
         side: Visual,
         offset: usize,
         source: &D,
-    ) -> Result<Option<usize>, ParagraphError>
+    ) -> Result<Option<usize>, OutOfMemory>
         requires data { IsLayoutBy (D.class_of source.now) (D.bracket_of source.now) self.now }
         requires row { row < length self.now.starts }
         ensures { IfOk result (λ o. o ≡ beside self.now.w (row_by (D.class_of source.now) (D.bracket_of source.now) self.now row) side offset) }
@@ -123,7 +123,7 @@ impl ParagraphLayout {
         &self,
         row: usize,
         source: &D,
-    ) -> Result<Option<usize>, ParagraphError>
+    ) -> Result<Option<usize>, OutOfMemory>
         requires data { IsLayoutBy (D.class_of source.now) (D.bracket_of source.now) self.now }
         requires row { row < length self.now.starts }
         ensures { IfOk result (λ o. o ≡ reading_start self.now.w (row_by (D.class_of source.now) (D.bracket_of source.now) self.now row)) }
@@ -140,7 +140,7 @@ impl ParagraphLayout {
         &self,
         row: usize,
         source: &D,
-    ) -> Result<Option<usize>, ParagraphError>
+    ) -> Result<Option<usize>, OutOfMemory>
         requires data { IsLayoutBy (D.class_of source.now) (D.bracket_of source.now) self.now }
         requires row { row < length self.now.starts }
         ensures { IfOk result (λ o. o ≡ reading_end self.now.w (row_by (D.class_of source.now) (D.bracket_of source.now) self.now row)) }
@@ -158,7 +158,7 @@ impl ParagraphLayout {
         row: usize,
         offset: usize,
         source: &D,
-    ) -> Result<u16, ParagraphError>
+    ) -> Result<u16, OutOfMemory>
         requires data { IsLayoutBy (D.class_of source.now) (D.bracket_of source.now) self.now }
         requires row { row < length self.now.starts }
         ensures { IfOk result (λ c. c ≡ column_of self.now.w (row_by (D.class_of source.now) (D.bracket_of source.now) self.now row) offset) }
@@ -176,7 +176,7 @@ impl ParagraphLayout {
         row: usize,
         column: u16,
         source: &D,
-    ) -> Result<Option<usize>, ParagraphError>
+    ) -> Result<Option<usize>, OutOfMemory>
         requires data { IsLayoutBy (D.class_of source.now) (D.bracket_of source.now) self.now }
         requires row { row < length self.now.starts }
         ensures { IfOk result (λ o. o ≡ entry self.now.w (row_by (D.class_of source.now) (D.bracket_of source.now) self.now row) column) }

@@ -11,13 +11,13 @@ ghost use Rattle.bx_paragraph.specs.Layout.{IsLayoutBy, OfRows, row_by};
 ghost use Rattle.bx_paragraph.specs.RowParts.{row_of_parts};
 ghost use Rattle.bx_paragraph.specs.Slots.{AreReordered, row_slots};
 
-use crate::error::ParagraphError;
 use crate::row_parts::RowParts;
 use crate::slot::Slot;
 use crate::slots::row_slots;
 use bx_explicit::Base;
 use bx_resolve::{Levels, levels};
 use bx_rows::{RowPicture, RowStart, row_levels_behind, row_picture, row_starts, units_of_row};
+use bx_terms::OutOfMemory;
 use bx_ucd::BidiData;
 use std::alloc::Global;
 use std::marker::Model;
@@ -63,7 +63,7 @@ impl ParagraphLayout {
         source: &D,
         w: u16,
         base: Base,
-    ) -> Result<ParagraphLayout, ParagraphError>
+    ) -> Result<ParagraphLayout, OutOfMemory>
         requires { is_side w ≡ true }
         ensures body { IfOk result (λ l. l.body ≡ string_bytes body) }
         ensures base { IfOk result (λ l. l.base ≡ base) }
@@ -107,7 +107,7 @@ impl ParagraphLayout {
     ///
     /// Errors: `OutOfMemory`, and nothing has changed.
     #[tactic(auto, using(crate::proofs::Starts::some_start))]
-    pub fn set_width<D: BidiData>(&mut self, source: &D, w: u16) -> Result<(), ParagraphError>
+    pub fn set_width<D: BidiData>(&mut self, source: &D, w: u16) -> Result<(), OutOfMemory>
         requires side { is_side w ≡ true }
         requires data { IsLayoutBy (D.class_of source.now) (D.bracket_of source.now) self.old }
         ensures body { self.new.body ≡ self.old.body }
@@ -170,7 +170,7 @@ impl ParagraphLayout {
         &self,
         row: usize,
         source: &D,
-    ) -> Result<RowParts, ParagraphError>
+    ) -> Result<RowParts, OutOfMemory>
         requires data { IsLayoutBy (D.class_of source.now) (D.bracket_of source.now) self.now }
         requires row { row < length self.now.starts }
         ensures row { IfOk result (λ r. row_of_parts self.now r ≡ row_by (D.class_of source.now) (D.bracket_of source.now) self.now row) }
@@ -195,7 +195,7 @@ impl ParagraphLayout {
     /// The slots of a row from left to right, each with its columns: one for each place of the row.
     ///
     /// Errors: `OutOfMemory`.
-    pub fn slots<D: BidiData>(&self, row: usize, source: &D) -> Result<Vec<Slot>, ParagraphError>
+    pub fn slots<D: BidiData>(&self, row: usize, source: &D) -> Result<Vec<Slot>, OutOfMemory>
         requires data { IsLayoutBy (D.class_of source.now) (D.bracket_of source.now) self.now }
         requires row { row < length self.now.starts }
         ensures slots { IfOk result (λ v. v.items ≡ row_slots self.now.w (row_by (D.class_of source.now) (D.bracket_of source.now) self.now row)) }
@@ -222,7 +222,7 @@ impl ParagraphLayout {
         &self,
         row: usize,
         source: &D,
-    ) -> Result<RowPicture<'_>, ParagraphError>
+    ) -> Result<RowPicture<'_>, OutOfMemory>
         requires data { IsLayoutBy (D.class_of source.now) (D.bracket_of source.now) self.now }
         requires row { row < length self.now.starts }
         ensures picture { IfOk result (λ p. map glyph_of p.glyphs.items ≡ row_glyphs (D.class_of source.now) (D.mirror_of source.now) self.now.w

@@ -4,7 +4,6 @@
 #![tactic(auto)]
 
 mod cursor;
-mod error;
 mod layout;
 mod moves;
 mod numbers;
@@ -13,7 +12,6 @@ mod row_parts;
 mod slot;
 mod slots;
 
-pub use error::ParagraphError;
 pub use layout::ParagraphLayout;
 pub use moves::Visual;
 pub use slot::Slot;

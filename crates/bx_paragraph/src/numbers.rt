@@ -2,9 +2,9 @@
 ghost use Rattle.std.specs.Prelude.{◌≡◌, ◌<◌, IfOk, count_by, length, nat_lt};
 ghost use Rattle.bx_paragraph.specs.Layout.{IsLayoutBy, row_by};
 
-use crate::error::ParagraphError;
 use crate::layout::ParagraphLayout;
 use bx_cells::Unit;
+use bx_terms::OutOfMemory;
 use bx_ucd::BidiData;
 
 /// How many of some units begin before an offset.
@@ -23,7 +23,7 @@ impl ParagraphLayout {
         row: usize,
         offset: usize,
         source: &D,
-    ) -> Result<usize, ParagraphError>
+    ) -> Result<usize, OutOfMemory>
         requires data { IsLayoutBy (D.class_of source.now) (D.bracket_of source.now) self.now }
         requires row { row < length self.now.starts }
         ensures { IfOk result (λ n. n

@@ -4,10 +4,10 @@ ghost use Rattle.bx_terms.specs.Sizes.{is_side, largest_side};
 ghost use Rattle.bx_rows.specs.RowPicture.{columns_used};
 ghost use Rattle.bx_paragraph.specs.Slots.{columns_of, extent_of, row_slots, side_by_side};
 
-use crate::error::ParagraphError;
 use crate::slot::Slot;
 use bx_cells::Unit;
 use bx_rows::{unit_columns, visual};
+use bx_terms::OutOfMemory;
 use std::alloc::{AllocError, Global};
 
 /// Adds the slots of units side by side, in an order; the first begins in the column `at`.
@@ -66,7 +66,7 @@ pub(crate) fn row_slots(
     paragraph: u8,
     is_last: bool,
     w: u16,
-) -> Result<Vec<Slot>, ParagraphError>
+) -> Result<Vec<Slot>, OutOfMemory>
     requires side { is_side w ≡ true }
     requires fits { columns_used w units.now ≤ w }
     requires levels { length levels.now ≡ length units.now }

@@ -14,14 +14,13 @@ ghost use Rattle.bx_paras.specs.Windows.{IsWindow};
 
 use crate::block::BLOCK_CAPACITY;
 use crate::blocks::Blocks;
-use crate::error::ParasError;
 use crate::fill::replace;
 use crate::leads::leads_of;
 use crate::position::Position;
 use crate::scan::paragraph_from;
 use crate::walk::ParagraphWalk;
 use crate::window::{Window, window_to_end};
-use bx_terms::LARGEST_TEXT;
+use bx_terms::{LARGEST_TEXT, OutOfMemory};
 use bx_text::{Change, Text};
 use bx_ucd::BidiData;
 use std::alloc::Global;
@@ -130,7 +129,7 @@ impl Index {
     /// The paragraphs of a text.
     ///
     /// Errors: `OutOfMemory`.
-    pub fn build<D: BidiData>(alloc: Global, text: &Text, source: &D) -> Result<Index, ParasError>
+    pub fn build<D: BidiData>(alloc: Global, text: &Text, source: &D) -> Result<Index, OutOfMemory>
         ensures { IfOk result (λ i. i ≡ record { paragraphs = lengths (D.class_of source.now) text.now.edited.text; room = None }) }
     {
         let len = text.len();
@@ -165,7 +164,7 @@ impl Index {
     /// back then.
     ///
     /// Errors: `OutOfMemory`, and the index and the room made before are unchanged.
-    pub fn ready(&mut self, separators: usize) -> Result<(), ParasError>
+    pub fn ready(&mut self, separators: usize) -> Result<(), OutOfMemory>
         ensures paragraphs { self.new.paragraphs ≡ self.old.paragraphs }
         ensures ok { OnOk result (self.new.room ≡ Some separators) }
         ensures bytes { OnOk result (CoversBytes self.new.room separators) }

@@ -5,7 +5,6 @@
 
 mod block;
 mod blocks;
-mod error;
 mod fill;
 mod index;
 mod laws;
@@ -18,7 +17,6 @@ mod spot;
 mod walk;
 mod window;
 
-pub use error::ParasError;
 pub use index::Index;
 pub use laws::{bodies_stand_at_spans, paragraphs_join_to_text};
 pub use walk::ParagraphWalk;

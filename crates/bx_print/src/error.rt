@@ -1,6 +1,5 @@
 //! Why a text could not be printed.
-use bx_paragraph::ParagraphError;
-use bx_paras::ParasError;
+use bx_terms::OutOfMemory;
 use bx_text::TextError;
 use std::alloc::AllocError;
 use thiserror::Error;
@@ -41,24 +40,13 @@ impl From<TextError> for PrintError {
     }
 }
 
-impl From<ParasError> for PrintError {
+impl From<OutOfMemory> for PrintError {
     ghost use Rattle.std.specs.Prelude.{◌≡◌};
     ghost use Rattle.bx_print.specs.declared.error.PrintError.TheVariants.{OutOfMemory};
 
     ghost from_gives = { λ e r. r ≡ OutOfMemory };
 
-    fn from(_error: ParasError) -> Self {
-        PrintError::OutOfMemory
-    }
-}
-
-impl From<ParagraphError> for PrintError {
-    ghost use Rattle.std.specs.Prelude.{◌≡◌};
-    ghost use Rattle.bx_print.specs.declared.error.PrintError.TheVariants.{OutOfMemory};
-
-    ghost from_gives = { λ e r. r ≡ OutOfMemory };
-
-    fn from(_error: ParagraphError) -> Self {
+    fn from(_error: OutOfMemory) -> Self {
         PrintError::OutOfMemory
     }
 }

@@ -5,7 +5,6 @@
 
 mod ascii_part;
 mod drawn;
-mod error;
 mod few_levels;
 mod glyph_order;
 mod glyphs;
@@ -27,7 +26,6 @@ mod unit_levels;
 mod wrapping;
 
 pub use drawn::{Drawn, RowPicture};
-pub use error::RowError;
 pub use laws::{
     orders_are_permutations, rows_are_of_rest, rows_cut_units, rows_meet_again, units_make_body,
 };

@@ -7,7 +7,6 @@ ghost use Rattle.bx_rows.specs.RowStarts.{row_starts};
 ghost use Rattle.bx_rows.specs.Shown.{glyph_of};
 
 use crate::drawn::RowPicture;
-use crate::error::RowError;
 use crate::picture::draw;
 use crate::plain_picture::plain_picture;
 use crate::row::Row;
@@ -15,6 +14,7 @@ use crate::row_part::units_of_row;
 use crate::start_search::RowStart;
 use crate::unit_levels::row_levels_behind;
 use bx_resolve::Levels;
+use bx_terms::OutOfMemory;
 use bx_ucd::BidiData;
 use std::alloc::Global;
 
@@ -28,7 +28,7 @@ pub fn row_picture<'a, D: BidiData>(
     levels: &Levels,
     source: &D,
     w: u16,
-) -> Result<RowPicture<'a>, RowError>
+) -> Result<RowPicture<'a>, OutOfMemory>
     requires starts { starts.now ≡ row_starts (D.class_of source.now) w body.now }
     requires number { number < length starts.now }
     ensures picture { IfOk result (λ p. map glyph_of p.glyphs.items

@@ -4,8 +4,8 @@ ghost use Rattle.std.specs.List.{enumerate_from};
 ghost use Rattle.bx_rows.specs.VisualOrder.{visual};
 ghost use Rattle.bx_rows.specs.Ordered.{BeginsBelow, IsRun, around, order_of};
 
-use crate::error::RowError;
 use crate::few_levels::{highest_level, order_few};
+use bx_terms::OutOfMemory;
 use std::alloc::{AllocError, Global};
 use std::collections::VecDeque;
 
@@ -149,7 +149,7 @@ fn numbers_in_order(alloc: Global, levels: &[u8]) -> Result<Vec<usize>, AllocErr
 
 /// The numbers of a row's units from 0, from left to right: L2, by the units' levels.
 #[tactic(auto, using(crate::proofs::NumbersBelow::below_if_visual))]
-pub fn visual(alloc: Global, levels: &[u8]) -> Result<Vec<usize>, RowError>
+pub fn visual(alloc: Global, levels: &[u8]) -> Result<Vec<usize>, OutOfMemory>
     ensures order { IfOk result (λ v. v.items ≡ visual levels.now) }
     ensures below { IfOk result (λ v. All (λ k. k < length levels.now) v.items) }
 {

@@ -9,12 +9,12 @@ ghost use Rattle.bx_rows.specs.VisualOrder.{visual};
 ghost use Rattle.bx_rows.specs.Wrapping.{row_units};
 
 use crate::drawn::{Drawn, RowPicture};
-use crate::error::RowError;
 use crate::glyphs::{push_blanks, push_face};
 use crate::order::visual;
 use crate::row::Row;
 use crate::wrapping::columns_at;
 use bx_cells::Unit;
+use bx_terms::OutOfMemory;
 use bx_ucd::BidiData;
 use std::alloc::{AllocError, Global};
 
@@ -82,7 +82,7 @@ fn row_glyphs<'a, D: BidiData>(
     paragraph: u8,
     source: &D,
     w: u16,
-) -> Result<Vec<Drawn<'a>>, RowError>
+) -> Result<Vec<Drawn<'a>>, OutOfMemory>
     requires stand { All (StandsIn body.now) units.now }
     requires faces { All (HasFace (D.class_of source.now) w body.now) units.now }
     requires used { columns_used w units.now ≤ w }
@@ -134,7 +134,7 @@ pub fn draw<'a, D: BidiData>(
     paragraph: u8,
     source: &D,
     w: u16,
-) -> Result<RowPicture<'a>, RowError>
+) -> Result<RowPicture<'a>, OutOfMemory>
     requires stand { All (StandsIn body.now) units.now }
     requires faces { All (HasFace (D.class_of source.now) w body.now) units.now }
     requires row { IsRowOf w units.now row }

@@ -10,7 +10,6 @@ ghost use Rattle.bx_rows.specs.Shown.{glyph_of};
 ghost use Rattle.bx_rows.specs.VisualOrder.{visual};
 
 use crate::drawn::{Drawn, RowPicture};
-use crate::error::RowError;
 use crate::few_levels::highest_level;
 use crate::glyph_order::order_glyphs;
 use crate::glyphs::push_blanks;
@@ -20,6 +19,7 @@ use crate::plain_row::{PlainRow, plain_row};
 use crate::row_part::{most_units, start_of};
 use crate::start_search::RowStart;
 use bx_resolve::Levels;
+use bx_terms::OutOfMemory;
 use bx_ucd::BidiData;
 use std::alloc::{AllocError, Global};
 
@@ -77,7 +77,7 @@ pub(crate) fn plain_picture<'a, D: BidiData>(
     levels: &Levels,
     source: &D,
     w: u16,
-) -> Result<Option<RowPicture<'a>>, RowError>
+) -> Result<Option<RowPicture<'a>>, OutOfMemory>
     requires starts { starts.now ≡ row_starts (D.class_of source.now) w body.now }
     requires number { number < length starts.now }
     ensures picture { IfOk result (λ o. IfSome o (λ p. map glyph_of p.glyphs.items

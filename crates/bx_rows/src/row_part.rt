@@ -6,9 +6,9 @@ ghost use Rattle.bx_rows.specs.RowLevels.{chars_before};
 ghost use Rattle.bx_rows.specs.RowStarts.{most_units, row_starts, units_of_row};
 ghost use Rattle.bx_rows.specs.Shown.{IsRowOf};
 
-use crate::error::RowError;
 use crate::start_search::RowStart;
 use bx_cells::{Unit, units_from};
+use bx_terms::OutOfMemory;
 use bx_ucd::BidiData;
 use std::alloc::Global;
 
@@ -42,7 +42,7 @@ pub fn units_of_row<D: BidiData>(
     number: usize,
     source: &D,
     w: u16,
-) -> Result<Vec<Unit>, RowError>
+) -> Result<Vec<Unit>, OutOfMemory>
     requires starts { starts.now ≡ row_starts (D.class_of source.now) w body.now }
     requires number { number < length starts.now }
     ensures units { IfOk result (λ v. v.items ≡ units_of_row (D.class_of source.now) w body.now number) }

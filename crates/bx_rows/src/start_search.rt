@@ -9,12 +9,12 @@ ghost use Rattle.bx_rows.specs.RowScan.{HasUnit, IsInOrder, IsRead};
 ghost use Rattle.bx_rows.specs.RowStarts.{row_starts};
 ghost use Rattle.bx_rows.specs.Wrapping.{columns_at};
 
-use crate::error::RowError;
 use crate::narrow_run::{is_blank_cluster, narrow_run};
 use crate::row_scan::{Extent, Scan, new_scan, take_run, take_unit};
 use crate::wrapping::is_break;
 use bx_cells::simple::{Simple, common_kind};
 use bx_cells::{Face, SimpleCluster, first_char, ruled_unit, simple_cluster, simple_face};
+use bx_terms::OutOfMemory;
 use bx_ucd::BidiData;
 use std::alloc::{AllocError, Global};
 
@@ -128,7 +128,7 @@ pub fn row_starts<D: BidiData>(
     body: &str,
     source: &D,
     w: u16,
-) -> Result<Vec<RowStart>, RowError>
+) -> Result<Vec<RowStart>, OutOfMemory>
     ensures { IfOk result (λ v. v.items ≡ row_starts (D.class_of source.now) w body.now) }
 {
     let first = RowStart {

@@ -4,11 +4,11 @@ ghost use Rattle.bx_cells.specs.Units.{StandsIn};
 ghost use Rattle.bx_rows.specs.RowLevels.{chars_before, row_levels};
 ghost use Rattle.bx_rows.specs.Wrapping.{row_units};
 
-use crate::error::RowError;
 use crate::level_read::{read_unit, settle};
 use crate::row::Row;
 use bx_cells::Unit;
 use bx_resolve::Levels;
+use bx_terms::OutOfMemory;
 use bx_ucd::BidiData;
 use std::alloc::{AllocError, Global};
 
@@ -71,7 +71,7 @@ pub fn row_levels<D: BidiData>(
     row: Row,
     levels: &Levels,
     source: &D,
-) -> Result<Vec<u8>, RowError>
+) -> Result<Vec<u8>, OutOfMemory>
     requires units { All (StandsIn body.now) units.now }
     requires row { row.start ≤ row.stop }
     requires within { row.stop ≤ length units.now }
@@ -94,7 +94,7 @@ pub fn row_levels_behind<D: BidiData>(
     chars: usize,
     levels: &Levels,
     source: &D,
-) -> Result<Vec<u8>, RowError>
+) -> Result<Vec<u8>, OutOfMemory>
     requires units { All (StandsIn body.now) units.now }
     requires chars { 0 < length units.now → chars ≡ chars_before body.now units.now }
     ensures levels { IfOk result (λ v. v.items ≡ row_levels (D.class_of source.now) body.now levels.now.paragraph levels.now.each.items units.now) }

@@ -5,9 +5,9 @@ ghost use Rattle.bx_rows.specs.Laws.{CutUnits};
 ghost use Rattle.bx_rows.specs.Shown.{IsRowOf};
 ghost use Rattle.bx_rows.specs.Wrapping.{columns_at, fit_count, is_blank, is_break, up_to_last, row_len, wrap};
 
-use crate::error::RowError;
 use crate::row::Row;
 use bx_cells::{Face, Unit, only_char};
+use bx_terms::OutOfMemory;
 use bx_ucd::{BidiData, Class};
 use std::alloc::{AllocError, Global};
 
@@ -133,7 +133,7 @@ pub fn wrap<D: BidiData>(
     units: &[Unit],
     source: &D,
     w: u16,
-) -> Result<Vec<Row>, RowError>
+) -> Result<Vec<Row>, OutOfMemory>
     requires stand { All (StandsIn body.now) units.now }
     requires faces { All (HasFace (D.class_of source.now) w body.now) units.now }
     ensures rows { IfOk result (λ v. v.items ≡ wrap (D.class_of source.now) w body.now units.now) }

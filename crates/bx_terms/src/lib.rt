@@ -1,12 +1,14 @@
-//! Words that several layers share: kinds of characters, glyphs and their columns, the limits of a window and of a text.
+//! Words that several layers share: kinds of characters, glyphs and their columns, the limits of a window and of a text, want of memory.
 #![tactic(auto)]
 
 mod characters;
 mod glyphs;
+mod memory;
 mod sizes;
 
 pub use characters::{
     are_ascii_printable, are_printable, ascii_glyph, is_ascii_printable, is_control,
 };
 pub use glyphs::{is_glyph, run_width};
+pub use memory::OutOfMemory;
 pub use sizes::{LARGEST_SIDE, LARGEST_TEXT, is_side};

@@ -14,6 +14,7 @@ use crate::source::Source;
 use bx_explicit::Base;
 use bx_paras::ParagraphWalk;
 use bx_rows::{RowStart, row_starts};
+use bx_terms::OutOfMemory;
 use bx_ucd::BidiData;
 use std::alloc::Global;
 
@@ -42,7 +43,9 @@ fn starts_in<D: BidiData>(
     ensures { IfOk result (λ v. v.items ≡ row_starts (D.class_of source.now.tables.now) w (body_at source.now walk.now.number)) }
 {
     let (start, stop) = walked_span(source, walk);
-    let body = source.text.copy_range(start, stop)?;
+    let Ok(body) = source.text.copy_range(start, stop) else {
+        return Err(OutOfMemory);
+    };
     let starts = row_starts(alloc, body.as_str(), source.tables, w)?;
     Ok(starts)
 }

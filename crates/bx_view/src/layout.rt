@@ -16,6 +16,7 @@ use crate::source::Source;
 use crate::span::{body_span, paragraph_under};
 use bx_explicit::Base;
 use bx_paragraph::ParagraphLayout;
+use bx_terms::OutOfMemory;
 use bx_ucd::BidiData;
 use std::alloc::Global;
 use std::marker::Model;
@@ -107,7 +108,9 @@ impl Layout {
             self.recent = i;
             return Ok(i);
         }
-        let body = source.text.copy_range(start, stop)?;
+        let Ok(body) = source.text.copy_range(start, stop) else {
+            return Err(OutOfMemory);
+        };
         let alloc = *self.held.allocator();
         let layout = ParagraphLayout::of(alloc, body, source.tables, self.w, self.base)?;
         let i = hold(&mut self.held, layout, source.tables, self.base)?;
