@@ -28,16 +28,16 @@ fn lines(alloc: Global, bytes: usize, line: usize) -> Result<String> {
 }
 
 /// Puts a line feed into the middle of a text, and has the index follow.
-fn edit<D: BidiData>(text: &mut Text, index: &mut Index, source: &D) -> Result<()>
-    requires { index.old.paragraphs ≡ lengths (D.class_of source.now) text.old.edited.text }
-    ensures { OnOk result (index.new.paragraphs ≡ lengths (D.class_of source.now) text.new.edited.text) }
+fn edit<D: BidiData>(text: &mut Text, index: &mut Index, tables: &D) -> Result<()>
+    requires { index.old.paragraphs ≡ lengths (D.class_of tables.now) text.old.edited.text }
+    ensures { OnOk result (index.new.paragraphs ≡ lengths (D.class_of tables.now) text.new.edited.text) }
 {
     let len = text.len();
     let at = len / 2;
     index.ready(1)?;
     let put = text.insert(at, "\n", at, at)?;
     let _still = text.len();
-    index.edited(text, source, &put);
+    index.edited(text, tables, &put);
     Ok(())
 }
 
@@ -45,35 +45,35 @@ fn edit<D: BidiData>(text: &mut Text, index: &mut Index, source: &D) -> Result<(
 fn edit_often<D: BidiData>(
     text: &mut Text,
     index: &mut Index,
-    source: &D,
+    tables: &D,
     edits: usize,
 ) -> Result<()>
-    requires { index.old.paragraphs ≡ lengths (D.class_of source.now) text.old.edited.text }
-    ensures { OnOk result (index.new.paragraphs ≡ lengths (D.class_of source.now) text.new.edited.text) }
+    requires { index.old.paragraphs ≡ lengths (D.class_of tables.now) text.old.edited.text }
+    ensures { OnOk result (index.new.paragraphs ≡ lengths (D.class_of tables.now) text.new.edited.text) }
 {
     for _ in 0..edits {
-        edit(text, index, source)?;
+        edit(text, index, tables)?;
     }
     Ok(())
 }
 
 /// Takes the whole text out, and has the index follow.
-fn clear<D: BidiData>(text: &mut Text, index: &mut Index, source: &D) -> Result<()>
-    requires { index.old.paragraphs ≡ lengths (D.class_of source.now) text.old.edited.text }
-    ensures { OnOk result (index.new.paragraphs ≡ lengths (D.class_of source.now) text.new.edited.text) }
+fn clear<D: BidiData>(text: &mut Text, index: &mut Index, tables: &D) -> Result<()>
+    requires { index.old.paragraphs ≡ lengths (D.class_of tables.now) text.old.edited.text }
+    ensures { OnOk result (index.new.paragraphs ≡ lengths (D.class_of tables.now) text.new.edited.text) }
 {
     let len = text.len();
     index.ready(0)?;
     let change = text.remove(0, len, 0, 0)?;
     let _still = text.len();
-    index.edited(text, source, &change);
+    index.edited(text, tables, &change);
     Ok(())
 }
 
 /// Takes the latest edit back, and has the index follow.
-fn take_back<D: BidiData>(text: &mut Text, index: &mut Index, source: &D) -> Result<()>
-    requires { index.old.paragraphs ≡ lengths (D.class_of source.now) text.old.edited.text }
-    ensures { OnOk result (index.new.paragraphs ≡ lengths (D.class_of source.now) text.new.edited.text) }
+fn take_back<D: BidiData>(text: &mut Text, index: &mut Index, tables: &D) -> Result<()>
+    requires { index.old.paragraphs ≡ lengths (D.class_of tables.now) text.old.edited.text }
+    ensures { OnOk result (index.new.paragraphs ≡ lengths (D.class_of tables.now) text.new.edited.text) }
 {
     // before the index makes its room, so that what it gives back stands behind all else
     text.ready(0)?;
@@ -84,7 +84,7 @@ fn take_back<D: BidiData>(text: &mut Text, index: &mut Index, source: &D) -> Res
     index.ready(next.added)?;
     if let Some(change) = text.undo()? {
         let _still = text.len();
-        index.edited(text, source, &change);
+        index.edited(text, tables, &change);
     }
     Ok(())
 }
@@ -93,15 +93,15 @@ fn take_back<D: BidiData>(text: &mut Text, index: &mut Index, source: &D) -> Res
 fn restore_often<D: BidiData>(
     text: &mut Text,
     index: &mut Index,
-    source: &D,
+    tables: &D,
     edits: usize,
 ) -> Result<()>
-    requires { index.old.paragraphs ≡ lengths (D.class_of source.now) text.old.edited.text }
-    ensures { OnOk result (index.new.paragraphs ≡ lengths (D.class_of source.now) text.new.edited.text) }
+    requires { index.old.paragraphs ≡ lengths (D.class_of tables.now) text.old.edited.text }
+    ensures { OnOk result (index.new.paragraphs ≡ lengths (D.class_of tables.now) text.new.edited.text) }
 {
     for _ in 0..edits {
-        clear(text, index, source)?;
-        take_back(text, index, source)?;
+        clear(text, index, tables)?;
+        take_back(text, index, tables)?;
     }
     Ok(())
 }
@@ -132,13 +132,13 @@ fn walked(index: &Index) -> usize {
 }
 
 /// Does what is measured after the index was built: how many paragraphs there are in the end, or were met.
-fn follow<D: BidiData>(text: &mut Text, index: &mut Index, source: &D, task: Task) -> Result<usize>
-    requires { index.old.paragraphs ≡ lengths (D.class_of source.now) text.old.edited.text }
+fn follow<D: BidiData>(text: &mut Text, index: &mut Index, tables: &D, task: Task) -> Result<usize>
+    requires { index.old.paragraphs ≡ lengths (D.class_of tables.now) text.old.edited.text }
 {
     match task {
         Task::Build => {}
-        Task::Edit(edits) => edit_often(text, index, source, edits)?,
-        Task::Restore(edits) => restore_often(text, index, source, edits)?,
+        Task::Edit(edits) => edit_often(text, index, tables, edits)?,
+        Task::Restore(edits) => restore_often(text, index, tables, edits)?,
         Task::Walk => return Ok(walked(index)),
     }
     Ok(index.count())
@@ -149,13 +149,13 @@ fn ended<R: CpuClock, D: BidiData>(
     rt: &R,
     text: &mut Text,
     index: &mut Index,
-    source: &D,
+    tables: &D,
     task: Task,
 ) -> Result<(usize, Duration, Duration)>
-    requires { index.old.paragraphs ≡ lengths (D.class_of source.now) text.old.edited.text }
+    requires { index.old.paragraphs ≡ lengths (D.class_of tables.now) text.old.edited.text }
 {
     let built = rt.thread_cpu_time()?;
-    let count = follow(text, index, source, task)?;
+    let count = follow(text, index, tables, task)?;
     let end = rt.thread_cpu_time()?;
     Ok((count, built, end))
 }

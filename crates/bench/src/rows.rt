@@ -36,34 +36,34 @@ fn letters(alloc: Global, words: &str, count: usize) -> Result<String, AllocErro
 }
 
 /// How many glyphs the rows show.
-fn page<D: BidiData>(layout: &ParagraphLayout, source: &D) -> Result<usize>
-    requires { IsLayoutBy (D.class_of source.now) (D.bracket_of source.now) layout.now }
+fn page<D: BidiData>(layout: &ParagraphLayout, tables: &D) -> Result<usize>
+    requires { IsLayoutBy (D.class_of tables.now) (D.bracket_of tables.now) layout.now }
 {
     let mut count: usize = 0;
     for row in 0..layout.row_count() {
-        count = count.wrapping_add(layout.picture(row, source)?.glyphs.len());
+        count = count.wrapping_add(layout.picture(row, tables)?.glyphs.len());
     }
     Ok(count)
 }
 
 /// How many slots the rows have.
-fn slots<D: BidiData>(layout: &ParagraphLayout, source: &D) -> Result<usize>
-    requires { IsLayoutBy (D.class_of source.now) (D.bracket_of source.now) layout.now }
+fn slots<D: BidiData>(layout: &ParagraphLayout, tables: &D) -> Result<usize>
+    requires { IsLayoutBy (D.class_of tables.now) (D.bracket_of tables.now) layout.now }
 {
     let mut count: usize = 0;
     for row in 0..layout.row_count() {
-        count = count.wrapping_add(layout.slots(row, source)?.len());
+        count = count.wrapping_add(layout.slots(row, tables)?.len());
     }
     Ok(count)
 }
 
 /// How many units the rows have.
-fn parts<D: BidiData>(layout: &ParagraphLayout, source: &D) -> Result<usize>
-    requires { IsLayoutBy (D.class_of source.now) (D.bracket_of source.now) layout.now }
+fn parts<D: BidiData>(layout: &ParagraphLayout, tables: &D) -> Result<usize>
+    requires { IsLayoutBy (D.class_of tables.now) (D.bracket_of tables.now) layout.now }
 {
     let mut count: usize = 0;
     for row in 0..layout.row_count() {
-        count = count.wrapping_add(layout.units_before(row, usize::MAX, source)?);
+        count = count.wrapping_add(layout.units_before(row, usize::MAX, tables)?);
     }
     Ok(count)
 }
@@ -73,19 +73,19 @@ fn once<D: BidiData>(
     alloc: Global,
     task: &str,
     layout: &ParagraphLayout,
-    source: &D,
+    tables: &D,
 ) -> Result<usize>
-    requires { IsLayoutBy (D.class_of source.now) (D.bracket_of source.now) layout.now }
+    requires { IsLayoutBy (D.class_of tables.now) (D.bracket_of tables.now) layout.now }
 {
     if task == "page" {
-        page(layout, source)
+        page(layout, tables)
     } else if task == "slots" {
-        slots(layout, source)
+        slots(layout, tables)
     } else if task == "parts" {
-        parts(layout, source)
+        parts(layout, tables)
     } else {
         let body = layout.body().to_owned(alloc)?;
-        let again = ParagraphLayout::of(alloc, body, source, 80, layout.base())?;
+        let again = ParagraphLayout::of(alloc, body, tables, 80, layout.base())?;
         Ok(again.row_count())
     }
 }
@@ -95,15 +95,15 @@ fn rounds<R: CpuClock + AllocGlobal, D: BidiData>(
     rt: &R,
     task: &str,
     layout: &ParagraphLayout,
-    source: &D,
+    tables: &D,
     times: usize,
 ) -> Result<Outcome>
-    requires { IsLayoutBy (D.class_of source.now) (D.bracket_of source.now) layout.now }
+    requires { IsLayoutBy (D.class_of tables.now) (D.bracket_of tables.now) layout.now }
 {
     let start = rt.thread_cpu_time()?;
     let mut sum: usize = 0;
     for _ in 0..times {
-        sum = sum.wrapping_add(once(rt.alloc(), task, layout, source)?);
+        sum = sum.wrapping_add(once(rt.alloc(), task, layout, tables)?);
     }
     let end = rt.thread_cpu_time()?;
     let line = format!(in rt.alloc(); "{sum}")?;

@@ -23,11 +23,11 @@ pub fn canonical(c: char) -> char
 
 /// The bracket at a character of a type.
 #[inline(always)]
-pub fn bracket_at<D: BidiData>(source: &D, c: char, t: Class) -> Option<(Side, char)>
-    ensures { result ≡ bracket_at (D.bracket_of source.now) c t }
+pub fn bracket_at<D: BidiData>(tables: &D, c: char, t: Class) -> Option<(Side, char)>
+    ensures { result ≡ bracket_at (D.bracket_of tables.now) c t }
 {
     match t {
-        Class::ON => source.bracket(c),
+        Class::ON => tables.bracket(c),
         _ => None,
     }
 }
@@ -214,17 +214,17 @@ pub fn pairs<D: BidiData>(
     alloc: Global,
     chars: &[char],
     types: &[Class],
-    source: &D,
+    tables: &D,
 ) -> Result<Vec<(usize, usize)>, BracketError>
     requires { length chars.now ≡ length types.now }
-    ensures pairs { IfOk result (λ v. v.items ≡ pairs (D.bracket_of source.now) chars.now types.now) }
+    ensures pairs { IfOk result (λ v. v.items ≡ pairs (D.bracket_of tables.now) chars.now types.now) }
     ensures within { IfOk result (λ v. All (IsPairWithin (length types.now)) v.items) }
 {
     let mut open = OpenStack::new();
     let mut found = Vec::new(alloc);
     for i in 0..chars.len() {
         let c = chars[i];
-        let bracket = bracket_at(source, c, types[i]);
+        let bracket = bracket_at(tables, c, types[i]);
         if meet(&mut open, &mut found, i, c, bracket)? {
             return Ok(found);
         }

@@ -188,11 +188,11 @@ impl PairSearch {
         index: usize,
         c: char,
         t: Class,
-        source: &D,
+        tables: &D,
     ) -> Result<(), BracketError>
         requires next { self.old.next ≤ index }
         requires within { index < self.old.count }
-        ensures progress { OnOk result (self.new.progress ≡ after index c (bracket_at (D.bracket_of source.now) c t) self.old.progress) }
+        ensures progress { OnOk result (self.new.progress ≡ after index c (bracket_at (D.bracket_of tables.now) c t) self.old.progress) }
         ensures next { self.new.next ≤ index + 1 }
         ensures count { self.new.count ≡ self.old.count }
         ensures err { OnErr result (self.new ≡ self.old) }
@@ -200,7 +200,7 @@ impl PairSearch {
         if self.is_over {
             return Ok(());
         }
-        let Some(bracket) = bracket_at(source, c, t) else {
+        let Some(bracket) = bracket_at(tables, c, t) else {
             return Ok(());
         };
         self.is_over = meet_bracket(

@@ -55,13 +55,13 @@ pub(crate) fn push_ascii<D: BidiData>(
     units: &mut Vec<Unit>,
     body: &str,
     at: usize,
-    source: &D,
+    tables: &D,
     w: u16,
 ) -> Result<usize, AllocError>
     requires { IsCharBoundary body.now at }
     ensures within { IfOk result (λ next. (at ≤ next) × IsCharBoundary body.now next) }
-    ensures units { IfOk result (λ next. units.new.items ++ units_from (D.class_of source.now) w body.now next
-        ≡ units.old.items ++ units_from (D.class_of source.now) w body.now at) }
+    ensures units { IfOk result (λ next. units.new.items ++ units_from (D.class_of tables.now) w body.now next
+        ≡ units.old.items ++ units_from (D.class_of tables.now) w body.now at) }
 {
     let bytes = body.as_bytes();
     let stop = printable_stop(bytes, at);
@@ -72,7 +72,7 @@ pub(crate) fn push_ascii<D: BidiData>(
     units.reserve(last - at)?;
     let mut start = at;
     'bytes: while start < last {
-        let face = simple_face(char::from(bytes[start]), 1, false, source, w);
+        let face = simple_face(char::from(bytes[start]), 1, false, tables, w);
         units.push_reserved(Unit {
             start,
             stop: start + 1,

@@ -29,16 +29,16 @@ pub fn simple_face<D: BidiData>(
     first: char,
     columns: u8,
     is_marked: bool,
-    source: &D,
+    tables: &D,
     w: u16,
 ) -> Face
     requires { own_columns first ≡ columns }
-    ensures { result ≡ simple_face (D.class_of source.now) w first is_marked }
+    ensures { result ≡ simple_face (D.class_of tables.now) w first is_marked }
 {
     if is_marked {
         return small_face(w, columns);
     }
-    match letter_if_any(source.class(first)) {
+    match letter_if_any(tables.class(first)) {
         Some(letter) => Face::Mark(letter),
         None => small_face(w, columns),
     }
@@ -50,13 +50,13 @@ pub(crate) fn push_simple<D: BidiData>(
     units: &mut Vec<Unit>,
     body: &str,
     at: usize,
-    source: &D,
+    tables: &D,
     w: u16,
 ) -> Result<usize, AllocError>
     requires { IsCharBoundary body.now at }
     ensures within { IfOk result (λ next. (at ≤ next) × IsCharBoundary body.now next) }
-    ensures units { IfOk result (λ next. units.new.items ++ units_from (D.class_of source.now) w body.now next
-        ≡ units.old.items ++ units_from (D.class_of source.now) w body.now at) }
+    ensures units { IfOk result (λ next. units.new.items ++ units_from (D.class_of tables.now) w body.now next
+        ≡ units.old.items ++ units_from (D.class_of tables.now) w body.now at) }
 {
     let Some((c, behind)) = first_char(&body[at..]) else {
         return Ok(at);
@@ -73,7 +73,7 @@ pub(crate) fn push_simple<D: BidiData>(
         match simple_kind(c) {
             Simple::Begins(own) => {
                 let stop = body.len() - rest.len();
-                let face = simple_face(first, columns, is_marked, source, w);
+                let face = simple_face(first, columns, is_marked, tables, w);
                 units.push(Unit { start, stop, face })?;
                 start = stop;
                 first = c;
@@ -85,7 +85,7 @@ pub(crate) fn push_simple<D: BidiData>(
         }
         rest = behind;
     }
-    let face = simple_face(first, columns, is_marked, source, w);
+    let face = simple_face(first, columns, is_marked, tables, w);
     units.push(Unit {
         start,
         stop: body.len(),

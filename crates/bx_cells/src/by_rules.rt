@@ -25,14 +25,14 @@ pub(crate) fn push_by_rules<D: BidiData>(
     units: &mut Vec<Unit>,
     body: &str,
     at: usize,
-    source: &D,
+    tables: &D,
     w: u16,
 ) -> Result<usize, AllocError>
     requires { IsCharBoundary body.now at }
     ensures within { IfOk result (λ next. (at ≤ next) × IsCharBoundary body.now next) }
     ensures further { at < length body.now → IfOk result (λ next. at < next) }
-    ensures units { IfOk result (λ next. units.new.items ++ units_from (D.class_of source.now) w body.now next
-        ≡ units.old.items ++ units_from (D.class_of source.now) w body.now at) }
+    ensures units { IfOk result (λ next. units.new.items ++ units_from (D.class_of tables.now) w body.now next
+        ≡ units.old.items ++ units_from (D.class_of tables.now) w body.now at) }
 {
     let mut start = at;
     let mut was_simple = false;
@@ -46,7 +46,7 @@ pub(crate) fn push_by_rules<D: BidiData>(
         units.push(Unit {
             start,
             stop,
-            face: face(cluster, source, w),
+            face: face(cluster, tables, w),
         })?;
         start = stop;
     }
@@ -54,18 +54,18 @@ pub(crate) fn push_by_rules<D: BidiData>(
 }
 
 /// The unit that begins at an offset of a body, by the rules on breaks.
-pub fn ruled_unit<D: BidiData>(body: &str, at: usize, source: &D, w: u16) -> Unit
+pub fn ruled_unit<D: BidiData>(body: &str, at: usize, tables: &D, w: u16) -> Unit
     requires start { IsCharBoundary body.now at }
     requires some { at < length body.now }
     ensures start { result.start ≡ at }
-    ensures units { units_from (D.class_of source.now) w body.now at ≡ result ∷ units_from (D.class_of source.now) w body.now result.stop }
+    ensures units { units_from (D.class_of tables.now) w body.now at ≡ result ∷ units_from (D.class_of tables.now) w body.now result.stop }
     ensures stop { (at < result.stop) × IsCharBoundary body.now result.stop }
 {
     match body[at..].graphemes(true).next() {
         Some(cluster) => Unit {
             start: at,
             stop: at + cluster.len(),
-            face: face(cluster, source, w),
+            face: face(cluster, tables, w),
         },
         None => unreachable!(),
     }

@@ -17,17 +17,17 @@ pub(crate) const FIRST_ROOM: usize = 256;
 fn listed<D: BidiData>(
     alloc: Global,
     body: &str,
-    source: &D,
+    tables: &D,
     w: u16,
 ) -> Result<Vec<Unit>, CellError>
-    ensures { IfOk result (λ v. v.items ≡ units (D.class_of source.now) w body.now) }
+    ensures { IfOk result (λ v. v.items ≡ units (D.class_of tables.now) w body.now) }
 {
     let mut units = Vec::with_capacity(alloc, body.len().min(FIRST_ROOM))?;
     let mut at = 0;
     while at < body.len() {
-        let behind_ascii = push_ascii(&mut units, body, at, source, w)?;
-        let next = push_simple(&mut units, body, behind_ascii, source, w)?;
-        at = push_by_rules(&mut units, body, next, source, w)?;
+        let behind_ascii = push_ascii(&mut units, body, at, tables, w)?;
+        let next = push_simple(&mut units, body, behind_ascii, tables, w)?;
+        at = push_by_rules(&mut units, body, next, tables, w)?;
     }
     Ok(units)
 }
@@ -38,13 +38,13 @@ fn listed<D: BidiData>(
 pub fn units<D: BidiData>(
     alloc: Global,
     body: &str,
-    source: &D,
+    tables: &D,
     w: u16,
 ) -> Result<Vec<Unit>, CellError>
-    ensures units { IfOk result (λ v. v.items ≡ units (D.class_of source.now) w body.now) }
+    ensures units { IfOk result (λ v. v.items ≡ units (D.class_of tables.now) w body.now) }
     ensures stand { IfOk result (λ v. All (StandsIn body.now) v.items) }
-    ensures faces { IfOk result (λ v. All (HasFace (D.class_of source.now) w body.now) v.items) }
+    ensures faces { IfOk result (λ v. All (HasFace (D.class_of tables.now) w body.now) v.items) }
 {
-    let units = listed(alloc, body, source, w)?;
+    let units = listed(alloc, body, tables, w)?;
     Ok(units)
 }

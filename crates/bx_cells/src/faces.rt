@@ -115,19 +115,19 @@ fn is_tab(only: Option<char>) -> bool
 }
 
 /// The letter of an explicit formatting character that stands alone.
-fn format_letter<D: BidiData>(only: Option<char>, source: &D) -> Option<u8>
-    ensures { result ≡ format_letter (D.class_of source.now) only }
+fn format_letter<D: BidiData>(only: Option<char>, tables: &D) -> Option<u8>
+    ensures { result ≡ format_letter (D.class_of tables.now) only }
 {
     match only {
-        Some(c) => letter_of(source.class(c)),
+        Some(c) => letter_of(tables.class(c)),
         None => None,
     }
 }
 
 /// The face of a cluster in a window of `w` columns.
 #[tactic(auto, using(crate::proofs::FaceSteps::of_tab, crate::proofs::FaceSteps::of_control, crate::proofs::FaceSteps::of_format, crate::proofs::FaceSteps::of_sized))]
-pub fn face<D: BidiData>(cluster: &str, source: &D, w: u16) -> Face
-    ensures { result ≡ face (D.class_of source.now) w cluster.now }
+pub fn face<D: BidiData>(cluster: &str, tables: &D, w: u16) -> Face
+    ensures { result ≡ face (D.class_of tables.now) w cluster.now }
 {
     let only = only_char(cluster);
     if is_tab(only) {
@@ -136,7 +136,7 @@ pub fn face<D: BidiData>(cluster: &str, source: &D, w: u16) -> Face
     if has_control(cluster) {
         return Face::Mark(b'?');
     }
-    match format_letter(only, source) {
+    match format_letter(only, tables) {
         Some(letter) => Face::Mark(letter),
         None => sized_face(w, cluster.width()),
     }

@@ -13,19 +13,19 @@ use bx_ucd::BidiData;
 use std::alloc::{AllocError, Global};
 
 /// The unit that begins at an offset of a body: by its characters where these tell it, else by the rules on breaks.
-fn unit_at<D: BidiData>(body: &str, at: usize, source: &D, w: u16) -> Unit
+fn unit_at<D: BidiData>(body: &str, at: usize, tables: &D, w: u16) -> Unit
     requires start { IsCharBoundary body.now at }
     requires some { at < length body.now }
-    ensures units { units_from (D.class_of source.now) w body.now at ≡ result ∷ units_from (D.class_of source.now) w body.now result.stop }
+    ensures units { units_from (D.class_of tables.now) w body.now at ≡ result ∷ units_from (D.class_of tables.now) w body.now result.stop }
     ensures stop { (at < result.stop) × IsCharBoundary body.now result.stop }
 {
     match simple_cluster(body, at) {
         Some(cluster) => Unit {
             start: at,
             stop: cluster.stop,
-            face: simple_face(cluster.first, cluster.columns, cluster.is_marked, source, w),
+            face: simple_face(cluster.first, cluster.columns, cluster.is_marked, tables, w),
         },
-        None => ruled_unit(body, at, source, w),
+        None => ruled_unit(body, at, tables, w),
     }
 }
 
@@ -35,16 +35,16 @@ fn listed_from<D: BidiData>(
     body: &str,
     at: usize,
     count: usize,
-    source: &D,
+    tables: &D,
     w: u16,
 ) -> Result<Vec<Unit>, AllocError>
     requires { IsCharBoundary body.now at }
-    ensures { IfOk result (λ v. v.items ≡ take count (units_from (D.class_of source.now) w body.now at)) }
+    ensures { IfOk result (λ v. v.items ≡ take count (units_from (D.class_of tables.now) w body.now at)) }
 {
     let mut units = Vec::with_capacity(alloc, count.min(FIRST_ROOM))?;
     let mut next = at;
     'units: while units.len() < count && next < body.len() {
-        let unit = unit_at(body, next, source, w);
+        let unit = unit_at(body, next, tables, w);
         units.push(unit)?;
         next = unit.stop;
     }
@@ -60,14 +60,14 @@ pub fn units_from<D: BidiData>(
     body: &str,
     at: usize,
     count: usize,
-    source: &D,
+    tables: &D,
     w: u16,
 ) -> Result<Vec<Unit>, CellError>
     requires { IsCharBoundary body.now at }
-    ensures units { IfOk result (λ v. v.items ≡ take count (units_from (D.class_of source.now) w body.now at)) }
+    ensures units { IfOk result (λ v. v.items ≡ take count (units_from (D.class_of tables.now) w body.now at)) }
     ensures stand { IfOk result (λ v. All (StandsIn body.now) v.items) }
-    ensures faces { IfOk result (λ v. All (HasFace (D.class_of source.now) w body.now) v.items) }
+    ensures faces { IfOk result (λ v. All (HasFace (D.class_of tables.now) w body.now) v.items) }
 {
-    let units = listed_from(alloc, body, at, count, source, w)?;
+    let units = listed_from(alloc, body, at, count, tables, w)?;
     Ok(units)
 }

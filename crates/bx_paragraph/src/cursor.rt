@@ -58,12 +58,12 @@ impl ParagraphLayout {
     /// last row where the body ends.
     ///
     /// Errors: `OutOfMemory`.
-    pub fn offsets<D: BidiData>(&self, row: usize, source: &D) -> Result<Vec<usize>, OutOfMemory>
-        requires data { IsLayoutBy (D.class_of source.now) (D.bracket_of source.now) self.now }
+    pub fn offsets<D: BidiData>(&self, row: usize, tables: &D) -> Result<Vec<usize>, OutOfMemory>
+        requires data { IsLayoutBy (D.class_of tables.now) (D.bracket_of tables.now) self.now }
         requires row { row < length self.now.starts }
-        ensures { IfOk result (λ v. v.items ≡ offsets_of (row_by (D.class_of source.now) (D.bracket_of source.now) self.now row)) }
+        ensures { IfOk result (λ v. v.items ≡ offsets_of (row_by (D.class_of tables.now) (D.bracket_of tables.now) self.now row)) }
     {
-        let parts = self.row(row, source)?;
+        let parts = self.row(row, tables)?;
         let offsets = part_offsets(&parts, self.body().len())?;
         Ok(offsets)
     }
@@ -71,12 +71,12 @@ impl ParagraphLayout {
     /// The offset of a row's last place: the body's end in the last row, else where the row's last unit begins.
     ///
     /// Errors: `OutOfMemory`.
-    pub fn last<D: BidiData>(&self, row: usize, source: &D) -> Result<usize, OutOfMemory>
-        requires data { IsLayoutBy (D.class_of source.now) (D.bracket_of source.now) self.now }
+    pub fn last<D: BidiData>(&self, row: usize, tables: &D) -> Result<usize, OutOfMemory>
+        requires data { IsLayoutBy (D.class_of tables.now) (D.bracket_of tables.now) self.now }
         requires row { row < length self.now.starts }
-        ensures { IfOk result (λ o. o ≡ last_of (row_by (D.class_of source.now) (D.bracket_of source.now) self.now row)) }
+        ensures { IfOk result (λ o. o ≡ last_of (row_by (D.class_of tables.now) (D.bracket_of tables.now) self.now row)) }
     {
-        let offsets = self.offsets(row, source)?;
+        let offsets = self.offsets(row, tables)?;
         Ok(last_offset(&offsets))
     }
 
@@ -85,14 +85,14 @@ impl ParagraphLayout {
         &self,
         row: usize,
         side: Visual,
-        source: &D,
+        tables: &D,
     ) -> Result<Vec<usize>, OutOfMemory>
-        requires data { IsLayoutBy (D.class_of source.now) (D.bracket_of source.now) self.now }
+        requires data { IsLayoutBy (D.class_of tables.now) (D.bracket_of tables.now) self.now }
         requires row { row < length self.now.starts }
         ensures { IfOk result (λ v. v.items
-            ≡ toward side (slot_offsets self.now.w (row_by (D.class_of source.now) (D.bracket_of source.now) self.now row))) }
+            ≡ toward side (slot_offsets self.now.w (row_by (D.class_of tables.now) (D.bracket_of tables.now) self.now row))) }
     {
-        let slots = self.slots(row, source)?;
+        let slots = self.slots(row, tables)?;
         let offsets = offsets_toward(*slots.allocator(), &slots, side)?;
         Ok(offsets)
     }
@@ -105,13 +105,13 @@ impl ParagraphLayout {
         row: usize,
         side: Visual,
         offset: usize,
-        source: &D,
+        tables: &D,
     ) -> Result<Option<usize>, OutOfMemory>
-        requires data { IsLayoutBy (D.class_of source.now) (D.bracket_of source.now) self.now }
+        requires data { IsLayoutBy (D.class_of tables.now) (D.bracket_of tables.now) self.now }
         requires row { row < length self.now.starts }
-        ensures { IfOk result (λ o. o ≡ beside self.now.w (row_by (D.class_of source.now) (D.bracket_of source.now) self.now row) side offset) }
+        ensures { IfOk result (λ o. o ≡ beside self.now.w (row_by (D.class_of tables.now) (D.bracket_of tables.now) self.now row) side offset) }
     {
-        let offsets = self.toward(row, side, source)?;
+        let offsets = self.toward(row, side, tables)?;
         Ok(next_in(&offsets, offset))
     }
 
@@ -122,13 +122,13 @@ impl ParagraphLayout {
     pub fn reading_start<D: BidiData>(
         &self,
         row: usize,
-        source: &D,
+        tables: &D,
     ) -> Result<Option<usize>, OutOfMemory>
-        requires data { IsLayoutBy (D.class_of source.now) (D.bracket_of source.now) self.now }
+        requires data { IsLayoutBy (D.class_of tables.now) (D.bracket_of tables.now) self.now }
         requires row { row < length self.now.starts }
-        ensures { IfOk result (λ o. o ≡ reading_start self.now.w (row_by (D.class_of source.now) (D.bracket_of source.now) self.now row)) }
+        ensures { IfOk result (λ o. o ≡ reading_start self.now.w (row_by (D.class_of tables.now) (D.bracket_of tables.now) self.now row)) }
     {
-        let offsets = self.toward(row, reading_side(self.level()), source)?;
+        let offsets = self.toward(row, reading_side(self.level()), tables)?;
         Ok(first_in(&offsets))
     }
 
@@ -139,14 +139,14 @@ impl ParagraphLayout {
     pub fn reading_end<D: BidiData>(
         &self,
         row: usize,
-        source: &D,
+        tables: &D,
     ) -> Result<Option<usize>, OutOfMemory>
-        requires data { IsLayoutBy (D.class_of source.now) (D.bracket_of source.now) self.now }
+        requires data { IsLayoutBy (D.class_of tables.now) (D.bracket_of tables.now) self.now }
         requires row { row < length self.now.starts }
-        ensures { IfOk result (λ o. o ≡ reading_end self.now.w (row_by (D.class_of source.now) (D.bracket_of source.now) self.now row)) }
+        ensures { IfOk result (λ o. o ≡ reading_end self.now.w (row_by (D.class_of tables.now) (D.bracket_of tables.now) self.now row)) }
     {
         let side = opposite(reading_side(self.level()));
-        let offsets = self.toward(row, side, source)?;
+        let offsets = self.toward(row, side, tables)?;
         Ok(first_in(&offsets))
     }
 
@@ -157,13 +157,13 @@ impl ParagraphLayout {
         &self,
         row: usize,
         offset: usize,
-        source: &D,
+        tables: &D,
     ) -> Result<u16, OutOfMemory>
-        requires data { IsLayoutBy (D.class_of source.now) (D.bracket_of source.now) self.now }
+        requires data { IsLayoutBy (D.class_of tables.now) (D.bracket_of tables.now) self.now }
         requires row { row < length self.now.starts }
-        ensures { IfOk result (λ c. c ≡ column_of self.now.w (row_by (D.class_of source.now) (D.bracket_of source.now) self.now row) offset) }
+        ensures { IfOk result (λ c. c ≡ column_of self.now.w (row_by (D.class_of tables.now) (D.bracket_of tables.now) self.now row) offset) }
     {
-        let slots = self.slots(row, source)?;
+        let slots = self.slots(row, tables)?;
         Ok(column_in(&slots, offset))
     }
 
@@ -175,13 +175,13 @@ impl ParagraphLayout {
         &self,
         row: usize,
         column: u16,
-        source: &D,
+        tables: &D,
     ) -> Result<Option<usize>, OutOfMemory>
-        requires data { IsLayoutBy (D.class_of source.now) (D.bracket_of source.now) self.now }
+        requires data { IsLayoutBy (D.class_of tables.now) (D.bracket_of tables.now) self.now }
         requires row { row < length self.now.starts }
-        ensures { IfOk result (λ o. o ≡ entry self.now.w (row_by (D.class_of source.now) (D.bracket_of source.now) self.now row) column) }
+        ensures { IfOk result (λ o. o ≡ entry self.now.w (row_by (D.class_of tables.now) (D.bracket_of tables.now) self.now row) column) }
     {
-        let slots = self.slots(row, source)?;
+        let slots = self.slots(row, tables)?;
         if let Some(offset) = covering_in(&slots, column) {
             return Ok(Some(offset));
         }

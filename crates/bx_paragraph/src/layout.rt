@@ -60,7 +60,7 @@ impl ParagraphLayout {
     pub fn of<D: BidiData>(
         alloc: Global,
         body: String,
-        source: &D,
+        tables: &D,
         w: u16,
         base: Base,
     ) -> Result<ParagraphLayout, OutOfMemory>
@@ -68,10 +68,10 @@ impl ParagraphLayout {
         ensures body { IfOk result (λ l. l.body ≡ string_bytes body) }
         ensures base { IfOk result (λ l. l.base ≡ base) }
         ensures w { IfOk result (λ l. l.w ≡ w) }
-        ensures rows { IfOk result (λ l. IsLayoutBy (D.class_of source.now) (D.bracket_of source.now) l) }
+        ensures rows { IfOk result (λ l. IsLayoutBy (D.class_of tables.now) (D.bracket_of tables.now) l) }
     {
-        let levels = levels(alloc, body.as_str(), source, base)?;
-        let starts = row_starts(alloc, body.as_str(), source, w)?;
+        let levels = levels(alloc, body.as_str(), tables, base)?;
+        let starts = row_starts(alloc, body.as_str(), tables, w)?;
         Ok(ParagraphLayout {
             body,
             base,
@@ -107,17 +107,17 @@ impl ParagraphLayout {
     ///
     /// Errors: `OutOfMemory`, and nothing has changed.
     #[tactic(auto, using(crate::proofs::Starts::some_start))]
-    pub fn set_width<D: BidiData>(&mut self, source: &D, w: u16) -> Result<(), OutOfMemory>
+    pub fn set_width<D: BidiData>(&mut self, tables: &D, w: u16) -> Result<(), OutOfMemory>
         requires side { is_side w ≡ true }
-        requires data { IsLayoutBy (D.class_of source.now) (D.bracket_of source.now) self.old }
+        requires data { IsLayoutBy (D.class_of tables.now) (D.bracket_of tables.now) self.old }
         ensures body { self.new.body ≡ self.old.body }
         ensures base { self.new.base ≡ self.old.base }
         ensures w { OnOk result (self.new.w ≡ w) }
-        ensures rows { IsLayoutBy (D.class_of source.now) (D.bracket_of source.now) self.new }
+        ensures rows { IsLayoutBy (D.class_of tables.now) (D.bracket_of tables.now) self.new }
         ensures err { OnErr result (self.new ≡ self.old) }
     {
         let alloc = *self.starts.allocator();
-        let starts = row_starts(alloc, self.body.as_str(), source, w)?;
+        let starts = row_starts(alloc, self.body.as_str(), tables, w)?;
         self.w = w;
         self.starts = starts;
         Ok(())
@@ -166,24 +166,20 @@ impl ParagraphLayout {
     }
 
     /// The units of a row with their levels.
-    pub(crate) fn row<D: BidiData>(
-        &self,
-        row: usize,
-        source: &D,
-    ) -> Result<RowParts, OutOfMemory>
-        requires data { IsLayoutBy (D.class_of source.now) (D.bracket_of source.now) self.now }
+    pub(crate) fn row<D: BidiData>(&self, row: usize, tables: &D) -> Result<RowParts, OutOfMemory>
+        requires data { IsLayoutBy (D.class_of tables.now) (D.bracket_of tables.now) self.now }
         requires row { row < length self.now.starts }
-        ensures row { IfOk result (λ r. row_of_parts self.now r ≡ row_by (D.class_of source.now) (D.bracket_of source.now) self.now row) }
+        ensures row { IfOk result (λ r. row_of_parts self.now r ≡ row_by (D.class_of tables.now) (D.bracket_of tables.now) self.now row) }
         ensures stand { IfOk result (λ r. All (StandsIn self.now.body) r.units.items) }
-        ensures faces { IfOk result (λ r. All (HasFace (D.class_of source.now) self.now.w self.now.body) r.units.items) }
+        ensures faces { IfOk result (λ r. All (HasFace (D.class_of tables.now) self.now.w self.now.body) r.units.items) }
         ensures fits { IfOk result (λ r. columns_used self.now.w r.units.items ≤ self.now.w) }
         ensures levels { IfOk result (λ r. length r.levels.items ≡ length r.units.items) }
     {
         let alloc = *self.starts.allocator();
         let body = self.body.as_str();
-        let units = units_of_row(alloc, body, &self.starts, row, source, self.w)?;
+        let units = units_of_row(alloc, body, &self.starts, row, tables, self.w)?;
         let chars = self.starts[row].chars;
-        let levels = row_levels_behind(alloc, body, &units, chars, &self.levels, source)?;
+        let levels = row_levels_behind(alloc, body, &units, chars, &self.levels, tables)?;
         let is_last = row + 1 == self.starts.len();
         Ok(RowParts {
             units,
@@ -195,14 +191,14 @@ impl ParagraphLayout {
     /// The slots of a row from left to right, each with its columns: one for each place of the row.
     ///
     /// Errors: `OutOfMemory`.
-    pub fn slots<D: BidiData>(&self, row: usize, source: &D) -> Result<Vec<Slot>, OutOfMemory>
-        requires data { IsLayoutBy (D.class_of source.now) (D.bracket_of source.now) self.now }
+    pub fn slots<D: BidiData>(&self, row: usize, tables: &D) -> Result<Vec<Slot>, OutOfMemory>
+        requires data { IsLayoutBy (D.class_of tables.now) (D.bracket_of tables.now) self.now }
         requires row { row < length self.now.starts }
-        ensures slots { IfOk result (λ v. v.items ≡ row_slots self.now.w (row_by (D.class_of source.now) (D.bracket_of source.now) self.now row)) }
+        ensures slots { IfOk result (λ v. v.items ≡ row_slots self.now.w (row_by (D.class_of tables.now) (D.bracket_of tables.now) self.now row)) }
         ensures once { IfOk result (λ v. AreReordered (map (λ s. s.offset) v.items)
-            (offsets_of (row_by (D.class_of source.now) (D.bracket_of source.now) self.now row))) }
+            (offsets_of (row_by (D.class_of tables.now) (D.bracket_of tables.now) self.now row))) }
     {
-        let parts = self.row(row, source)?;
+        let parts = self.row(row, tables)?;
         let slots = row_slots(
             *parts.units.allocator(),
             self.body(),
@@ -221,19 +217,19 @@ impl ParagraphLayout {
     pub fn picture<D: BidiData>(
         &self,
         row: usize,
-        source: &D,
+        tables: &D,
     ) -> Result<RowPicture<'_>, OutOfMemory>
-        requires data { IsLayoutBy (D.class_of source.now) (D.bracket_of source.now) self.now }
+        requires data { IsLayoutBy (D.class_of tables.now) (D.bracket_of tables.now) self.now }
         requires row { row < length self.now.starts }
-        ensures picture { IfOk result (λ p. map glyph_of p.glyphs.items ≡ row_glyphs (D.class_of source.now) (D.mirror_of source.now) self.now.w
-            (row_by (D.class_of source.now) (D.bracket_of source.now) self.now row)) }
+        ensures picture { IfOk result (λ p. map glyph_of p.glyphs.items ≡ row_glyphs (D.class_of tables.now) (D.mirror_of tables.now) self.now.w
+            (row_by (D.class_of tables.now) (D.bracket_of tables.now) self.now row)) }
         ensures glyphs { IfOk result (λ p. All (λ g. is_one_glyph (cow_str_bytes g.text) ≡ true) p.glyphs.items) }
         ensures widths { IfOk result (λ p. All (λ g. run_width (cow_str_bytes g.text) ≡ g.columns) p.glyphs.items) }
         ensures columns { IfOk result (λ p. sum_by (λ g. g.columns) p.glyphs.items ≡ self.now.w) }
     {
         let alloc = *self.starts.allocator();
         let body = self.body.as_str();
-        let picture = row_picture(alloc, body, &self.starts, row, &self.levels, source, self.w)?;
+        let picture = row_picture(alloc, body, &self.starts, row, &self.levels, tables, self.w)?;
         Ok(picture)
     }
 }

@@ -22,14 +22,14 @@ impl ParagraphLayout {
         &self,
         row: usize,
         offset: usize,
-        source: &D,
+        tables: &D,
     ) -> Result<usize, OutOfMemory>
-        requires data { IsLayoutBy (D.class_of source.now) (D.bracket_of source.now) self.now }
+        requires data { IsLayoutBy (D.class_of tables.now) (D.bracket_of tables.now) self.now }
         requires row { row < length self.now.starts }
         ensures { IfOk result (λ n. n
-            ≡ count_by (λ u. nat_lt u.start offset) (row_by (D.class_of source.now) (D.bracket_of source.now) self.now row).units) }
+            ≡ count_by (λ u. nat_lt u.start offset) (row_by (D.class_of tables.now) (D.bracket_of tables.now) self.now row).units) }
     {
-        let parts = self.row(row, source)?;
+        let parts = self.row(row, tables)?;
         Ok(count_before(&parts.units, offset))
     }
 }

@@ -22,30 +22,30 @@ fn fill<D: BidiData>(
     blocks: &mut Blocks,
     position: usize,
     text: &Text,
-    source: &D,
+    tables: &D,
     leads: &Leads,
     start: usize,
     stop: usize,
     window: Window,
 ) -> (usize, usize)
     requires bounds { IsCharBoundary text.now.edited.text start }
-    requires leads { TellLeads (D.class_of source.now) leads.now.may_separate }
-    requires window { IsWindow (D.class_of source.now) text.now.edited.text start window }
+    requires leads { TellLeads (D.class_of tables.now) leads.now.may_separate }
+    requires window { IsWindow (D.class_of tables.now) text.now.edited.text start window }
     requires position { position ≤ length blocks.old.blocks }
-    requires room { length (ended_between (D.class_of source.now) text.now.edited.text start stop) ≤ room_at blocks.old position }
-    requires short { total (flat blocks.old.blocks) + total (ended_between (D.class_of source.now) text.now.edited.text start stop) < 2 ^ 64 }
-    requires few { length (flat blocks.old.blocks) + length (ended_between (D.class_of source.now) text.now.edited.text start stop) < 2 ^ 64 }
+    requires room { length (ended_between (D.class_of tables.now) text.now.edited.text start stop) ≤ room_at blocks.old position }
+    requires short { total (flat blocks.old.blocks) + total (ended_between (D.class_of tables.now) text.now.edited.text start stop) < 2 ^ 64 }
+    requires few { length (flat blocks.old.blocks) + length (ended_between (D.class_of tables.now) text.now.edited.text start stop) < 2 ^ 64 }
     ensures position { result.0 ≤ length blocks.new.blocks }
     ensures front { flat (take result.0 blocks.new.blocks)
-        ≡ flat (take position blocks.old.blocks) ++ ended_between (D.class_of source.now) text.now.edited.text start stop }
+        ≡ flat (take position blocks.old.blocks) ++ ended_between (D.class_of tables.now) text.now.edited.text start stop }
     ensures back { flat (drop result.0 blocks.new.blocks) ≡ flat (drop position blocks.old.blocks) }
-    ensures stop { result.1 ≡ start + total (ended_between (D.class_of source.now) text.now.edited.text start stop) }
+    ensures stop { result.1 ≡ start + total (ended_between (D.class_of tables.now) text.now.edited.text start stop) }
 {
     let mut position = position;
     let mut at = start;
     let mut window = window;
     while at < stop {
-        let paragraph = paragraph_from(text, source, leads, at, window);
+        let paragraph = paragraph_from(text, tables, leads, at, window);
         if paragraph.separator == 0 || paragraph.bytes() > stop - at {
             return (position, at);
         }
@@ -61,7 +61,7 @@ fn fill<D: BidiData>(
 pub fn replace<D: BidiData>(
     blocks: &mut Blocks,
     text: &Text,
-    source: &D,
+    tables: &D,
     leads: &Leads,
     from: Position,
     to: usize,
@@ -69,22 +69,22 @@ pub fn replace<D: BidiData>(
     window: Window,
 ) -> usize
     requires bounds { IsCharBoundary text.now.edited.text from.start }
-    requires leads { TellLeads (D.class_of source.now) leads.now.may_separate }
-    requires window { IsWindow (D.class_of source.now) text.now.edited.text from.start window }
+    requires leads { TellLeads (D.class_of tables.now) leads.now.may_separate }
+    requires window { IsWindow (D.class_of tables.now) text.now.edited.text from.start window }
     requires order { from.number ≤ to }
     requires inside { to ≤ length (flat blocks.old.blocks) }
-    requires room { 2 * block_capacity + length (ended_between (D.class_of source.now) text.now.edited.text from.start stop)
+    requires room { 2 * block_capacity + length (ended_between (D.class_of tables.now) text.now.edited.text from.start stop)
         ≤ block_capacity * blocks.old.spares }
-    requires short { total (flat blocks.old.blocks) + total (ended_between (D.class_of source.now) text.now.edited.text from.start stop) < 2 ^ 64 }
-    requires few { length (flat blocks.old.blocks) + length (ended_between (D.class_of source.now) text.now.edited.text from.start stop) < 2 ^ 64 }
+    requires short { total (flat blocks.old.blocks) + total (ended_between (D.class_of tables.now) text.now.edited.text from.start stop) < 2 ^ 64 }
+    requires few { length (flat blocks.old.blocks) + length (ended_between (D.class_of tables.now) text.now.edited.text from.start stop) < 2 ^ 64 }
     ensures paragraphs { flat blocks.new.blocks
         ≡ take from.number (flat blocks.old.blocks)
-        ++ (ended_between (D.class_of source.now) text.now.edited.text from.start stop ++ drop to (flat blocks.old.blocks)) }
-    ensures stop { result ≡ from.start + total (ended_between (D.class_of source.now) text.now.edited.text from.start stop) }
+        ++ (ended_between (D.class_of tables.now) text.now.edited.text from.start stop ++ drop to (flat blocks.old.blocks)) }
+    ensures stop { result ≡ from.start + total (ended_between (D.class_of tables.now) text.now.edited.text from.start stop) }
 {
     let position = blocks.take_out(from.number, to);
     let (position, at) = fill(
-        blocks, position, text, source, leads, from.start, stop, window,
+        blocks, position, text, tables, leads, from.start, stop, window,
     );
     blocks.join(position);
     blocks.release();

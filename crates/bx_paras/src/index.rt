@@ -52,20 +52,20 @@ fn touched<D: BidiData>(
     front: &Blocks,
     last: u32,
     text: &Text,
-    source: &D,
+    tables: &D,
     change: &Change,
 ) -> (Position, Position)
     requires was { (old : List ℕ)
         × IsUtf8 old
-        × (closed front.now.blocks last ≡ lengths (D.class_of source.now) old)
+        × (closed front.now.blocks last ≡ lengths (D.class_of tables.now) old)
         × Leads old change.now text.now.edited.text }
     requires short { total (closed front.now.blocks last) ≤ largest_text }
     ensures { (old : List ℕ)
-        × IsTouched (D.class_of source.now) old change.now text.now.edited.text (flat front.now.blocks)
+        × IsTouched (D.class_of tables.now) old change.now text.now.edited.text (flat front.now.blocks)
         (record { body = last; separator = 0 }) result.0 result.1 }
 {
     let _utf8 = text.len();
-    let _ = source;
+    let _ = tables;
     let first = front.find(change.start.saturating_sub(1));
     let last = front.find(change.start + change.removed);
     (first, last)
@@ -101,18 +101,18 @@ fn window_of<D: BidiData>(
     front: &Blocks,
     last: u32,
     text: &Text,
-    source: &D,
+    tables: &D,
     change: &Change,
     reached: (Position, Position),
 ) -> Window
     requires touched { (old : List ℕ)
-        × IsTouched (D.class_of source.now) old change.now text.now.edited.text (flat front.now.blocks)
+        × IsTouched (D.class_of tables.now) old change.now text.now.edited.text (flat front.now.blocks)
         (record { body = last; separator = 0 }) reached.0 reached.1 }
     requires short { total (closed front.now.blocks last) ≤ largest_text }
-    ensures { IsWindow (D.class_of source.now) text.now.edited.text reached.0.start result }
+    ensures { IsWindow (D.class_of tables.now) text.now.edited.text reached.0.start result }
 {
     let _ = front;
-    let _ = source;
+    let _ = tables;
     let _last = last;
     let len = text.len();
     let stop = change.start + change.added;
@@ -129,17 +129,17 @@ impl Index {
     /// The paragraphs of a text.
     ///
     /// Errors: `OutOfMemory`.
-    pub fn build<D: BidiData>(alloc: Global, text: &Text, source: &D) -> Result<Index, OutOfMemory>
-        ensures { IfOk result (λ i. i ≡ record { paragraphs = lengths (D.class_of source.now) text.now.edited.text; room = None }) }
+    pub fn build<D: BidiData>(alloc: Global, text: &Text, tables: &D) -> Result<Index, OutOfMemory>
+        ensures { IfOk result (λ i. i ≡ record { paragraphs = lengths (D.class_of tables.now) text.now.edited.text; room = None }) }
     {
         let len = text.len();
         let mut front = Blocks::new(alloc);
         let mut position = 0;
         let mut at = 0;
         let mut window = window_to_end(text, at);
-        let leads = leads_of(source, len);
+        let leads = leads_of(tables, len);
         while at < len {
-            let paragraph = paragraph_from(text, source, &leads, at, window);
+            let paragraph = paragraph_from(text, tables, &leads, at, window);
             if paragraph.separator == 0 {
                 return Ok(Index {
                     front,
@@ -179,26 +179,26 @@ impl Index {
     /// Follows an edit of the text, of which it looks at what was added and at what stands beside it. It takes no memory and
     /// always succeeds: the index was that of the text before the change, by the same data, and `ready` made room for the
     /// separators among what was added.
-    pub fn edited<D: BidiData>(&mut self, text: &Text, source: &D, change: &Change)
+    pub fn edited<D: BidiData>(&mut self, text: &Text, tables: &D, change: &Change)
         requires was { (old : List ℕ)
             × IsUtf8 old
-            × (self.old.paragraphs ≡ lengths (D.class_of source.now) old)
+            × (self.old.paragraphs ≡ lengths (D.class_of tables.now) old)
             × Leads old change.now text.now.edited.text }
         requires room { HasRoomFor self.old.room
-            (separator_count (D.class_of source.now) (take change.now.added (drop change.now.start text.now.edited.text))) }
-        ensures { self.new ≡ record { paragraphs = lengths (D.class_of source.now) text.now.edited.text; room = None } }
+            (separator_count (D.class_of tables.now) (take change.now.added (drop change.now.start text.now.edited.text))) }
+        ensures { self.new ≡ record { paragraphs = lengths (D.class_of tables.now) text.now.edited.text; room = None } }
     {
         let len = text.len();
-        let reached = touched(&self.front, self.last, text, source, change);
-        let window = window_of(&self.front, self.last, text, source, change, reached);
-        let leads = leads_of(source, window.stop.saturating_sub(window.start));
+        let reached = touched(&self.front, self.last, text, tables, change);
+        let window = window_of(&self.front, self.last, text, tables, change, reached);
+        let leads = leads_of(tables, window.stop.saturating_sub(window.start));
         let (first, last) = reached;
         if let Some(end) = last.end {
             let behind = end - change.removed + change.added;
             replace(
                 &mut self.front,
                 text,
-                source,
+                tables,
                 &leads,
                 first,
                 last.number + 1,
@@ -211,7 +211,7 @@ impl Index {
         let at = replace(
             &mut self.front,
             text,
-            source,
+            tables,
             &leads,
             first,
             last.number,

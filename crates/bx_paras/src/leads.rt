@@ -45,27 +45,27 @@ fn asked_below(bytes: usize) -> u32
 }
 
 /// Sets the flag of a character's first byte, if the character is a separator.
-fn mark<D: BidiData>(flags: &mut [bool; 256], source: &D, code: u32)
+fn mark<D: BidiData>(flags: &mut [bool; 256], tables: &D, code: u32)
     requires { code < 0x110000 }
     ensures len { length flags.new ≡ 256 }
     ensures same { (byte : ℕ) → get_or flags.old byte false ≡ true → get_or flags.new byte false ≡ true }
-    ensures marked { IsScalar code → is_separator (D.class_of source.now code) ≡ true → get_or flags.new (lead_of code) false ≡ true }
+    ensures marked { IsScalar code → is_separator (D.class_of tables.now code) ≡ true → get_or flags.new (lead_of code) false ≡ true }
 {
     if let Some(c) = char::from_u32(code) {
-        if separates(source, c) {
+        if separates(tables, c) {
             flags[lead_byte(code) as usize] = true;
         }
     }
 }
 
 /// The first bytes of separators, for a scan of so many bytes.
-pub fn leads_of<D: BidiData>(source: &D, bytes: usize) -> Leads
-    ensures { TellLeads (D.class_of source.now) result.may_separate }
+pub fn leads_of<D: BidiData>(tables: &D, bytes: usize) -> Leads
+    ensures { TellLeads (D.class_of tables.now) result.may_separate }
 {
     let limit = asked_below(bytes);
     let mut may_separate = [false; 256];
     for code in 0..limit {
-        mark(&mut may_separate, source, code);
+        mark(&mut may_separate, tables, code);
     }
     for byte in lead_byte(limit) as usize..256 {
         may_separate[byte] = true;

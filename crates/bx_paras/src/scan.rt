@@ -15,10 +15,10 @@ use bx_text::Text;
 use bx_ucd::{BidiData, Class};
 
 /// Whether a character is a paragraph separator.
-pub fn separates<D: BidiData>(source: &D, c: char) -> bool
-    ensures { result ≡ is_separator (D.class_of source.now c) }
+pub fn separates<D: BidiData>(tables: &D, c: char) -> bool
+    ensures { result ≡ is_separator (D.class_of tables.now c) }
 {
-    matches!(source.class(c), Class::B)
+    matches!(tables.class(c), Class::B)
 }
 
 /// The first character of a text.
@@ -37,14 +37,14 @@ fn char_at(text: &str, at: usize) -> Option<char>
 }
 
 /// The separator that begins at an offset of a piece of text, if one does.
-fn separator_at<D: BidiData>(piece: &str, source: &D, at: usize) -> Option<char>
-    ensures { MatchOption result (NoneAt (D.class_of source.now) piece.now at) (λ c. BeginsAt (D.class_of source.now) piece.now at c) }
+fn separator_at<D: BidiData>(piece: &str, tables: &D, at: usize) -> Option<char>
+    ensures { MatchOption result (NoneAt (D.class_of tables.now) piece.now at) (λ c. BeginsAt (D.class_of tables.now) piece.now at c) }
 {
     if !piece.is_char_boundary(at) {
         return None;
     }
     match char_at(piece, at) {
-        Some(c) if separates(source, c) => Some(c),
+        Some(c) if separates(tables, c) => Some(c),
         _ => None,
     }
 }
@@ -64,14 +64,14 @@ fn next_lead(bytes: &[u8], leads: &Leads, from: usize) -> usize
 }
 
 /// The first paragraph separator of a piece of text, and how many bytes stand before it.
-fn separator_in<D: BidiData>(piece: &str, source: &D, leads: &Leads) -> Option<(usize, char)>
-    requires { TellLeads (D.class_of source.now) leads.now.may_separate }
-    ensures { MatchOption result (HasNone (D.class_of source.now) (chars piece.now)) (λ found. IsAt (D.class_of source.now) (chars piece.now) found.0 found.1) }
+fn separator_in<D: BidiData>(piece: &str, tables: &D, leads: &Leads) -> Option<(usize, char)>
+    requires { TellLeads (D.class_of tables.now) leads.now.may_separate }
+    ensures { MatchOption result (HasNone (D.class_of tables.now) (chars piece.now)) (λ found. IsAt (D.class_of tables.now) (chars piece.now) found.0 found.1) }
 {
     let bytes = piece.as_bytes();
     let mut at = next_lead(bytes, leads, 0);
     while at < bytes.len() {
-        if let Some(c) = separator_at(piece, source, at) {
+        if let Some(c) = separator_at(piece, tables, at) {
             return Some((at, c));
         }
         at = next_lead(bytes, leads, at + 1);
@@ -80,22 +80,22 @@ fn separator_in<D: BidiData>(piece: &str, source: &D, leads: &Leads) -> Option<(
 }
 
 /// Whether a text goes on with a LF that is a separator.
-fn goes_on_with_lf<D: BidiData>(text: &Text, source: &D, at: usize) -> bool
+fn goes_on_with_lf<D: BidiData>(text: &Text, tables: &D, at: usize) -> bool
     requires { IsCharBoundary text.now.edited.text at }
-    ensures { result ≡ begins_with_lf (D.class_of source.now) (chars (drop at text.now.edited.text)) }
+    ensures { result ≡ begins_with_lf (D.class_of tables.now) (chars (drop at text.now.edited.text)) }
 {
     match text.piece_at(at) {
         None => false,
-        Some(piece) => piece.as_bytes()[0] == b'\n' && separates(source, '\n'),
+        Some(piece) => piece.as_bytes()[0] == b'\n' && separates(tables, '\n'),
     }
 }
 
 /// How many bytes the separator has that begins with a character: two, where that is CR and LF follows it.
-fn separator_bytes<D: BidiData>(text: &Text, source: &D, c: char, after: usize) -> u32
+fn separator_bytes<D: BidiData>(text: &Text, tables: &D, c: char, after: usize) -> u32
     requires { IsCharBoundary text.now.edited.text after }
-    ensures { result ≡ (if (c == 13) && begins_with_lf (D.class_of source.now) (chars (drop after text.now.edited.text)) then 2 else length (encode_utf8 c)) }
+    ensures { result ≡ (if (c == 13) && begins_with_lf (D.class_of tables.now) (chars (drop after text.now.edited.text)) then 2 else length (encode_utf8 c)) }
 {
-    if c == '\r' && goes_on_with_lf(text, source, after) {
+    if c == '\r' && goes_on_with_lf(text, tables, after) {
         2
     } else {
         c.len_utf8() as u32
@@ -122,14 +122,14 @@ fn part_before(text: &Text, at: usize, stop: usize) -> &str
 /// what stands in the window is looked at, and the LF behind a CR.
 pub fn paragraph_from<D: BidiData>(
     text: &Text,
-    source: &D,
+    tables: &D,
     leads: &Leads,
     start: usize,
     window: Window,
 ) -> Lengths
-    requires leads { TellLeads (D.class_of source.now) leads.now.may_separate }
-    requires window { IsWindow (D.class_of source.now) text.now.edited.text start window }
-    ensures first { result ≡ first (lengths (D.class_of source.now) (drop start text.now.edited.text)) }
+    requires leads { TellLeads (D.class_of tables.now) leads.now.may_separate }
+    requires window { IsWindow (D.class_of tables.now) text.now.edited.text start window }
+    ensures first { result ≡ first (lengths (D.class_of tables.now) (drop start text.now.edited.text)) }
     ensures utf8 { IsUtf8 text.now.edited.text }
 {
     let len = text.len();
@@ -142,11 +142,11 @@ pub fn paragraph_from<D: BidiData>(
             };
         }
         let piece = part_before(text, at, window.stop);
-        if let Some((before, c)) = separator_in(piece, source, leads) {
+        if let Some((before, c)) = separator_in(piece, tables, leads) {
             let end = at + before;
             return Lengths {
                 body: (end - start) as u32,
-                separator: separator_bytes(text, source, c, end + c.len_utf8()),
+                separator: separator_bytes(text, tables, c, end + c.len_utf8()),
             };
         }
         at += piece.len();

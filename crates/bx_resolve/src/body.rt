@@ -24,13 +24,13 @@ fn count_for_room(text: &str) -> usize {
 pub fn classes_of<D: BidiData>(
     alloc: Global,
     text: &str,
-    source: &D,
+    tables: &D,
 ) -> Result<Vec<Class>, AllocError>
-    ensures { IfOk result (λ v. v.items ≡ map (D.class_of source.now) (chars text.now)) }
+    ensures { IfOk result (λ v. v.items ≡ map (D.class_of tables.now) (chars text.now)) }
 {
     let mut classes = Vec::with_capacity(alloc, count_for_room(text))?;
     for c in text.chars() {
-        classes.push(source.class(c))?;
+        classes.push(tables.class(c))?;
     }
     Ok(classes)
 }

@@ -19,11 +19,11 @@ fn meet_text<D: BidiData>(
     search: &mut PairSearch,
     text: &str,
     types: &[Class],
-    source: &D,
+    tables: &D,
 ) -> Result<(), BracketError>
     requires next { search.old.next ≡ 0 }
     requires count { search.old.count ≡ length types.now }
-    ensures pairs { OnOk result (search.new.progress.pairs ≡ pairs_after (D.bracket_of source.now) search.old.progress 0 (chars text.now) types.now) }
+    ensures pairs { OnOk result (search.new.progress.pairs ≡ pairs_after (D.bracket_of tables.now) search.old.progress 0 (chars text.now) types.now) }
     ensures count { search.new.count ≡ search.old.count }
 {
     let mut rest = text;
@@ -31,7 +31,7 @@ fn meet_text<D: BidiData>(
         let Some((c, behind)) = first_char(rest) else {
             return Ok(());
         };
-        search.meet(index, c, types[index], source)?;
+        search.meet(index, c, types[index], tables)?;
         rest = behind;
     }
     Ok(())
@@ -42,7 +42,7 @@ fn meet_text<D: BidiData>(
 fn meet_run<D: BidiData>(
     search: &mut PairSearch,
     body: &Body<'_>,
-    source: &D,
+    tables: &D,
     kept: &[Option<Kept>],
     level: u8,
     first: usize,
@@ -52,7 +52,7 @@ fn meet_run<D: BidiData>(
     requires as_long { length body.now ≡ length kept.now }
     requires next { search.old.next ≤ met }
     requires count { search.old.count ≡ length types.now }
-    ensures met { IfOk result (λ m. MeetsRun (D.bracket_of source.now) body.now types.now (level_indexes level first (drop first kept.now))
+    ensures met { IfOk result (λ m. MeetsRun (D.bracket_of tables.now) body.now types.now (level_indexes level first (drop first kept.now))
         search.old.progress met search.new.progress m) }
     ensures next { IfOk result (λ m. search.new.next ≤ m) }
     ensures count { search.new.count ≡ search.old.count }
@@ -72,7 +72,7 @@ fn meet_run<D: BidiData>(
                 if met >= types.len() {
                     return Ok(met);
                 }
-                search.meet(met, c, types[met], source)?;
+                search.meet(met, c, types[met], tables)?;
                 met += 1;
             }
         }
@@ -85,7 +85,7 @@ fn meet_run<D: BidiData>(
 fn meet_sequence<D: BidiData>(
     search: &mut PairSearch,
     body: &Body<'_>,
-    source: &D,
+    tables: &D,
     kept: &[Option<Kept>],
     firsts: &[usize],
     level: u8,
@@ -95,12 +95,12 @@ fn meet_sequence<D: BidiData>(
     requires next { search.old.next ≡ 0 }
     requires count { search.old.count ≡ length types.now }
     ensures pairs { OnOk result (search.new.progress.pairs
-        ≡ pairs_after (D.bracket_of source.now) search.old.progress 0 (chars_at body.now (indexes_from level kept.now firsts.now)) types.now) }
+        ≡ pairs_after (D.bracket_of tables.now) search.old.progress 0 (chars_at body.now (indexes_from level kept.now firsts.now)) types.now) }
     ensures count { search.new.count ≡ search.old.count }
 {
     let mut met = 0;
     for first in firsts {
-        met = meet_run(search, body, source, kept, level, *first, types, met)?;
+        met = meet_run(search, body, tables, kept, level, *first, types, met)?;
     }
     Ok(())
 }
@@ -111,20 +111,20 @@ fn meet_sequence<D: BidiData>(
 pub fn resolve_brackets_of<D: BidiData>(
     scratch: &mut Scratch,
     body: &str,
-    source: &D,
+    tables: &D,
     types: &mut [Class],
     ends: Ends,
 ) -> Result<(), ResolveError>
     requires small { length types.old ≤ 2 ^ 32 }
     requires marks { length scratch.old.marks.items ≡ length types.old }
     ensures { OnOk result (types.new ≡ resolve_pairs (direction ends.level) ends.sos scratch.old.marks.items
-        (pairs (D.bracket_of source.now) (chars body.now) types.old) types.old) }
+        (pairs (D.bracket_of tables.now) (chars body.now) types.old) types.old) }
 {
     if !may_have_brackets(types) {
         return Ok(());
     }
     scratch.search.begin(types.len());
-    meet_text(&mut scratch.search, body, types, source)?;
+    meet_text(&mut scratch.search, body, types, tables)?;
     scratch.resolve_brackets(types, ends);
     Ok(())
 }
@@ -134,7 +134,7 @@ pub fn resolve_brackets_of<D: BidiData>(
 pub fn resolve_brackets_in<D: BidiData>(
     scratch: &mut Scratch,
     body: &mut Body<'_>,
-    source: &D,
+    tables: &D,
     kept: &[Option<Kept>],
     firsts: &[usize],
     types: &mut [Class],
@@ -144,7 +144,7 @@ pub fn resolve_brackets_in<D: BidiData>(
     requires small { length types.old ≤ 2 ^ 32 }
     requires marks { length scratch.old.marks.items ≡ length types.old }
     ensures types { OnOk result (types.new ≡ resolve_pairs (direction ends.level) ends.sos scratch.old.marks.items
-        (pairs (D.bracket_of source.now) (chars_at body.old (indexes_from ends.level kept.now firsts.now)) types.old) types.old) }
+        (pairs (D.bracket_of tables.now) (chars_at body.old (indexes_from ends.level kept.now firsts.now)) types.old) types.old) }
     ensures body { body.new ≡ body.old }
 {
     if !may_have_brackets(types) {
@@ -155,7 +155,7 @@ pub fn resolve_brackets_in<D: BidiData>(
     meet_sequence(
         &mut scratch.search,
         body,
-        source,
+        tables,
         kept,
         firsts,
         ends.level,

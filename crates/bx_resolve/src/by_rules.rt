@@ -18,7 +18,7 @@ use std::alloc::Global;
 /// The levels of a sequence's characters: W1 to W7, N0 to N2, I1 and I2.
 fn levels_in<D: BidiData>(
     alloc: Global,
-    source: &D,
+    tables: &D,
     chars: &[char],
     kept: &[Option<Kept>],
     sequence: &Sequence,
@@ -26,7 +26,7 @@ fn levels_in<D: BidiData>(
     requires low { sequence.now.level ≤ max_depth }
     requires within { All (λ p. p < length kept.now) sequence.now.indexes }
     requires as_long { length chars.now ≡ length kept.now }
-    ensures { IfOk result (λ v. v.items ≡ levels_in (D.bracket_of source.now) chars.now kept.now sequence.now) }
+    ensures { IfOk result (λ v. v.items ≡ levels_in (D.bracket_of tables.now) chars.now kept.now sequence.now) }
 {
     let (level, sos, eos) = (sequence.level(), sequence.sos(), sequence.eos());
     let chars = chars_at(alloc, chars, sequence.indexes())?;
@@ -39,7 +39,7 @@ fn levels_in<D: BidiData>(
     w5(&mut types);
     w6(&mut types);
     w7(&mut types, sos);
-    let found = pairs(alloc, &chars, &types, source)?;
+    let found = pairs(alloc, &chars, &types, tables)?;
     resolve_pairs(&mut types, &was_nsm, &found, level, sos);
     n1(&mut types, sos, eos);
     n2(&mut types, direction(level));
@@ -50,20 +50,20 @@ fn levels_in<D: BidiData>(
 pub fn levels_by_rules<D: BidiData>(
     alloc: Global,
     body: &str,
-    source: &D,
+    tables: &D,
     base: Base,
 ) -> Result<Levels, ResolveError>
-    ensures paragraph { IfOk result (λ v. v.paragraph ≡ paragraph_level_under (D.class_of source.now) base (chars body.now)) }
-    ensures each { IfOk result (λ v. v.each.items ≡ levels_under (D.class_of source.now) (D.bracket_of source.now) base (chars body.now)) }
+    ensures paragraph { IfOk result (λ v. v.paragraph ≡ paragraph_level_under (D.class_of tables.now) base (chars body.now)) }
+    ensures each { IfOk result (λ v. v.each.items ≡ levels_under (D.class_of tables.now) (D.bracket_of tables.now) base (chars body.now)) }
 {
     let chars = chars_of(alloc, body)?;
-    let classes = classes_of(alloc, body, source)?;
+    let classes = classes_of(alloc, body, tables)?;
     let paragraph = base_level(&classes, base);
     let explicit = explicit(alloc, &classes, paragraph)?;
     let found = sequences(alloc, &explicit)?;
     let mut each = vec![in alloc; None; chars.len()]?;
     for sequence in &found {
-        let levels = levels_in(alloc, source, &chars, &explicit.kept, sequence)?;
+        let levels = levels_in(alloc, tables, &chars, &explicit.kept, sequence)?;
         write_levels(&mut each, sequence.indexes(), &levels);
     }
     Ok(Levels { paragraph, each })

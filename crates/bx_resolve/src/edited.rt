@@ -34,24 +34,24 @@ pub fn is_one_way(before: Class, behind: Class, between: &[Class]) -> bool
 fn piece_levels<D: BidiData>(
     alloc: Global,
     piece: &str,
-    source: &D,
+    tables: &D,
     paragraph: u8,
 ) -> Result<Vec<Option<u8>>, ResolveError>
     requires { paragraph ≤ 1 }
-    ensures { IfOk result (λ v. v.items ≡ paragraph_levels (D.class_of source.now) (D.bracket_of source.now) paragraph (chars piece.now)) }
+    ensures { IfOk result (λ v. v.items ≡ paragraph_levels (D.class_of tables.now) (D.bracket_of tables.now) paragraph (chars piece.now)) }
 {
     if paragraph == 0 {
-        let levels = levels(alloc, piece, source, Base::Ltr)?;
+        let levels = levels(alloc, piece, tables, Base::Ltr)?;
         return Ok(levels.each);
     }
-    let levels = levels(alloc, piece, source, Base::Rtl)?;
+    let levels = levels(alloc, piece, tables, Base::Rtl)?;
     Ok(levels.each)
 }
 
 /// Puts the levels that a piece of text has by itself in the place of those of a span.
 fn resolve_span<D: BidiData>(
     levels: &mut Levels,
-    source: &D,
+    tables: &D,
     piece: &str,
     span: Span,
 ) -> Result<(), ResolveError>
@@ -60,11 +60,11 @@ fn resolve_span<D: BidiData>(
     requires inside { span.last ≤ length levels.old.each.items }
     ensures paragraph { levels.new.paragraph ≡ levels.old.paragraph }
     ensures each { OnOk result (levels.new.each.items ≡ splice levels.old.each.items span.first span.last
-        (paragraph_levels (D.class_of source.now) (D.bracket_of source.now) levels.old.paragraph (chars piece.now))) }
+        (paragraph_levels (D.class_of tables.now) (D.bracket_of tables.now) levels.old.paragraph (chars piece.now))) }
     ensures err { OnErr result (levels.new.each.items ≡ levels.old.each.items) }
 {
     let alloc = *levels.each.allocator();
-    let found = piece_levels(alloc, piece, source, levels.paragraph)?;
+    let found = piece_levels(alloc, piece, tables, levels.paragraph)?;
     replace_span(&mut levels.each, span, &found)?;
     Ok(())
 }
@@ -75,7 +75,7 @@ fn resolve_span<D: BidiData>(
 /// Errors: `OutOfMemory`, and nothing has changed.
 pub fn follow_between<D: BidiData>(
     levels: &mut Levels,
-    source: &D,
+    tables: &D,
     piece: &str,
     span: Span,
 ) -> Result<(), ResolveError>
@@ -84,12 +84,12 @@ pub fn follow_between<D: BidiData>(
     requires inside { span.last ≤ length levels.old.each.items }
     ensures paragraph { levels.new.paragraph ≡ levels.old.paragraph }
     ensures each { OnOk result (levels.new.each.items ≡ splice levels.old.each.items span.first span.last
-        (paragraph_levels (D.class_of source.now) (D.bracket_of source.now) levels.old.paragraph (chars piece.now))) }
-    ensures law { OnOk result (FollowsBetween (D.class_of source.now) (D.bracket_of source.now) (chars piece.now) span.first span.last
+        (paragraph_levels (D.class_of tables.now) (D.bracket_of tables.now) levels.old.paragraph (chars piece.now))) }
+    ensures law { OnOk result (FollowsBetween (D.class_of tables.now) (D.bracket_of tables.now) (chars piece.now) span.first span.last
         levels.old levels.new) }
     ensures err { OnErr result (levels.new.each.items ≡ levels.old.each.items) }
 {
-    resolve_span(levels, source, piece, span)?;
+    resolve_span(levels, tables, piece, span)?;
     Ok(())
 }
 
@@ -99,19 +99,19 @@ pub fn follow_between<D: BidiData>(
 /// Errors: `OutOfMemory`, and nothing has changed.
 pub fn follow_from_start<D: BidiData>(
     levels: &mut Levels,
-    source: &D,
+    tables: &D,
     piece: &str,
     last: usize,
 ) -> Result<(), ResolveError>
     requires low { levels.old.paragraph ≤ 1 }
     requires inside { last ≤ length levels.old.each.items }
     ensures paragraph { levels.new.paragraph ≡ levels.old.paragraph }
-    ensures each { OnOk result (levels.new.each.items ≡ paragraph_levels (D.class_of source.now) (D.bracket_of source.now) levels.old.paragraph
+    ensures each { OnOk result (levels.new.each.items ≡ paragraph_levels (D.class_of tables.now) (D.bracket_of tables.now) levels.old.paragraph
         (chars piece.now) ++ drop last levels.old.each.items) }
-    ensures law { OnOk result (FollowsFromStart (D.class_of source.now) (D.bracket_of source.now) (chars piece.now) last levels.old levels.new) }
+    ensures law { OnOk result (FollowsFromStart (D.class_of tables.now) (D.bracket_of tables.now) (chars piece.now) last levels.old levels.new) }
     ensures err { OnErr result (levels.new.each.items ≡ levels.old.each.items) }
 {
-    resolve_span(levels, source, piece, Span { first: 0, last })?;
+    resolve_span(levels, tables, piece, Span { first: 0, last })?;
     Ok(())
 }
 
@@ -122,7 +122,7 @@ pub fn follow_from_start<D: BidiData>(
 #[tactic(auto, using(crate::proofs::Spliced::splice_to_end))]
 pub fn follow_to_end<D: BidiData>(
     levels: &mut Levels,
-    source: &D,
+    tables: &D,
     piece: &str,
     first: usize,
 ) -> Result<(), ResolveError>
@@ -130,11 +130,11 @@ pub fn follow_to_end<D: BidiData>(
     requires inside { first ≤ length levels.old.each.items }
     ensures paragraph { levels.new.paragraph ≡ levels.old.paragraph }
     ensures each { OnOk result (levels.new.each.items ≡ take first levels.old.each.items
-        ++ paragraph_levels (D.class_of source.now) (D.bracket_of source.now) levels.old.paragraph (chars piece.now)) }
-    ensures law { OnOk result (FollowsToEnd (D.class_of source.now) (D.bracket_of source.now) (chars piece.now) first levels.old levels.new) }
+        ++ paragraph_levels (D.class_of tables.now) (D.bracket_of tables.now) levels.old.paragraph (chars piece.now)) }
+    ensures law { OnOk result (FollowsToEnd (D.class_of tables.now) (D.bracket_of tables.now) (chars piece.now) first levels.old levels.new) }
     ensures err { OnErr result (levels.new.each.items ≡ levels.old.each.items) }
 {
     let last = levels.each.len();
-    resolve_span(levels, source, piece, Span { first, last })?;
+    resolve_span(levels, tables, piece, Span { first, last })?;
     Ok(())
 }

@@ -122,7 +122,7 @@ fn write_sequence<D: BidiData>(
     each: &mut Vec<Option<u8>>,
     scratch: &mut Scratch,
     body: &mut Body<'_>,
-    source: &D,
+    tables: &D,
     types: &mut [Class],
     walk: &SequenceWalk<'_>,
     kept: &[Option<Kept>],
@@ -134,7 +134,7 @@ fn write_sequence<D: BidiData>(
     requires types { types.old ≡ types_at kept.now walk.now.current.indexes }
     requires all { length each.old.items ≡ length kept.now }
     ensures written { OnOk result (each.new.items ≡ with_levels walk.now.current.indexes
-        (levels_in (D.bracket_of source.now) body.old kept.now walk.now.current) each.old.items) }
+        (levels_in (D.bracket_of tables.now) body.old kept.now walk.now.current) each.old.items) }
     ensures body { body.new ≡ body.old }
 {
     let ends = Ends {
@@ -144,7 +144,7 @@ fn write_sequence<D: BidiData>(
     };
     let firsts = walk.firsts();
     scratch.resolve_weak(types, ends.sos)?;
-    resolve_brackets_in(scratch, body, source, kept, firsts, types, ends)?;
+    resolve_brackets_in(scratch, body, tables, kept, firsts, types, ends)?;
     resolve_neutral(types, ends);
     write_levels(each, kept, firsts, ends.level, types);
     Ok(())
@@ -162,7 +162,7 @@ struct Room<'t> {
 fn write_lent<D: BidiData>(
     each: &mut Vec<Option<u8>>,
     room: &mut Room<'_>,
-    source: &D,
+    tables: &D,
     walk: &SequenceWalk<'_>,
     kept: &[Option<Kept>],
 ) -> Result<(), ResolveError>
@@ -172,7 +172,7 @@ fn write_lent<D: BidiData>(
     requires as_long { length room.old.body ≡ length kept.now }
     requires all { length each.old.items ≡ length kept.now }
     ensures written { OnOk result (each.new.items ≡ with_levels walk.now.current.indexes
-        (levels_in (D.bracket_of source.now) room.old.body kept.now walk.now.current) each.old.items) }
+        (levels_in (D.bracket_of tables.now) room.old.body kept.now walk.now.current) each.old.items) }
     ensures body { room.new.body ≡ room.old.body }
 {
     sequence_types(&mut room.types, kept, walk.firsts(), walk.level())?;
@@ -180,7 +180,7 @@ fn write_lent<D: BidiData>(
         each,
         &mut room.scratch,
         &mut room.body,
-        source,
+        tables,
         &mut room.types,
         walk,
         kept,
@@ -192,12 +192,12 @@ fn write_lent<D: BidiData>(
 fn each_level<D: BidiData>(
     alloc: Global,
     body: &str,
-    source: &D,
+    tables: &D,
     explicit: &Explicit,
 ) -> Result<Vec<Option<u8>>, ResolveError>
     requires small { length body.now < 2 ^ 32 }
     requires as_long { length (chars body.now) ≡ length explicit.now.classes.items }
-    ensures { IfOk result (λ v. v.items ≡ with_sequences (D.bracket_of source.now) (chars body.now) explicit.now.kept.items
+    ensures { IfOk result (λ v. v.items ≡ with_sequences (D.bracket_of tables.now) (chars body.now) explicit.now.kept.items
         (sequences explicit.now.level explicit.now.classes.items explicit.now.kept.items) (replicate (length (chars body.now)) None)) }
 {
     let mut each = vec![in alloc; None; explicit.kept.len()]?;
@@ -208,7 +208,7 @@ fn each_level<D: BidiData>(
     };
     let mut walk = SequenceWalk::new(alloc, explicit);
     while walk.advance()? {
-        write_lent(&mut each, &mut room, source, &walk, &explicit.kept)?;
+        write_lent(&mut each, &mut room, tables, &walk, &explicit.kept)?;
     }
     Ok(each)
 }
@@ -217,18 +217,18 @@ fn each_level<D: BidiData>(
 pub fn formatted_levels<D: BidiData>(
     alloc: Global,
     body: &str,
-    source: &D,
+    tables: &D,
     classes: Vec<Class>,
     paragraph: u8,
 ) -> Result<Levels, ResolveError>
-    requires classes { classes.items ≡ map (D.class_of source.now) (chars body.now) }
+    requires classes { classes.items ≡ map (D.class_of tables.now) (chars body.now) }
     requires low { paragraph ≤ 1 }
     requires small { length body.now < 2 ^ 32 }
     ensures paragraph { IfOk result (λ v. v.paragraph ≡ paragraph) }
-    ensures each { IfOk result (λ v. v.each.items ≡ paragraph_levels (D.class_of source.now) (D.bracket_of source.now) paragraph (chars body.now)) }
+    ensures each { IfOk result (λ v. v.each.items ≡ paragraph_levels (D.class_of tables.now) (D.bracket_of tables.now) paragraph (chars body.now)) }
 {
     let explicit = explicit(alloc, &classes, paragraph)?;
     drop(classes);
-    let each = each_level(alloc, body, source, &explicit)?;
+    let each = each_level(alloc, body, tables, &explicit)?;
     Ok(Levels { paragraph, each })
 }

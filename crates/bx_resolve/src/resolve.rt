@@ -57,16 +57,16 @@ fn levels_from_right(alloc: Global, classes: &mut [Class]) -> Result<Vec<Option<
 fn unformatted_levels<D: BidiData>(
     alloc: Global,
     body: &str,
-    source: &D,
+    tables: &D,
     classes: &mut [Class],
     paragraph: u8,
 ) -> Result<Levels, ResolveError>
-    requires classes { classes.old ≡ map (D.class_of source.now) (chars body.now) }
+    requires classes { classes.old ≡ map (D.class_of tables.now) (chars body.now) }
     requires low { paragraph ≤ 1 }
     requires small { length body.now < 2 ^ 32 }
     requires unformatted { all_pass is_unformatted classes.old ≡ true }
     ensures paragraph { IfOk result (λ v. v.paragraph ≡ paragraph) }
-    ensures each { IfOk result (λ v. v.each.items ≡ paragraph_levels (D.class_of source.now) (D.bracket_of source.now) paragraph (chars body.now)) }
+    ensures each { IfOk result (λ v. v.each.items ≡ paragraph_levels (D.class_of tables.now) (D.bracket_of tables.now) paragraph (chars body.now)) }
 {
     let side = direction(paragraph);
     let ends = Ends {
@@ -76,7 +76,7 @@ fn unformatted_levels<D: BidiData>(
     };
     let mut scratch = Scratch::new(alloc);
     scratch.resolve_weak(classes, side)?;
-    resolve_brackets_of(&mut scratch, body, source, classes, ends)?;
+    resolve_brackets_of(&mut scratch, body, tables, classes, ends)?;
     resolve_neutral(classes, ends);
     let each = found_levels(alloc, classes, paragraph)?;
     Ok(Levels { paragraph, each })
@@ -89,16 +89,16 @@ fn unformatted_levels<D: BidiData>(
 fn resolved_levels<D: BidiData>(
     alloc: Global,
     body: &str,
-    source: &D,
+    tables: &D,
     base: Base,
 ) -> Result<Levels, ResolveError>
-    ensures paragraph { IfOk result (λ v. v.paragraph ≡ paragraph_level_under (D.class_of source.now) base (chars body.now)) }
-    ensures each { IfOk result (λ v. v.each.items ≡ levels_under (D.class_of source.now) (D.bracket_of source.now) base (chars body.now)) }
+    ensures paragraph { IfOk result (λ v. v.paragraph ≡ paragraph_level_under (D.class_of tables.now) base (chars body.now)) }
+    ensures each { IfOk result (λ v. v.each.items ≡ levels_under (D.class_of tables.now) (D.bracket_of tables.now) base (chars body.now)) }
 {
     if body.len() > u32::MAX as usize {
-        return levels_by_rules(alloc, body, source, base);
+        return levels_by_rules(alloc, body, tables, base);
     }
-    let mut classes = classes_of(alloc, body, source)?;
+    let mut classes = classes_of(alloc, body, tables)?;
     let paragraph = base_level(&classes, base);
     if paragraph == 0 && are_plain(&classes) {
         let each = vec![in alloc; Some(0); classes.len()]?;
@@ -113,23 +113,23 @@ fn resolved_levels<D: BidiData>(
         return Ok(Levels { paragraph, each });
     }
     if are_unformatted(&classes) {
-        return unformatted_levels(alloc, body, source, &mut classes, paragraph);
+        return unformatted_levels(alloc, body, tables, &mut classes, paragraph);
     }
-    formatted_levels(alloc, body, source, classes, paragraph)
+    formatted_levels(alloc, body, tables, classes, paragraph)
 }
 
 /// The levels of a paragraph body under a base (UAX #9, 3.3).
 pub fn levels<D: BidiData>(
     alloc: Global,
     body: &str,
-    source: &D,
+    tables: &D,
     base: Base,
 ) -> Result<Levels, ResolveError>
-    ensures paragraph { IfOk result (λ v. v.paragraph ≡ paragraph_level_under (D.class_of source.now) base (chars body.now)) }
-    ensures each { IfOk result (λ v. v.each.items ≡ levels_under (D.class_of source.now) (D.bracket_of source.now) base (chars body.now)) }
-    ensures kept { IfOk result (λ v. map is_some v.each.items ≡ map is_kept (map (D.class_of source.now) (chars body.now))) }
+    ensures paragraph { IfOk result (λ v. v.paragraph ≡ paragraph_level_under (D.class_of tables.now) base (chars body.now)) }
+    ensures each { IfOk result (λ v. v.each.items ≡ levels_under (D.class_of tables.now) (D.bracket_of tables.now) base (chars body.now)) }
+    ensures kept { IfOk result (λ v. map is_some v.each.items ≡ map is_kept (map (D.class_of tables.now) (chars body.now))) }
     ensures low { IfOk result (λ v. All (λ l. IfSome l (λ n. n ≤ max_level)) v.each.items) }
 {
-    let levels = resolved_levels(alloc, body, source, base)?;
+    let levels = resolved_levels(alloc, body, tables, base)?;
     Ok(levels)
 }

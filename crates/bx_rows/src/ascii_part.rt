@@ -11,17 +11,17 @@ use bx_ucd::BidiData;
 
 /// The offset behind the last of the bytes from `at` to before `stop` after which a row may end; `at` if there is none.
 #[inline(always)]
-fn break_behind<D: BidiData>(bytes: &[u8], at: usize, stop: usize, source: &D) -> usize
+fn break_behind<D: BidiData>(bytes: &[u8], at: usize, stop: usize, tables: &D) -> usize
     requires order { at ≤ stop }
     requires inside { stop ≤ length bytes.now }
     ensures from { at ≤ result }
     ensures to { result ≤ stop }
-    ensures last { (i : ℕ) → at ≤ i → i + 1 ≡ result → is_blank (D.class_of source.now (get_or bytes.now i 0)) ≡ true }
-    ensures none { (i : ℕ) → result ≤ i → i < stop → is_blank (D.class_of source.now (get_or bytes.now i 0)) ≡ false }
+    ensures last { (i : ℕ) → at ≤ i → i + 1 ≡ result → is_blank (D.class_of tables.now (get_or bytes.now i 0)) ≡ true }
+    ensures none { (i : ℕ) → result ≤ i → i < stop → is_blank (D.class_of tables.now (get_or bytes.now i 0)) ≡ false }
 {
     let mut next = stop;
     'bytes: while next > at {
-        if is_blank(source.class(char::from(bytes[next - 1]))) {
+        if is_blank(tables.class(char::from(bytes[next - 1]))) {
             return next;
         }
         next -= 1;
@@ -32,11 +32,11 @@ fn break_behind<D: BidiData>(bytes: &[u8], at: usize, stop: usize, source: &D) -
 /// The printable ASCII that stands from an offset on, but for its last byte, behind which a mark may stand: a unit a byte, at
 /// most `most` of them. Only the bytes behind the last break are asked for their classes.
 #[inline(always)]
-pub(crate) fn ascii_run<D: BidiData>(body: &str, at: usize, most: u16, source: &D) -> NarrowRun
+pub(crate) fn ascii_run<D: BidiData>(body: &str, at: usize, most: u16, tables: &D) -> NarrowRun
     requires { IsCharBoundary body.now at }
     ensures most { result.count ≤ most }
     ensures bounds { IsRunIn body.now at result }
-    ensures units { (w : ℕ) → IsNarrowRun (D.class_of source.now) w body.now at result }
+    ensures units { (w : ℕ) → IsNarrowRun (D.class_of tables.now) w body.now at result }
 {
     let bytes = body.as_bytes();
     let limit = at + (bytes.len() - at).min(most as usize + 1);
@@ -50,7 +50,7 @@ pub(crate) fn ascii_run<D: BidiData>(body: &str, at: usize, most: u16, source: &
         };
     }
     let stop = behind - 1;
-    let next = break_behind(bytes, at, stop, source);
+    let next = break_behind(bytes, at, stop, tables);
     NarrowRun {
         stop,
         count: (stop - at) as u16,

@@ -89,11 +89,11 @@ fn push_text<'a>(
 }
 
 /// Whether a character of a text has a mirror.
-pub(crate) fn has_mirror<D: BidiData>(text: &str, source: &D) -> bool
-    ensures { result ≡ false → mirror_image (D.mirror_of source.now) text.now ≡ text.now }
+pub(crate) fn has_mirror<D: BidiData>(text: &str, tables: &D) -> bool
+    ensures { result ≡ false → mirror_image (D.mirror_of tables.now) text.now ≡ text.now }
 {
     for c in text.chars() {
-        if source.mirror(c).is_some() {
+        if tables.mirror(c).is_some() {
             return true;
         }
     }
@@ -104,13 +104,13 @@ pub(crate) fn has_mirror<D: BidiData>(text: &str, source: &D) -> bool
 pub(crate) fn mirror_image<D: BidiData>(
     alloc: Global,
     text: &str,
-    source: &D,
+    tables: &D,
 ) -> Result<String, AllocError>
-    ensures { IfOk result (λ t. string_bytes t ≡ mirror_image (D.mirror_of source.now) text.now) }
+    ensures { IfOk result (λ t. string_bytes t ≡ mirror_image (D.mirror_of tables.now) text.now) }
 {
     let mut other = String::new(alloc);
     for c in text.chars() {
-        other.push(source.mirror(c).unwrap_or(c))?;
+        other.push(tables.mirror(c).unwrap_or(c))?;
     }
     Ok(other)
 }
@@ -130,16 +130,16 @@ fn mirror_image_within<'a, D: BidiData>(
     alloc: Global,
     text: &'a str,
     columns: u16,
-    source: &D,
+    tables: &D,
     w: u16,
 ) -> Result<CowStr<'a, Global>, AllocError>
-    ensures { IfOk result (λ t. cow_str_bytes t ≡ mirror_image_within (D.class_of source.now) (D.mirror_of source.now) w columns text.entry.now) }
+    ensures { IfOk result (λ t. cow_str_bytes t ≡ mirror_image_within (D.class_of tables.now) (D.mirror_of tables.now) w columns text.entry.now) }
 {
-    if !has_mirror(text, source) {
+    if !has_mirror(text, tables) {
         return Ok(CowStr::Borrowed(text));
     }
-    let other = mirror_image(alloc, text, source)?;
-    let found = face(other.as_str(), source, w);
+    let other = mirror_image(alloc, text, tables)?;
+    let found = face(other.as_str(), tables, w);
     if is_own(found, columns) {
         Ok(CowStr::Owned(other))
     } else {
@@ -153,15 +153,15 @@ fn shown_text<'a, D: BidiData>(
     text: &'a str,
     columns: u16,
     level: u8,
-    source: &D,
+    tables: &D,
     w: u16,
 ) -> Result<CowStr<'a, Global>, AllocError>
-    ensures { IfOk result (λ t. cow_str_bytes t ≡ shown_text (D.class_of source.now) (D.mirror_of source.now) w columns level text.entry.now) }
+    ensures { IfOk result (λ t. cow_str_bytes t ≡ shown_text (D.class_of tables.now) (D.mirror_of tables.now) w columns level text.entry.now) }
 {
     if level % 2 == 0 {
         Ok(CowStr::Borrowed(text))
     } else {
-        mirror_image_within(alloc, text, columns, source, w)
+        mirror_image_within(alloc, text, columns, tables, w)
     }
 }
 
@@ -173,18 +173,18 @@ pub(crate) fn push_face<'a, D: BidiData>(
     face: Face,
     columns: u16,
     level: u8,
-    source: &D,
+    tables: &D,
     w: u16,
 ) -> Result<(), AllocError>
     requires { HasLetter face }
     ensures { OnOk result (map glyph_of glyphs.new.items ≡ map glyph_of glyphs.old.items
-        ++ face_glyphs (D.class_of source.now) (D.mirror_of source.now) w text.entry.now face columns level) }
+        ++ face_glyphs (D.class_of tables.now) (D.mirror_of tables.now) w text.entry.now face columns level) }
 {
     match face {
         Face::Tab => push_blanks(glyphs, columns),
         Face::Mark(byte) => push_letter(glyphs, byte, true),
         Face::Own(own) => {
-            let shown = shown_text(alloc, text, own, level, source, w)?;
+            let shown = shown_text(alloc, text, own, level, tables, w)?;
             push_text(glyphs, shown, own)
         }
     }

@@ -67,18 +67,18 @@ fn read_first<D: BidiData>(
     c: char,
     level: u8,
     paragraph: u8,
-    source: &D,
+    tables: &D,
 ) -> Result<usize, AllocError>
     requires { waiting ≤ length found.old.items }
     ensures within { IfOk result (λ next. next ≤ length found.new.items) }
-    ensures levels { IfOk result (λ next. Reads paragraph (D.class_of source.now c) (found.old.items ++ level ∷ []) waiting found.new.items next) }
+    ensures levels { IfOk result (λ next. Reads paragraph (D.class_of tables.now c) (found.old.items ++ level ∷ []) waiting found.new.items next) }
 {
     if waiting == found.len() && level == paragraph {
         found.push(level)?;
         return Ok(found.len());
     }
     found.push(level)?;
-    Ok(read_class(found, waiting, source.class(c), paragraph))
+    Ok(read_class(found, waiting, tables.class(c), paragraph))
 }
 
 /// Reads another kept character of a unit.
@@ -88,16 +88,16 @@ fn read_more<D: BidiData>(
     waiting: usize,
     c: char,
     paragraph: u8,
-    source: &D,
+    tables: &D,
 ) -> usize
     requires { waiting ≤ length found.old.items }
     ensures within { result ≤ length found.new.items }
-    ensures levels { Reads paragraph (D.class_of source.now c) found.old.items waiting found.new.items result }
+    ensures levels { Reads paragraph (D.class_of tables.now c) found.old.items waiting found.new.items result }
 {
     if waiting == found.len() {
         return waiting;
     }
-    read_class(found, waiting, source.class(c), paragraph)
+    read_class(found, waiting, tables.class(c), paragraph)
 }
 
 /// Reads a character of a unit, whose level is found or not.
@@ -109,19 +109,19 @@ fn read_char<D: BidiData>(
     c: char,
     level: Option<u8>,
     paragraph: u8,
-    source: &D,
+    tables: &D,
 ) -> Result<usize, AllocError>
     requires { waiting ≤ length found.old.items }
     ensures within { IfOk result (λ next. next ≤ length found.new.items) }
-    ensures levels { IfOk result (λ next. ReadsChar paragraph (D.class_of source.now c) is_known level found.old.items waiting found.new.items next) }
+    ensures levels { IfOk result (λ next. ReadsChar paragraph (D.class_of tables.now c) is_known level found.old.items waiting found.new.items next) }
 {
     let Some(level) = level else {
         return Ok(waiting);
     };
     if is_known {
-        return Ok(read_more(found, waiting, c, paragraph, source));
+        return Ok(read_more(found, waiting, c, paragraph, tables));
     }
-    read_first(found, waiting, c, level, paragraph, source)
+    read_first(found, waiting, c, level, paragraph, tables)
 }
 
 /// The level of a unit with no kept character: that of the unit before it.
@@ -173,14 +173,14 @@ pub(crate) fn read_unit<'a, D: BidiData>(
     text: &str,
     levels: &'a [Option<u8>],
     paragraph: u8,
-    source: &D,
+    tables: &D,
 ) -> Result<(usize, &'a [Option<u8>]), AllocError>
     requires { waiting ≤ length found.old.items }
     ensures within { IfOk result (λ r. r.0 ≤ length found.new.items) }
     ensures levels { IfOk result (λ r. (more counts : List ℕ)
         → levels_from paragraph found.old.items waiting 0 (length (chars text.now) ∷ counts)
-        (zip (map (D.class_of source.now) (chars text.now ++ more)) levels.entry.now)
-        ≡ levels_from paragraph found.new.items r.0 0 counts (zip (map (D.class_of source.now) more) r.1.now)) }
+        (zip (map (D.class_of tables.now) (chars text.now ++ more)) levels.entry.now)
+        ≡ levels_from paragraph found.new.items r.0 0 counts (zip (map (D.class_of tables.now) more) r.1.now)) }
 {
     let mut first = waiting;
     let mut is_known = false;
@@ -188,7 +188,7 @@ pub(crate) fn read_unit<'a, D: BidiData>(
     let mut left = levels;
     'chars: while let Some((c, behind)) = first_char(rest) {
         let (level, after) = first_level(left);
-        first = read_char(found, first, is_known, c, level, paragraph, source)?;
+        first = read_char(found, first, is_known, c, level, paragraph, tables)?;
         is_known = is_known || level.is_some();
         rest = behind;
         left = after;

@@ -19,15 +19,15 @@ use std::borrow::CowStr;
 fn mirror_text<D: BidiData>(
     drawn: &mut Drawn<'_>,
     alloc: Global,
-    source: &D,
+    tables: &D,
     w: u16,
 ) -> Result<(), AllocError>
     ensures { OnOk result (glyph_of drawn.new
-        ≡ glyph (mirror_image_within (D.class_of source.now) (D.mirror_of source.now) w 1 (cow_str_bytes drawn.old.text))
+        ≡ glyph (mirror_image_within (D.class_of tables.now) (D.mirror_of tables.now) w 1 (cow_str_bytes drawn.old.text))
         drawn.old.columns drawn.old.negative) }
 {
-    let other = mirror_image(alloc, drawn.text.as_str(), source)?;
-    let found = face(other.as_str(), source, w);
+    let other = mirror_image(alloc, drawn.text.as_str(), tables)?;
+    let found = face(other.as_str(), tables, w);
     if !is_own(found, 1) {
         return Ok(());
     }
@@ -48,14 +48,14 @@ fn single_char(text: &str) -> Option<char>
 }
 
 /// The fixed text of a character, if that is one from SPACE to TILDE and is shown as itself in one column.
-fn fixed_text<'a, D: BidiData>(c: char, source: &D, w: u16) -> Option<&'a str>
+fn fixed_text<'a, D: BidiData>(c: char, tables: &D, w: u16) -> Option<&'a str>
     ensures bytes { IfSome result (λ t. t.now ≡ encode_utf8 c) }
-    ensures face { IfSome result (λ t. face (D.class_of source.now) w t.now ≡ Own 1) }
+    ensures face { IfSome result (λ t. face (D.class_of tables.now) w t.now ≡ Own 1) }
 {
     if c < ' ' || c > '~' {
         return None;
     }
-    if !is_plain(c, source, w) {
+    if !is_plain(c, tables, w) {
         return None;
     }
     Some(letter(c as u8))
@@ -73,36 +73,36 @@ fn mirror_char<D: BidiData>(
     drawn: &mut Drawn<'_>,
     alloc: Global,
     mirror: char,
-    source: &D,
+    tables: &D,
     w: u16,
 ) -> Result<(), AllocError>
-    requires { mirror_image (D.mirror_of source.now) (cow_str_bytes drawn.old.text) ≡ encode_utf8 mirror }
+    requires { mirror_image (D.mirror_of tables.now) (cow_str_bytes drawn.old.text) ≡ encode_utf8 mirror }
     ensures { OnOk result (glyph_of drawn.new
-        ≡ glyph (mirror_image_within (D.class_of source.now) (D.mirror_of source.now) w 1 (cow_str_bytes drawn.old.text))
+        ≡ glyph (mirror_image_within (D.class_of tables.now) (D.mirror_of tables.now) w 1 (cow_str_bytes drawn.old.text))
         drawn.old.columns drawn.old.negative) }
 {
-    if let Some(text) = fixed_text(mirror, source, w) {
+    if let Some(text) = fixed_text(mirror, tables, w) {
         lend(drawn, text);
         return Ok(());
     }
-    mirror_text(drawn, alloc, source, w)
+    mirror_text(drawn, alloc, tables, w)
 }
 
 /// Shows the mirror image of a glyph of any number of characters, where one of them has a mirror.
 fn mirror_any<D: BidiData>(
     drawn: &mut Drawn<'_>,
     alloc: Global,
-    source: &D,
+    tables: &D,
     w: u16,
 ) -> Result<(), AllocError>
     ensures { OnOk result (glyph_of drawn.new
-        ≡ glyph (mirror_image_within (D.class_of source.now) (D.mirror_of source.now) w 1 (cow_str_bytes drawn.old.text))
+        ≡ glyph (mirror_image_within (D.class_of tables.now) (D.mirror_of tables.now) w 1 (cow_str_bytes drawn.old.text))
         drawn.old.columns drawn.old.negative) }
 {
-    if !has_mirror(drawn.text.as_str(), source) {
+    if !has_mirror(drawn.text.as_str(), tables) {
         return Ok(());
     }
-    mirror_text(drawn, alloc, source, w)
+    mirror_text(drawn, alloc, tables, w)
 }
 
 /// Shows the mirror image of a glyph; a single character is asked for its mirror once.
@@ -110,20 +110,20 @@ fn mirror_any<D: BidiData>(
 fn mirror_glyph<D: BidiData>(
     drawn: &mut Drawn<'_>,
     alloc: Global,
-    source: &D,
+    tables: &D,
     w: u16,
 ) -> Result<(), AllocError>
     ensures { OnOk result (glyph_of drawn.new
-        ≡ glyph (mirror_image_within (D.class_of source.now) (D.mirror_of source.now) w 1 (cow_str_bytes drawn.old.text))
+        ≡ glyph (mirror_image_within (D.class_of tables.now) (D.mirror_of tables.now) w 1 (cow_str_bytes drawn.old.text))
         drawn.old.columns drawn.old.negative) }
 {
     let Some(c) = single_char(drawn.text.as_str()) else {
-        return mirror_any(drawn, alloc, source, w);
+        return mirror_any(drawn, alloc, tables, w);
     };
-    let Some(mirror) = source.mirror(c) else {
+    let Some(mirror) = tables.mirror(c) else {
         return Ok(());
     };
-    mirror_char(drawn, alloc, mirror, source, w)
+    mirror_char(drawn, alloc, mirror, tables, w)
 }
 
 /// Shows a glyph at a level: mirrored at an odd one, where one of its characters has a mirror.
@@ -132,17 +132,17 @@ fn mirror_at<D: BidiData>(
     drawn: &mut Drawn<'_>,
     alloc: Global,
     level: u8,
-    source: &D,
+    tables: &D,
     w: u16,
 ) -> Result<(), AllocError>
     ensures { OnOk result (glyph_of drawn.new
-        ≡ glyph (shown_text (D.class_of source.now) (D.mirror_of source.now) w 1 level (cow_str_bytes drawn.old.text))
+        ≡ glyph (shown_text (D.class_of tables.now) (D.mirror_of tables.now) w 1 level (cow_str_bytes drawn.old.text))
         drawn.old.columns drawn.old.negative) }
 {
     if level % 2 == 0 {
         return Ok(());
     }
-    mirror_glyph(drawn, alloc, source, w)
+    mirror_glyph(drawn, alloc, tables, w)
 }
 
 /// Mirrors the glyphs of single characters of one column that stand at an odd level, where the mirror takes one column too.
@@ -150,16 +150,16 @@ pub(crate) fn mirror_odd<D: BidiData>(
     glyphs: &mut [Drawn<'_>],
     alloc: Global,
     levels: &[u8],
-    source: &D,
+    tables: &D,
     w: u16,
 ) -> Result<(), AllocError>
     requires { length glyphs.old ≡ length levels.now }
     ensures count { length glyphs.new ≡ length glyphs.old }
     ensures mirrored { (cs : List ℕ) → map glyph_of glyphs.old ≡ map single_glyph cs
-        → OnOk result (map glyph_of glyphs.new ≡ leveled_glyphs (D.class_of source.now) (D.mirror_of source.now) w cs levels.now) }
+        → OnOk result (map glyph_of glyphs.new ≡ leveled_glyphs (D.class_of tables.now) (D.mirror_of tables.now) w cs levels.now) }
 {
     for i in 0..glyphs.len() {
-        mirror_at(&mut glyphs[i], alloc, levels[i], source, w)?;
+        mirror_at(&mut glyphs[i], alloc, levels[i], tables, w)?;
     }
     Ok(())
 }

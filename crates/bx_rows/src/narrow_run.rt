@@ -22,13 +22,13 @@ pub(crate) struct NarrowRun {
 
 /// Whether a row may end after a cluster of simple characters.
 #[inline(always)]
-pub(crate) fn is_blank_cluster<D: BidiData>(first: char, is_marked: bool, source: &D) -> bool
-    ensures { result ≡ is_one_blank (D.class_of source.now) (cond is_marked None (Some first)) }
+pub(crate) fn is_blank_cluster<D: BidiData>(first: char, is_marked: bool, tables: &D) -> bool
+    ensures { result ≡ is_one_blank (D.class_of tables.now) (cond is_marked None (Some first)) }
 {
     if is_marked {
         return false;
     }
-    is_blank(source.class(first))
+    is_blank(tables.class(first))
 }
 
 /// The run with one more unit.
@@ -57,13 +57,13 @@ fn grown(run: NarrowRun, stop: usize, is_break: bool) -> NarrowRun
 /// The units of one column that stand from an offset on, at most `most` of them, up to one that has more columns or whose
 /// characters do not tell it; none where the first character is no common one.
 #[inline(never)]
-pub(crate) fn narrow_run<D: BidiData>(body: &str, at: usize, most: u16, source: &D) -> NarrowRun
+pub(crate) fn narrow_run<D: BidiData>(body: &str, at: usize, most: u16, tables: &D) -> NarrowRun
     requires { IsCharBoundary body.now at }
     ensures most { result.count ≤ most }
     ensures bounds { IsRunIn body.now at result }
-    ensures units { (w : ℕ) → IsNarrowRun (D.class_of source.now) w body.now at result }
+    ensures units { (w : ℕ) → IsNarrowRun (D.class_of tables.now) w body.now at result }
 {
-    let mut run = ascii_run(body, at, most, source);
+    let mut run = ascii_run(body, at, most, tables);
     if run.count == most {
         return run;
     }
@@ -76,7 +76,7 @@ pub(crate) fn narrow_run<D: BidiData>(body: &str, at: usize, most: u16, source: 
     if columns != 1 {
         return run;
     }
-    let mut is_break = is_blank(source.class(c));
+    let mut is_break = is_blank(tables.class(c));
     let mut rest = behind;
     'chars: while let Some((c, behind)) = first_char(rest) {
         match simple_kind(c) {
@@ -89,7 +89,7 @@ pub(crate) fn narrow_run<D: BidiData>(body: &str, at: usize, most: u16, source: 
                 if run.count == most {
                     return run;
                 }
-                is_break = is_blank(source.class(c));
+                is_break = is_blank(tables.class(c));
             }
             Simple::Mark => is_break = false,
             Simple::Other => return run,

@@ -26,25 +26,25 @@ pub fn row_picture<'a, D: BidiData>(
     starts: &[RowStart],
     number: usize,
     levels: &Levels,
-    source: &D,
+    tables: &D,
     w: u16,
 ) -> Result<RowPicture<'a>, OutOfMemory>
-    requires starts { starts.now ≡ row_starts (D.class_of source.now) w body.now }
+    requires starts { starts.now ≡ row_starts (D.class_of tables.now) w body.now }
     requires number { number < length starts.now }
     ensures picture { IfOk result (λ p. map glyph_of p.glyphs.items
-        ≡ draw_numbered (D.class_of source.now) (D.mirror_of source.now) w body.entry.now levels.now.paragraph levels.now.each.items number) }
+        ≡ draw_numbered (D.class_of tables.now) (D.mirror_of tables.now) w body.entry.now levels.now.paragraph levels.now.each.items number) }
     ensures glyphs { IfOk result (λ p. All (λ g. is_one_glyph (cow_str_bytes g.text) ≡ true) p.glyphs.items) }
     ensures widths { IfOk result (λ p. All (λ g. run_width (cow_str_bytes g.text) ≡ g.columns) p.glyphs.items) }
     ensures columns { IfOk result (λ p. sum_by (λ g. g.columns) p.glyphs.items ≡ w) }
 {
-    if let Some(found) = plain_picture(alloc, body, starts, number, levels, source, w)? {
+    if let Some(found) = plain_picture(alloc, body, starts, number, levels, tables, w)? {
         return Ok(found);
     }
-    let units = units_of_row(alloc, body, starts, number, source, w)?;
+    let units = units_of_row(alloc, body, starts, number, tables, w)?;
     let row = Row {
         start: 0,
         stop: units.len(),
     };
-    let each = row_levels_behind(alloc, body, &units, starts[number].chars, levels, source)?;
-    draw(alloc, body, &units, row, &each, levels.paragraph, source, w)
+    let each = row_levels_behind(alloc, body, &units, starts[number].chars, levels, tables)?;
+    draw(alloc, body, &units, row, &each, levels.paragraph, tables, w)
 }

@@ -49,20 +49,20 @@ fn with_blanks<'a>(
 fn arranged<'a, D: BidiData>(
     alloc: Global,
     row: PlainRow<'a>,
-    source: &D,
+    tables: &D,
     w: u16,
 ) -> Result<Vec<Drawn<'a>>, AllocError>
     requires { length row.levels.items ≡ length row.glyphs.items }
     ensures count { IfOk result (λ v. length v.items ≡ length row.entry.glyphs.items) }
     ensures order { (cs : List ℕ) → map glyph_of row.entry.glyphs.items ≡ map single_glyph cs → IfOk result (λ v. map glyph_of v.items
-        ≡ map (λ k. slice_index_or (leveled_glyphs (D.class_of source.now) (D.mirror_of source.now) w cs row.entry.levels.items) k blank)
+        ≡ map (λ k. slice_index_or (leveled_glyphs (D.class_of tables.now) (D.mirror_of tables.now) w cs row.entry.levels.items) k blank)
         (visual row.entry.levels.items)) }
 {
     let PlainRow {
         mut glyphs,
         mut levels,
     } = row;
-    mirror_odd(&mut glyphs, alloc, &levels, source, w)?;
+    mirror_odd(&mut glyphs, alloc, &levels, tables, w)?;
     order_glyphs(&mut glyphs, &mut levels);
     Ok(glyphs)
 }
@@ -75,26 +75,26 @@ pub(crate) fn plain_picture<'a, D: BidiData>(
     starts: &[RowStart],
     number: usize,
     levels: &Levels,
-    source: &D,
+    tables: &D,
     w: u16,
 ) -> Result<Option<RowPicture<'a>>, OutOfMemory>
-    requires starts { starts.now ≡ row_starts (D.class_of source.now) w body.now }
+    requires starts { starts.now ≡ row_starts (D.class_of tables.now) w body.now }
     requires number { number < length starts.now }
     ensures picture { IfOk result (λ o. IfSome o (λ p. map glyph_of p.glyphs.items
-        ≡ draw_numbered (D.class_of source.now) (D.mirror_of source.now) w body.entry.now levels.now.paragraph levels.now.each.items number)) }
+        ≡ draw_numbered (D.class_of tables.now) (D.mirror_of tables.now) w body.entry.now levels.now.paragraph levels.now.each.items number)) }
     ensures glyphs { IfOk result (λ o. IfSome o (λ p. All (λ g. is_one_glyph (cow_str_bytes g.text) ≡ true) p.glyphs.items)) }
     ensures widths { IfOk result (λ o. IfSome o (λ p. All (λ g. run_width (cow_str_bytes g.text) ≡ g.columns) p.glyphs.items)) }
     ensures columns { IfOk result (λ o. IfSome o (λ p. sum_by (λ g. g.columns) p.glyphs.items ≡ w)) }
 {
     let start = starts[number];
     let count = most_units(start, start_of(starts, number + 1), body, w);
-    let Some(row) = plain_row(alloc, body, start, count, levels, source, w)? else {
+    let Some(row) = plain_row(alloc, body, start, count, levels, tables, w)? else {
         return Ok(None);
     };
     if highest_level(&row.levels) > FEW {
         return Ok(None);
     }
-    let glyphs = arranged(alloc, row, source, w)?;
+    let glyphs = arranged(alloc, row, tables, w)?;
     let glyphs = with_blanks(alloc, glyphs, levels.paragraph, w)?;
     Ok(Some(RowPicture { glyphs }))
 }

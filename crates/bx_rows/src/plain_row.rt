@@ -33,27 +33,27 @@ pub(crate) struct PlainRow<'a> {
 
 /// Whether a character is a unit of one column of its own text wherever a unit begins behind it.
 #[inline(always)]
-pub(crate) fn is_plain<D: BidiData>(c: char, source: &D, w: u16) -> bool
+pub(crate) fn is_plain<D: BidiData>(c: char, tables: &D, w: u16) -> bool
     ensures begin { result ≡ true → begins c ≡ true }
-    ensures face { result ≡ true → simple_face (D.class_of source.now) w c false ≡ Own 1 }
+    ensures face { result ≡ true → simple_face (D.class_of tables.now) w c false ≡ Own 1 }
 {
     let Simple::Begins(columns) = common_kind(c) else {
         return false;
     };
-    is_own(simple_face(c, columns, false, source, w), 1)
+    is_own(simple_face(c, columns, false, tables, w), 1)
 }
 
 /// The class of such a character; none of others.
 #[inline(always)]
-fn plain_class<D: BidiData>(c: char, source: &D, w: u16) -> Option<Class>
+fn plain_class<D: BidiData>(c: char, tables: &D, w: u16) -> Option<Class>
     ensures begin { IfSome result (λ k. begins c ≡ true) }
-    ensures face { IfSome result (λ k. simple_face (D.class_of source.now) w c false ≡ Own 1) }
-    ensures class { IfSome result (λ k. k ≡ D.class_of source.now c) }
+    ensures face { IfSome result (λ k. simple_face (D.class_of tables.now) w c false ≡ Own 1) }
+    ensures class { IfSome result (λ k. k ≡ D.class_of tables.now c) }
 {
-    if !is_plain(c, source, w) {
+    if !is_plain(c, tables, w) {
         return None;
     }
-    Some(source.class(c))
+    Some(tables.class(c))
 }
 
 /// Reads the only character of a unit, which is kept; gives the number of the first unit that waits then.
@@ -101,15 +101,15 @@ pub(crate) fn plain_row<'a, D: BidiData>(
     start: RowStart,
     count: usize,
     levels: &Levels,
-    source: &D,
+    tables: &D,
     w: u16,
 ) -> Result<Option<PlainRow<'a>>, AllocError>
     requires { IsCharBoundary body.now start.offset }
-    ensures units { IfOk result (λ o. IfSome o (λ r. AreSingle (D.class_of source.now) w body.entry.now start.offset count r.glyphs.items)) }
+    ensures units { IfOk result (λ o. IfSome o (λ r. AreSingle (D.class_of tables.now) w body.entry.now start.offset count r.glyphs.items)) }
     ensures count { IfOk result (λ o. IfSome o (λ r. length r.levels.items ≡ length r.glyphs.items)) }
-    ensures levels { IfOk result (λ o. IfSome o (λ r. (us : List Unit) → us ≡ take count (units_from (D.class_of source.now) w body.entry.now start.offset)
+    ensures levels { IfOk result (λ o. IfSome o (λ r. (us : List Unit) → us ≡ take count (units_from (D.class_of tables.now) w body.entry.now start.offset)
         → (0 < length us → start.chars ≡ chars_before body.entry.now us)
-        → r.levels.items ≡ row_levels (D.class_of source.now) body.entry.now levels.now.paragraph levels.now.each.items us)) }
+        → r.levels.items ≡ row_levels (D.class_of tables.now) body.entry.now levels.now.paragraph levels.now.each.items us)) }
 {
     let each = levels.each.as_slice();
     let mut glyphs = Vec::with_capacity(alloc, count.min(FIRST_ROOM))?;
@@ -121,7 +121,7 @@ pub(crate) fn plain_row<'a, D: BidiData>(
         let Some((c, text, behind)) = first_part(rest) else {
             return Ok(None);
         };
-        let Some(class) = plain_class(c, source, w) else {
+        let Some(class) = plain_class(c, tables, w) else {
             return Ok(None);
         };
         let (level, after) = first_level(left);

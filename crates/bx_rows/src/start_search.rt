@@ -29,39 +29,39 @@ pub struct RowStart {
 
 /// A face of as many columns as a simple cluster has. Where the characters have one column it has one, whatever the class.
 #[inline(always)]
-fn sized_as<D: BidiData>(cluster: SimpleCluster, source: &D, w: u16) -> Face
+fn sized_as<D: BidiData>(cluster: SimpleCluster, tables: &D, w: u16) -> Face
     requires { own_columns cluster.first ≡ cluster.columns }
-    ensures { (c : ℕ) → columns_at w c (simple_face (D.class_of source.now) w cluster.first cluster.is_marked) ≡ columns_at w c result }
+    ensures { (c : ℕ) → columns_at w c (simple_face (D.class_of tables.now) w cluster.first cluster.is_marked) ≡ columns_at w c result }
 {
     if cluster.columns == 1 {
         return Face::Own(1);
     }
-    simple_face(cluster.first, cluster.columns, cluster.is_marked, source, w)
+    simple_face(cluster.first, cluster.columns, cluster.is_marked, tables, w)
 }
 
 /// The unit that begins at an offset, as far as rows ask for it.
 #[inline(always)]
-fn extent<D: BidiData>(body: &str, at: usize, source: &D, w: u16) -> Extent
+fn extent<D: BidiData>(body: &str, at: usize, tables: &D, w: u16) -> Extent
     requires start { IsCharBoundary body.now at }
     requires some { at < length body.now }
     ensures start { result.start ≡ at }
     ensures stop { (at < result.stop) × IsCharBoundary body.now result.stop }
-    ensures unit { HasUnit (D.class_of source.now) w body.now result }
+    ensures unit { HasUnit (D.class_of tables.now) w body.now result }
 {
     match simple_cluster(body, at) {
         Some(cluster) => Extent {
             start: at,
             stop: cluster.stop,
-            face: sized_as(cluster, source, w),
-            is_break: is_blank_cluster(cluster.first, cluster.is_marked, source),
+            face: sized_as(cluster, tables, w),
+            is_break: is_blank_cluster(cluster.first, cluster.is_marked, tables),
         },
         None => {
-            let unit = ruled_unit(body, at, source, w);
+            let unit = ruled_unit(body, at, tables, w);
             Extent {
                 start: at,
                 stop: unit.stop,
                 face: unit.face,
-                is_break: is_break(body, unit, source),
+                is_break: is_break(body, unit, tables),
             }
         }
     }
@@ -80,18 +80,18 @@ fn may_begin_run(body: &str, at: usize) -> bool
 
 /// Reads the units of one column that begin at an offset, as many as fit; gives the offset behind them.
 #[inline(always)]
-fn read_run<D: BidiData>(scan: Scan, body: &str, at: usize, source: &D, w: u16) -> (Scan, usize)
+fn read_run<D: BidiData>(scan: Scan, body: &str, at: usize, tables: &D, w: u16) -> (Scan, usize)
     requires in_turn { IsInOrder w body.now scan at }
     requires at { IsCharBoundary body.now at }
     ensures in_turn { IsInOrder w body.now result.0 result.1 }
     ensures stop { (at ≤ result.1) × IsCharBoundary body.now result.1 }
-    ensures read { (starts : List RowStart) → IsRead (D.class_of source.now) w body.now starts scan (units_from (D.class_of source.now) w body.now at)
-        → IsRead (D.class_of source.now) w body.now starts result.0 (units_from (D.class_of source.now) w body.now result.1) }
+    ensures read { (starts : List RowStart) → IsRead (D.class_of tables.now) w body.now starts scan (units_from (D.class_of tables.now) w body.now at)
+        → IsRead (D.class_of tables.now) w body.now starts result.0 (units_from (D.class_of tables.now) w body.now result.1) }
 {
     if !may_begin_run(body, at) {
         return (scan, at);
     }
-    let run = narrow_run(body, at, w - scan.columns, source);
+    let run = narrow_run(body, at, w - scan.columns, tables);
     (take_run(scan, run, body, at, w), run.stop)
 }
 
@@ -102,7 +102,7 @@ fn read_unit<D: BidiData>(
     scan: Scan,
     body: &str,
     at: usize,
-    source: &D,
+    tables: &D,
     w: u16,
 ) -> Result<(Scan, usize), AllocError>
     requires in_turn { IsInOrder w body.now scan at }
@@ -110,13 +110,13 @@ fn read_unit<D: BidiData>(
     ensures in_turn { IfOk result (λ r. IsInOrder w body.now r.0 r.1) }
     ensures stop { IfOk result (λ r. (at ≤ r.1) × IsCharBoundary body.now r.1) }
     ensures further { at < length body.now → IfOk result (λ r. at < r.1) }
-    ensures read { IsRead (D.class_of source.now) w body.now starts.old.items scan (units_from (D.class_of source.now) w body.now at)
-        → IfOk result (λ r. IsRead (D.class_of source.now) w body.now starts.new.items r.0 (units_from (D.class_of source.now) w body.now r.1)) }
+    ensures read { IsRead (D.class_of tables.now) w body.now starts.old.items scan (units_from (D.class_of tables.now) w body.now at)
+        → IfOk result (λ r. IsRead (D.class_of tables.now) w body.now starts.new.items r.0 (units_from (D.class_of tables.now) w body.now r.1)) }
 {
     if at == body.len() {
         return Ok((scan, at));
     }
-    let unit = extent(body, at, source, w);
+    let unit = extent(body, at, tables, w);
     let scan = take_unit(starts, scan, unit, body, w)?;
     Ok((scan, unit.stop))
 }
@@ -126,10 +126,10 @@ fn read_unit<D: BidiData>(
 pub fn row_starts<D: BidiData>(
     alloc: Global,
     body: &str,
-    source: &D,
+    tables: &D,
     w: u16,
 ) -> Result<Vec<RowStart>, OutOfMemory>
-    ensures { IfOk result (λ v. v.items ≡ row_starts (D.class_of source.now) w body.now) }
+    ensures { IfOk result (λ v. v.items ≡ row_starts (D.class_of tables.now) w body.now) }
 {
     let first = RowStart {
         offset: 0,
@@ -144,8 +144,8 @@ pub fn row_starts<D: BidiData>(
     let mut scan = new_scan(first);
     let mut at = 0;
     while at < body.len() {
-        let (narrow, behind) = read_run(scan, body, at, source, w);
-        let (next, stop) = read_unit(&mut starts, narrow, body, behind, source, w)?;
+        let (narrow, behind) = read_run(scan, body, at, tables, w);
+        let (next, stop) = read_unit(&mut starts, narrow, body, behind, tables, w)?;
         scan = next;
         at = stop;
     }

@@ -38,11 +38,11 @@ fn each_level<D: BidiData>(
     units: &[Unit],
     chars: usize,
     levels: &Levels,
-    source: &D,
+    tables: &D,
 ) -> Result<Vec<u8>, AllocError>
     requires units { All (StandsIn body.now) units.now }
     requires chars { 0 < length units.now → chars ≡ chars_before body.now units.now }
-    ensures { IfOk result (λ v. v.items ≡ row_levels (D.class_of source.now) body.now levels.now.paragraph levels.now.each.items units.now) }
+    ensures { IfOk result (λ v. v.items ≡ row_levels (D.class_of tables.now) body.now levels.now.paragraph levels.now.each.items units.now) }
 {
     let mut found = Vec::with_capacity(alloc, units.len())?;
     if units.is_empty() {
@@ -53,7 +53,7 @@ fn each_level<D: BidiData>(
     let mut waiting = 0;
     for unit in units {
         let text = &body[unit.start..unit.stop];
-        let (next, behind) = read_unit(&mut found, waiting, text, left, levels.paragraph, source)?;
+        let (next, behind) = read_unit(&mut found, waiting, text, left, levels.paragraph, tables)?;
         waiting = next;
         left = behind;
     }
@@ -70,18 +70,18 @@ pub fn row_levels<D: BidiData>(
     units: &[Unit],
     row: Row,
     levels: &Levels,
-    source: &D,
+    tables: &D,
 ) -> Result<Vec<u8>, OutOfMemory>
     requires units { All (StandsIn body.now) units.now }
     requires row { row.start ≤ row.stop }
     requires within { row.stop ≤ length units.now }
-    ensures levels { IfOk result (λ v. v.items ≡ row_levels (D.class_of source.now) body.now levels.now.paragraph levels.now.each.items
+    ensures levels { IfOk result (λ v. v.items ≡ row_levels (D.class_of tables.now) body.now levels.now.paragraph levels.now.each.items
         (row_units units.now row)) }
     ensures one_each { IfOk result (λ v. length v.items ≡ length (row_units units.now row)) }
 {
     let units = &units[row.start..row.stop];
     let chars = chars_before(body, units);
-    row_levels_behind(alloc, body, units, chars, levels, source)
+    row_levels_behind(alloc, body, units, chars, levels, tables)
 }
 
 /// What `row_levels` gives for a row of all these units, where it is known that `chars` characters of the body stand before
@@ -93,13 +93,13 @@ pub fn row_levels_behind<D: BidiData>(
     units: &[Unit],
     chars: usize,
     levels: &Levels,
-    source: &D,
+    tables: &D,
 ) -> Result<Vec<u8>, OutOfMemory>
     requires units { All (StandsIn body.now) units.now }
     requires chars { 0 < length units.now → chars ≡ chars_before body.now units.now }
-    ensures levels { IfOk result (λ v. v.items ≡ row_levels (D.class_of source.now) body.now levels.now.paragraph levels.now.each.items units.now) }
+    ensures levels { IfOk result (λ v. v.items ≡ row_levels (D.class_of tables.now) body.now levels.now.paragraph levels.now.each.items units.now) }
     ensures one_each { IfOk result (λ v. length v.items ≡ length units.now) }
 {
-    let found = each_level(alloc, body, units, chars, levels, source)?;
+    let found = each_level(alloc, body, units, chars, levels, tables)?;
     Ok(found)
 }

@@ -55,26 +55,26 @@ pub(crate) fn is_blank(class: Class) -> bool
 }
 
 /// Whether a row may end after a unit.
-pub(crate) fn is_break<D: BidiData>(body: &str, unit: Unit, source: &D) -> bool
+pub(crate) fn is_break<D: BidiData>(body: &str, unit: Unit, tables: &D) -> bool
     requires { StandsIn body.now unit }
-    ensures { result ≡ is_break (D.class_of source.now) body.now unit }
+    ensures { result ≡ is_break (D.class_of tables.now) body.now unit }
 {
     match only_char(&body[unit.start..unit.stop]) {
-        Some(c) => is_blank(source.class(c)),
+        Some(c) => is_blank(tables.class(c)),
         None => false,
     }
 }
 
 /// How many units there are up to the last after which a row may end.
 #[tactic(auto, using(crate::proofs::Breaks::last_here, crate::proofs::Breaks::last_before))]
-fn up_to_last_break<D: BidiData>(body: &str, units: &[Unit], source: &D) -> usize
+fn up_to_last_break<D: BidiData>(body: &str, units: &[Unit], tables: &D) -> usize
     requires { All (StandsIn body.now) units.now }
-    ensures last { result ≡ up_to_last (is_break (D.class_of source.now) body.now) units.now }
+    ensures last { result ≡ up_to_last (is_break (D.class_of tables.now) body.now) units.now }
     ensures within { result ≤ length units.now }
 {
     let mut n = units.len();
     while n > 0 {
-        if is_break(body, units[n - 1], source) {
+        if is_break(body, units[n - 1], tables) {
             return n;
         }
         n -= 1;
@@ -83,16 +83,16 @@ fn up_to_last_break<D: BidiData>(body: &str, units: &[Unit], source: &D) -> usiz
 }
 
 /// How many of the remaining units the next row has.
-fn row_len<D: BidiData>(body: &str, units: &[Unit], source: &D, w: u16) -> usize
+fn row_len<D: BidiData>(body: &str, units: &[Unit], tables: &D, w: u16) -> usize
     requires { All (StandsIn body.now) units.now }
-    ensures row { result ≡ row_len (is_break (D.class_of source.now) body.now) w units.now }
+    ensures row { result ≡ row_len (is_break (D.class_of tables.now) body.now) w units.now }
     ensures within { result ≤ length units.now }
 {
     let n = fit_count(units, w);
     if n == units.len() {
         return n;
     }
-    match up_to_last_break(body, &units[..n], source) {
+    match up_to_last_break(body, &units[..n], tables) {
         0 => n,
         len => len,
     }
@@ -103,11 +103,11 @@ fn all_rows<D: BidiData>(
     alloc: Global,
     body: &str,
     units: &[Unit],
-    source: &D,
+    tables: &D,
     w: u16,
 ) -> Result<Vec<Row>, AllocError>
     requires { All (StandsIn body.now) units.now }
-    ensures { IfOk result (λ v. v.items ≡ wrap (D.class_of source.now) w body.now units.now) }
+    ensures { IfOk result (λ v. v.items ≡ wrap (D.class_of tables.now) w body.now units.now) }
 {
     let mut rows = Vec::new(alloc);
     if units.is_empty() {
@@ -116,7 +116,7 @@ fn all_rows<D: BidiData>(
     }
     let mut start = 0;
     while start < units.len() {
-        let len = row_len(body, &units[start..], source, w);
+        let len = row_len(body, &units[start..], tables, w);
         let stop = start + len;
         rows.push(Row { start, stop })?;
         start += len.max(1);
@@ -131,15 +131,15 @@ pub fn wrap<D: BidiData>(
     alloc: Global,
     body: &str,
     units: &[Unit],
-    source: &D,
+    tables: &D,
     w: u16,
 ) -> Result<Vec<Row>, OutOfMemory>
     requires stand { All (StandsIn body.now) units.now }
-    requires faces { All (HasFace (D.class_of source.now) w body.now) units.now }
-    ensures rows { IfOk result (λ v. v.items ≡ wrap (D.class_of source.now) w body.now units.now) }
+    requires faces { All (HasFace (D.class_of tables.now) w body.now) units.now }
+    ensures rows { IfOk result (λ v. v.items ≡ wrap (D.class_of tables.now) w body.now units.now) }
     ensures fit { IfOk result (λ v. All (IsRowOf w units.now) v.items) }
     ensures cut { 1 ≤ w → IfOk result (λ v. CutUnits w units.now v.items) }
 {
-    let rows = all_rows(alloc, body, units, source, w)?;
+    let rows = all_rows(alloc, body, units, tables, w)?;
     Ok(rows)
 }

@@ -108,13 +108,13 @@ fn a_comment_of_any_bytes(rt: HostRuntime) -> Result<(), Fail> {
 }
 
 /// The answers for a character, through the trait.
-fn answers<D: BidiData>(source: &D, c: char) -> (Class, Option<(Side, char)>, Option<char>) {
-    (source.class(c), source.bracket(c), source.mirror(c))
+fn answers<D: BidiData>(tables: &D, c: char) -> (Class, Option<(Side, char)>, Option<char>) {
+    (tables.class(c), tables.bracket(c), tables.mirror(c))
 }
 
 /// The answer of `class` through the trait.
-fn class_of<D: BidiData>(source: &D, c: char) -> Class {
-    answers(source, c).0
+fn class_of<D: BidiData>(tables: &D, c: char) -> Class {
+    answers(tables, c).0
 }
 
 #[test]

@@ -19,7 +19,7 @@ pub(crate) struct Scene {
     alloc: Global,
     text: Text,
     index: Index,
-    source: Counting,
+    tables: Counting,
     // of the last edit
     answer: Result<Option<Change>, TextError>,
 }
@@ -32,20 +32,20 @@ impl Model for Scene {
 
     ghost view = { λ _. tt };
 
-    ghost invariant = { λ s. s.index.paragraphs ≡ lengths (⟦<Counting as BidiData>⟧.class_of s.source) s.text.edited.text };
+    ghost invariant = { λ s. s.index.paragraphs ≡ lengths (⟦<Counting as BidiData>⟧.class_of s.tables) s.text.edited.text };
 }
 
 /// Follows an edit for which room was made.
-fn follow<D: BidiData>(index: &mut Index, text: &Text, source: &D, change: &Change)
+fn follow<D: BidiData>(index: &mut Index, text: &Text, tables: &D, change: &Change)
     requires was { (old : List ℕ)
         × IsUtf8 old
-        × (index.old.paragraphs ≡ lengths (D.class_of source.now) old)
+        × (index.old.paragraphs ≡ lengths (D.class_of tables.now) old)
         × Leads old change.now text.now.edited.text }
     requires room { index.old.room ≡ Some change.now.added }
-    ensures { index.new.paragraphs ≡ lengths (D.class_of source.now) text.now.edited.text }
+    ensures { index.new.paragraphs ≡ lengths (D.class_of tables.now) text.now.edited.text }
 {
     let _utf8 = text.len();
-    index.edited(text, source, change);
+    index.edited(text, tables, change);
 }
 
 impl Scene {
@@ -55,14 +55,14 @@ impl Scene {
         for _ in 0..times {
             text.push_str(part)?;
         }
-        let source = Counting::new(alloc)?;
+        let tables = Counting::new(alloc)?;
         let text = Text::open(alloc, text)?;
-        let index = Index::build(alloc, &text, &source)?;
+        let index = Index::build(alloc, &text, &tables)?;
         Ok(Scene {
             alloc,
             text,
             index,
-            source,
+            tables,
             answer: Ok(None),
         })
     }
@@ -89,7 +89,7 @@ impl Scene {
         self.index.ready(added.len())?;
         self.answer = match self.text.insert(at, added, before, after) {
             Ok(change) => {
-                follow(&mut self.index, &self.text, &self.source, &change);
+                follow(&mut self.index, &self.text, &self.tables, &change);
                 Ok(Some(change))
             }
             Err(error) => Err(error),
@@ -109,7 +109,7 @@ impl Scene {
         self.index.ready(0)?;
         self.answer = match self.text.remove(start, stop, before, after) {
             Ok(change) => {
-                follow(&mut self.index, &self.text, &self.source, &change);
+                follow(&mut self.index, &self.text, &self.tables, &change);
                 Ok(Some(change))
             }
             Err(error) => Err(error),
@@ -125,7 +125,7 @@ impl Scene {
         }
         let found = self.text.undo()?;
         if let Some(change) = found {
-            follow(&mut self.index, &self.text, &self.source, &change);
+            follow(&mut self.index, &self.text, &self.tables, &change);
         }
         self.answer = Ok(found);
         Ok(())
@@ -139,7 +139,7 @@ impl Scene {
         }
         let found = self.text.redo()?;
         if let Some(change) = found {
-            follow(&mut self.index, &self.text, &self.source, &change);
+            follow(&mut self.index, &self.text, &self.tables, &change);
         }
         self.answer = Ok(found);
         Ok(())
@@ -241,6 +241,6 @@ impl Scene {
 
     /// How often a class was asked for since the last call of this.
     pub(crate) fn questions(&self) -> u32 {
-        self.source.questions()
+        self.tables.questions()
     }
 }

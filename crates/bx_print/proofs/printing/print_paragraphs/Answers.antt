@@ -71,7 +71,7 @@ returns-clause-page g c =
     let old = g.W.Write.contents c.args.writer.now in
     let new = g.W.Write.contents c.finish.new.writer in
     let last : length (paragraphs class text) ≤ c.loop-number.number =
-      omega (arith, c.loop-number-test.false, c.count-count.ensures.count, ap length c.args.source.now.indexed, lengths-count class text) in
+    omega (arith, c.loop-number-test.false, c.count-count.ensures.count, ap length c.args.source.now.indexed, lengths-count class text) in
     then-ok c.finish.result _ _
     (λ all. subst (λ bs. Appends old new bs) (sym (page-is class bracket mirror style.marks style.base style.columns text))
     (all-sent lines (paragraphs class text) _ _ _ _ h.0 h.1 new last

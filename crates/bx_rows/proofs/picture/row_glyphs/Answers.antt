@@ -6,7 +6,7 @@ use Rattle.bx_rows.proofs.picture.row_glyphs.Goals as goal
 
 pub returns-then-paragraph-eq0 : goal.returns-then-paragraph-eq0
 returns-then-paragraph-eq0 g c =
-    drawn-even (g.D.BidiData.class_of c.args.source.now) (g.D.BidiData.mirror_of c.args.source.now) c.args.w c.args.body.now c.args.paragraph c.args.units.now
+    drawn-even (g.D.BidiData.class_of c.args.tables.now) (g.D.BidiData.mirror_of c.args.tables.now) c.args.w c.args.body.now c.args.paragraph c.args.units.now
     c.args.levels.now _ _ c.in_ok-columns.used _ _ _
     c.if-paragraph-eq0.true (c.deref.ensures.value ∙ c.in_ok-columns.ensures.columns) (c.deref-then-paragraph-eq0.ensures.value ∙ c.in_ok-order.ensures.order)
     c.in_ok-columns.ensures.used
@@ -14,7 +14,7 @@ returns-then-paragraph-eq0 g c =
 
 pub returns : goal.returns
 returns g c =
-    drawn-odd (g.D.BidiData.class_of c.args.source.now) (g.D.BidiData.mirror_of c.args.source.now) c.args.w c.args.body.now c.args.paragraph c.args.units.now
+    drawn-odd (g.D.BidiData.class_of c.args.tables.now) (g.D.BidiData.mirror_of c.args.tables.now) c.args.w c.args.body.now c.args.paragraph c.args.units.now
     c.args.levels.now _ _ c.in_ok-columns.used _ _ _
     (omega (arith, c.if-paragraph-eq0.false)) (c.deref-2.ensures.value ∙ c.in_ok-columns.ensures.columns)
     (c.deref-3.ensures.value ∙ c.in_ok-order.ensures.order) c.in_ok-columns.ensures.used

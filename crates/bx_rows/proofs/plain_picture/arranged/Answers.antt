@@ -15,8 +15,8 @@ returns-clause-order g c = λ cs e.
     let size : length row.glyphs.items ≡ length cs = sym (length-map row.glyphs.items glyph_of) ∙ ap length e ∙ length-map cs single_glyph in
     let first = written row.glyphs.len c.mirror_odd.new.glyphs row.glyphs.items (omega (arith, len, counted)) in
     let second = written row.glyphs.len c.order_glyphs.new.glyphs _ (let last = c.order_glyphs.ensures.count in omega (arith, len, counted, last)) in
-    let class = g.D.BidiData.class_of c.args.source.now in
-    let mirror = g.D.BidiData.mirror_of c.args.source.now in
+    let class = g.D.BidiData.class_of c.args.tables.now in
+    let mirror = g.D.BidiData.mirror_of c.args.tables.now in
     ap (map glyph_of) second
     ∙ arranged-are class mirror c.args.w cs row.levels.items (map glyph_of _) _ (c.requires ∙ size)
     (ap (map glyph_of) first ∙ c.in_ok-mirror_odd.ensures.mirrored cs (ap (map glyph_of) c.deref_mut.ensures.value ∙ e)
