@@ -8,7 +8,6 @@ use crate::in_text::stands_at;
 use bx_explicit::Base;
 use bx_paragraph::ParagraphLayout;
 use bx_paras::Index;
-use bx_terms::LARGEST_TEXT;
 use bx_text::Text;
 use bx_ucd::BidiData;
 use std::alloc::{AllocError, Global};
@@ -16,6 +15,9 @@ use std::marker::Model;
 
 // More than the rows of any window.
 const MOST_HELD: usize = 512;
+
+// So many bytes are held beside the smallest text, so that letters typed into it drop no page.
+const LEAST_ROOM: usize = 65_536;
 
 /// Whether a paragraph that is held has the bytes between two offsets of a text as its body.
 fn is_held(held: &[ParagraphLayout], i: usize, text: &Text, start: usize, stop: usize) -> bool
@@ -66,6 +68,12 @@ fn bytes_held(held: &[ParagraphLayout]) -> usize {
     bytes
 }
 
+/// How many bytes the bodies may have that are held beside a text of `text` bytes: those of its pages, and of what was
+/// edited since as many again.
+pub(crate) fn room_beside(text: usize) -> usize {
+    text.saturating_mul(2).max(LEAST_ROOM)
+}
+
 /// Where many are held, drops the one that was held first.
 fn drop_oldest<D: BidiData>(held: &mut Vec<ParagraphLayout>, tables: &D, base: Base)
     requires { All (IsHeld (D.class_of tables.now) (D.bracket_of tables.now) base) held.old.items }
@@ -79,13 +87,14 @@ fn drop_oldest<D: BidiData>(held: &mut Vec<ParagraphLayout>, tables: &D, base: B
     }
 }
 
-/// Holds one more paragraph, instead of the first where many are held, and alone where all have more bytes than two
-/// texts may have. It answers its number among them.
+/// Holds one more paragraph, instead of the first where many are held, and alone where all have more than `room` bytes. It
+/// answers its number among them.
 pub(crate) fn hold<D: BidiData>(
     held: &mut Vec<ParagraphLayout>,
     new: ParagraphLayout,
     tables: &D,
     base: Base,
+    room: usize,
 ) -> Result<usize, AllocError>
     requires held { All (IsHeld (D.class_of tables.now) (D.bracket_of tables.now) base) held.old.items }
     requires new { IsHeld (D.class_of tables.now) (D.bracket_of tables.now) base new }
@@ -97,7 +106,7 @@ pub(crate) fn hold<D: BidiData>(
     let _ = base;
     let count = held.len();
     let bytes = bytes_held(held).saturating_add(new.body().len());
-    if count > 0 && bytes > 2 * LARGEST_TEXT {
+    if count > 0 && bytes > room {
         held.truncate(1);
         held[0] = new;
         return Ok(0);

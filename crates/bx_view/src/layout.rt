@@ -11,7 +11,7 @@ ghost use Rattle.bx_view.specs.TextRows.{cell_of, row_of};
 
 use crate::cursor::RowAt;
 use crate::error::ViewError;
-use crate::holder::{hold, lay_out_in, position};
+use crate::holder::{hold, lay_out_in, position, room_beside};
 use crate::source::Source;
 use crate::span::{body_span, paragraph_under};
 use bx_explicit::Base;
@@ -113,7 +113,8 @@ impl Layout {
         };
         let alloc = *self.held.allocator();
         let layout = ParagraphLayout::of(alloc, body, source.tables, self.w, self.base)?;
-        let i = hold(&mut self.held, layout, source.tables, self.base)?;
+        let room = room_beside(source.text.len());
+        let i = hold(&mut self.held, layout, source.tables, self.base, room)?;
         self.recent = i;
         Ok(i)
     }
