@@ -1,8 +1,9 @@
 #!/bin/sh
-# check-noise.sh [--quick]: runs the built program on noise and on extreme texts, and prints the processor time and the peak memory of
-# each run. It stands beside the gate. --quick takes a tenth of each. The last line counts; the status is 1 where a run hangs, ends
-# by a signal or with another status, paints another picture at its beginning or end, or saves another file, and 77 where the
-# program is not built or there is no python3, which measures.
+# check-noise.sh [--quick] [RUN..]: runs the built program on noise and on extreme texts, and prints the processor time and the peak
+# memory of each run. It stands beside the gate. --quick takes a tenth of each, and RUN is one of 24x80, 1x1, 100x400, 500x500, line,
+# feeds, cluster, RLI and brackets: all are where none is named. The last line counts; the status is 1 where a run hangs, ends by a
+# signal or with another status, paints another picture at its beginning or end, or saves another file, and 77 where the program is
+# not built or there is no python3, which measures.
 #
 # Noise: random bytes but Ctrl-Q, 1,024 at a time, over random characters. Then the window is made 1x1, Undo is pressed as often as a
 # byte of the noise can end an edit, and the text is saved, which must then be the one that was opened.
@@ -16,14 +17,20 @@ export LC_ALL=C
 top=$(cd "$(dirname "$0")/.." && pwd)
 editor=$top/crates/bidi_edit/out/bidi_edit
 part=1
-case $#:${1:-} in
-0:) ;;
-1:--quick) part=10 ;;
-*)
-    echo 'usage: scripts/check-noise.sh [--quick]' >&2
-    exit 2
-    ;;
-esac
+if [ "${1:-}" = --quick ]; then
+    part=10
+    shift
+fi
+asked=$*
+for run in $asked; do
+    case $run in
+    24x80 | 1x1 | 100x400 | 500x500 | line | feeds | cluster | RLI | brackets) ;;
+    *)
+        echo 'usage: scripts/check-noise.sh [--quick] [RUN..]' >&2
+        exit 2
+        ;;
+    esac
+done
 if ! [ -x "$editor" ]; then
     echo 'skipped: the program is not built (rt run in crates/bidi_edit builds it)'
     exit 77
@@ -201,35 +208,55 @@ check_text() { # NAME BYTES
 
 # ---- all runs
 
+is_asked() { # RUN
+    [ -z "$asked" ] || case " $asked " in
+    *" $1 "*) ;;
+    *) return 1 ;;
+    esac
+}
+
 random_text 100000 >characters
-check_noise 24 80 $((4000000 / part))
-check_noise 1 1 $((4000000 / part))
-check_noise 100 400 $((4000000 / part))
-check_noise 500 500 $((50000 / part))
+for window in 24x80 1x1 100x400; do
+    is_asked "$window" || continue
+    check_noise "${window%x*}" "${window#*x}" $((4000000 / part))
+done
+if is_asked 500x500; then
+    check_noise 500 500 $((50000 / part))
+fi
 
 bytes=$((16777216 / part / 2 * 2))
-repeated a "$bytes" >original
-head -c 80 original >row
-opening_of_rows '' '' >opening
-check_text 'one line' 1
+if is_asked line; then
+    repeated a "$bytes" >original
+    head -c 80 original >row
+    opening_of_rows '' '' >opening
+    check_text 'one line' 1
+fi
 
-head -c "$bytes" /dev/zero | tr '\0' '\n' >original
-{ printf '\033[0m\033[2J' && opening_end ''; } >opening
-check_text 'line feeds' 1
+if is_asked feeds; then
+    head -c "$bytes" /dev/zero | tr '\0' '\n' >original
+    { printf '\033[0m\033[2J' && opening_end ''; } >opening
+    check_text 'line feeds' 1
+fi
 
-{ printf '\303\251' && repeated "$(printf '\314\201')" $((bytes - 2)); } >original
-{ printf '\033[0m\033[2J\033[1;1H' && cat original && opening_end ''; } >opening
-check_text 'one cluster' "$bytes"
+if is_asked cluster; then
+    { printf '\303\251' && repeated "$(printf '\314\201')" $((bytes - 2)); } >original
+    { printf '\033[0m\033[2J\033[1;1H' && cat original && opening_end ''; } >opening
+    check_text 'one cluster' "$bytes"
+fi
 
-{ repeated "$(printf '\342\201\247')" $((bytes / 3 * 3)) && printf '%.*s' $((bytes % 3)) aa; } >original
-repeated I 80 >row
-opening_of_rows '\033[7m' '\033[0m' >opening
-check_text 'RLI' 3
+if is_asked RLI; then
+    { repeated "$(printf '\342\201\247')" $((bytes / 3 * 3)) && printf '%.*s' $((bytes % 3)) aa; } >original
+    repeated I 80 >row
+    opening_of_rows '\033[7m' '\033[0m' >opening
+    check_text 'RLI' 3
+fi
 
-repeated '()' "$bytes" >original
-head -c 80 original >row
-opening_of_rows '' '' >opening
-check_text 'pairs of brackets' 1
+if is_asked brackets; then
+    repeated '()' "$bytes" >original
+    head -c 80 original >row
+    opening_of_rows '' '' >opening
+    check_text 'pairs of brackets' 1
+fi
 
 echo "$passed passed, $failed failed"
 [ "$failed" = 0 ]
