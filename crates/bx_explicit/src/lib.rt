@@ -17,7 +17,7 @@ mod stack;
 mod state;
 mod walk;
 
-pub use base::Base;
+pub use base::{Base, UnknownBase};
 pub use entry::{Explicit, Kept};
 pub use error::ExplicitError;
 pub use isolating::{Sequence, sequences};

@@ -43,17 +43,7 @@ pub fn side_of(matches: &ArgMatches<'_>, name: &str) -> Option<u16>
     matches.get_one::<u16>(name).filter(|n| is_side(*n))
 }
 
-/// The direction that a word names.
-fn base_of(name: &str) -> Option<Base> {
-    match name {
-        "auto" => Some(Base::Auto),
-        "ltr" => Some(Base::Ltr),
-        "rtl" => Some(Base::Rtl),
-        _ => None,
-    }
-}
-
 /// The direction that is named.
 pub fn direction_of(matches: &ArgMatches<'_>) -> Option<Base> {
-    base_of(matches.get_str("direction")?)
+    matches.get_str("direction")?.parse().ok()
 }

@@ -2,7 +2,7 @@
 mod rows;
 mod vectors;
 
-use crate::words::{base_of, field_of, spelled_out, text_of, two_of};
+use crate::words::{field_of, spelled_out, text_of, two_of};
 use bx_explicit::Base;
 use bx_resolve::{levels, levels_by_rules};
 use bx_ucd::{Tables, sample_tables};
@@ -86,8 +86,13 @@ fn is_so(alloc: Global, tables: &Tables, line: &str) -> Result<bool, Fail> {
     let (codes, base, wanted) = two_of(line);
     let body = text_of(alloc, codes)?;
     Ok(
-        has_levels(alloc, tables, body.as_str(), base_of(base), wanted)?
-            && agree_always(alloc, tables, body.as_str())?,
+        has_levels(
+            alloc,
+            tables,
+            body.as_str(),
+            base.parse().unwrap_or_default(),
+            wanted,
+        )? && agree_always(alloc, tables, body.as_str())?,
     )
 }
 

@@ -5,7 +5,7 @@ ghost use Rattle.bx_cells.specs.Units.{StandsIn};
 mod pictures;
 mod vectors;
 
-use crate::words::{base_of, field_of, text_of, two_of};
+use crate::words::{field_of, text_of, two_of};
 use bx_cells::{Face, Unit, units};
 use bx_explicit::Base;
 use bx_resolve::{Levels, levels};
@@ -134,7 +134,14 @@ fn is_so(alloc: Global, tables: &Tables, line: &str) -> Result<bool, Fail> {
     let (w, wanted) = field_of(rest);
     let w: u16 = w.parse()?;
     let body = text_of(alloc, codes)?;
-    has_rows(alloc, tables, body.as_str(), base_of(base), w, wanted)
+    has_rows(
+        alloc,
+        tables,
+        body.as_str(),
+        base.parse().unwrap_or_default(),
+        w,
+        wanted,
+    )
 }
 
 /// The first line that is not so is a failure. Lines that are named have a field in front that says what they show.

@@ -1,6 +1,5 @@
 //! What the fields of a line mean, which have a tab between them.
 
-use bx_explicit::Base;
 use std::alloc::{AllocError, Global};
 use std::test::Fail;
 
@@ -70,17 +69,6 @@ pub(crate) fn with_tabs(alloc: Global, words: &str) -> Result<String, AllocError
         text.push(if c == '\u{2409}' { '\t' } else { c })?;
     }
     Ok(text)
-}
-
-/// The base that a field names.
-pub(crate) fn base_of(field: &str) -> Base {
-    if field == "ltr" {
-        Base::Ltr
-    } else if field == "rtl" {
-        Base::Rtl
-    } else {
-        Base::Auto
-    }
 }
 
 /// A field, and those behind it.

@@ -1,6 +1,6 @@
 //! A scene, as a line tells it.
 
-use crate::words::{WordFault, base_of, byte_of, bytes_of, call_of, count_of, side_of, two_of};
+use crate::words::{WordFault, byte_of, bytes_of, call_of, count_of, side_of, two_of};
 use bx_explicit::Base;
 use bx_store::MemoryStore;
 use bx_world::Step;
@@ -175,7 +175,7 @@ impl<'a> Scene<'a> {
         let missing = WordFault::Bad("fewer than seven fields");
         let mut fields = line.split('\t');
         let _name = fields.next();
-        let base = base_of(fields.next().ok_or(missing)?)?;
+        let base = fields.next().ok_or(missing)?.parse()?;
         let height = side_of(fields.next().ok_or(missing)?)?;
         let width = side_of(fields.next().ok_or(missing)?)?;
         let failing = call_of(fields.next().ok_or(missing)?)?;

@@ -1,6 +1,6 @@
 //! What the words of a scene's line mean.
 
-use bx_explicit::Base;
+use bx_explicit::UnknownBase;
 use std::alloc::{AllocError, AllocFailed, Global};
 
 /// Why a line is no scene.
@@ -20,6 +20,12 @@ impl From<AllocError> for WordFault {
 impl<T: Drop> From<AllocFailed<T>> for WordFault {
     fn from(_error: AllocFailed<T>) -> Self {
         WordFault::OutOfMemory
+    }
+}
+
+impl From<UnknownBase> for WordFault {
+    fn from(_error: UnknownBase) -> Self {
+        WordFault::Bad("auto, ltr or rtl is wanted")
     }
 }
 
@@ -101,15 +107,5 @@ pub fn call_of(word: &str) -> Result<Option<u64>, WordFault> {
     match word.parse::<u64>() {
         Ok(call) => Ok(Some(call)),
         Err(_) => Err(WordFault::Bad("the number of a call is wanted")),
-    }
-}
-
-/// A base direction.
-pub fn base_of(word: &str) -> Result<Base, WordFault> {
-    match word {
-        "auto" => Ok(Base::Auto),
-        "ltr" => Ok(Base::Ltr),
-        "rtl" => Ok(Base::Rtl),
-        _ => Err(WordFault::Bad("auto, ltr or rtl is wanted")),
     }
 }

@@ -3,7 +3,7 @@
 
 mod vectors;
 
-use crate::scene::{Scene, base_of};
+use crate::scene::Scene;
 use crate::whole::Whole;
 use bx_view::Visual;
 use std::alloc::Global;
@@ -65,7 +65,7 @@ fn text_of(alloc: Global, hex: &str) -> Result<String, Fail> {
 fn has_rows_of_line(alloc: Global, line: &str) -> Result<bool, Fail> {
     let mut fields = line.split('|');
     let text = text_of(alloc, fields.next().ok_or("no text")?)?;
-    let base = base_of(fields.next().ok_or("no base")?)?;
+    let base = fields.next().ok_or("no base")?.parse()?;
     let w: u16 = fields.next().ok_or("no columns")?.parse()?;
     let rows = fields.next().ok_or("no rows")?;
     let mut scene = Scene::of(alloc, text.as_str(), w, base)?;
@@ -105,7 +105,7 @@ fn has_rows_by_number(whole: &Whole, rows: &str) -> Result<bool, Fail> {
 fn has_numbered_rows_of_line(alloc: Global, line: &str) -> Result<bool, Fail> {
     let mut fields = line.split('|');
     let text = text_of(alloc, fields.next().ok_or("no text")?)?;
-    let base = base_of(fields.next().ok_or("no base")?)?;
+    let base = fields.next().ok_or("no base")?.parse()?;
     let w: u16 = fields.next().ok_or("no columns")?.parse()?;
     let rows = fields.next().ok_or("no rows")?;
     let whole = Whole::of(alloc, text, w, base)?;

@@ -26,16 +26,6 @@ pub(crate) fn document_of<D: BidiData + Drop>(
     Ok(Document::open(alloc, text, tables, w, base)?)
 }
 
-/// The base direction that a field names.
-pub(crate) fn base_of(field: &str) -> Result<Base, Fail> {
-    match field {
-        "auto" => Ok(Base::Auto),
-        "ltr" => Ok(Base::Ltr),
-        "rtl" => Ok(Base::Rtl),
-        _ => Err(Fail::new("no base")),
-    }
-}
-
 /// A text in a window. Its characters stand beside the document, so that a move asks, when the test runs, whether its place
 /// stands between two of them.
 #[derive(Drop)]

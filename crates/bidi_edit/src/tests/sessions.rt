@@ -49,16 +49,6 @@ fn side_of(field: &str) -> Result<u16, Fail>
     Ok(side)
 }
 
-fn base_of(field: &str) -> Base {
-    if field == "ltr" {
-        Base::Ltr
-    } else if field == "rtl" {
-        Base::Rtl
-    } else {
-        Base::Auto
-    }
-}
-
 /// What a session is given.
 #[derive(Drop)]
 struct Given {
@@ -76,7 +66,7 @@ impl Given {
         let mut fields = text.split('|');
         let rows = side_of(fields.next().ok_or("no rows")?)?;
         let cols = side_of(fields.next().ok_or("no columns")?)?;
-        let direction = base_of(fields.next().ok_or("no direction")?);
+        let direction = fields.next().ok_or("no direction")?.parse()?;
         let file = file_of(alloc, fields.next().ok_or("no file")?)?;
         let keys = from_hex(alloc, fields.next().ok_or("no keys")?)?;
         Ok(Given {

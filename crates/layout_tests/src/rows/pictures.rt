@@ -1,5 +1,5 @@
 //! What rows show, on the call itself: `_` is a blank, `*` stands behind a mark in negative image, `|` between rows.
-use crate::words::{base_of, field_of, two_of, with_tabs};
+use crate::words::{field_of, two_of, with_tabs};
 use bx_cells::units;
 use bx_explicit::Base;
 use bx_resolve::levels;
@@ -123,7 +123,14 @@ fn is_so(alloc: Global, tables: &Tables, line: &str) -> Result<bool, Fail> {
     let (body, wanted) = field_of(rest);
     let w: u16 = w.parse()?;
     let body = with_tabs(alloc, body)?;
-    shows(alloc, tables, body.as_str(), base_of(base), w, wanted)
+    shows(
+        alloc,
+        tables,
+        body.as_str(),
+        base.parse().unwrap_or_default(),
+        w,
+        wanted,
+    )
 }
 
 /// The first line that is not so is a failure.
