@@ -1,9 +1,9 @@
 #!/bin/sh
 # check-build.sh [toolchain]: how the first start proves and builds, under dash and bash: order, what runs side by side, what is told on
-# a terminal and elsewhere, Ctrl-C and going on, a proof that fails, a start that was killed. It does so in a small repository of
-# four crates with a command that stands in for rt, and with the word `toolchain` once with the real one, which takes some minutes
-# on a busy machine. It stands beside the gate. The last line counts; the status is 1 where a check failed, and 77 where there is
-# neither dash nor bash, or no tmux.
+# a terminal and elsewhere, Ctrl-C and going on, a proof that fails, a start that was killed. It does so in a small repository of four
+# crates with a command that stands in for rt; with the word `toolchain` it tries the real one in its place, Ctrl-C and going on, which
+# takes some minutes on a busy machine. It stands beside the gate. The last line counts; the status is 1 where a check failed, and 77
+# where there is neither dash nor bash, or no tmux.
 set -u
 
 top=$(cd "$(dirname "$0")/.." && pwd)

@@ -1,8 +1,9 @@
 #!/bin/sh
 # Compares what data/ answers with what Unicode's own three files answer, as Debian's package unicode-data installs them, or
 # those in the folder after it: for each of the 1,114,112 codes its class, its bracket and its mirror. The files are read by the
-# few lines below, and where crates/ucd_lookup is built also by the reader of the editor, for every character. The status is 77
-# where Unicode's files are not there, and where only the reader is not built and all else agrees.
+# few lines below, and where crates/ucd_lookup is built also by the reader of the editor, for every character. Nothing but facts may
+# stand in data/. The status is 1 where something differs, 77 where Unicode's files are not there, and where only the reader is not
+# built and all else agrees.
 set -eu
 export LC_ALL=C
 

@@ -1,8 +1,8 @@
 #!/bin/sh
-# Runs the launcher in tmux, under dash and bash: what it hands to a program that only records its input, what it refuses, how it ends,
-# and then the editor itself in it, also as the editor that other programs call. It stands beside the gate, and skips (77) where
-# there is no tmux and none can be installed from Debian's packages. With names after it only the checks run whose names begin so.
-# The last line counts; the status is 1 where one failed. The checks stand in scripts/launcher.
+# Runs the launcher in tmux, under dash and bash: what it hands to a program that only records its input, what it refuses and prints,
+# how it ends, how it leaves the terminal, and then the editor itself in it, also as the editor that other programs call. It stands
+# beside the gate, and skips (77) where there is no tmux and none can be installed from Debian's packages. With names after it only the
+# checks run whose names begin so. The last line counts; the status is 1 where one failed. The checks stand in scripts/launcher.
 set -u
 
 if ! command -v tmux >/dev/null 2>&1; then

@@ -1,10 +1,11 @@
 #!/bin/sh
-# check-print.sh [ROWS]: prints texts with bidi_print and compares the lines, byte by byte: with the rows of ROWS, and with what
-# fribidi prints of random paragraphs, beside which it may differ only where a paragraph is wrapped, since fribidi cuts rows out of
-# what it has reordered. It prints how many agree. ROWS is a file of rows from elsewhere, a line each, made with the tables of this
-# crate's data: the text as UTF-8 in hex, the direction, the columns, the row's number, two fields that are passed over, and the
-# glyphs from left to right as BYTES:COLUMNS, with an n behind where one is in negative image. It stands beside the gate. The
-# status is 1 where something differs that may not, and 77 where ROWS or fribidi is not there.
+# check-print.sh [ROWS]: prints texts with bidi_print and compares the lines, byte by byte: with the rows of ROWS, and with what fribidi
+# prints of random paragraphs, beside which it may differ only where a paragraph is wrapped, since fribidi cuts rows out of what it has
+# reordered. It also runs the program to its ends, and compares statuses and faults. It prints how many agree. ROWS is a file of rows
+# from elsewhere, a line each, made with the tables of crates/bidi_print/data: the text as UTF-8 in hex, the direction, the columns, the
+# row's number, two fields that are passed over, and the glyphs from left to right as BYTES:COLUMNS, with an n behind where one is in
+# negative image. It stands beside the gate. The status is 1 where something differs that may not, and 77 where ROWS or fribidi is not
+# there.
 set -eu
 export LC_ALL=C
 

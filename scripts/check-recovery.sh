@@ -1,8 +1,9 @@
 #!/bin/sh
 # Ends sessions in tmux by KILL, HUP and TERM of the launcher, of the program or of both, at a random key, and recovers each: all
 # that the program had read must be there. What the text is after each key a plain model in python tells, of the keys whose meaning
-# needs no rows. Then: a full disk under the journal, a replay of 100,000 keys, and what the journal costs at a key. It stands
-# beside the gate. The first word is how many sessions (200), the second the seed of the random keys (1). The last line counts.
+# needs no rows. And: what the launcher says and asks, a full disk under the journal, a replay of 100,000 keys, and what the journal
+# costs at a key. It stands beside the gate. The first word is how many sessions (200), the second the seed of the random keys (1).
+# The last line counts; the status is 1 where one failed, and 77 where the program is not built, or there is no tmux or no python3.
 set -u
 
 sessions=${1:-200}

@@ -3,11 +3,12 @@
 # run meets no refusal. It stands beside the gate. The last lines count the runs by what became of them; the status is 1 where a run
 # does what none may, or where what must occur did not, and 77 where nothing failed and something could not run.
 #
-# A file in C, which this script writes, is loaded into each program. It refuses the growth, gives the program its input one byte a
-# read, and tells how many bytes were read when it refused.
+# A file in C, which scripts/refusals/loaded.sh writes, is loaded into each program. It refuses the growth, gives the program its input
+# one byte a read, and tells how many bytes were read when it refused.
 #
-# 1. Scenes by play_scenes, each step by step and by one call, as they are and with a byte that ends no key behind each key. A run
-#    must answer what the same scene answers that is refused nothing, or be one of these, of which play_scenes tells the step:
+# 1. Scenes by play_scenes, each step by step and by one call, as they are and with a byte that ends no key behind each key and each
+#    told size. A run must answer what the same scene answers that is refused nothing, or be one of these, of which play_scenes tells
+#    the step:
 #    - a file that is not opened, or want of memory in the program itself;
 #    - no memory for a key: all else is as where a byte that ends no key stands in the key's place;
 #    - no memory for the painting: where a byte follows that ends no key, all else is as if it had not been refused, since that byte
@@ -16,10 +17,11 @@
 #    - no memory for the line: all else is as where nothing is sent in that step;
 #    - no memory in the terminal: each later window and each Read that takes a byte answers it again, and all else is the same;
 #    - no memory for the answers of a play: all is as with no step;
-#    - a Save without memory: all else is as where a call of the store fails.
+#    - a Save without memory: all else is as where a call of the store fails;
+#    - no memory for the text that the scene tells at its end: it is `?`, and all else is the same.
 #    So two refusals in one run are told, and so is a refusal that leaves anything else.
-# 2. Worked scenes, in each of which one run must answer exactly what is written here.
-# 3. ucd_lookup with a class file, which answers as it does or says that memory is wanted.
+# 2. Worked scenes, in each of which one run must answer exactly what scripts/refusals/scenes.sh has of it.
+# 3. ucd_lookup with a class file, which answers as where nothing is refused, or says that memory is wanted.
 # 4. Twenty of the recorded sessions in SESSIONS (see sessions.sh) by bidi_edit. A run must print, leave and end as the same session
 #    that is refused nothing, or be one of these, K being the byte that was read last before the refusal:
 #    - before the first byte: status 1, `out of memory` alone, nothing on the screen, and FILE as it was;

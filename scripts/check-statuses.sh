@@ -1,7 +1,7 @@
 #!/bin/sh
-# Runs the built program to each of its ends, and compares the exit status, the line on standard error and the saved file with what
-# the manual says. It stands beside the gate, whose tests call the functions behind `main` and not the program. The last line
-# counts; the status is 1 where one differs, and 77 where the program is not built.
+# Runs the built program to each of its ends, and bidi_input where that is built, and compares the exit status, the line on standard
+# error and the saved file with what the manual says. It stands beside the gate, whose tests call the functions behind `main` and not
+# the program. The last line counts; the status is 1 where one differs, and 77 where the program is not built.
 set -u
 
 cd "$(dirname "$0")/.." || exit 1

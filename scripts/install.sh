@@ -1,6 +1,7 @@
 #!/bin/sh
-# install.sh [--uninstall] [PREFIX]: puts the editor, its launcher, its tables and its page of the manual under PREFIX, which is
-# $HOME/.local unless named, or takes them away again. The launcher there needs nothing of this repository.
+# install.sh [--uninstall] [PREFIX]: puts the built programs, the launcher, the tables and the page of the manual under PREFIX, which
+# is $HOME/.local unless named, or takes them away again. It builds nothing: the status is 1 where the editor or its filter is not
+# built, and the printing program goes along where it is. What is installed needs nothing of this repository.
 set -eu
 
 read_words() { # WORD..

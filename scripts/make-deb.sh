@@ -1,9 +1,9 @@
 #!/bin/sh
 # make-deb.sh [FOLDER]: makes bidi-edit_VERSION_amd64.deb and bidi-edit_VERSION_amd64.tar.gz, with the same tree, in FOLDER (out/ at the
-# top of the repository unless named): for those who have no toolchain. It refuses where no proved program stands there. Then it
-# tries both: lintian and the readers of manuals find no fault, the package is installed in a clean root folder, used there in tmux
-# and removed, and the tree of the tar file is used too. The last line counts; the status is 1 where a check failed, and 77 where a
-# tool is missing.
+# top of the repository unless named): for those who have no toolchain. It refuses where one of the three programs is not built and
+# proved. Then it tries both: lintian and the readers of manuals find no fault, the package is installed in a clean root folder, used
+# there in tmux and removed, and the tree of the tar file is used too. The last line counts; the status is 1 where a check failed, and
+# 77 where a tool is missing.
 set -eu
 
 top=$(cd "$(dirname "$0")/.." && pwd)

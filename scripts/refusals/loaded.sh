@@ -1,7 +1,8 @@
 # shellcheck shell=sh
 # shellcheck disable=SC2154 # what check-refusals.sh sets
 # What refuses a growth of memory, for check-refusals.sh: a file in C that is loaded into a program. It refuses the growth whose number
-# it is given, gives the program its input one byte a read, and tells how many bytes were read when it refused.
+# it is given (REFUSED), gives the program its input one byte a read, and tells how many bytes were read when it refused. It also loses
+# what is printed (MUTED) and refuses to rename (FAILING) while so many bytes are read.
 
 # Writes the file in C, and builds of it what is loaded.
 build_refuse() {
