@@ -2,9 +2,8 @@
 # stand on, and for them: its name, what its proof may take in seconds, the same for the longest chain of crates that begins with
 # it, and the crates that it stands on. Those with the longest chain come first.
 #
-# The seconds are processor time with one job: on four cores of 2026 the libraries took 0.13 to 0.19 seconds for a line of source
-# (bx_grid 318 for 2,522 lines, bx_rows 420 for 2,344, bx_resolve 312 for 1,639), and the program 222 for 1,203; a crate of a few
-# lines takes 15.
+# The seconds are processor time with one job, as measured on a machine with four processors: a library takes 0.13 to 0.19 seconds for
+# a line of source, and a crate of a few lines 15.
 
 FILENAME == ARGV[1] {
     sub(/#.*/, "")
