@@ -1,6 +1,7 @@
 -- A whole body, computed: its rows, the levels of their units, and what they show.
 use Rattle.std.proofs.Common.{ℕ, Bool, List, map, Option}
 use Rattle.std.specs.Prelude.{flat_map, chars, encode_utf8_all, Some, None, ◌==◌, if◌then◌else◌}
+pub use Rattle.bx_ucd.specs.SmallTables.{mirror}
 use Rattle.bx_resolve.specs.TestTables.{class, bracket}
 use Rattle.bx_explicit.specs.declared.base.Base.{Base}
 use Rattle.bx_explicit.specs.declared.base.Base.TheVariants.{Auto}
@@ -11,10 +12,6 @@ use Rattle.bx_rows.specs.Wrapping.{wrap, row_units}
 use Rattle.bx_rows.specs.RowLevels.{row_levels}
 use Rattle.bx_rows.specs.VisualOrder.{visual}
 use Rattle.bx_rows.specs.RowPicture.{Glyph, draw}
-
--- round and square brackets mirror each other
-abbrev pub mirror : ℕ → Option ℕ
-mirror c = if c == 0x28 then Some 0x29 else (if c == 0x29 then Some 0x28 else (if c == 0x5b then Some 0x5d else (if c == 0x5d then Some 0x5b else None)))
 
 -- the same, but the opening parenthesis mirrors to a wide character
 abbrev pub wide_mirror : ℕ → Option ℕ

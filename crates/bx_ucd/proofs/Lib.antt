@@ -6,5 +6,5 @@ pub mod AnswerLemmas
 pub mod MapLemmas
 pub mod LawLemmas
 pub mod BoundLemmas
-pub mod SmallTables
+pub mod SampleLines
 mod Rows

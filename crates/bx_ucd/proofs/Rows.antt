@@ -2,7 +2,6 @@
 use Rattle.std.proofs.Common.{◌≡◌, ℕ, List, [], ◌∷◌, Option, Some, None, refl}
 use Rattle.std.specs.Prelude.{codes, map, replicate, ◌++◌, take, Result, Ok, Err}
 use Rattle.bx_ucd.specs.Reading.{refusal, class_in_file, bracket_in_file, mirror_in_file}
-use Rattle.bx_ucd.proofs.SmallTables.{class, bracket, mirror}
 use Rattle.bx_ucd.specs.declared.class.Class.{Class}
 use Rattle.bx_ucd.specs.declared.class.Class.TheVariants.{L, R, AL, EN, ES, ET, AN, CS, NSM, BN, B, S, WS, ON, LRE, LRO, RLE, RLO, PDF, LRI, RLI, FSI, PDI}
 use Rattle.bx_ucd.specs.declared.data.Side.{Side}
@@ -377,61 +376,3 @@ many_digits = refl
 
 pub many_digits_and_a_class : answers (replicate 500 0x30 ++ codes " ; L") [] [] [] [] [] ≡ refused BadCode
 many_digits_and_a_class = refl
-
--- ---- whole small tables
-
--- the files that make the small tables of the other worked rows
-abbrev class_file : List ℕ
-class_file =
-    codes "# @missing: 0000..10FFFF; Left_To_Right\n"
-    ++ codes "# @missing: 0590..05FF; Right_To_Left\n"
-    ++ codes "0000..0008 ; BN\n"
-    ++ codes "0009 ; S\n"
-    ++ codes "000A ; B\n"
-    ++ codes "000D ; B\n"
-    ++ codes "0020 ; WS\n"
-    ++ codes "0021 ; ON\n"
-    ++ codes "0023..0025 ; ET\n"
-    ++ codes "0028..0029 ; ON\n"
-    ++ codes "002B ; ES\n"
-    ++ codes "002C ; CS\n"
-    ++ codes "0030..0039 ; EN\n"
-    ++ codes "005B ; ON\n"
-    ++ codes "005D ; ON\n"
-    ++ codes "0300..036F ; NSM\n"
-    ++ codes "05D0..05EA ; R\n"
-    ++ codes "0620..064A ; AL\n"
-    ++ codes "0660..0669 ; AN\n"
-    ++ codes "202A ; LRE\n"
-    ++ codes "202B ; RLE\n"
-    ++ codes "202C ; PDF\n"
-    ++ codes "202D ; LRO\n"
-    ++ codes "202E ; RLO\n"
-    ++ codes "2029 ; B\n"
-    ++ codes "2066 ; LRI\n"
-    ++ codes "2067 ; RLI\n"
-    ++ codes "2068 ; FSI\n"
-    ++ codes "2069 ; PDI\n"
-
-abbrev bracket_file : List ℕ
-bracket_file =
-    codes "0028; 0029; o\n"
-    ++ codes "0029; 0028; c\n"
-    ++ codes "005B; 005D; o\n"
-    ++ codes "005D; 005B; c\n"
-
-abbrev mirroring_file : List ℕ
-mirroring_file =
-    codes "0028; 0029\n"
-    ++ codes "0029; 0028\n"
-    ++ codes "005B; 005D\n"
-    ++ codes "005D; 005B\n"
-
-abbrev asked : List ℕ
-asked = 0x0 ∷ 0x8 ∷ 0x9 ∷ 0xA ∷ 0xB ∷ 0xD ∷ 0x20 ∷ 0x21 ∷ 0x22 ∷ 0x23 ∷ 0x25 ∷ 0x26 ∷ 0x28 ∷ 0x29 ∷ 0x2A ∷ 0x2B ∷ 0x2C ∷ 0x30 ∷ 0x39 ∷ 0x3A ∷ 0x41 ∷ 0x5B ∷ 0x5C
-    ∷ 0x5D ∷ 0x300 ∷ 0x36F ∷ 0x370 ∷ 0x58F ∷ 0x590 ∷ 0x5CF ∷ 0x5D0 ∷ 0x5EA ∷ 0x5EB ∷ 0x5FF ∷ 0x600 ∷ 0x620 ∷ 0x64A ∷ 0x660 ∷ 0x669 ∷ 0x2028 ∷ 0x2029 ∷ 0x202A
-    ∷ 0x202B ∷ 0x202C ∷ 0x202D ∷ 0x202E ∷ 0x202F ∷ 0x2066 ∷ 0x2067 ∷ 0x2068 ∷ 0x2069 ∷ 0x10FFFF ∷ []
-
--- both answer the same
-pub small_tables : answers class_file bracket_file mirroring_file asked asked asked ≡ Ok (map class asked, map bracket asked, map mirror asked)
-small_tables = refl

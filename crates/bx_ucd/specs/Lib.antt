@@ -11,3 +11,4 @@ pub mod ClassTable
 pub mod CodeMap
 pub mod Answers
 pub mod Reading
+pub mod SmallTables

@@ -1,6 +1,7 @@
 //! Small files of the three kinds and their tables, for tests and measurements: letters of three scripts, digits, round and
 //! square brackets, and the formatting characters.
-ghost use Rattle.std.specs.Prelude.{◌≡◌, ℕ, IfOk};
+ghost use Rattle.std.specs.Prelude.{◌≡◌, ℕ, IfOk, IfErr};
+ghost use Rattle.bx_ucd.specs.Lines.{no_memory_in};
 ghost use Rattle.bx_ucd.specs.Reading.{class_in_file, bracket_in_file, mirror_in_file};
 ghost use Rattle.bx_ucd.specs.declared.sample.TheConstants.{CLASSES, BRACKETS, MIRRORING};
 
@@ -55,11 +56,12 @@ pub const MIRRORING: &str = "\
 005B; 005D\n\
 005D; 005B\n";
 
-/// The tables of the small files. It is refused only where memory runs out.
+/// The tables of the small files. No line of theirs is refused: an error tells that memory ran out.
 pub fn sample_tables(alloc: Global) -> Result<Tables, UcdError>
     ensures classes { IfOk result (λ t. (code : ℕ) → ⟦<Tables as BidiData>⟧.class_of t code ≡ class_in_file CLASSES.now code) }
     ensures brackets { IfOk result (λ t. (code : ℕ) → ⟦<Tables as BidiData>⟧.bracket_of t code ≡ bracket_in_file BRACKETS.now code) }
     ensures mirrors { IfOk result (λ t. (code : ℕ) → ⟦<Tables as BidiData>⟧.mirror_of t code ≡ mirror_in_file MIRRORING.now code) }
+    ensures refused { IfErr result (λ e. e ≡ no_memory_in e.file) }
 {
     let tables = Tables::read(
         alloc,
