@@ -83,7 +83,7 @@ make_documents() { # FOLDER MAINTAINER
     mkdir -p "$documents"
     cat >"$documents/copyright" <<END
 bidi_edit, its launcher and its manual: Copyright $(date +%Y) the maintainers of bidi_edit, $2.
-They come from the repository bidi_edit, which has the terms of their use.
+They come from the repository bidi_edit, which states no terms of use.
 
 The three files in /usr/share/bidi_edit are facts of the Unicode Character Database:
 Copyright 1991-$(date +%Y) Unicode, Inc. Unicode and the Unicode Logo are registered
