@@ -1,4 +1,4 @@
-mod Rows
+mod Examples
 pub mod Stack
 pub mod Close
 pub mod Missed

@@ -1,4 +1,4 @@
 pub mod Encoded
 pub mod Patterns
 pub mod Codes
-mod Rows
+mod Examples

@@ -11,5 +11,5 @@ pub mod BreakTables
 pub mod Locality
 pub mod Rest
 pub mod OpenCluster
-mod Rows
+mod Examples
 mod Blocks

@@ -1,5 +1,5 @@
 pub mod Computed
-pub mod Rows
+pub mod Examples
 pub mod RowText
 pub mod StepOrder
 pub mod Shown

@@ -1,4 +1,4 @@
-mod Rows
+mod Examples
 pub mod Scan
 pub mod Rising
 pub mod Steps

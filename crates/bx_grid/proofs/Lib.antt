@@ -4,7 +4,7 @@ pub mod Uncut
 pub mod Halves
 pub mod Pushed
 pub mod Puts
-pub mod Rows
+pub mod Examples
 pub mod Plain
 pub mod Reading
 pub mod Grids

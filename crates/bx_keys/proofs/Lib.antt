@@ -7,4 +7,4 @@ pub mod Feeding
 pub mod Characters
 pub mod Sequences
 pub mod Sizes
-mod Rows
+mod Examples

@@ -2,7 +2,7 @@ pub mod Totals
 pub mod Written
 pub mod Flats
 pub mod Spliced
-mod Rows
+mod Examples
 pub mod Cuts
 pub mod Bodies
 mod Seams

@@ -1,4 +1,4 @@
-mod Rows
+mod Examples
 pub mod Run
 pub mod NoBrackets
 pub mod ReadOn

@@ -27,7 +27,7 @@ pub mod AsciiRuns
 pub mod Leveled
 pub mod MirroredLetters
 pub mod PlainPictures
-mod Rows
+mod Examples
 pub mod Unmirrored
 pub mod PlainRows
 pub mod PlainDrawn

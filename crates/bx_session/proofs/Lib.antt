@@ -4,6 +4,6 @@ pub mod Input
 pub mod Kept
 pub mod Pictures
 pub mod Replayed
-pub mod Rows
+pub mod Examples
 pub mod Shown
 pub mod Turns

@@ -5,5 +5,5 @@ pub mod Pushed
 pub mod Replaced
 pub mod Held
 pub mod Turned
-pub mod Rows
+pub mod Examples
 pub mod Lent

@@ -7,4 +7,4 @@ pub mod MapLemmas
 pub mod LawLemmas
 pub mod BoundLemmas
 pub mod SampleLines
-mod Rows
+mod Examples

@@ -1,4 +1,4 @@
--- Worked rows.
+-- Keys of worked examples of input.
 use Rattle.std.proofs.Common.{◌≡◌, ℕ, List, [], ◌∷◌, ◌++◌, Some, None, refl}
 use Rattle.std.specs.Prelude.{codes, Option}
 use Rattle.std.specs.Str.{chars}

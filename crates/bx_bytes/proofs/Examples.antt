@@ -1,4 +1,4 @@
--- Rows of UTF-8, computed.
+-- UTF-8 of worked examples, computed.
 use Rattle.std.proofs.Common.{◌≡◌, true, false, [], ◌∷◌, refl}
 use Rattle.std.specs.List.{list_all}
 use Rattle.std.specs.Char.{encode_utf8}

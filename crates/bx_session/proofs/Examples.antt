@@ -1,4 +1,4 @@
--- Worked rows: what is queued after input.
+-- Worked examples: what is queued after input.
 use Rattle.std.proofs.Common.{◌≡◌, ℕ, true, List, [], ◌∷◌, ◌++◌, refl}
 use Rattle.std.specs.Prelude.{codes}
 use Rattle.std.specs.Fmt.{digits}

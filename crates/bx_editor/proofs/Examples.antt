@@ -1,4 +1,4 @@
--- Worked rows: texts, places, status rows and pictures after keys.
+-- Worked examples: texts, places, status rows and pictures after keys.
 use Rattle.std.proofs.Common.{◌≡◌, ℕ, true, false, List, [], ◌∷◌, ◌++◌, Some, refl}
 use Rattle.std.specs.Prelude.{codes}
 use Rattle.std.specs.Fmt.{digits}

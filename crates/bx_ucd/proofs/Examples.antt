@@ -1,4 +1,4 @@
--- Worked rows of the definitions, computed.
+-- The definitions, computed on small examples of lines and codes.
 use Rattle.std.proofs.Common.{◌≡◌, ℕ, List, [], ◌∷◌, Option, Some, None, refl}
 use Rattle.std.specs.Prelude.{codes, map, replicate, ◌++◌, take, Result, Ok, Err}
 use Rattle.bx_ucd.specs.Reading.{refusal, class_in_file, bracket_in_file, mirror_in_file}
