@@ -1,5 +1,6 @@
 -- What holds of the places of every text, in every window.
-use Rattle.std.specs.Prelude.{◌≡◌, ℕ, ◌-◌, ◌<◌, true, List, length, slice_get, Option, Some, IfSome, All, IsUtf8, IsCharBoundary}
+use Rattle.std.specs.Prelude.{◌≡◌, ℕ, ◌+◌, ◌-◌, ◌<◌, ◌≤◌, true, List, length, slice_get, Option, Some, IfSome, All, IsUtf8, IsCharBoundary}
+use Rattle.std.specs.Int.{abs_diff}
 use Rattle.std.specs.List.{concat}
 use Rattle.std.specs.List.Sorted.{IsStrictlyIncreasing}
 use Rattle.bx_terms.specs.Sizes.{is_side}
@@ -11,7 +12,7 @@ use Rattle.bx_view.specs.declared.moves.Logical.{Logical}
 use Rattle.bx_view.specs.declared.moves.Vertical.{Vertical}
 use Rattle.bx_view.specs.Moves.{entry_in, page, place_from, row_end, row_home, step_logical, step_visual, vertical}
 use Rattle.bx_view.specs.Places.{pieces, text_places}
-use Rattle.bx_view.specs.TextRows.{TextRow, row_at, text_rows}
+use Rattle.bx_view.specs.TextRows.{TextRow, row_at, row_of, text_rows}
 use Rattle.bx_view.specs.Top.{follow}
 
 -- what is true of the rows of every text, in every window and direction
@@ -40,3 +41,15 @@ pub record MovesKeep (w : ℕ) (rows : List TextRow) (P : ℕ → Type 0) : Type
   pub home : (offset : ℕ) → P (row_home rows offset)
   pub end : (offset : ℕ) → P (row_end rows offset)
   pub top : (top place t : ℕ) → 0 < t → P (follow rows top place t)
+
+-- the row of a place is among the `t` that are shown from row number `k` on
+abbrev pub IsShownFrom : List TextRow → ℕ → ℕ → ℕ → Type 0
+IsShownFrom rows place t k = (k ≤ row_of rows place) × (row_of rows place < k + t)
+
+-- The new top shows the row of the place. Of all rows from which it is shown, the new top's is nearest to the old top's. To
+-- follow the place once more leaves the top.
+pub record MovesLeast (rows : List TextRow) : Type 0 where
+  pub shows : (top place t : ℕ) → 0 < t → IsShownFrom rows place t (row_of rows (follow rows top place t))
+  pub nearest : (top place t k : ℕ) → 0 < t → IsShownFrom rows place t k
+      → abs_diff (row_of rows top) (row_of rows (follow rows top place t)) ≤ abs_diff (row_of rows top) k
+  pub stays : (top place t : ℕ) → 0 < t → follow rows (follow rows top place t) place t ≡ follow rows top place t

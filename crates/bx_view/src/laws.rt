@@ -1,9 +1,9 @@
-//! What holds of the places of every text. The functions do nothing: their contracts are the laws.
+//! What holds of the places and of the top of every text. The functions do nothing: their contracts are the laws.
 
 ghost use Rattle.std.specs.Prelude.{◌≡◌, ℕ, List, IsUtf8};
 ghost use Rattle.bx_ucd.specs.declared.class.Class.{Class};
 ghost use Rattle.bx_view.specs.Cells.{HasCells};
-ghost use Rattle.bx_view.specs.Laws.{InEachWindow, MovesKeep, SpansText};
+ghost use Rattle.bx_view.specs.Laws.{InEachWindow, MovesKeep, MovesLeast, SpansText};
 ghost use Rattle.bx_view.specs.Places.{text_places, IsTextPlace};
 ghost use Rattle.bx_view.specs.TextRows.{places};
 
@@ -23,4 +23,9 @@ pub fn moves_keep_places()
 /// the glyphs of its unit begin.
 pub fn places_have_cells()
     ensures { InEachWindow (λ class text w rows. HasCells class w rows) }
+{}
+
+/// The top follows a place by the least number of rows that shows the place's row, and to follow it once more leaves the top.
+pub fn follow_is_least()
+    ensures { InEachWindow (λ class text w rows. MovesLeast rows) }
 {}
