@@ -4,3 +4,4 @@ pub mod RowText
 pub mod StepOrder
 pub mod Shown
 pub mod StatusRow
+pub mod TopOnce

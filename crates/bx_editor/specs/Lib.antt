@@ -4,3 +4,4 @@ pub mod Keys
 pub mod Opening
 pub mod Picture
 pub mod Status
+pub mod Laws

@@ -5,6 +5,7 @@ mod editing;
 mod editor;
 mod error;
 mod keys;
+mod laws;
 pub mod message;
 mod moving;
 mod opening;
@@ -13,5 +14,6 @@ mod status;
 
 pub use editor::Editor;
 pub use error::{EditorError, OpenError};
+pub use laws::top_stays;
 pub use message::Message;
 pub use status::{put_text, status_line};
