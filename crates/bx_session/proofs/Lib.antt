@@ -2,6 +2,7 @@ pub mod Bytes
 pub mod Computed
 pub mod Input
 pub mod Kept
+pub mod PaintedAnew
 pub mod Pictures
 pub mod Replayed
 pub mod Examples

@@ -4,3 +4,4 @@ pub mod Painting
 pub mod Running
 pub mod Journal
 pub mod Laws
+pub mod Anew

@@ -1,10 +1,16 @@
 //! What holds of sessions, whatever their input. The functions do nothing: their contracts are the laws.
 
+ghost use Rattle.bx_session.specs.Anew.{AlwaysStaysPainted};
 ghost use Rattle.bx_session.specs.Laws.{AlwaysShowsState, HasKeysOfInput, ReplaysKeys};
 
 /// Where no painting is owed, the picture last painted is that of the session's state.
 pub fn paintings_keep_up()
     ensures { AlwaysShowsState }
+{}
+
+/// Where no painting is owed, to paint anew would change nothing and send nothing. So a byte that ends no key needs none.
+pub fn painting_anew_sends_nothing()
+    ensures { AlwaysStaysPainted }
 {}
 
 /// The keys of a session's input, byte by byte, are those of the input as a whole.

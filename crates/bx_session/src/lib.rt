@@ -18,7 +18,9 @@ pub use bx_editor::OpenError;
 pub use end::{End, RunFault};
 pub use error::Refused;
 pub use journal::JournalReader;
-pub use laws::{keys_are_those_of_input, paintings_keep_up, replays_apply_keys};
+pub use laws::{
+    keys_are_those_of_input, painting_anew_sends_nothing, paintings_keep_up, replays_apply_keys,
+};
 pub use running::{run, run_within};
 pub use session::Session;
 pub use status::Status;
