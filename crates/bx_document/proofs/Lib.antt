@@ -10,3 +10,4 @@ pub mod WindowPlace
 pub mod WindowTold
 pub mod PlaceBehind
 pub mod PlacesKept
+pub mod PlacesMoved

@@ -9,8 +9,10 @@ use Rattle.bx_ucd.specs.declared.data.Side.{Side}
 use Rattle.bx_explicit.specs.declared.base.Base.{Base}
 use Rattle.bx_text.specs.Edits.{IsRange, fits, largest_text, splice}
 use Rattle.bx_view.specs.Moves.{place_from}
+use Rattle.bx_view.specs.Places.{IsTextPlace}
 use Rattle.bx_view.specs.TextRows.{text_rows}
-use Rattle.bx_view.proofs.Boundaries.{boundary-place_from}
+use Rattle.bx_view.proofs.KeptPlaces.{text-places-kept}
+use Rattle.bx_view.proofs.TextPlaces.{place-between}
 use Rattle.bx_document.specs.Document.{DocumentState}
 use Rattle.bx_document.specs.Window.{window, window_start}
 use Rattle.bx_document.proofs.WindowPlace.{splice_utf8, window_place}
@@ -41,6 +43,7 @@ splice_short text start stop new range e =
 pub record IsFound (class : ℕ → Class) (bracket : ℕ → Option (Side × ℕ)) (base : Base) (w : ℕ) (text : List ℕ) (start stop : ℕ) (new : List ℕ)
     (o : ℕ) : Type 0 where
   pub place : o ≡ place_from (text_rows class bracket base w (splice text start stop new)) (start + length new)
+  pub text_place : IsTextPlace class (splice text start stop new) o
   pub boundary : IsCharBoundary (splice text start stop new) o
 
 pub found : (class : ℕ → Class) (bracket : ℕ → Option (Side × ℕ)) (base : Base) (w : ℕ) (text : List ℕ) (start stop : ℕ) (new bytes : List ℕ)
@@ -55,12 +58,12 @@ found class bracket base w text start stop new bytes first offset place side utf
     (f ∙ ap (λ bs. place_from (text_rows class bracket base w bs) offset) b
     ∙ ap (place_from (text_rows class bracket base w (window class text start stop new))) same)
     ∙ sym (window_place class text utf8 start stop new range new_utf8 bracket base w some) in
-    record {
-      place = is;
-      boundary = subst (IsCharBoundary (splice text start stop new)) (sym is)
-          (boundary-place_from class bracket base w some (splice text start stop new) (splice_utf8 class text utf8 start stop new range new_utf8)
-          (start + length new));
-    }
+    let now = splice text start stop new in
+    let valid : IsUtf8 now = splice_utf8 class text utf8 start stop new range new_utf8 in
+    let kept : IsTextPlace class now (place_from (text_rows class bracket base w now) (start + length new)) =
+    (text-places-kept class bracket base w some now valid).from (start + length new) in
+    let own : IsTextPlace class now (first + place) = subst (IsTextPlace class now) (sym is) kept in
+    record { place = is; text_place = own; boundary = place-between class now (first + place) valid own }
 
 -- and so for a document
 pub found_by : {D : Type 0} (class_of : D → ℕ → Class) (bracket_of : D → ℕ → Option (Side × ℕ)) (inner now : DocumentState D) (start stop : ℕ)

@@ -1,50 +1,68 @@
--- The places of edits stand between characters, also after undo and redo.
-use Rattle.std.proofs.Common.{◌≡◌, List, [], ◌∷◌, Some, IsCharBoundary, All, refl, sym, ap, subst}
-use Rattle.std.proofs.lemmas.List.Elements.{All-cons, All-head, All-tail}
+-- The places of edits are places of their texts, also after an edit, an undo and a redo.
+use Rattle.std.proofs.Common.{◌≡◌, ℕ, List, [], ◌∷◌, Some, All, refl, sym, ap, subst}
+use Rattle.std.proofs.lemmas.List.Elements.{All-cons, All-head, All-nil, All-tail}
 use Rattle.std.proofs.lemmas.Option.{none-some, same_Some}
+use Rattle.bx_ucd.specs.declared.class.Class.{Class}
 use Rattle.bx_text.specs.declared.change.Change.{Change}
-use Rattle.bx_text.specs.Edits.{Edit, Edited, change_back, change_of, first_again, first_back, next_redo, next_undo, redone, redone_in, undone, undone_in}
-use Rattle.bx_document.specs.Document.{HasBoundaries, KeepsBoundaries}
+use Rattle.bx_text.specs.Edits.{Edit, Edited, change_back, change_of, edit_of, first_again, first_back, next_redo, next_undo}
+use Rattle.bx_text.specs.Edits.{redone, redone_in, replaced, splice, undone, undone_in}
+use Rattle.bx_view.specs.Places.{IsTextPlace}
+use Rattle.bx_document.specs.Document.{DocumentState, HasPlaces, KeepsPlaces}
 
-keeps_back : (past : List Edit) (t : Edited) → t.past ≡ past → KeepsBoundaries t → KeepsBoundaries (undone_in t past)
-keeps_back [] t e h = h
-keeps_back (f ∷ past) t e h =
-    let all : All HasBoundaries (f ∷ past) = subst (All HasBoundaries) e h.past in
-    record {
-      past = All-tail HasBoundaries f past all;
-      future = All-cons HasBoundaries f t.future (All-head HasBoundaries f past all) h.future;
-    }
+module _ (class : ℕ → Class) where
+  abbrev Is : Edit → Type 0
+  Is e = HasPlaces class e
 
-pub keeps_undone : (t u : Edited) → u ≡ undone t → KeepsBoundaries t → KeepsBoundaries u
-keeps_undone t u e h = subst KeepsBoundaries (sym e) (keeps_back t.past t refl h)
+  keeps_back : (past : List Edit) (t : Edited) → t.past ≡ past → KeepsPlaces class t → KeepsPlaces class (undone_in t past)
+  keeps_back [] t e h = h
+  keeps_back (f ∷ past) t e h =
+      let all : All Is (f ∷ past) = subst (All Is) e h.past in
+      record { past = All-tail Is f past all; future = All-cons Is f t.future (All-head Is f past all) h.future }
 
-keeps_again : (future : List Edit) (t : Edited) → t.future ≡ future → KeepsBoundaries t → KeepsBoundaries (redone_in t future)
-keeps_again [] t e h = h
-keeps_again (f ∷ future) t e h =
-    let all : All HasBoundaries (f ∷ future) = subst (All HasBoundaries) e h.future in
-    record {
-      past = All-cons HasBoundaries f t.past (All-head HasBoundaries f future all) h.past;
-      future = All-tail HasBoundaries f future all;
-    }
+  pub keeps_undone : (t u : Edited) → u ≡ undone t → KeepsPlaces class t → KeepsPlaces class u
+  keeps_undone t u e h = subst (KeepsPlaces class) (sym e) (keeps_back t.past t refl h)
 
-pub keeps_redone : (t u : Edited) → u ≡ redone t → KeepsBoundaries t → KeepsBoundaries u
-keeps_redone t u e h = subst KeepsBoundaries (sym e) (keeps_again t.future t refl h)
+  keeps_again : (future : List Edit) (t : Edited) → t.future ≡ future → KeepsPlaces class t → KeepsPlaces class (redone_in t future)
+  keeps_again [] t e h = h
+  keeps_again (f ∷ future) t e h =
+      let all : All Is (f ∷ future) = subst (All Is) e h.future in
+      record { past = All-cons Is f t.past (All-head Is f future all) h.past; future = All-tail Is f future all }
 
-bound_back : (past : List Edit) (t : Edited) (c : Change) → All HasBoundaries past → Some c ≡ first_back past → IsCharBoundary ((undone_in t past).text) c.place
-bound_back [] t c all e = absurd (none-some c (sym e))
-bound_back (f ∷ past) t c all e =
-    let is : c.place ≡ f.before.place = ap (λ (k : Change). k.place) (same_Some c (change_back f) e) in
-    let b : HasBoundaries f = All-head HasBoundaries f past all in subst (IsCharBoundary f.before.text) (sym is) b.before
+  pub keeps_redone : (t u : Edited) → u ≡ redone t → KeepsPlaces class t → KeepsPlaces class u
+  keeps_redone t u e h = subst (KeepsPlaces class) (sym e) (keeps_again t.future t refl h)
 
-pub bound_undone : (t u : Edited) (c : Change) → u ≡ undone t → KeepsBoundaries t → Some c ≡ next_undo t → IsCharBoundary u.text c.place
-bound_undone t u c e h f = subst (λ (v : Edited). IsCharBoundary v.text c.place) (sym e) (bound_back t.past t c h.past f)
+  place_back : (past : List Edit) (t : Edited) (c : Change) → All Is past → Some c ≡ first_back past → IsTextPlace class ((undone_in t past).text) c.place
+  place_back [] t c all e = absurd (none-some c (sym e))
+  place_back (f ∷ past) t c all e =
+      let is : c.place ≡ f.before.place = ap (λ (k : Change). k.place) (same_Some c (change_back f) e) in
+      let b : HasPlaces class f = All-head Is f past all in subst (IsTextPlace class f.before.text) (sym is) b.before
 
-bound_again : (future : List Edit) (t : Edited) (c : Change) → All HasBoundaries future → Some c ≡ first_again future
-    → IsCharBoundary ((redone_in t future).text) c.place
-bound_again [] t c all e = absurd (none-some c (sym e))
-bound_again (f ∷ future) t c all e =
-    let is : c.place ≡ f.after.place = ap (λ (k : Change). k.place) (same_Some c (change_of f) e) in
-    let b : HasBoundaries f = All-head HasBoundaries f future all in subst (IsCharBoundary f.after.text) (sym is) b.after
+  -- undo leads to a place of the text that it gives back, and redo too
+  pub place_undone : (t u : Edited) (c : Change) → u ≡ undone t → KeepsPlaces class t → Some c ≡ next_undo t → IsTextPlace class u.text c.place
+  place_undone t u c e h f = subst (λ (v : Edited). IsTextPlace class v.text c.place) (sym e) (place_back t.past t c h.past f)
 
-pub bound_redone : (t u : Edited) (c : Change) → u ≡ redone t → KeepsBoundaries t → Some c ≡ next_redo t → IsCharBoundary u.text c.place
-bound_redone t u c e h f = subst (λ (v : Edited). IsCharBoundary v.text c.place) (sym e) (bound_again t.future t c h.future f)
+  place_again : (future : List Edit) (t : Edited) (c : Change) → All Is future → Some c ≡ first_again future
+      → IsTextPlace class ((redone_in t future).text) c.place
+  place_again [] t c all e = absurd (none-some c (sym e))
+  place_again (f ∷ future) t c all e =
+      let is : c.place ≡ f.after.place = ap (λ (k : Change). k.place) (same_Some c (change_of f) e) in
+      let b : HasPlaces class f = All-head Is f future all in subst (IsTextPlace class f.after.text) (sym is) b.after
+
+  pub place_redone : (t u : Edited) (c : Change) → u ≡ redone t → KeepsPlaces class t → Some c ≡ next_redo t → IsTextPlace class u.text c.place
+  place_redone t u c e h f = subst (λ (v : Edited). IsTextPlace class v.text c.place) (sym e) (place_again t.future t c h.future f)
+
+-- after an edit whose places are places of both texts, in a document that is `now` and is opened as `inner`
+pub keeps_edited : {D : Type 0} (class_of : D → ℕ → Class) (inner now : DocumentState D) (u : Edited) (start stop : ℕ) (new : List ℕ) (before after : ℕ)
+    → inner ≡ now → u ≡ replaced inner.document.content start stop new before after → KeepsPlaces (class_of inner.tables) inner.document.content
+    → IsTextPlace (class_of now.tables) now.document.content.text before
+    → IsTextPlace (class_of now.tables) (splice now.document.content.text start stop new) after → KeepsPlaces (class_of inner.tables) u
+keeps_edited {D} class_of inner now u start stop new before after same e h was is =
+    let class = class_of inner.tables in
+    let t = inner.document.content in
+    let edit = edit_of t.text start stop new before after in
+    let places : HasPlaces class edit = record {
+      before = subst (λ (s : DocumentState D). IsTextPlace (class_of s.tables) s.document.content.text before) (sym same) was;
+      after = subst (λ (s : DocumentState D). IsTextPlace (class_of s.tables) (splice s.document.content.text start stop new) after) (sym same) is;
+    } in
+    subst (KeepsPlaces class) (sym e)
+    (record { past = All-cons (HasPlaces class) edit t.past places h.past; future = All-nil (HasPlaces class) })

@@ -33,7 +33,7 @@ impl<D: BidiData + Drop> Model for Document<D> {
     ghost use Rattle.bx_paras.specs.Paragraphs.{lengths};
     ghost use Rattle.bx_view.specs.Holding.{IsViewBy};
     ghost use Rattle.bx_document.specs.Cache.{AreDrawnBy};
-    ghost use Rattle.bx_document.specs.Document.{DocumentState, KeepsBoundaries};
+    ghost use Rattle.bx_document.specs.Document.{DocumentState, KeepsPlaces};
 
     ghost Value = { DocumentState D };
 
@@ -44,7 +44,7 @@ impl<D: BidiData + Drop> Model for Document<D> {
 
     ghost invariant = { λ d. (d.index.paragraphs ≡ lengths (D.class_of d.tables) d.text.edited.text)
         × IsViewBy (D.class_of d.tables) (D.bracket_of d.tables) d.layout
-        × KeepsBoundaries d.text.edited
+        × KeepsPlaces (D.class_of d.tables) d.text.edited
         × AreDrawnBy (record { class = D.class_of d.tables; bracket = D.bracket_of d.tables; mirror = D.mirror_of d.tables }) d.row_cache };
 }
 

@@ -1,7 +1,8 @@
 //! Edits, each with the place that it leads to. Each takes its memory first, and then changes the text.
-ghost use Rattle.std.specs.Prelude.{◌≡◌, ℕ, List, [], Some, true, false, IfOk, IfSome, IsCharBoundary, IsErrOf, IsUtf8, MatchOption, OnErr, OnOk, option_map};
+ghost use Rattle.std.specs.Prelude.{◌≡◌, ℕ, List, [], Some, true, false, IfOk, IfSome, IsErrOf, IsUtf8, MatchOption, OnErr, OnOk, option_map};
 ghost use Rattle.bx_paras.specs.Paragraphs.{lengths};
 ghost use Rattle.bx_text.specs.Edits.{IsRange, Leads, fits, next_redo, next_undo, redone, splice, undone};
+ghost use Rattle.bx_view.specs.Places.{IsTextPlace};
 ghost use Rattle.bx_document.specs.Document.{after_insertion, after_removal, place_behind};
 
 use crate::answers::Answers;
@@ -37,7 +38,7 @@ impl<D: BidiData + Drop> Document<D> {
         requires fits { fits self.old.document.content.text start stop new.now ≡ true }
         ensures same { self.new ≡ self.old }
         ensures place { IfOk result (λ o. o ≡ place_behind (⟦<D as Answers>⟧.data self.old.tables) self.old.document start stop new.now) }
-        ensures boundary { IfOk result (λ o. IsCharBoundary (splice self.old.document.content.text start stop new.now) o) }
+        ensures text_place { IfOk result (IsTextPlace (D.class_of self.old.tables) (splice self.old.document.content.text start stop new.now)) }
         ensures memory { OnErr result (IsErrOf result DocumentError.OutOfMemory) }
     {
         // tell the proof that the text is UTF-8 and what sides a window may have
@@ -66,7 +67,7 @@ impl<D: BidiData + Drop> Document<D> {
     ///
     /// Errors: `OutOfMemory`, and nothing has changed.
     pub fn insert(&mut self, place: usize, new: &str) -> Result<Option<usize>, DocumentError>
-        requires boundary { IsCharBoundary self.old.document.content.text place }
+        requires text_place { IsTextPlace (D.class_of self.old.tables) self.old.document.content.text place }
         ensures ok { IfOk result (λ after. MatchOption after
             ((fits self.old.document.content.text place place new.now ≡ false) × (self.new ≡ self.old))
             (λ o. (fits self.old.document.content.text place place new.now ≡ true)
@@ -74,7 +75,7 @@ impl<D: BidiData + Drop> Document<D> {
               document = after_insertion (⟦<D as Answers>⟧.data self.old.tables) self.old.document place new.now;
             })
             × (o ≡ place_behind (⟦<D as Answers>⟧.data self.old.tables) self.old.document place place new.now))) }
-        ensures boundary { IfOk result (λ after. IfSome after (λ o. IsCharBoundary self.new.document.content.text o)) }
+        ensures text_place { IfOk result (λ after. IfSome after (IsTextPlace (D.class_of self.new.tables) self.new.document.content.text)) }
         ensures err { OnErr result (self.new ≡ self.old) }
         ensures memory { OnErr result (IsErrOf result DocumentError.OutOfMemory) }
     {
@@ -100,12 +101,12 @@ impl<D: BidiData + Drop> Document<D> {
         place: usize,
     ) -> Result<usize, DocumentError>
         requires range { IsRange self.old.document.content.text start stop }
-        requires boundary { IsCharBoundary self.old.document.content.text place }
+        requires text_place { IsTextPlace (D.class_of self.old.tables) self.old.document.content.text place }
         ensures ok { OnOk result (self.new ≡ record self.old {
           document = after_removal (⟦<D as Answers>⟧.data self.old.tables) self.old.document start stop place;
         }) }
         ensures place { IfOk result (λ o. o ≡ place_behind (⟦<D as Answers>⟧.data self.old.tables) self.old.document start stop []) }
-        ensures boundary { IfOk result (λ o. IsCharBoundary self.new.document.content.text o) }
+        ensures text_place { IfOk result (IsTextPlace (D.class_of self.new.tables) self.new.document.content.text) }
         ensures err { OnErr result (self.new ≡ self.old) }
         ensures memory { OnErr result (IsErrOf result DocumentError.OutOfMemory) }
     {
@@ -126,7 +127,7 @@ impl<D: BidiData + Drop> Document<D> {
     pub fn undo(&mut self) -> Result<Option<usize>, DocumentError>
         ensures ok { OnOk result (self.new ≡ record self.old { document = record self.old.document { content = undone self.old.document.content } }) }
         ensures place { IfOk result (λ o. o ≡ option_map (λ c. c.place) (next_undo self.old.document.content)) }
-        ensures boundary { IfOk result (λ place. IfSome place (λ o. IsCharBoundary self.new.document.content.text o)) }
+        ensures text_place { IfOk result (λ place. IfSome place (IsTextPlace (D.class_of self.new.tables) self.new.document.content.text)) }
         ensures err { OnErr result (self.new ≡ self.old) }
         ensures memory { OnErr result (IsErrOf result DocumentError.OutOfMemory) }
     {
@@ -149,7 +150,7 @@ impl<D: BidiData + Drop> Document<D> {
     pub fn redo(&mut self) -> Result<Option<usize>, DocumentError>
         ensures ok { OnOk result (self.new ≡ record self.old { document = record self.old.document { content = redone self.old.document.content } }) }
         ensures place { IfOk result (λ o. o ≡ option_map (λ c. c.place) (next_redo self.old.document.content)) }
-        ensures boundary { IfOk result (λ place. IfSome place (λ o. IsCharBoundary self.new.document.content.text o)) }
+        ensures text_place { IfOk result (λ place. IfSome place (IsTextPlace (D.class_of self.new.tables) self.new.document.content.text)) }
         ensures err { OnErr result (self.new ≡ self.old) }
         ensures memory { OnErr result (IsErrOf result DocumentError.OutOfMemory) }
     {

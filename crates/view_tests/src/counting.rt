@@ -1,7 +1,5 @@
 //! An edit asks for the classes of what it touches, and not for those of the whole text.
 
-ghost use Rattle.std.specs.Prelude.{◌≡◌};
-
 use crate::scene::document_of;
 use bx_document::Document;
 use bx_explicit::Base;
@@ -52,17 +50,9 @@ fn paragraphs(alloc: Global, count: usize) -> Result<String, Fail> {
     Ok(text)
 }
 
-/// Puts a letter in, and asks for the column behind it.
-fn insert<D: BidiData + Drop>(
-    document: &mut Document<D>,
-    text: &str,
-    place: usize,
-) -> Result<u16, Fail>
-    requires { document.old.document.content.text ≡ text.now }
-{
-    if !text.is_char_boundary(place) {
-        return Err(Fail::new("no boundary"));
-    }
+/// Puts a letter in at the least place that is not before an offset, and asks for the column behind it.
+fn insert<D: BidiData + Drop>(document: &mut Document<D>, offset: usize) -> Result<u16, Fail> {
+    let place = document.place_from(offset)?;
     match document.insert(place, "x")? {
         Some(after) => Ok(document.cell_of(after)?),
         None => Err(Fail::new("no room")),
@@ -80,7 +70,7 @@ fn column_and_questions(alloc: Global, place: usize) -> Result<(u16, u32), Fail>
     };
     let mut document = document_of(alloc, text.as_str(), tables, 80, Base::Auto)?;
     questions.set(0);
-    let column = insert(&mut document, text.as_str(), place);
+    let column = insert(&mut document, place);
     column.map(|column| (column, questions.get()))
 }
 

@@ -18,7 +18,7 @@ returns-clause-place g c = (found_by g.D.BidiData.class_of g.D.BidiData.bracket_
     (string_bytes c.in_ok-first.characters) c.in_ok-first.first _ c.in_ok-place.place c.self.view_is c.width-side.ensures.side c.len-utf8.ensures.utf8
     c.requires.range c.utf8.new c.in_ok-first.ensures.start c.in_ok-first.ensures.text refl c.in_ok-place.ensures.place).place
 
-pub returns-clause-boundary : goal.returns-clause-boundary
-returns-clause-boundary g c = (found_by g.D.BidiData.class_of g.D.BidiData.bracket_of _ c.args.self.now c.args.start c.args.stop c.args.new.now
+pub returns-clause-text_place : goal.returns-clause-text_place
+returns-clause-text_place g c = (found_by g.D.BidiData.class_of g.D.BidiData.bracket_of _ c.args.self.now c.args.start c.args.stop c.args.new.now
     (string_bytes c.in_ok-first.characters) c.in_ok-first.first _ c.in_ok-place.place c.self.view_is c.width-side.ensures.side c.len-utf8.ensures.utf8
-    c.requires.range c.utf8.new c.in_ok-first.ensures.start c.in_ok-first.ensures.text refl c.in_ok-place.ensures.place).boundary
+    c.requires.range c.utf8.new c.in_ok-first.ensures.start c.in_ok-first.ensures.text refl c.in_ok-place.ensures.place).text_place

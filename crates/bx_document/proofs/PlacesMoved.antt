@@ -1,0 +1,57 @@
+-- The moves of a document lead from a place of its text to a place.
+use Rattle.std.proofs.Common.{◌≡◌, ℕ, true, List, Option, IsUtf8, sym, subst}
+use Rattle.bx_terms.specs.Sizes.{is_side}
+use Rattle.bx_ucd.specs.declared.class.Class.{Class}
+use Rattle.bx_ucd.specs.declared.data.Side.{Side}
+use Rattle.bx_paragraph.specs.declared.moves.Visual.{Visual}
+use Rattle.bx_view.specs.declared.moves.Logical.{Logical}
+use Rattle.bx_view.specs.declared.moves.Vertical.{Vertical}
+use Rattle.bx_view.specs.Laws.{MovesKeep}
+use Rattle.bx_view.specs.Moves as moves
+use Rattle.bx_view.specs.Places.{IsTextPlace}
+use Rattle.bx_view.specs.TextRows.{TextRow, text_rows}
+use Rattle.bx_view.proofs.KeptPlaces.{text-places-kept}
+use Rattle.bx_view.proofs.Told.{side-some}
+use Rattle.bx_document.specs.Document.{DocumentState}
+
+-- of a document that is `now`, and is opened as `inner`
+module _ {D : Type 0} (class_of : D → ℕ → Class) (bracket_of : D → ℕ → Option (Side × ℕ)) (inner now : DocumentState D) (same : inner ≡ now)
+    (side : is_side inner.document.w ≡ true) (utf8 : IsUtf8 inner.document.content.text) where
+  abbrev w : ℕ
+  w = inner.document.w
+
+  abbrev rows : List TextRow
+  rows = text_rows (class_of inner.tables) (bracket_of inner.tables) inner.document.base w inner.document.content.text
+
+  abbrev IsOf : DocumentState D → ℕ → Type 0
+  IsOf s o = IsTextPlace (class_of s.tables) s.document.content.text o
+
+  kept : MovesKeep w rows (IsOf inner)
+  kept = text-places-kept (class_of inner.tables) (bracket_of inner.tables) inner.document.base w (side-some w side) inner.document.content.text utf8
+
+  there : (o led : ℕ) → o ≡ led → IsOf inner led → IsOf now o
+  there o led e h = subst (λ (s : DocumentState D). IsOf s o) same (subst (IsOf inner) (sym e) h)
+
+  here : (place : ℕ) → IsOf now place → IsOf inner place
+  here place h = subst (λ (s : DocumentState D). IsOf s place) (sym same) h
+
+  pub from : (offset o : ℕ) → o ≡ moves.place_from rows offset → IsOf now o
+  from offset o e = there o (moves.place_from rows offset) e (kept.from offset)
+
+  pub logical : (way : Logical) (place o : ℕ) → o ≡ moves.step_logical rows way place → IsOf now place → IsOf now o
+  logical way place o e h = there o (moves.step_logical rows way place) e (kept.logical way place (here place h))
+
+  pub visual : (side : Visual) (place o : ℕ) → o ≡ moves.step_visual w rows side place → IsOf now place → IsOf now o
+  visual side place o e h = there o (moves.step_visual w rows side place) e (kept.visual side place (here place h))
+
+  pub vertical : (way : Vertical) (place o : ℕ) → o ≡ moves.vertical w rows way place → IsOf now place → IsOf now o
+  vertical way place o e h = there o (moves.vertical w rows way place) e (kept.vertical way place (here place h))
+
+  pub page : (way : Vertical) (t place o : ℕ) → o ≡ moves.page w rows way t place → IsOf now place → IsOf now o
+  page way t place o e h = there o (moves.page w rows way t place) e (kept.page way t place (here place h))
+
+  pub home : (place o : ℕ) → o ≡ moves.row_home rows place → IsOf now o
+  home place o e = there o (moves.row_home rows place) e (kept.home place)
+
+  pub end : (place o : ℕ) → o ≡ moves.row_end rows place → IsOf now o
+  end place o e = there o (moves.row_end rows place) e (kept.end place)
