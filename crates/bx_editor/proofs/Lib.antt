@@ -5,3 +5,5 @@ pub mod StepOrder
 pub mod Shown
 pub mod StatusRow
 pub mod TopOnce
+pub mod OnItsCell
+pub mod Begin

@@ -1,16 +1,16 @@
 -- The text of the status row: its characters, and the columns that it takes of a row.
 use Rattle.std.proofs.Common.{◌≡◌, ℕ, zero, suc, ◌+◌, ◌-◌, ◌*◌, ◌%◌, ◌^◌, ◌<◌, ◌≤◌, Bool, true, false, nat_le, ◌&&◌, List, [], ◌∷◌, ◌++◌, length, map, take}
-use Rattle.std.proofs.Common.{drop, replicate, decimal, Option, Some, None, refl, sym, ap, ap₂, subst, ◌∙◌, arith, get_or, IsCharBoundary}
+use Rattle.std.proofs.Common.{replicate, decimal, Option, Some, None, refl, sym, ap, ap₂, ◌∙◌, arith, IsCharBoundary}
 use Rattle.std.specs.Prelude.{codes, if◌then◌else◌}
 use Rattle.std.specs.Str.{IsAscii}
 use Rattle.std.proofs.lemmas.Bool.Decides.{nat_tests}
 use Rattle.std.proofs.lemmas.Fmt.{decimal_by_steps}
-use Rattle.std.proofs.lemmas.List.{length-map, length-take-le, take_all, take-replicate}
+use Rattle.std.proofs.lemmas.List.{length-map, take-replicate}
 use Rattle.std.proofs.lemmas.List.Folds.{list_all-append}
 use Rattle.std.proofs.lemmas.Str.{IsCharBoundary-from_ascii}
 use Rattle.bx_terms.specs.Characters.{are_ascii_printable, is_ascii_printable}
 use Rattle.bx_explicit.specs.declared.base.Base.TheVariants.{Auto, Ltr, Rtl}
-use Rattle.bx_grid.specs.Columns.{Glyph, Col, blank, plain_columns}
+use Rattle.bx_grid.specs.Columns.{Glyph, blank, plain_columns}
 use Rattle.bx_grid.specs.Picture.{GridState}
 use Rattle.bx_grid.proofs.Reading.{and_left, and_right}
 use Rattle.bx_document.specs.Drawing.{with_row}

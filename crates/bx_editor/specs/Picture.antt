@@ -1,7 +1,9 @@
 -- The picture of an editor's state: rows of text from the top on, the status row, and the cursor.
-use Rattle.std.specs.Prelude.{ℕ, ◌-◌, ◌*◌, List, ◌++◌, length, flat_map, replicate, if◌then◌else◌}
-use Rattle.bx_view.specs.TextRows.{TextRow, row_of, cell_of}
+use Rattle.std.specs.Prelude.{◌≡◌, ℕ, ◌+◌, ◌-◌, ◌*◌, List, ◌++◌, replicate, if◌then◌else◌}
+use Rattle.bx_view.specs.Cells.{HasCell, HasOneSlot}
+use Rattle.bx_view.specs.TextRows.{IsPlace, TextRow, row_of, cell_of}
 use Rattle.bx_view.specs.Top.{follow, shown_rows}
+use Rattle.bx_document.specs.Drawing.{IsAmong}
 pub use Rattle.bx_document.specs.Drawing.{row_columns, rows_columns, side_by_side}
 use Rattle.bx_grid.specs.Columns.{blank}
 use Rattle.bx_grid.specs.Picture.{PictureState}
@@ -29,3 +31,14 @@ picture d e top = if e.ended then blank_picture e.height e.width else text_pictu
 -- the top that shows the cursor's row and is nearest to the old one
 abbrev pub next_top : Data → Editor → ℕ → ℕ
 next_top d e top = if e.ended then top else follow (rows d e) top e.place (text_height e.height)
+
+-- The cursor of a picture, whose rows are shown from the row on that the offset `top` falls in, stands on the cell of its
+-- place: that is a place of the rows, with one slot in the row that it falls in and a cell there. That row is shown, the
+-- cursor is in it, and in the column of that cell.
+pub record StandsOnItsCell (d : Data) (e : Editor) (top : ℕ) (p : PictureState) : Type 0 where
+  pub place : IsPlace (rows d e) e.place
+  pub slot : HasOneSlot e.width (rows d e) e.place
+  pub cell : HasCell d.class e.width (rows d e) e.place
+  pub shown : IsAmong (rows d e) top e.place (text_height e.height)
+  pub row : row_of (rows d e) top + p.row ≡ row_of (rows d e) e.place
+  pub column : p.column + 1 ≡ cell_of e.width (rows d e) e.place

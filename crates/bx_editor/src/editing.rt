@@ -60,6 +60,8 @@ impl<D: BidiData + Drop> Editor<D> {
         }) }
         ensures err { OnErr result (self.new ≡ self.old) }
     {
+        // tells the proof that the text is UTF-8
+        let _utf8 = self.document.len();
         let place = self.place;
         let start = self.document.step_logical(Logical::Back, place)?;
         self.remove(start, place)?;
@@ -74,6 +76,8 @@ impl<D: BidiData + Drop> Editor<D> {
         }) }
         ensures err { OnErr result (self.new ≡ self.old) }
     {
+        // tells the proof that the text is UTF-8
+        let _utf8 = self.document.len();
         let place = self.place;
         let stop = self.document.step_logical(Logical::Forward, place)?;
         self.remove(place, stop)?;

@@ -27,8 +27,9 @@ pub struct Editor<D: BidiData + Drop> {
 }
 
 impl<D: BidiData + Drop> Model for Editor<D> {
-    ghost use Rattle.std.specs.Prelude.{◌≡◌, true, IsCharBoundary};
+    ghost use Rattle.std.specs.Prelude.{◌≡◌, true};
     ghost use Rattle.bx_terms.specs.Sizes.{is_side};
+    ghost use Rattle.bx_view.specs.Places.{IsTextPlace};
     ghost use Rattle.bx_editor.specs.Editor.{EditorState};
 
     ghost Value = { EditorState D };
@@ -48,7 +49,7 @@ impl<D: BidiData + Drop> Model for Editor<D> {
       };
     } };
 
-    ghost invariant = { λ e. IsCharBoundary e.document.document.content.text e.place × (is_side e.height ≡ true) };
+    ghost invariant = { λ e. IsTextPlace (D.class_of e.document.tables) e.document.document.content.text e.place × (is_side e.height ≡ true) };
 }
 
 impl<D: BidiData + Drop> Editor<D> {

@@ -1,6 +1,7 @@
-//! The keys that move the cursor.
-ghost use Rattle.std.specs.Prelude.{◌≡◌, IsCharBoundary, OnErr, OnOk};
-ghost use Rattle.bx_view.specs.Moves.{page, row_end, row_home, step_logical, step_visual, vertical};
+//! The keys that move the cursor, and the call that takes it to an offset.
+ghost use Rattle.std.specs.Prelude.{◌≡◌, OnErr, OnOk};
+ghost use Rattle.bx_view.specs.Moves.{page, place_from, row_end, row_home, step_logical, step_visual, vertical};
+ghost use Rattle.bx_view.specs.Places.{IsTextPlace};
 ghost use Rattle.bx_editor.specs.Editor.{rows, text_height, with_place, without_message};
 
 use crate::editor::Editor;
@@ -13,12 +14,28 @@ use bx_view::{Logical, Vertical};
 
 impl<D: BidiData + Drop> Editor<D> {
     /// The cursor goes to a place.
-    fn go_to(&mut self, place: usize)
-        requires boundary { IsCharBoundary self.old.editor.content.text place }
+    fn stand_at(&mut self, place: usize)
+        requires text_place { IsTextPlace (D.class_of self.old.tables) self.old.editor.content.text place }
         ensures { self.new ≡ record self.old { editor = with_place (without_message self.old.editor) place } }
     {
         self.place = place;
         self.forget();
+    }
+
+    /// The cursor goes to the least place that is not before an offset, in bytes from 0; for an offset past the text's end,
+    /// to the end. The old message goes, as it does with a key that moves.
+    ///
+    /// Errors: `OutOfMemory`, and nothing has changed.
+    pub fn go_to(&mut self, offset: usize) -> Result<(), EditorError>
+        ensures ok { OnOk result (self.new ≡ record self.old {
+          editor = with_place (without_message self.old.editor)
+              (place_from (rows (⟦<D as Answers>⟧.data self.old.tables) self.old.editor) offset);
+        }) }
+        ensures err { OnErr result (self.new ≡ self.old) }
+    {
+        let place = self.document.place_from(offset)?;
+        self.stand_at(place);
+        Ok(())
     }
 
     /// One unit back or forward.
@@ -30,7 +47,7 @@ impl<D: BidiData + Drop> Editor<D> {
         ensures err { OnErr result (self.new ≡ self.old) }
     {
         let place = self.document.step_logical(way, self.place)?;
-        self.go_to(place);
+        self.stand_at(place);
         Ok(())
     }
 
@@ -43,7 +60,7 @@ impl<D: BidiData + Drop> Editor<D> {
         ensures err { OnErr result (self.new ≡ self.old) }
     {
         let place = self.document.step_visual(side, self.place)?;
-        self.go_to(place);
+        self.stand_at(place);
         Ok(())
     }
 
@@ -56,7 +73,7 @@ impl<D: BidiData + Drop> Editor<D> {
         ensures err { OnErr result (self.new ≡ self.old) }
     {
         let place = self.document.vertical(way, self.place)?;
-        self.go_to(place);
+        self.stand_at(place);
         Ok(())
     }
 
@@ -71,7 +88,7 @@ impl<D: BidiData + Drop> Editor<D> {
     {
         let count = usize::from(text_height(self.height));
         let place = self.document.page(way, count, self.place)?;
-        self.go_to(place);
+        self.stand_at(place);
         Ok(())
     }
 
@@ -84,7 +101,7 @@ impl<D: BidiData + Drop> Editor<D> {
         ensures err { OnErr result (self.new ≡ self.old) }
     {
         let place = self.document.row_home(self.place)?;
-        self.go_to(place);
+        self.stand_at(place);
         Ok(())
     }
 
@@ -97,7 +114,7 @@ impl<D: BidiData + Drop> Editor<D> {
         ensures err { OnErr result (self.new ≡ self.old) }
     {
         let place = self.document.row_end(self.place)?;
-        self.go_to(place);
+        self.stand_at(place);
         Ok(())
     }
 }

@@ -1,9 +1,9 @@
 //! The picture of an editor.
-ghost use Rattle.std.specs.Prelude.{◌≡◌, ◌*◌, ◌≤◌, ◌++◌, true, IfOk, OnOk, take};
+ghost use Rattle.std.specs.Prelude.{◌≡◌, ◌*◌, ◌≤◌, ◌++◌, false, true, IfOk, OnOk, take};
 ghost use Rattle.bx_terms.specs.Sizes.{is_side};
 ghost use Rattle.bx_document.specs.Drawing.{IsBlankFrom};
 ghost use Rattle.bx_editor.specs.Editor.{text_height};
-ghost use Rattle.bx_editor.specs.Picture.{next_top, picture};
+ghost use Rattle.bx_editor.specs.Picture.{StandsOnItsCell, next_top, picture};
 ghost use Rattle.bx_editor.specs.Status.{status_columns};
 
 use crate::editor::Editor;
@@ -58,12 +58,16 @@ impl<D: BidiData + Drop> Editor<D> {
         ensures same { self.new ≡ self.old }
         ensures top { IfOk result (λ shown. shown.0 ≡ next_top (⟦<D as Answers>⟧.data self.old.tables) self.old.editor top) }
         ensures picture { IfOk result (λ shown. shown.1 ≡ picture (⟦<D as Answers>⟧.data self.old.tables) self.old.editor shown.0) }
+        ensures cursor { self.old.editor.ended ≡ false
+            → IfOk result (λ shown. StandsOnItsCell (⟦<D as Answers>⟧.data self.old.tables) self.old.editor shown.0 shown.1) }
     {
         let mut grid = Grid::blank(alloc, self.height, self.document.width())?;
         if self.ended {
             let cursor = Cell { line: 1, column: 1 };
             return Ok((top, Picture::new(grid, cursor)));
         }
+        // tells the proof that the text is UTF-8
+        let _utf8 = self.document.len();
         let count = text_height(self.height);
         let top = self.document.follow(top, self.place, usize::from(count))?;
         let row = self.document.draw(&mut grid, top, self.place, count)?;

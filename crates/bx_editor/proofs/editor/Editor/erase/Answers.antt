@@ -1,5 +1,7 @@
-use Rattle.std.proofs.Common.{ap}
+use Rattle.std.proofs.Common.{ℕ, IsCharBoundary, ap}
+use Rattle.bx_view.specs.Places.{IsTextPlace}
 use Rattle.bx_view.specs.TextRows.{text_rows}
+use Rattle.bx_view.proofs.TextPlaces.{place-between}
 use Rattle.bx_document.specs.Document.{DocumentState}
 use Rattle.bx_editor.proofs.StepOrder.{unit-before}
 use Rattle.bx_editor.proofs.editor.Editor.erase.Goals as goal
@@ -8,7 +10,10 @@ pub remove-requires : goal.remove-requires
 remove-requires g c =
     let t : DocumentState g.row.D.Denot = c.self.inside.document in
     let rows = text_rows (g.D.BidiData.class_of t.tables) (g.D.BidiData.bracket_of t.tables) t.document.base t.document.w t.document.content.text in
+    let class = g.D.BidiData.class_of t.tables in
+    let text = t.document.content.text in
+    let between : (p : ℕ) → IsTextPlace class text p → IsCharBoundary text p = λ p is. place-between class text p c.len-utf8.ensures.utf8 is in
     record {
       range = unit-before rows _ _ _ _ (ap (λ (x : DocumentState g.row.D.Denot). x.document.content.text) c.step_logical.ensures.same)
-          c.in_ok-start.ensures.boundary c.self.invariant.0 c.in_ok-start.ensures.place;
+          (between c.in_ok-start.start (c.in_ok-start.ensures.text_place c.self.invariant.0)) (between c.self.inside.place c.self.invariant.0) c.in_ok-start.ensures.place;
     }

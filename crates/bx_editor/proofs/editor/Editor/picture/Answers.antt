@@ -1,14 +1,17 @@
-use Rattle.std.proofs.Common.{◌≡◌, ◌+◌, ◌-◌, ◌*◌, ◌≤◌, ◌∙◌, ◌++◌, List, ap, ap₂, arith, refl, replicate, subst, sym, take}
+use Rattle.std.proofs.Common.{◌≡◌, ◌+◌, ◌-◌, ◌*◌, ◌≤◌, ◌∙◌, ◌++◌, List, IsUtf8, ap, ap₂, arith, replicate, subst, sym, take}
 use Rattle.std.specs.Prelude.{if◌then◌else◌}
-use Rattle.bx_grid.specs.Columns.{Col, blank}
+use Rattle.bx_grid.specs.Columns.{blank}
+use Rattle.bx_view.specs.Places.{IsTextPlace}
 use Rattle.bx_view.specs.TextRows.{TextRow, cell_of, row_of}
 use Rattle.bx_view.specs.Top.{follow, shown_rows}
-use Rattle.bx_document.specs.Drawing.{IsBlankFrom, rows_columns, shown_columns}
+use Rattle.bx_view.proofs.Told.{side-some}
+use Rattle.bx_document.specs.Drawing.{IsAmong, IsBlankFrom, rows_columns, shown_columns}
 use Rattle.bx_document.specs.Document.{rows as document_rows}
 use Rattle.bx_editor.specs.Data.{Data}
 use Rattle.bx_editor.specs.Editor.{Editor, rows, text_height}
 use Rattle.bx_editor.specs.Picture.{blank_picture, next_top, picture, text_picture}
 use Rattle.bx_editor.specs.Status.{status_columns}
+use Rattle.bx_editor.proofs.OnItsCell.{stands}
 use Rattle.bx_editor.proofs.Shown.{drawn-blank, drawn-front, picture-is}
 use Rattle.bx_editor.proofs.editor.Editor.picture.Goals as goal
 
@@ -135,3 +138,32 @@ returns-clause-picture g c =
     (ap (λ x. x.height) status ∙ ap (λ x. x.height) drawn ∙ high) (ap (λ x. x.width) status ∙ wide)
     (ap (λ x. x.columns) status ∙ ap (λ cs. cs ++ status_columns d e) shown) (ap (λ k. k + 1) row) cell
     ∙ sym (ap (λ b. if b then blank_picture e.height e.width else text_picture d e top all) c.if-self.false))
+
+pub returns-clause-cursor : goal.returns-clause-cursor
+returns-clause-cursor g c = λ live.
+    let i = c.self.inside in
+    let same = c.self.view_is in
+    let top = c.in_ok-top.top in
+    let count = c.from.ensures ∙ c.text_height-count.ensures.rows in
+    let some = subst (λ s. 1 ≤ s.editor.width) same (side-some i.document.document.w c.width.ensures.side) in
+    let utf8 = subst (λ s. IsUtf8 s.editor.content.text) same c.len-utf8.ensures.utf8 in
+    let place = subst (λ s. IsTextPlace (g.D.BidiData.class_of s.tables) s.editor.content.text s.editor.place) same c.self.invariant.0 in
+    let shown = subst (λ s. IsAmong (rows (record {
+      class = g.D.BidiData.class_of s.tables;
+      bracket = g.D.BidiData.bracket_of s.tables;
+      mirror = g.D.BidiData.mirror_of s.tables;
+    }) s.editor) top s.editor.place (text_height s.editor.height)) same
+    (subst (λ n. IsAmong (document_rows (record {
+      class = g.D.BidiData.class_of i.document.tables;
+      bracket = g.D.BidiData.bracket_of i.document.tables;
+      mirror = g.D.BidiData.mirror_of i.document.tables;
+    }) i.document.document) top i.place n) count c.in_ok-top.ensures.among) in
+    let now = c.args.self.now in
+    let e : Editor = now.editor in
+    let d : Data = (record {
+      class = g.D.BidiData.class_of now.tables;
+      bracket = g.D.BidiData.bracket_of now.tables;
+      mirror = g.D.BidiData.mirror_of now.tables;
+    }) in
+    stands d e top c.new-2.result some utf8 place shown
+    (returns-clause-picture g c ∙ ap (λ b. if b then blank_picture e.height e.width else text_picture d e top (rows d e)) live)

@@ -1,4 +1,4 @@
-use Rattle.std.proofs.Common.{◌≡◌, false, ◌+◌, ◌-◌, ◌*◌, ◌≤◌, ◌∙◌, ◌++◌, ap, ap₂, arith, refl, subst, sym, take}
+use Rattle.std.proofs.Common.{◌≡◌, false, ◌-◌, ◌*◌, ◌∙◌, ◌++◌, ap, ap₂, arith, refl, subst, sym, take}
 use Rattle.bx_grid.specs.Columns.{plain_columns}
 use Rattle.bx_document.specs.Drawing.{with_row}
 use Rattle.bx_editor.specs.Data.{Data}

@@ -1,0 +1,12 @@
+-- The begin of a text is a place of it.
+use Rattle.std.proofs.Common.{ℕ, List, [], ◌∷◌, refl, arith}
+use Rattle.std.specs.Prelude.{Contains}
+use Rattle.bx_ucd.specs.declared.class.Class.{Class}
+use Rattle.bx_view.specs.Places.{IsTextPlace, boundaries, pieces}
+
+begin-in : (gs : List (List ℕ)) → Contains (boundaries 0 gs) 0
+begin-in [] = (0, omega arith, refl)
+begin-in (g ∷ gs) = (0, omega arith, refl)
+
+pub begin-is-place : (class : ℕ → Class) (text : List ℕ) → IsTextPlace class text 0
+begin-is-place class text = begin-in (pieces class text)
