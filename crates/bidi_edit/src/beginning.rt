@@ -5,7 +5,7 @@ ghost use Rattle.bx_terms.specs.Sizes.{is_side};
 ghost use Rattle.bx_ucd.specs.Reading.{refusal};
 
 use crate::fault::ProgramFault;
-use crate::line::{go_to, start_of_line};
+use crate::line::start_of_line;
 use bx_explicit::Base;
 use bx_session::Session;
 use bx_ucd::Tables;
@@ -47,11 +47,8 @@ pub fn open(
     let text = beginning.text.unwrap_or(Vec::new(alloc));
     let start = line.map(|line| start_of_line(text.as_slice(), line));
     let mut session = Session::open(alloc, text, tables, rows, cols, beginning.direction)?;
-    match start {
-        None => Ok(session),
-        Some(start) => match go_to(alloc, &mut session, start, rows, cols) {
-            Ok(()) => Ok(session),
-            Err(fault) => Err(fault),
-        },
+    if let Some(start) = start {
+        session.go_to(start)?;
     }
+    Ok(session)
 }

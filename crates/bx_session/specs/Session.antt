@@ -8,7 +8,8 @@ use Rattle.bx_keys.specs.Waiting.{head_of}
 use Rattle.bx_grid.specs.Picture.{PictureState}
 use Rattle.bx_paint.specs.Painting.{whole_bytes, changes_bytes}
 use Rattle.bx_editor.specs.Data.{Data}
-use Rattle.bx_editor.specs.Editor.{Editor, at_start, with_size}
+use Rattle.bx_view.specs.Moves.{place_from}
+use Rattle.bx_editor.specs.Editor.{Editor, at_start, rows, with_place, with_size, without_message}
 use Rattle.bx_editor.specs.Keys.{after_key, asks_for_whole}
 use Rattle.bx_editor.specs.Picture.{picture, next_top}
 use Rattle.bx_session.specs.declared.status.Status.{Status}
@@ -136,6 +137,13 @@ after_replayed_key d s (Some key) = if is_replayed key then session_after_key d 
 -- the byte's key is applied, and a painting is owed
 abbrev pub after_replay : Data → Session → ℕ → Session
 after_replay d s b = with_painting_owed (after_replayed_key d (after_spending s b) (key_of_byte s b))
+
+-- ---- an offset that the cursor is sent to
+
+-- the cursor stands at the least place that is not before an offset, or at the last one, and a painting is owed
+abbrev pub after_going : Data → Session → ℕ → Session
+after_going d s offset =
+    with_painting_owed (record s { editor = with_place (without_message s.editor) (place_from (rows d s.editor) offset) })
 
 -- ---- a told size
 

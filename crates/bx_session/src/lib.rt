@@ -4,6 +4,7 @@
 mod end;
 mod error;
 mod feeding;
+mod going;
 mod journal;
 mod laws;
 mod open;
