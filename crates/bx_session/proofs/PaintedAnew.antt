@@ -60,5 +60,6 @@ always_stays = record {
   told = λ d s height width has owed. twice d (unpainted_after_told s height width) has;
   owing_told = λ d s height width owed. absurd (cc owed);
   replay = λ d s b owed. absurd (cc owed);
+  going = λ d s offset owed. absurd (cc owed);
   sending = sending_stays;
 }

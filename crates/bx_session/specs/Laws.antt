@@ -9,7 +9,7 @@ use Rattle.bx_editor.specs.Data.{Data}
 use Rattle.bx_editor.specs.Keys.{after_keys}
 use Rattle.bx_editor.specs.Picture.{picture}
 use Rattle.bx_session.specs.Session.{Session, at_opening, after_spending, after_byte, owing_after_byte, after_told, owing_after_told, after_sending}
-use Rattle.bx_session.specs.Session.{after_replay, is_replayed}
+use Rattle.bx_session.specs.Session.{after_going, after_replay, is_replayed}
 
 -- where no painting is owed, the picture last painted is that of the session's state, and the screen is taken to show it
 abbrev pub ShowsState : Data → Session → Type 0
@@ -25,6 +25,7 @@ pub record AlwaysShowsState : Type 0 where
   pub told : (d : Data) (s : Session) (height width : ℕ) → ShowsState d (after_told d s height width)
   pub owing_told : (d : Data) (s : Session) (height width : ℕ) → ShowsState d (owing_after_told s height width)
   pub replay : (d : Data) (s : Session) (b : ℕ) → ShowsState d (after_replay d s b)
+  pub going : (d : Data) (s : Session) (offset : ℕ) → ShowsState d (after_going d s offset)
   pub sending : (d : Data) (s : Session) (count : ℕ) → ShowsState d s → ShowsState d (after_sending s count)
 
 -- the keys that bytes end one after another, of which a session keeps what waits as far as a key can still come of it
