@@ -7,7 +7,8 @@ use Rattle.bx_text.specs.declared.change.Change.{Change}
 use Rattle.bx_text.specs.Edits.{Edit, Edited, change_back, change_of, edit_of, first_again, first_back, next_redo, next_undo}
 use Rattle.bx_text.specs.Edits.{redone, redone_in, replaced, splice, undone, undone_in}
 use Rattle.bx_view.specs.Places.{IsTextPlace}
-use Rattle.bx_document.specs.Document.{DocumentState, HasPlaces, KeepsPlaces}
+use Rattle.bx_document.specs.Document.{DocumentState}
+use Rattle.bx_document.specs.Past.{HasPlaces, KeepsPlaces}
 
 module _ (class : ℕ → Class) where
   abbrev Is : Edit → Type 0

@@ -1,10 +1,8 @@
 -- A text under edits, as it is laid out in a window by Unicode's tables. Offsets and places count bytes of the text.
-use Rattle.std.specs.Prelude.{ℕ, ◌+◌, List, [], length, All}
-use Rattle.bx_ucd.specs.declared.class.Class.{Class}
+use Rattle.std.specs.Prelude.{ℕ, ◌+◌, List, [], length}
 use Rattle.bx_explicit.specs.declared.base.Base.{Base}
-use Rattle.bx_text.specs.Edits.{Edit, Edited, inserted, opened, removed, splice}
+use Rattle.bx_text.specs.Edits.{Edited, inserted, opened, removed, splice}
 use Rattle.bx_view.specs.Moves.{place_from}
-use Rattle.bx_view.specs.Places.{IsTextPlace}
 use Rattle.bx_view.specs.TextRows.{TextRow, text_rows}
 use Rattle.bx_document.specs.Data.{Data}
 
@@ -42,13 +40,3 @@ after_insertion d t place new = record t { content = inserted t.content place ne
 -- what stands from start to stop goes; the cursor stood at `place`
 abbrev pub after_removal : Data → Document → ℕ → ℕ → ℕ → Document
 after_removal d t start stop place = record t { content = removed t.content start stop place (place_behind d t start stop []) }
-
--- the places of an edit are places of the texts before and after it
-pub record HasPlaces (class : ℕ → Class) (e : Edit) : Type 0 where
-  pub before : IsTextPlace class e.before.text e.before.place
-  pub after : IsTextPlace class e.after.text e.after.place
-
--- those of all edits are
-pub record KeepsPlaces (class : ℕ → Class) (content : Edited) : Type 0 where
-  pub past : All (HasPlaces class) content.past
-  pub future : All (HasPlaces class) content.future

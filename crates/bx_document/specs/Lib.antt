@@ -3,4 +3,5 @@ pub mod Data
 pub mod Document
 pub mod Drawing
 pub mod Numbers
+pub mod Past
 pub mod Window

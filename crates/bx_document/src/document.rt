@@ -33,7 +33,8 @@ impl<D: BidiData + Drop> Model for Document<D> {
     ghost use Rattle.bx_paras.specs.Paragraphs.{lengths};
     ghost use Rattle.bx_view.specs.Holding.{IsViewBy};
     ghost use Rattle.bx_document.specs.Cache.{AreDrawnBy};
-    ghost use Rattle.bx_document.specs.Document.{DocumentState, KeepsPlaces};
+    ghost use Rattle.bx_document.specs.Document.{DocumentState};
+    ghost use Rattle.bx_document.specs.Past.{KeepsPlaces};
 
     ghost Value = { DocumentState D };
 
