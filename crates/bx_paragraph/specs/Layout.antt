@@ -1,14 +1,16 @@
 -- What a paragraph's layout is seen as, and the rows that it stands for.
-use Rattle.std.specs.Prelude.{◌≡◌, ℕ, List, Option, chars}
+use Rattle.std.specs.Prelude.{◌≡◌, ℕ, Bool, true, List, Option, chars}
 use Rattle.bx_ucd.specs.declared.class.Class.{Class}
 use Rattle.bx_ucd.specs.declared.data.Side.{Side}
 use Rattle.bx_explicit.specs.declared.base.Base.{Base}
+use Rattle.bx_resolve.specs.Edited.{HasNoFormatting}
 use Rattle.bx_resolve.specs.Levels.{paragraph_level_under, levels_under}
 use Rattle.bx_rows.specs.declared.start_search.RowStart.{RowStart}
 use Rattle.bx_rows.specs.RowStarts.{row_starts}
 use Rattle.bx_paragraph.specs.BodyRows.{BodyRow, body_rows, row_at}
 
--- a body, the base direction, the window's columns, the paragraph's level and its characters' levels, and where the rows begin
+-- a body, the base direction, the window's columns, the paragraph's level and its characters' levels, where the rows begin, and whether the
+-- body is known to have no formatting characters
 pub record LayoutState : Type 0 where
   pub body : List ℕ
   pub base : Base
@@ -16,12 +18,14 @@ pub record LayoutState : Type 0 where
   pub paragraph : ℕ
   pub each : List (Option ℕ)
   pub starts : List RowStart
+  pub is_unformatted : Bool
 
 -- the levels and the beginnings of the rows are those that the definitions give under some data
 pub record IsLayoutBy (class : ℕ → Class) (bracket : ℕ → Option (Side × ℕ)) (l : LayoutState) : Type 0 where
   pub paragraph : l.paragraph ≡ paragraph_level_under class l.base (chars l.body)
   pub each : l.each ≡ levels_under class bracket l.base (chars l.body)
   pub starts : l.starts ≡ row_starts class l.w l.body
+  pub unformatted : l.is_unformatted ≡ true → HasNoFormatting class (chars l.body)
 
 -- the rows of the layout's body
 abbrev pub rows_by : (ℕ → Class) → (ℕ → Option (Side × ℕ)) → LayoutState → List BodyRow

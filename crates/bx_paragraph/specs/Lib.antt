@@ -2,3 +2,5 @@ pub mod BodyRows
 pub mod Slots
 pub mod Layout
 pub mod RowParts
+pub mod Cuts
+pub mod Laws

@@ -26,11 +26,13 @@ use std::marker::Model;
 /// units of a row are made when that row is looked at.
 #[derive(Drop)]
 pub struct ParagraphLayout {
-    body: String,
-    base: Base,
-    w: u16,
-    levels: Levels,
-    starts: Vec<RowStart>,
+    pub(crate) body: String,
+    pub(crate) base: Base,
+    pub(crate) w: u16,
+    pub(crate) levels: Levels,
+    pub(crate) starts: Vec<RowStart>,
+    /// Whether the body is known to have no formatting characters.
+    pub(crate) is_unformatted: bool,
 }
 
 impl Model for ParagraphLayout {
@@ -47,6 +49,7 @@ impl Model for ParagraphLayout {
       paragraph = l.levels.paragraph;
       each = l.levels.each.items;
       starts = l.starts.items;
+      is_unformatted = l.is_unformatted;
     } };
 
     ghost invariant = { λ l. (is_side l.w ≡ true) × (0 < length l.starts.items) };
@@ -78,6 +81,7 @@ impl ParagraphLayout {
             w,
             levels,
             starts,
+            is_unformatted: false,
         })
     }
 
@@ -235,7 +239,7 @@ impl ParagraphLayout {
 }
 
 /// How many of the beginnings are at an offset or before it.
-fn starts_up_to(starts: &[RowStart], offset: usize) -> usize
+pub(crate) fn starts_up_to(starts: &[RowStart], offset: usize) -> usize
     ensures { result ≡ count_by (λ o. nat_le o offset) (map (λ s. s.offset) starts.now) }
 {
     starts.iter().filter(|s| s.offset <= offset).count()

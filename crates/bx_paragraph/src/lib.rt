@@ -4,6 +4,8 @@
 #![tactic(auto)]
 
 mod cursor;
+mod edited;
+mod laws;
 mod layout;
 mod moves;
 mod numbers;
@@ -11,7 +13,11 @@ mod reading;
 mod row_parts;
 mod slot;
 mod slots;
+mod strong;
+mod text_edit;
+mod way;
 
+pub use laws::rows_before_stay;
 pub use layout::ParagraphLayout;
 pub use moves::Visual;
 pub use slot::Slot;

@@ -1,0 +1,9 @@
+use Rattle.std.proofs.Common.{◌∙◌, ap}
+use Rattle.bx_paragraph.proofs.Edits.{counted}
+use Rattle.bx_paragraph.proofs.layout.ParagraphLayout.edit.Goals as goal
+
+pub text_edit-edit-requires-clause-counted : goal.text_edit-edit-requires-clause-counted
+text_edit-edit-requires-clause-counted g c =
+    counted (g.D.BidiData.class_of c.args.tables.now) (g.D.BidiData.bracket_of c.args.tables.now) c.args.self.now c.requires.data
+    c.as_str-body.result.now c.deref.result.now (c.as_str-body.ensures.value ∙ ap (λ m. m.body) c.self.view_is)
+    (c.deref.ensures.value ∙ ap (λ m. m.starts) c.self.view_is)

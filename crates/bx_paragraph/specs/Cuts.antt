@@ -1,0 +1,92 @@
+-- Where strong characters cut off an edit of a text, so that the levels of all others stay.
+use Rattle.std.specs.Prelude.{◌≡◌, ◌<◌, ◌+◌, ◌&&◌, ℕ, Bool, true, not, List, ◌++◌, Option, chars, length, slice_index_or, take}
+use Rattle.std.specs.List.{list_all}
+use Rattle.std.specs.Str.{IsUtf8}
+use Rattle.bx_ucd.specs.declared.class.Class.{Class}
+use Rattle.bx_ucd.specs.declared.class.Class.TheVariants.{L}
+use Rattle.bx_ucd.specs.declared.data.Side.{Side}
+use Rattle.bx_ucd.specs.Class.{is_strong}
+use Rattle.bx_explicit.specs.declared.base.Base.{Base}
+use Rattle.bx_resolve.specs.declared.paragraph.Levels.{Levels}
+use Rattle.bx_resolve.specs.Body.{IsOffset}
+use Rattle.bx_resolve.specs.Edited.{AreLevelsOf, Edit, HasNoFormatting, is_listed, new_text, old_text}
+use Rattle.bx_resolve.specs.Plain.{is_from_right, is_plain, is_unformatted}
+use Rattle.bx_rows.specs.declared.start_search.RowStart.{RowStart}
+use Rattle.bx_paragraph.specs.declared.strong.Strong.{Strong}
+use Rattle.bx_paragraph.specs.declared.way.Way.{Way}
+use Rattle.bx_paragraph.specs.declared.way.Way.TheVariants.{Either, FromLeft, FromRight}
+use Rattle.bx_paragraph.specs.declared.text_edit.TextEdit.{TextEdit}
+
+-- a strong character of a text
+pub record IsStrongIn (class : ℕ → Class) (text : List ℕ) (s : Strong) : Type 0 where
+  pub inside : s.index < length (chars text)
+  pub class_is : s.class ≡ class (slice_index_or (chars text) s.index 0)
+  pub strong : is_strong s.class ≡ true
+  pub start : IsOffset text s.index s.start
+  pub stop : IsOffset text (s.index + 1) s.stop
+
+-- a class of one way, which leaves a text of that direction as it is
+abbrev pub is_of_way : Way → Class → Bool
+is_of_way Either c = is_unformatted c
+is_of_way FromLeft c = is_plain c
+is_of_way FromRight c = is_from_right c
+
+-- the way of what may stand between two strong characters: theirs, if they have the same
+abbrev pub way_between : Class → Class → Way
+way_between L L = FromLeft
+way_between L _ = Either
+way_between _ L = Either
+way_between _ _ = FromRight
+
+-- a character of one way that is no bracket
+abbrev pub is_bare : (ℕ → Class) → (ℕ → Option (Side × ℕ)) → Way → ℕ → Bool
+is_bare class bracket way c = is_of_way way (class c) && not (is_listed bracket c)
+
+-- all characters of a text are such
+abbrev pub are_bare : (ℕ → Class) → (ℕ → Option (Side × ℕ)) → Way → List ℕ → Bool
+are_bare class bracket way text = list_all (is_bare class bracket way) (chars text)
+
+-- no character of a text is a formatting one
+abbrev pub are_unformatted : (ℕ → Class) → List ℕ → Bool
+are_unformatted class text = list_all (λ c. is_of_way Either (class c)) (chars text)
+
+-- an edit between two texts, all of whose characters are such
+pub record IsBareEdit (class : ℕ → Class) (bracket : ℕ → Option (Side × ℕ)) (way : Way) (t : TextEdit) (left right : List ℕ) : Type 0 where
+  pub left_is : are_bare class bracket way left ≡ true
+  pub removed_is : are_bare class bracket way t.removed.now ≡ true
+  pub inserted_is : are_bare class bracket way t.inserted.now ≡ true
+  pub right_is : are_bare class bracket way right ≡ true
+
+-- the edit's characters, where the characters `front` stand before what is near it
+abbrev pub edit_of : List ℕ → TextEdit → Edit
+edit_of front t = record {
+  before = front ++ chars t.near.now;
+  removed = chars t.removed.now;
+  inserted = chars t.inserted.now;
+  behind = chars t.behind.now;
+}
+
+-- an edit that turns a body into another, where `front` stands before what is near it
+pub record IsEditOf (old new : List ℕ) (t : TextEdit) : Type 0 where
+  pub front : List ℕ
+  pub front_is : IsUtf8 front
+  pub near_is : IsUtf8 t.near.now
+  pub removed_is : IsUtf8 t.removed.now
+  pub inserted_is : IsUtf8 t.inserted.now
+  pub ahead_is : t.ahead ≡ length (chars front)
+  pub before : old ≡ front ++ (t.near.now ++ (t.removed.now ++ t.behind.now))
+  pub after : new ≡ front ++ (t.near.now ++ (t.inserted.now ++ t.behind.now))
+
+-- the characters before a row are counted
+abbrev pub IsCounted : List ℕ → RowStart → Type 0
+IsCounted body s = s.chars ≡ length (chars (take s.offset body))
+
+-- levels are as they were
+pub record AreAsBefore (was now : Levels) : Type 0 where
+  pub paragraph_is : now.paragraph ≡ was.paragraph
+  pub each_is : now.each.items ≡ was.each.items
+
+-- from the levels of the text before an edit come those of the text behind it
+abbrev pub FollowsEdit : (ℕ → Class) → (ℕ → Option (Side × ℕ)) → TextEdit → Levels → Levels → Type 0
+FollowsEdit class bracket t was now = (base : Base) (front : List ℕ) → length front ≡ t.ahead → HasNoFormatting class (old_text (edit_of front t))
+    → AreLevelsOf class bracket base (old_text (edit_of front t)) was → AreLevelsOf class bracket base (new_text (edit_of front t)) now

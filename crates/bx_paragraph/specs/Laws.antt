@@ -1,0 +1,14 @@
+-- What holds of the rows of two bodies that begin alike.
+use Rattle.std.specs.Prelude.{◌≡◌, ◌≤◌, ◌<◌, ◌+◌, ℕ, List, Some, slice_get, take}
+use Rattle.std.specs.Str.{IsCharBoundary, IsUtf8}
+use Rattle.bx_ucd.specs.declared.class.Class.{Class}
+use Rattle.bx_rows.specs.declared.start_search.RowStart.{RowStart}
+use Rattle.bx_rows.specs.RowStarts.{row_starts}
+
+-- Two bodies that are the same up to an offset, behind the start of row number `q` of the first: the starts of the rows up to
+-- number `k` are the same, where that begins more than a window's columns of units before row `q`.
+abbrev pub RowsBeforeStay : Type 0
+RowsBeforeStay = (class : ℕ → Class) (w : ℕ) (old new : List ℕ) (offset k q : ℕ) (s e : RowStart) → 1 ≤ w → IsUtf8 old → IsUtf8 new
+    → IsCharBoundary old offset → IsCharBoundary new offset → take offset old ≡ take offset new → slice_get (row_starts class w old) k ≡ Some s
+    → slice_get (row_starts class w old) q ≡ Some e → e.offset < offset → s.units + w < e.units
+    → take (k + 1) (row_starts class w new) ≡ take (k + 1) (row_starts class w old)

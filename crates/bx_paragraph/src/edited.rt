@@ -1,0 +1,123 @@
+//! The layout that follows an edit of its body.
+ghost use Rattle.std.specs.Prelude.{◌≡◌, ◌≤◌, ◌<◌, All, IfOk, OnErr, OnOk, chars, length, true};
+ghost use Rattle.std.specs.List.{splice};
+ghost use Rattle.std.specs.Str.{IsCharBoundary};
+ghost use Rattle.bx_resolve.specs.Edited.{AreLevelsOf, HasNoFormatting};
+ghost use Rattle.bx_paragraph.specs.Cuts.{AreAsBefore, IsCounted, IsEditOf};
+ghost use Rattle.bx_paragraph.specs.Layout.{IsLayoutBy};
+
+use crate::layout::{ParagraphLayout, starts_up_to};
+use crate::text_edit::{TextEdit, follow, joined};
+use crate::way::are_unformatted;
+use bx_explicit::Base;
+use bx_resolve::Levels;
+use bx_rows::{RowStart, row_starts};
+use bx_terms::OutOfMemory;
+use bx_ucd::BidiData;
+
+/// The edit that puts a text in the place of a body's from an offset up to another. Near it stands what begins with the row
+/// before the one that the edit falls in.
+fn text_edit<'t>(
+    body: &'t str,
+    starts: &[RowStart],
+    start: usize,
+    stop: usize,
+    inserted: &'t str,
+) -> TextEdit<'t>
+    requires start { IsCharBoundary body.now start }
+    requires stop { IsCharBoundary body.now stop }
+    requires order { start ≤ stop }
+    requires some { 0 < length starts.now }
+    requires counted { All (IsCounted body.now) starts.now }
+    ensures { IsEditOf body.now (splice body.now start stop inserted.now) result }
+{
+    let removed = &body[start..stop];
+    let behind = &body[stop..];
+    let from = starts[starts_up_to(starts, start).saturating_sub(2)];
+    if from.offset <= start && body.is_char_boundary(from.offset) {
+        return TextEdit {
+            ahead: from.chars,
+            near: &body[from.offset..start],
+            removed,
+            inserted,
+            behind,
+        };
+    }
+    TextEdit {
+        ahead: 0,
+        near: &body[..start],
+        removed,
+        inserted,
+        behind,
+    }
+}
+
+/// Turns the levels of a body into those of what an edit turns it into; tells whether that is known to have no formatting
+/// characters. Strong characters that cut off the edit spare all levels but those between them.
+///
+/// Errors: `OutOfMemory`, and nothing has changed.
+fn edit_levels<D: BidiData>(
+    levels: &mut Levels,
+    is_unformatted: bool,
+    body: &str,
+    changed: &str,
+    edit: &TextEdit<'_>,
+    tables: &D,
+    base: Base,
+) -> Result<bool, OutOfMemory>
+    requires edit { IsEditOf body.now changed.now edit.now }
+    requires levels { AreLevelsOf (D.class_of tables.now) (D.bracket_of tables.now) base (chars body.now) levels.old }
+    requires unformatted { is_unformatted ≡ true → HasNoFormatting (D.class_of tables.now) (chars body.now) }
+    ensures levels { OnOk result (AreLevelsOf (D.class_of tables.now) (D.bracket_of tables.now) base (chars changed.now) levels.new) }
+    ensures unformatted { IfOk result (λ b. b ≡ true → HasNoFormatting (D.class_of tables.now) (chars changed.now)) }
+    ensures err { OnErr result (AreAsBefore levels.old levels.new) }
+{
+    if is_unformatted && follow(levels, tables, edit)? {
+        return Ok(true);
+    }
+    let alloc = *levels.each.allocator();
+    *levels = bx_resolve::levels(alloc, changed, tables, base)?;
+    Ok(are_unformatted(changed, tables))
+}
+
+impl ParagraphLayout {
+    /// Puts a text in the place of the body's from an offset up to another, in bytes. Where strong characters cut off the edit
+    /// (UAX #9), all levels but those between them are kept; else the whole body is resolved again.
+    ///
+    /// Errors: `OutOfMemory`, and nothing has changed.
+    pub fn edit<D: BidiData>(
+        &mut self,
+        start: usize,
+        stop: usize,
+        inserted: &str,
+        tables: &D,
+    ) -> Result<(), OutOfMemory>
+        requires data { IsLayoutBy (D.class_of tables.now) (D.bracket_of tables.now) self.old }
+        requires start { IsCharBoundary self.old.body start }
+        requires stop { IsCharBoundary self.old.body stop }
+        requires order { start ≤ stop }
+        ensures body { OnOk result (self.new.body ≡ splice self.old.body start stop inserted.now) }
+        ensures base { self.new.base ≡ self.old.base }
+        ensures w { self.new.w ≡ self.old.w }
+        ensures rows { IsLayoutBy (D.class_of tables.now) (D.bracket_of tables.now) self.new }
+        ensures err { OnErr result (self.new ≡ self.old) }
+    {
+        let alloc = *self.starts.allocator();
+        let body = self.body.as_str();
+        let changed = joined(alloc, &body[..start], inserted, &body[stop..])?;
+        let starts = row_starts(alloc, changed.as_str(), tables, self.w)?;
+        let edit = text_edit(body, &self.starts, start, stop, inserted);
+        self.is_unformatted = edit_levels(
+            &mut self.levels,
+            self.is_unformatted,
+            body,
+            changed.as_str(),
+            &edit,
+            tables,
+            self.base,
+        )?;
+        self.body = changed;
+        self.starts = starts;
+        Ok(())
+    }
+}

@@ -1,0 +1,153 @@
+//! An edit of a text, and the levels that follow it.
+ghost use Rattle.std.specs.Prelude.{◌≡◌, ◌≤◌, ◌+◌, ◌++◌, IfOk, OnErr, chars, length, string_bytes, false, true};
+ghost use Rattle.bx_resolve.specs.Edited.{HasNoFormatting};
+ghost use Rattle.bx_paragraph.specs.Cuts.{AreAsBefore, are_bare, FollowsEdit, IsBareEdit, IsStrongIn};
+
+use crate::strong::{Strong, first_strong, last_strong};
+use crate::way::{Way, are_bare, way_between};
+use bx_resolve::{Levels, Span, follow_between, follow_to_end};
+use bx_terms::OutOfMemory;
+use bx_ucd::BidiData;
+use std::alloc::{AllocError, Global};
+
+/// An edit of a text. Before what stands near it are `ahead` more characters; what it removes gives way to what it inserts, and
+/// the rest stands behind.
+#[derive(Clone, Copy)]
+pub(crate) struct TextEdit<'t> {
+    pub(crate) ahead: usize,
+    pub(crate) near: &'t str,
+    pub(crate) removed: &'t str,
+    pub(crate) inserted: &'t str,
+    pub(crate) behind: &'t str,
+}
+
+/// Three texts joined.
+pub(crate) fn joined(
+    alloc: Global,
+    first: &str,
+    middle: &str,
+    last: &str,
+) -> Result<String, AllocError>
+    ensures { IfOk result (λ s. string_bytes s ≡ first.now ++ (middle.now ++ last.now)) }
+{
+    let room = first.len().saturating_add(middle.len());
+    let mut text = String::with_capacity(alloc, room.saturating_add(last.len()))?;
+    text.push_str(first)?;
+    text.push_str(middle)?;
+    text.push_str(last)?;
+    Ok(text)
+}
+
+/// How many characters a text has.
+fn char_count(text: &str) -> usize
+    ensures { result ≡ length (chars text.now) }
+{
+    text.chars().count()
+}
+
+/// Whether the edit and what stands on either side of it, up to the strong characters that cut it off, are of one way and have
+/// no bracket.
+fn is_bare_edit<D: BidiData>(
+    edit: &TextEdit<'_>,
+    left: &str,
+    right: &str,
+    way: Way,
+    tables: &D,
+) -> bool
+    ensures { result ≡ true → IsBareEdit (D.class_of tables.now) (D.bracket_of tables.now) way edit.now left.now right.now }
+{
+    if !are_bare(left, way, tables) || !are_bare(right, way, tables) {
+        return false;
+    }
+    if !are_bare(edit.removed, way, tables) {
+        return false;
+    }
+    are_bare(edit.inserted, way, tables)
+}
+
+/// Has levels follow an edit between two strong characters; tells whether nothing between them keeps it from that.
+fn follow_within<D: BidiData>(
+    levels: &mut Levels,
+    tables: &D,
+    edit: &TextEdit<'_>,
+    before: Strong,
+    behind: Strong,
+) -> Result<bool, OutOfMemory>
+    requires low { levels.old.paragraph ≤ 1 }
+    requires before { IsStrongIn (D.class_of tables.now) edit.now.near.now before }
+    requires behind { IsStrongIn (D.class_of tables.now) edit.now.behind.now behind }
+    requires whole { length levels.old.each.items ≡ edit.now.ahead
+        + (length (chars edit.now.near.now) + (length (chars edit.now.removed.now) + length (chars edit.now.behind.now))) }
+    ensures follows { IfOk result (λ b. b ≡ true → FollowsEdit (D.class_of tables.now) (D.bracket_of tables.now) edit.now levels.old levels.new) }
+    ensures unformatted { IfOk result (λ b. b ≡ true → HasNoFormatting (D.class_of tables.now) (chars edit.now.inserted.now)) }
+    ensures none { IfOk result (λ b. b ≡ false → AreAsBefore levels.old levels.new) }
+    ensures err { OnErr result (AreAsBefore levels.old levels.new) }
+{
+    let left = &edit.near[before.stop..];
+    let right = &edit.behind[..behind.start];
+    let way = way_between(before.class, behind.class);
+    if !is_bare_edit(edit, left, right, way, tables) {
+        return Ok(false);
+    }
+    let alloc = *levels.each.allocator();
+    let from = &edit.near[before.start..];
+    let piece = joined(alloc, from, edit.inserted, &edit.behind[..behind.stop])?;
+    let first = edit.ahead + before.index;
+    let last = edit.ahead + char_count(edit.near) + char_count(edit.removed) + behind.index + 1;
+    follow_between(levels, tables, piece.as_str(), Span { first, last })?;
+    Ok(true)
+}
+
+/// Has levels follow an edit from a strong character on to the end of the text; tells whether nothing keeps it from that.
+fn follow_behind<D: BidiData>(
+    levels: &mut Levels,
+    tables: &D,
+    edit: &TextEdit<'_>,
+    before: Strong,
+) -> Result<bool, OutOfMemory>
+    requires low { levels.old.paragraph ≤ 1 }
+    requires before { IsStrongIn (D.class_of tables.now) edit.now.near.now before }
+    requires whole { length levels.old.each.items ≡ edit.now.ahead
+        + (length (chars edit.now.near.now) + (length (chars edit.now.removed.now) + length (chars edit.now.behind.now))) }
+    ensures follows { IfOk result (λ b. b ≡ true → FollowsEdit (D.class_of tables.now) (D.bracket_of tables.now) edit.now levels.old levels.new) }
+    ensures unformatted { IfOk result (λ b. b ≡ true → HasNoFormatting (D.class_of tables.now) (chars edit.now.inserted.now)) }
+    ensures none { IfOk result (λ b. b ≡ false → AreAsBefore levels.old levels.new) }
+    ensures err { OnErr result (AreAsBefore levels.old levels.new) }
+{
+    let left = &edit.near[before.stop..];
+    if !is_bare_edit(edit, left, edit.behind, Way::Either, tables) {
+        return Ok(false);
+    }
+    let alloc = *levels.each.allocator();
+    let from = &edit.near[before.start..];
+    let piece = joined(alloc, from, edit.inserted, edit.behind)?;
+    follow_to_end(levels, tables, piece.as_str(), edit.ahead + before.index)?;
+    Ok(true)
+}
+
+/// Has levels follow an edit that strong characters cut off; tells whether they do.
+///
+/// Errors: `OutOfMemory`, and nothing has changed.
+pub(crate) fn follow<D: BidiData>(
+    levels: &mut Levels,
+    tables: &D,
+    edit: &TextEdit<'_>,
+) -> Result<bool, OutOfMemory>
+    requires whole { length levels.old.each.items ≡ edit.now.ahead
+        + (length (chars edit.now.near.now) + (length (chars edit.now.removed.now) + length (chars edit.now.behind.now))) }
+    ensures follows { IfOk result (λ b. b ≡ true → FollowsEdit (D.class_of tables.now) (D.bracket_of tables.now) edit.now levels.old levels.new) }
+    ensures unformatted { IfOk result (λ b. b ≡ true → HasNoFormatting (D.class_of tables.now) (chars edit.now.inserted.now)) }
+    ensures none { IfOk result (λ b. b ≡ false → AreAsBefore levels.old levels.new) }
+    ensures err { OnErr result (AreAsBefore levels.old levels.new) }
+{
+    if levels.paragraph > 1 {
+        return Ok(false);
+    }
+    let Some(before) = last_strong(edit.near, tables) else {
+        return Ok(false);
+    };
+    match first_strong(edit.behind, tables) {
+        Some(behind) => follow_within(levels, tables, edit, before, behind),
+        None => follow_behind(levels, tables, edit, before),
+    }
+}
