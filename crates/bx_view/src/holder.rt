@@ -12,6 +12,7 @@ use bx_text::Text;
 use bx_ucd::BidiData;
 use std::alloc::{AllocError, Global};
 use std::marker::Model;
+use std::ops::Range;
 
 // More than the rows of any window.
 const MOST_HELD: usize = 512;
@@ -136,6 +137,32 @@ pub(crate) fn lay_out_in<D: BidiData>(
     let _ = base;
     if held[i].width() != w {
         held[i].set_width(tables, w)?;
+    }
+    Ok(())
+}
+
+/// Lays a paragraph that is held out as an edit of its body leaves it, which puts a text in the place of what stands in a
+/// range of bytes. Offsets that bound no characters change nothing.
+///
+/// Errors: `OutOfMemory`, and nothing has changed.
+pub(crate) fn edit_in<D: BidiData>(
+    held: &mut Vec<ParagraphLayout>,
+    i: usize,
+    range: Range<usize>,
+    new: &str,
+    tables: &D,
+    base: Base,
+) -> Result<(), ViewError>
+    requires held { All (IsHeld (D.class_of tables.now) (D.bracket_of tables.now) base) held.old.items }
+    requires within { i < length held.old.items }
+    requires order { range.start ≤ range.end }
+    ensures held { All (IsHeld (D.class_of tables.now) (D.bracket_of tables.now) base) held.new.items }
+{
+    // the contract alone speaks of it
+    let _ = base;
+    let body = held[i].body();
+    if body.is_char_boundary(range.start) && body.is_char_boundary(range.end) {
+        held[i].edit(range.start, range.end, new, tables)?;
     }
     Ok(())
 }

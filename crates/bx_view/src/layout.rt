@@ -29,7 +29,7 @@ pub struct Layout {
     pub(crate) w: u16,
     pub(crate) held: Vec<ParagraphLayout>,
     // the number of the one that was found last
-    recent: usize,
+    pub(crate) recent: usize,
 }
 
 impl Model for Layout {
