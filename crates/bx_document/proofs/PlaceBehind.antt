@@ -68,14 +68,20 @@ found class bracket base w text start stop new bytes first offset place side utf
 -- and so for a document
 pub found_by : {D : Type 0} (class_of : D → ℕ → Class) (bracket_of : D → ℕ → Option (Side × ℕ)) (inner now : DocumentState D) (start stop : ℕ)
     (new bytes : List ℕ)
-    (first offset place : ℕ) → inner ≡ now → is_side inner.document.w ≡ true → IsUtf8 inner.document.content.text
+    (first offset place : ℕ) (base : Base) (w : ℕ) → inner ≡ now → is_side inner.document.w ≡ true → IsUtf8 inner.document.content.text
     → IsRange now.document.content.text start stop → IsUtf8 new
     → first ≡ window_start (class_of inner.tables) inner.document.content.text start
     → bytes ≡ window (class_of inner.tables) inner.document.content.text start stop new → offset ≡ start - first + length new
-    → place ≡ place_from (text_rows (class_of inner.tables) (bracket_of inner.tables) inner.document.base inner.document.w bytes) offset
+    → base ≡ inner.document.base → w ≡ inner.document.w
+    → place ≡ place_from (text_rows (class_of inner.tables) (bracket_of inner.tables) base w bytes) offset
     → IsFound (class_of now.tables) (bracket_of now.tables) now.document.base now.document.w now.document.content.text start stop new (first + place)
-found_by {D} class_of bracket_of inner now start stop new bytes first offset place same side utf8 range new_utf8 a b e f =
+found_by {D} class_of bracket_of inner now start stop new bytes first offset place base w same side utf8 range new_utf8 a b e same_base same_w f =
+    let class = class_of inner.tables in
+    let bracket = bracket_of inner.tables in
+    let f : place ≡ place_from (text_rows class bracket inner.document.base inner.document.w bytes) offset =
+    f ∙ ap (λ based. place_from (text_rows class bracket based w bytes) offset) same_base
+    ∙ ap (λ n. place_from (text_rows class bracket inner.document.base n bytes) offset) same_w in
     subst (λ (s : DocumentState D).
     IsFound (class_of s.tables) (bracket_of s.tables) s.document.base s.document.w s.document.content.text start stop new (first + place)) same
-    (found (class_of inner.tables) (bracket_of inner.tables) inner.document.base inner.document.w inner.document.content.text start stop new bytes first offset
+    (found class bracket inner.document.base inner.document.w inner.document.content.text start stop new bytes first offset
     place side utf8 (subst (λ (s : DocumentState D). IsRange s.document.content.text start stop) (sym same) range) new_utf8 a b e f)

@@ -49,6 +49,8 @@ impl<D: BidiData + Drop> Document<D> {
             index: &self.index,
             tables: &self.tables,
         };
+        // what is held of the paragraph need not be resolved anew
+        self.layout.edit(&source, start, stop, new)?;
         let (first, characters) = window(self.alloc, &source, start, stop, new)?;
         // They are no more bytes than the text has after the edit.
         let offset = start - first + new.len();
