@@ -122,7 +122,7 @@ firsts class bracket base w body h =
 
 -- ---- the same of a layout
 
-side-some : (w : ℕ) → is_side w ≡ true → 1 ≤ w
+pub side-some : (w : ℕ) → is_side w ≡ true → 1 ≤ w
 side-some w e = leb-true 1 w (and_parts (nat_le 1 w) (nat_le w largest_side) e).0
 
 pub firsts-by : (l : LayoutState) (class : ℕ → Class) (bracket : ℕ → Option (Side × ℕ)) → IsLayoutBy class bracket l → is_side l.w ≡ true

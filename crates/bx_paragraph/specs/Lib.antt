@@ -4,3 +4,4 @@ pub mod Layout
 pub mod RowParts
 pub mod Cuts
 pub mod Laws
+pub mod RowEdits

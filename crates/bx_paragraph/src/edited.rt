@@ -6,12 +6,13 @@ ghost use Rattle.bx_resolve.specs.Edited.{AreLevelsOf, HasNoFormatting};
 ghost use Rattle.bx_paragraph.specs.Cuts.{AreAsBefore, IsCounted, IsEditOf};
 ghost use Rattle.bx_paragraph.specs.Layout.{IsLayoutBy};
 
+use crate::edited_rows::{OldRows, edited_starts};
 use crate::layout::{ParagraphLayout, starts_up_to};
 use crate::text_edit::{TextEdit, follow, joined};
 use crate::way::are_unformatted;
 use bx_explicit::Base;
 use bx_resolve::Levels;
-use bx_rows::{RowStart, row_starts};
+use bx_rows::RowStart;
 use bx_terms::OutOfMemory;
 use bx_ucd::BidiData;
 
@@ -82,7 +83,8 @@ fn edit_levels<D: BidiData>(
 
 impl ParagraphLayout {
     /// Puts a text in the place of the body's from an offset up to another, in bytes. Where strong characters cut off the edit
-    /// (UAX #9), all levels but those between them are kept; else the whole body is resolved again.
+    /// (UAX #9), all levels but those between them are kept; else the whole body is resolved again, as it is at the first edit
+    /// of a layout. The rows are found from one well before the edit until they meet the old ones.
     ///
     /// Errors: `OutOfMemory`, and nothing has changed.
     pub fn edit<D: BidiData>(
@@ -105,7 +107,13 @@ impl ParagraphLayout {
         let alloc = *self.starts.allocator();
         let body = self.body.as_str();
         let changed = joined(alloc, &body[..start], inserted, &body[stop..])?;
-        let starts = row_starts(alloc, changed.as_str(), tables, self.w)?;
+        let old = OldRows {
+            body,
+            starts: &self.starts,
+            stop,
+        };
+        let last = start + inserted.len();
+        let starts = edited_starts(alloc, &old, changed.as_str(), start, last, tables, self.w)?;
         let edit = text_edit(body, &self.starts, start, stop, inserted);
         self.is_unformatted = edit_levels(
             &mut self.levels,

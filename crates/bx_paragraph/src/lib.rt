@@ -5,11 +5,13 @@
 
 mod cursor;
 mod edited;
+mod edited_rows;
 mod laws;
 mod layout;
 mod moves;
 mod numbers;
 mod reading;
+mod row_edit;
 mod row_parts;
 mod slot;
 mod slots;

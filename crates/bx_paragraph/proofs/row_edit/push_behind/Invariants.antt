@@ -1,0 +1,7 @@
+-- The rows so far, and those that are still to be added.
+use Rattle.std.proofs.Common.{◌≡◌, ◌++◌, drop, map}
+use Rattle.bx_rows.specs.Laws.{behind}
+use Rattle.bx_paragraph.proofs.row_edit.push_behind.Given as goal
+
+abbrev pub invariant-loop-start : goal.invariant-loop-start
+invariant-loop-start l = l.starts.items ++ map (behind l.first) (drop l.start-index l.rest) ≡ l.initial.starts.items ++ map (behind l.first) l.rest

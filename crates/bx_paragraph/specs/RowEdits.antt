@@ -1,0 +1,27 @@
+-- Rows that an edit of a body leaves, and rows behind it that meet them again.
+use Rattle.std.specs.Prelude.{◌≡◌, ◌<◌, ◌≤◌, ◌+◌, ◌-◌, ℕ, List, length, slice_index_or}
+use Rattle.bx_rows.specs.declared.start_search.RowStart.{RowStart}
+
+-- the start of a body
+abbrev pub origin : RowStart
+origin = record { offset = 0; units = 0; chars = 0 }
+
+-- row number `k` begins more than a window's columns of units before one that begins before an offset
+pub record IsWellBefore (w offset : ℕ) (starts : List RowStart) (k : ℕ) : Type 0 where
+  pub inside : k < length starts
+  pub row : ℕ
+  pub row_inside : row < length starts
+  pub begins : (slice_index_or starts row origin).offset < offset
+  pub ahead : (slice_index_or starts k origin).units + w < (slice_index_or starts row origin).units
+
+-- a row begins as far behind an offset of one text as another row behind an offset of another text
+pub record IsSamePlace (shift stop : ℕ) (new old : RowStart) : Type 0 where
+  pub behind_shift : shift ≤ new.offset
+  pub behind_stop : stop ≤ old.offset
+  pub same : new.offset - shift ≡ old.offset - stop
+
+-- found row number `i`, at most the `last`, begins where the old one number `k` does
+pub record DoMeet (shift stop : ℕ) (found starts : List RowStart) (last i k : ℕ) : Type 0 where
+  pub found_inside : i ≤ last
+  pub old_inside : k < length starts
+  pub place : IsSamePlace shift stop (slice_index_or found i origin) (slice_index_or starts k origin)

@@ -1,0 +1,149 @@
+//! Rows that an edit of a body leaves, and rows behind it that meet them again.
+ghost use Rattle.std.specs.Prelude.{◌≡◌, ◌≤◌, ◌<◌, ◌+◌, ◌++◌, IfOk, IfSome, length, map, true};
+ghost use Rattle.bx_rows.specs.Laws.{behind, moved};
+ghost use Rattle.bx_paragraph.specs.RowEdits.{DoMeet, IsSamePlace, IsWellBefore};
+
+use bx_rows::RowStart;
+use std::alloc::AllocError;
+
+/// Whether a row begins more than a window's columns of units before another.
+fn is_ahead(first: RowStart, row: RowStart, w: u16) -> bool
+    ensures { result ≡ true → first.units + w < row.units }
+{
+    row.units.saturating_sub(first.units) > usize::from(w)
+}
+
+/// How many rows begin before an offset.
+fn count_before(starts: &[RowStart], offset: usize) -> usize {
+    starts.iter().filter(|s| s.offset < offset).count()
+}
+
+/// The number of a row that begins well before an offset: what stands there and behind has no part in where the rows up to it
+/// begin.
+pub(crate) fn well_before(starts: &[RowStart], offset: usize, w: u16) -> Option<usize>
+    ensures { IfSome result (IsWellBefore w offset starts.now) }
+{
+    let row = count_before(starts, offset).saturating_sub(1);
+    if row >= starts.len() || starts[row].offset >= offset {
+        return None;
+    }
+    let mut k = row;
+    while k > 0 {
+        k -= 1;
+        if is_ahead(starts[k], starts[row], w) {
+            return Some(k);
+        }
+    }
+    None
+}
+
+/// Whether a row begins as far behind an offset as another one behind another offset.
+fn is_same_place(new: RowStart, old: RowStart, shift: usize, stop: usize) -> bool
+    ensures { result ≡ true → IsSamePlace shift stop new old }
+{
+    if new.offset < shift {
+        return false;
+    }
+    if old.offset < stop {
+        return false;
+    }
+    new.offset - shift == old.offset - stop
+}
+
+/// The numbers of a found row, at most the `last`, and of an old row that begin in the same place behind an edit.
+pub(crate) fn meeting(
+    found: &[RowStart],
+    starts: &[RowStart],
+    last: usize,
+    shift: usize,
+    stop: usize,
+) -> Option<(usize, usize)>
+    requires { last < length found.now }
+    ensures { IfSome result (λ r. DoMeet shift stop found.now starts.now last r.0 r.1) }
+{
+    let mut i = 0;
+    let mut k = 0;
+    while i <= last {
+        if k >= starts.len() {
+            return None;
+        }
+        if is_same_place(found[i], starts[k], shift, stop) {
+            return Some((i, k));
+        }
+        if found[i].offset.saturating_sub(shift) < starts[k].offset.saturating_sub(stop) {
+            i += 1;
+        } else {
+            k += 1;
+        }
+    }
+    None
+}
+
+/// Where a row begins in a body, of which it is known where it begins behind the start of another.
+fn behind(first: RowStart, start: RowStart) -> Option<RowStart>
+    ensures { IfSome result (λ r. r ≡ behind first start) }
+{
+    let offset = first.offset.checked_add(start.offset)?;
+    let units = first.units.checked_add(start.units)?;
+    let chars = first.chars.checked_add(start.chars)?;
+    Some(RowStart {
+        offset,
+        units,
+        chars,
+    })
+}
+
+/// Where a row begins that begins as far behind `new` as it did behind `old`.
+fn moved(old: RowStart, new: RowStart, start: RowStart) -> Option<RowStart>
+    ensures { IfSome result (λ r. r ≡ moved old new start) }
+{
+    let offset = new
+        .offset
+        .checked_add(start.offset.saturating_sub(old.offset))?;
+    let units = new
+        .units
+        .checked_add(start.units.saturating_sub(old.units))?;
+    let chars = new
+        .chars
+        .checked_add(start.chars.saturating_sub(old.chars))?;
+    Some(RowStart {
+        offset,
+        units,
+        chars,
+    })
+}
+
+/// Adds the rows behind a row's start; tells whether their numbers have room.
+pub(crate) fn push_behind(
+    starts: &mut Vec<RowStart>,
+    first: RowStart,
+    rest: &[RowStart],
+) -> Result<bool, AllocError>
+    ensures { IfOk result (λ b. b ≡ true → starts.new.items ≡ starts.old.items ++ map (behind first) rest.now) }
+{
+    for start in rest {
+        let Some(at) = behind(first, *start) else {
+            return Ok(false);
+        };
+        starts.push(at)?;
+    }
+    Ok(true)
+}
+
+/// Adds rows that move from behind `old` to behind `new`; tells whether their numbers have room.
+pub(crate) fn push_moved(
+    starts: &mut Vec<RowStart>,
+    old: RowStart,
+    new: RowStart,
+    rest: &[RowStart],
+) -> Result<bool, AllocError>
+    ensures { IfOk result (λ b. b ≡ true → starts.new.items ≡ starts.old.items ++ map (moved old new) rest.now) }
+{
+    for start in rest {
+        let Some(at) = moved(old, new, *start) else {
+            return Ok(false);
+        };
+        starts.push(at)?;
+    }
+    Ok(true)
+}
