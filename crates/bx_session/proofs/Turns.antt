@@ -81,6 +81,7 @@ FeedPaints-prefixed d p s b s' h =
         painted = h.1.painted;
         known = h.1.known;
         is_picture = h.1.is_picture;
+        cursor = h.1.cursor;
       },
     )
 

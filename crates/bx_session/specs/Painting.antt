@@ -1,11 +1,11 @@
 -- What queued bytes make of a terminal.
-use Rattle.std.specs.Prelude.{◌≡◌, ℕ, true, List, ◌++◌, Option, Some, None, IfSome}
+use Rattle.std.specs.Prelude.{◌≡◌, ℕ, true, false, List, ◌++◌, Option, Some, None, IfSome}
 use Rattle.bx_grid.specs.Picture.{PictureState, AreWholeTokens, IsIdle, IsPicture, Shows}
 use Rattle.bx_grid.specs.Terminal.{Terminal, reads}
 use Rattle.bx_grid.specs.Screens.{IfShown}
 use Rattle.bx_editor.specs.Data.{Data}
 use Rattle.bx_editor.specs.Editor.{Editor}
-use Rattle.bx_editor.specs.Picture.{picture}
+use Rattle.bx_editor.specs.Picture.{StandsOnItsCell, picture}
 use Rattle.bx_session.specs.Session.{Session, unpainted_after_byte}
 
 -- bytes make a terminal that shows the old picture show the new one; where no old one is given, any terminal of the new
@@ -22,6 +22,8 @@ pub record Paints (d : Data) (before : List ℕ) (old : Option PictureState) (ne
   pub painted : new.painted ≡ Some (picture d new.editor new.top)
   pub known : new.known ≡ Some (picture d new.editor new.top)
   pub is_picture : IsPicture (picture d new.editor new.top)
+  -- until the session's end its cursor stands on its cell
+  pub cursor : new.editor.ended ≡ false → StandsOnItsCell d new.editor new.top (picture d new.editor new.top)
 
 abbrev pub QueuesPicture : Data → List ℕ → Option PictureState → Session → Type 0
 QueuesPicture d before known new = (bytes : List ℕ) × Paints d before known new bytes

@@ -70,4 +70,4 @@ returns-clause-paints g c =
     (painting_queues d s c.picture.new.self.editor c.in-Ok.top c.in-Ok.picture (drop c.self.inside.taken c.append.new.queue.items)
     (ap (λ (x : EditorState g.row.D.Denot). x.editor) c.in-Ok.ensures.same) c.in-Ok.ensures.picture
     (longer_queue c.self.inside.taken c.self.inside.queue.items (painting (known_if c.self.inside.is_known c.self.inside.painted) c.in-Ok.picture) c.append.new.queue.items c.self.invariant.0
-    c.in-Ok-append.ensures.bytes) c.append.ensures.tokens c.append.ensures.leads c.append.ensures.is_picture)
+    c.in-Ok-append.ensures.bytes) c.append.ensures.tokens c.append.ensures.leads c.append.ensures.is_picture c.in-Ok.ensures.cursor)
