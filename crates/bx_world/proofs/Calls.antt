@@ -4,6 +4,8 @@ use Rattle.std.proofs.Common.{refl, sym, ap, subst, ◌∙◌, if◌then◌else�
 use Rattle.std.specs.Prelude.{IfSome, IsSome, OnOk, OnErr, is_some, not, ◌&&◌, ◌==◌, ◌≢◌, option_map}
 use Rattle.bx_explicit.specs.declared.base.Base.{Base}
 use Rattle.bx_keys.specs.declared.key.Key.{Key}
+use Rattle.bx_keys.specs.Keys.{rest_after}
+use Rattle.bx_keys.specs.Waiting.{head_of}
 use Rattle.bx_grid.specs.declared.error.GridError.TheVariants as grid
 use Rattle.bx_grid.specs.Picture.{PictureState}
 use Rattle.bx_grid.specs.Terminal.{Terminal, reads, after_resize}
@@ -21,7 +23,7 @@ use Rattle.bx_world.specs.declared.step.StepFault.TheVariants as faults
 use Rattle.bx_world.specs.Answers.{answer_of, mark_after}
 use Rattle.bx_world.specs.Steps.{AfterByteStep, AfterToldStep, AfterReadStep}
 use Rattle.bx_world.specs.World.{World, unknown_terminal, with_byte, with_told_size, told_after, told_after_key, is_window, after_send}
-use Rattle.bx_world.specs.Showing.{IsInStep}
+use Rattle.bx_world.specs.Showing.{CursorStands, IsInStep}
 use Rattle.bx_world.proofs.Keys.{spent, byte_keeps, byte_pending, both, same_number}
 use Rattle.bx_world.proofs.Steps.{opened, kept, painted, resized, sent, received, failed}
 
@@ -45,12 +47,17 @@ opened_is {D} says s tables text height width base line screen is queued empty s
 
 -- ---- a byte
 
+spent_cursor : (ended : Bool) (d : Data) (s : Session) (rest : List ℕ) → CursorStands d s → CursorStands d (if ended then s else record s { rest = rest })
+spent_cursor true d s rest h = h
+spent_cursor false d s rest h = h
+
 -- a byte that was spent alone
 pub spent_in_step : (d : Data) (w : World) (b : ℕ) (told : Bool) → IsInStep d w → (told ≡ true → w.told ≡ true)
     → IsInStep d (record w { session = after_spending w.session b; told = told })
 spent_in_step d w b told was stays =
     let s = spent w.session b in
     kept d w (after_spending w.session b) told was s.pending (always_shows.refused_key d w.session b was.state)
+    (spent_cursor w.session.editor.ended d w.session (head_of (rest_after w.session.rest b)) was.cursor)
     (λ on. known w.session.known (after_spending w.session b).known (sym s.known) (stays on))
     (λ on. rw s.editor (was.size (stays on))) where
       known : (old new : Option PictureState) → old ≡ new → w.told ≡ true → IfSome new (λ p. (w.told ≡ true) × (old ≡ Some p))
@@ -62,7 +69,7 @@ pub owing_in_step : (d : Data) (saved : Bool) (w : World) (b : ℕ) → IsInStep
 owing_in_step d saved w b was =
     let keeps = byte_keeps d saved w b in
     kept d w (owing_after_byte d saved w.session b) (told_after_key w (key_of_byte w.session b)) was (byte_pending d saved w.session b)
-    (always_shows.owing_byte d saved w.session b) keeps.known (λ on. keeps.size was.size on)
+    (always_shows.owing_byte d saved w.session b) (λ owed. absurd (cc owed)) keeps.known (λ on. keeps.size was.size on)
 
 -- its key was applied and painted
 pub fed_in_step : (d : Data) (saved : Bool) (w : World) (b : ℕ) (new : Session) → IsInStep d w
@@ -135,7 +142,7 @@ told_in_step d w new height width (Ok done) was told paints =
 told_in_step d w new height width (Err refused.Edit) was told paints = absurd told
 told_in_step d w new height width (Err refused.Paint) was told paints =
     rw told.1 (kept d w (owing_after_told w.session height width) (is_window w height width) was refl (always_shows.owing_told d w.session height width)
-    (λ on. tt) (λ on. window_fits w height width on))
+    (λ owed. absurd (cc owed)) (λ on. tt) (λ on. window_fits w height width on))
 told_in_step d w new height width (Err refused.Size) was told paints = rw told.1 was
 
 pub told_call : {D : Type 0} (says : D → Data) (tables tables' : D) (w : World) (new : Session) (height width : ℕ) (answer : Result (Unit {0}) Refused)

@@ -112,7 +112,7 @@ accepted_owes_nothing d before old new store store' (s ∷ more) played owes on 
     accepted_owes_nothing d (accepted_after before s.0 s.1) played.0 new played.1 store' more played.3
     (step_owes d before old played.0 store played.1 s.0 s.1 played.2 owes) on
 
-owed_not : (owed : Bool) → not owed ≡ true → owed ≡ false
+pub owed_not : (owed : Bool) → not owed ≡ true → owed ≡ false
 owed_not false h = refl
 owed_not true h = absurd (cc h)
 

@@ -12,7 +12,7 @@ use Rattle.bx_session.specs.Laws.{ShowsState}
 use Rattle.bx_session.specs.Painting.{Leads, Paints, QueuesPicture}
 use Rattle.bx_session.proofs.Pictures.{picture_height, picture_width}
 use Rattle.bx_world.specs.World.{World, unread, unknown_terminal, around, after_window, after_send, after_read, with_failed_screen}
-use Rattle.bx_world.specs.Showing.{picture_of, AfterAll, NoRunInSequence, HasSize, FitsWindow, IsInStep}
+use Rattle.bx_world.specs.Showing.{picture_of, AfterAll, CursorStands, NoRunInSequence, HasSize, FitsWindow, IsInStep}
 use Rattle.bx_world.proofs.Terminals.{reads_size, reads_no_run, reads_alike, idle_as}
 
 -- a session after a step, beside the window's mark
@@ -20,11 +20,12 @@ abbrev with_session : World → Session → Bool → World
 with_session w s told = record w { session = s; told = told }
 
 -- where nothing was queued
-pub kept : (d : Data) (w : World) (s : Session) (told : Bool) → IsInStep d w → s.pending ≡ w.session.pending → ShowsState d s
+pub kept : (d : Data) (w : World) (s : Session) (told : Bool) → IsInStep d w → s.pending ≡ w.session.pending → ShowsState d s → CursorStands d s
     → (told ≡ true → IfSome s.known (λ p. (w.told ≡ true) × (w.session.known ≡ Some p)))
     → (told ≡ true → FitsWindow w.height w.width s.editor) → IsInStep d (with_session w s told)
-kept d w s told was pending state known fits = record {
+kept d w s told was pending state cursor known fits = record {
   state = state;
+  cursor = cursor;
   follows = λ on. known_follows s.known (known on);
   whole = subst (λ bytes. IfSome w.screen (λ t. IsIdle (reads t (w.line ++ bytes)))) (sym pending) was.whole;
   screen = was.screen;
@@ -60,6 +61,7 @@ pub painted : (d : Data) (w : World) (s : Session) (told : Bool) (known : Option
     → (told ≡ true → FitsWindow w.height w.width s.editor) → IsInStep d (with_session w s told)
 painted d w s told known was queued stays fits = record {
   state = λ owed. (paints.painted, paints.known);
+  cursor = λ owed. paints.cursor;
   follows = λ on. subst (λ painted. IfSome painted (λ p. IfSome w.screen (λ t. Shows (reads t (w.line ++ s.pending)) p))) (sym paints.known)
       (shows_at w.screen was.whole was.screen (known_at known (stays on)) on);
   whole = whole_at w.screen was.whole;
@@ -110,6 +112,7 @@ opened d s height width queued fits =
     let idle : IsIdle t = record { no_run = refl; no_token = refl } in
     let p = picture_of d s in record {
       state = λ owed. (paints.painted, paints.known);
+      cursor = λ owed. paints.cursor;
       follows = λ on. subst (λ painted. IfSome painted (λ q. Shows (reads t s.pending) q)) (sym paints.known)
           (subst (λ bytes. Shows (reads t bytes) p) (sym paints.appends)
           (paints.leads t idle (sym fits.0 ∙ sym (picture_height d s.editor s.top)) (sym fits.1 ∙ sym (picture_width d s.editor s.top))));
@@ -123,6 +126,7 @@ opened d s height width queued fits =
 pub resized : (d : Data) (w : World) (height width : ℕ) → IsInStep d w → IsInStep d (after_window w height width)
 resized d w height width was = record {
   state = was.state;
+  cursor = was.cursor;
   follows = λ on. absurd (cc on);
   whole = whole_at w.screen was.whole was.screen;
   screen = screen_at w.screen was.screen;
@@ -147,6 +151,7 @@ sent d w count was =
     let same : unread w ≡ (w.line ++ take count p) ++ drop count p =
     ap (λ xs. w.line ++ xs) (sym (take-append-drop count p)) ∙ sym (append_assoc w.line (take count p) (drop count p)) in record {
       state = was.state;
+      cursor = was.cursor;
       follows = λ on. subst (λ bytes. IfSome w.session.known (λ q. IfSome w.screen (λ t. Shows (reads t bytes) q))) same (was.follows on);
       whole = subst (λ bytes. IfSome w.screen (λ t. IsIdle (reads t bytes))) same was.whole;
       screen = was.screen;
@@ -156,6 +161,7 @@ sent d w count was =
 pub received : (d : Data) (w : World) (count : ℕ) → IsInStep d w → IsInStep d (after_read w count)
 received d w count was = record {
   state = was.state;
+  cursor = was.cursor;
   follows = λ on. follows_at w.session.known (was.follows on);
   whole = all_at w.screen IsIdle was.whole;
   screen = screen_at w.screen was.screen;
@@ -188,6 +194,7 @@ received d w count was = record {
 pub failed : (d : Data) (w : World) (line : List ℕ) → IsInStep d w → IsInStep d (with_failed_screen (record w { line = line }))
 failed d w line was = record {
   state = was.state;
+  cursor = was.cursor;
   follows = λ on. nothing w.session.known;
   whole = tt;
   screen = tt;

@@ -1,11 +1,11 @@
 -- What a schedule makes of a file: the keys that were typed, the text that they make, what is stored, and what is seen.
-use Rattle.std.specs.Prelude.{◌≡◌, ℕ, ◌+◌, ◌<◌, true, List, [], Result, IfSome}
+use Rattle.std.specs.Prelude.{◌≡◌, ℕ, ◌+◌, ◌<◌, true, false, List, [], Result, IfSome}
 use Rattle.bx_explicit.specs.declared.base.Base.{Base}
 use Rattle.bx_grid.specs.Picture.{Shows}
 use Rattle.bx_store.specs.Stores.{greatest}
 use Rattle.bx_editor.specs.Data.{Data}
 use Rattle.bx_editor.specs.Editor.{Editor, at_start}
-use Rattle.bx_editor.specs.Picture.{picture}
+use Rattle.bx_editor.specs.Picture.{StandsOnItsCell, picture}
 use Rattle.bx_session.specs.Session.{at_opening}
 use Rattle.bx_session.specs.Saving.{StoreState}
 use Rattle.bx_session.specs.Laws.{keys_from}
@@ -33,7 +33,7 @@ pub record Follows {A : Type 0} (d : Data) (old : World) (store : StoreState) (s
 -- each as it was answered. Their keys are those that the input grammar gives for all these bytes as a whole. The state is what
 -- the accepted keys make of the file, one after another, beside the tellings. Each save that succeeded stored the text of its
 -- moment. When the window's last size was told since, the last call was not refused, and all bytes are read, the terminal
--- shows exactly the picture of that state.
+-- shows exactly the picture of that state. Until the session's end the cursor of that picture stands on the cell of its place.
 pub record Headline {A : Type 0} (d : Data) (start : Editor) (store : StoreState) (schedule : List (Step × Result A StepFault)) (new : World)
     (store' : StoreState) (events : List Event) : Type 0 where
   pub events_are : AreEvents d start schedule events
@@ -44,6 +44,9 @@ pub record Headline {A : Type 0} (d : Data) (start : Editor) (store : StoreState
   pub failures : store'.failures < greatest → store'.failures ≡ store.failures + failed_saves events
   pub shows : is_last_accepted true schedule ≡ true → new.told ≡ true → new.line ≡ [] → new.session.pending ≡ []
       → IfSome new.screen (λ t. Shows t (picture d (after_events d start events) new.session.top))
+  -- whatever was told, is unread or pending
+  pub cursor : is_last_accepted true schedule ≡ true → new.session.editor.ended ≡ false
+      → StandsOnItsCell d (after_events d start events) new.session.top (picture d (after_events d start events) new.session.top)
 
 -- for every file, tables and schedule: from a world as it was opened
 abbrev pub HeadlineFromOpening : {A : Type 0} → Data → World → StoreState → List (Step × Result A StepFault) → World → StoreState → Type 0

@@ -4,7 +4,7 @@ use Rattle.bx_grid.specs.Picture.{PictureState, IsIdle, Shows}
 use Rattle.bx_grid.specs.Terminal.{Terminal, reads}
 use Rattle.bx_editor.specs.Data.{Data}
 use Rattle.bx_editor.specs.Editor.{Editor}
-use Rattle.bx_editor.specs.Picture.{picture}
+use Rattle.bx_editor.specs.Picture.{StandsOnItsCell, picture}
 use Rattle.bx_session.specs.Session.{Session}
 use Rattle.bx_session.specs.Laws.{ShowsState}
 use Rattle.bx_world.specs.World.{World, unread}
@@ -34,6 +34,10 @@ ShowsNow d w = IfSome w.screen (λ t. Shows t (picture_of d w.session))
 abbrev pub ShowsWhenRead : Bool → Data → World → Type 0
 ShowsWhenRead accepted d w = accepted ≡ true → w.told ≡ true → w.line ≡ [] → w.session.pending ≡ [] → ShowsNow d w
 
+-- where no painting is owed, and the session has not ended, the cursor of that picture stands on its cell
+abbrev pub CursorStands : Data → Session → Type 0
+CursorStands d s = s.painting_owed ≡ false → s.editor.ended ≡ false → StandsOnItsCell d s.editor s.top (picture_of d s)
+
 -- ---- what every step keeps
 
 -- a sequence is half read
@@ -54,6 +58,7 @@ FitsWindow height width e = (e.height ≡ height) × (e.width ≡ width)
 pub record IsInStep (d : Data) (w : World) : Type 0 where
   -- where no painting is owed, the picture last painted is the state's, and the screen is taken to show it
   pub state : ShowsState d w.session
+  pub cursor : CursorStands d w.session
   -- where the size was told, the terminal will show what the screen is taken to show
   pub follows : w.told ≡ true → IfSome w.session.known (λ p. AfterAll w (λ t. Shows t p))
   pub whole : StaysWhole w

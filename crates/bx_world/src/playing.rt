@@ -37,8 +37,9 @@ impl<D: BidiData + Drop> World<D> {
 
     /// Takes a schedule's steps in order, whatever those before answered, and gives the answers. Where the last call was not
     /// refused, the window's last size was told since and all bytes are read, the terminal shows the picture of the state, which
-    /// is what the accepted keys make of the file. Their keys are the input grammar's for all bytes of the schedule as a whole,
-    /// up to the session's end, and each save that succeeded stored the text of its moment.
+    /// is what the accepted keys make of the file; until the session's end its cursor stands on the cell of the cursor's place.
+    /// Their keys are the input grammar's for all bytes of the schedule as a whole, up to the session's end, and each save that
+    /// succeeded stored the text of its moment.
     ///
     /// Errors: `Line` for want of memory for the answers: no step was taken.
     pub fn play<S: Store>(
