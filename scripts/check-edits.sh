@@ -1,0 +1,109 @@
+#!/bin/sh
+# check-edits.sh [EDITS [SEED]]: makes so many random edits, 20,000 unless named, in the built program, in paragraphs of up to 2,000
+# characters, half of them notes of real words and half of all kinds of characters, in windows of several sizes. After each edit the
+# screen is painted whole as the layout has it that followed the edit, and once more as a layout has it that is made anew: another
+# direction throws a layout away, and three times lead back to the first. It stands beside the gate. The last line counts the edits;
+# the status is 1 where two such paintings differ, a run ends otherwise or another text is saved, and 77 where the program is not
+# built or there is no python3.
+set -eu
+
+top=$(cd "$(dirname "$0")/.." && pwd)
+editor=$top/crates/bidi_edit/out/bidi_edit
+case $#:${1:-20000}${2:-1} in
+[012]:*[!0-9]*) echo 'usage: scripts/check-edits.sh [EDITS [SEED]]' >&2 && exit 2 ;;
+[012]:*) ;;
+*) echo 'usage: scripts/check-edits.sh [EDITS [SEED]]' >&2 && exit 2 ;;
+esac
+if ! [ -x "$editor" ]; then
+    echo 'skipped: the program is not built (rt run in crates/bidi_edit builds it)'
+    exit 77
+fi
+if ! command -v python3 >/dev/null 2>&1; then
+    echo 'skipped: there is no python3'
+    exit 77
+fi
+folder=$(mktemp -d)
+trap 'rm -rf "$folder"' EXIT
+trap 'exit 1' HUP INT TERM
+cd "$folder"
+
+cat >edits.py <<'END'
+import random, subprocess, sys
+
+editor, data, edits, seed = sys.argv[1], sys.argv[2], int(sys.argv[3]), int(sys.argv[4])
+chance = random.Random(seed)
+PER_TEXT = 200
+# A whole painting begins with this.
+WHOLE = b"\x1b[0m\x1b[2J"
+# Two Repaints: the first painting ends where the second begins.
+REPAINT = b"\x0c\x0c"
+# Auto, left to right, right to left, and Auto again.
+DIRECTIONS = b"\x1b[9~" * 3
+MOVES = [b"\x1b[A", b"\x1b[B", b"\x1b[C", b"\x1b[D", b"\x06", b"\x02", b"\x1b[H", b"\x1b[F", b"\x1b[5~", b"\x1b[6~"]
+HEBREW = "של אני הבית ספר ילדה הולכת לים בערב (ירושלים) מחיר שולחן כיסא".split()
+ARABIC = "السلام عليكم كتاب بيت مدرسة في على كبير صغير يوم".split()
+LATIN = "the house of a note: bread, milk (2 litres) and so on www.example.org".split()
+NUMBERS = "12 3,5 17:30 100% $4 ١٢ ٣٤".split()
+# letters of each direction, numbers and what stands among them, marks, blanks, brackets, joiners, controls of direction
+KINDS = [0x61, 0x5A, 0x05D0, 0x05D1, 0x0627, 0x0628, 0x31, 0x38, 0x0661, 0x2B, 0x2D, 0x25, 0x24, 0x2C, 0x3A, 0x2E, 0x0301, 0x05B8,
+    0x20, 0x20, 0x09, 0x28, 0x29, 0x5B, 0x5D, 0x3C, 0x3E, 0x21, 0x26, 0x200D, 0x200B, 0x4E2D, 0x1F600, 0x1F468, 0x0915, 0x094D]
+CONTROLS = [0x202A, 0x202B, 0x202C, 0x202D, 0x202E, 0x2066, 0x2067, 0x2068, 0x2069, 0x200E, 0x200F, 0xAD]
+
+
+def words(count):
+    kinds = chance.choice([[HEBREW], [ARABIC], [HEBREW, LATIN, NUMBERS], [ARABIC, LATIN, NUMBERS], [LATIN], [HEBREW, ARABIC, LATIN, NUMBERS]])
+    text = ""
+    while len(text) < count:
+        text += chance.choice(chance.choice(kinds)) + " "
+    return text[:count]
+
+
+def characters(count, controls):
+    return "".join(chr(chance.choice(CONTROLS if controls and chance.random() < 0.1 else KINDS)) for _ in range(count))
+
+
+def edit(is_note):
+    kind = chance.random()
+    if kind < 0.6:
+        return (words(1 + chance.randrange(9)) if is_note else characters(1, chance.random() < 0.1)).encode()
+    return b"\x7f" if kind < 0.75 else b"\x1b[3~" if kind < 0.85 else b"\x1a" if kind < 0.93 else b"\x19" if kind < 0.97 else b"\r"
+
+
+def check(count):
+    is_note = chance.random() < 0.5
+    size = chance.randrange(1, 2001)
+    text = words(size) if is_note else characters(size, chance.random() < 0.3)
+    rows, columns = chance.choice([(24, 80), (24, 80), (10, 20), (40, 7), (5, 132)])
+    keys = b""
+    for _ in range(count):
+        for _ in range(chance.randrange(4)):
+            keys += chance.choice(MOVES)
+        keys += edit(is_note) + REPAINT + DIRECTIONS + REPAINT
+    with open("text", "wb") as file:
+        file.write(text.encode())
+    files = [f"--classes={data}/DerivedBidiClass.txt", f"--brackets={data}/BidiBrackets.txt", f"--mirroring={data}/BidiMirroring.txt"]
+    run = subprocess.run([editor, f"--rows={rows}", f"--cols={columns}", *files, "text"], input=keys + b"\x13\x11\x11", capture_output=True)
+    if run.returncode != 0:
+        return f"status {run.returncode}: {run.stderr[:200]!r}"
+    pages = run.stdout.split(WHOLE)[2:]
+    # after the opening: the edit as it was followed, twice, and anew, twice; at the end all is blank
+    if len(pages) != 4 * count + 1:
+        return f"{len(pages)} paintings for {count} edits"
+    for at in range(count):
+        if pages[4 * at] != pages[4 * at + 2]:
+            return f"the paintings after edit {at + 1} differ"
+    return ""
+
+
+done = failed = 0
+while done < edits:
+    count = min(PER_TEXT, edits - done)
+    wrong = check(count)
+    done += count
+    if wrong:
+        failed += 1
+        print(f"FAILS text {(done + PER_TEXT - 1) // PER_TEXT} of seed {seed}: {wrong}")
+print(f"{done} edits, {failed} texts failed")
+sys.exit(1 if failed else 0)
+END
+python3 edits.py "$editor" "$top/data" "${1:-20000}" "${2:-1}"
