@@ -177,19 +177,19 @@ check_manual() {
 
 # A root folder with nothing but dpkg's own list, which lacks the C library.
 in_root() { # WORD..
-    dpkg --root="$folder/root" --force-not-root --force-depends --force-script-chrootless --log=/dev/null "$@" >"$folder/dpkg" 2>&1
+    dpkg --root="$folder/tree" --force-not-root --force-depends --force-script-chrootless --log=/dev/null "$@" >"$folder/dpkg" 2>&1
 }
 
 check_package() {
-    mkdir -p "$folder/root/var/lib/dpkg/info" "$folder/root/var/lib/dpkg/updates"
-    : >"$folder/root/var/lib/dpkg/status"
+    mkdir -p "$folder/tree/var/lib/dpkg/info" "$folder/tree/var/lib/dpkg/updates"
+    : >"$folder/tree/var/lib/dpkg/status"
     in_root --install "$target/$name.deb" && found=0 || found=1
     report 'package, installed' "$found" "$(cat "$folder/dpkg")"
     same 'package, as dpkg tells' "$(in_root --status bidi-edit && sed -n 's/^Status: //p' "$folder/dpkg")" 'install ok installed'
-    use package "$folder/root/usr"
+    use package "$folder/tree/usr"
     in_root --purge bidi-edit && found=0 || found=1
     report 'package, removed' "$found" "$(cat "$folder/dpkg")"
-    same 'package, nothing stays' "$(find "$folder/root" -path "$folder/root/var" -prune -o ! -type d -print)" ''
+    same 'package, nothing stays' "$(find "$folder/tree" -path "$folder/tree/var" -prune -o ! -type d -print)" ''
 }
 
 check_tar() {
