@@ -53,6 +53,17 @@ fn text_edit<'t>(
     }
 }
 
+/// Whether a body has no formatting characters, where that is known or can be seen.
+fn has_none<D: BidiData>(is_unformatted: bool, body: &str, tables: &D) -> bool
+    requires { is_unformatted ≡ true → HasNoFormatting (D.class_of tables.now) (chars body.now) }
+    ensures { result ≡ true → HasNoFormatting (D.class_of tables.now) (chars body.now) }
+{
+    if is_unformatted {
+        return true;
+    }
+    are_unformatted(body, tables)
+}
+
 /// Turns the levels of a body into those of what an edit turns it into; tells whether that is known to have no formatting
 /// characters. Strong characters that cut off the edit spare all levels but those between them.
 ///
@@ -73,7 +84,7 @@ fn edit_levels<D: BidiData>(
     ensures unformatted { IfOk result (λ b. b ≡ true → HasNoFormatting (D.class_of tables.now) (chars changed.now)) }
     ensures err { OnErr result (AreAsBefore levels.old levels.new) }
 {
-    if is_unformatted && follow(levels, tables, edit)? {
+    if has_none(is_unformatted, body, tables) && follow(levels, tables, edit)? {
         return Ok(true);
     }
     let alloc = *levels.each.allocator();
@@ -83,8 +94,8 @@ fn edit_levels<D: BidiData>(
 
 impl ParagraphLayout {
     /// Puts a text in the place of the body's from an offset up to another, in bytes. Where strong characters cut off the edit
-    /// (UAX #9), all levels but those between them are kept; else the whole body is resolved again, as it is at the first edit
-    /// of a layout. The rows are found from one well before the edit until they meet the old ones.
+    /// (UAX #9), all levels but those between them are kept; else the whole body is resolved again. The rows are found from one
+    /// well before the edit until they meet the old ones.
     ///
     /// Errors: `OutOfMemory`, and nothing has changed.
     pub fn edit<D: BidiData>(
@@ -111,9 +122,10 @@ impl ParagraphLayout {
             body,
             starts: &self.starts,
             stop,
+            w: self.w,
         };
         let last = start + inserted.len();
-        let starts = edited_starts(alloc, &old, changed.as_str(), start, last, tables, self.w)?;
+        let starts = edited_starts(alloc, &old, changed.as_str(), start, last, tables)?;
         let edit = text_edit(body, &self.starts, start, stop, inserted);
         self.is_unformatted = edit_levels(
             &mut self.levels,

@@ -10,12 +10,13 @@ use bx_terms::OutOfMemory;
 use bx_ucd::BidiData;
 use std::alloc::Global;
 
-/// The rows of a body before an edit, and the offset at which what it removes ends.
+/// The rows of a body before an edit, in a window of so many columns, and the offset at which what the edit removes ends.
 #[derive(Clone, Copy)]
 pub(crate) struct OldRows<'t> {
     pub(crate) body: &'t str,
     pub(crate) starts: &'t [RowStart],
     pub(crate) stop: usize,
+    pub(crate) w: u16,
 }
 
 /// So many bytes behind an edit does a first search go, for each column of the window.
@@ -45,17 +46,16 @@ fn met_starts<D: BidiData>(
     near: &str,
     shift: usize,
     tables: &D,
-    w: u16,
 ) -> Result<Option<Vec<RowStart>>, OutOfMemory>
-    requires side { is_side w ≡ true }
-    requires starts { old.now.starts.now ≡ row_starts (D.class_of tables.now) w old.now.body.now }
+    requires side { is_side old.now.w ≡ true }
+    requires starts { old.now.starts.now ≡ row_starts (D.class_of tables.now) old.now.w old.now.body.now }
     requires near { near.now ≡ take (length near.now) rest.now }
     requires boundary { IsCharBoundary rest.now (length near.now) }
     requires same { drop old.now.stop old.now.body.now ≡ drop shift rest.now }
-    ensures { IfOk result (λ o. IfSome o (λ v. v.items ≡ row_starts (D.class_of tables.now) w rest.now)) }
+    ensures { IfOk result (λ o. IfSome o (λ v. v.items ≡ row_starts (D.class_of tables.now) old.now.w rest.now)) }
 {
-    let mut found = row_starts(alloc, near, tables, w)?;
-    let Some(last) = well_before(&found, near.len(), w) else {
+    let mut found = row_starts(alloc, near, tables, old.w)?;
+    let Some(last) = well_before(&found, near.len(), old.w) else {
         return Ok(None);
     };
     let Some((i, k)) = meeting(&found, old.starts, last, shift, old.stop) else {
@@ -76,20 +76,19 @@ fn rest_starts<D: BidiData>(
     rest: &str,
     shift: usize,
     tables: &D,
-    w: u16,
 ) -> Result<Vec<RowStart>, OutOfMemory>
-    requires side { is_side w ≡ true }
-    requires starts { old.now.starts.now ≡ row_starts (D.class_of tables.now) w old.now.body.now }
+    requires side { is_side old.now.w ≡ true }
+    requires starts { old.now.starts.now ≡ row_starts (D.class_of tables.now) old.now.w old.now.body.now }
     requires same { drop old.now.stop old.now.body.now ≡ drop shift rest.now }
-    ensures { IfOk result (λ v. v.items ≡ row_starts (D.class_of tables.now) w rest.now) }
+    ensures { IfOk result (λ v. v.items ≡ row_starts (D.class_of tables.now) old.now.w rest.now) }
 {
-    let near = near_text(rest, shift, w);
+    let near = near_text(rest, shift, old.w);
     if near.len() < rest.len() {
-        if let Some(found) = met_starts(alloc, old, rest, near, shift, tables, w)? {
+        if let Some(found) = met_starts(alloc, old, rest, near, shift, tables)? {
             return Ok(found);
         }
     }
-    let found = row_starts(alloc, rest, tables, w)?;
+    let found = row_starts(alloc, rest, tables, old.w)?;
     Ok(found)
 }
 
@@ -101,23 +100,22 @@ pub(crate) fn edited_starts<D: BidiData>(
     start: usize,
     stop: usize,
     tables: &D,
-    w: u16,
 ) -> Result<Vec<RowStart>, OutOfMemory>
-    requires side { is_side w ≡ true }
+    requires side { is_side old.now.w ≡ true }
     requires text { IsUtf8 old.now.body.now }
-    requires starts { old.now.starts.now ≡ row_starts (D.class_of tables.now) w old.now.body.now }
+    requires starts { old.now.starts.now ≡ row_starts (D.class_of tables.now) old.now.w old.now.body.now }
     requires old_start { IsCharBoundary old.now.body.now start }
     requires new_start { IsCharBoundary changed.now start }
     requires order { start ≤ stop }
     requires front { take start old.now.body.now ≡ take start changed.now }
     requires back { drop old.now.stop old.now.body.now ≡ drop stop changed.now }
-    ensures { IfOk result (λ v. v.items ≡ row_starts (D.class_of tables.now) w changed.now) }
+    ensures { IfOk result (λ v. v.items ≡ row_starts (D.class_of tables.now) old.now.w changed.now) }
 {
-    if let Some(row) = well_before(old.starts, start, w) {
+    if let Some(row) = well_before(old.starts, start, old.w) {
         let first = old.starts[row];
         if first.offset <= stop && changed.is_char_boundary(first.offset) {
             let rest = &changed[first.offset..];
-            let found = rest_starts(alloc, old, rest, stop - first.offset, tables, w)?;
+            let found = rest_starts(alloc, old, rest, stop - first.offset, tables)?;
             let mut starts = Vec::new(alloc);
             starts.extend_from_slice(&old.starts[..row])?;
             if push_behind(&mut starts, first, &found)? {
@@ -125,6 +123,6 @@ pub(crate) fn edited_starts<D: BidiData>(
             }
         }
     }
-    let starts = row_starts(alloc, changed, tables, w)?;
+    let starts = rest_starts(alloc, old, changed, stop, tables)?;
     Ok(starts)
 }

@@ -4,26 +4,26 @@ use Rattle.bx_paragraph.proofs.edited.edit_levels.Goals as goal
 
 pub follow-requires : goal.follow-requires
 follow-requires g c =
-    let known : c.args.is_unformatted ≡ true = search rules in
+    let known = c.has_none.ensures (search rules) in
     record {
       whole = whole-count c.args.body.now c.args.changed.now c.args.edit.now c.requires.edit (g.D.BidiData.class_of c.args.tables.now)
-          (g.D.BidiData.bracket_of c.args.tables.now) c.args.base c.args.levels.now.each.items (c.requires.unformatted known) c.requires.levels.each_is;
+          (g.D.BidiData.bracket_of c.args.tables.now) c.args.base c.args.levels.now.each.items known c.requires.levels.each_is;
     }
 
 pub returns-then-branch-clause-levels : goal.returns-then-branch-clause-levels
 returns-then-branch-clause-levels g c =
-    let known : c.args.is_unformatted ≡ true = search rules in
+    let known = c.has_none.ensures (search rules) in
     let followed : c.in_ok-follow.field-0 ≡ true = search rules in
     levels-follow c.args.body.now c.args.changed.now c.args.edit.now c.requires.edit (g.D.BidiData.class_of c.args.tables.now)
-    (g.D.BidiData.bracket_of c.args.tables.now) c.args.base c.args.levels.now c.follow.new.levels (c.requires.unformatted known)
+    (g.D.BidiData.bracket_of c.args.tables.now) c.args.base c.args.levels.now c.follow.new.levels known
     (c.in_ok-follow.ensures.follows followed) c.requires.levels
 
 pub returns-then-branch-clause-unformatted : goal.returns-then-branch-clause-unformatted
 returns-then-branch-clause-unformatted g c = λ e.
-    let known : c.args.is_unformatted ≡ true = search rules in
+    let known = c.has_none.ensures (search rules) in
     let followed : c.in_ok-follow.field-0 ≡ true = search rules in
     stays-plain c.args.body.now c.args.changed.now c.args.edit.now c.requires.edit (g.D.BidiData.class_of c.args.tables.now)
-    (g.D.BidiData.bracket_of c.args.tables.now) (c.requires.unformatted known) (c.in_ok-follow.ensures.unformatted followed)
+    (g.D.BidiData.bracket_of c.args.tables.now) known (c.in_ok-follow.ensures.unformatted followed)
 
 pub returns-clause-unformatted : goal.returns-clause-unformatted
 returns-clause-unformatted g c = λ e.

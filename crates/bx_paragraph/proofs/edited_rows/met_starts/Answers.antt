@@ -10,7 +10,7 @@ use Rattle.bx_paragraph.proofs.edited_rows.met_starts.Goals as goal
 pub returns-then-branch : goal.returns-then-branch
 returns-then-branch g c =
     let class = g.D.BidiData.class_of c.args.tables.now in
-    let w = c.args.w in
+    let w = c.args.old.now.w in
     let old = c.args.old.now in
     let starts = old.starts.now in
     let near = c.args.near.now in
