@@ -3,8 +3,11 @@
 # characters, half of them notes of real words and half of all kinds of characters, in windows of several sizes. After each edit the
 # screen is painted whole as the layout has it that followed the edit, and once more as a layout has it that is made anew: another
 # direction throws a layout away, and three times lead back to the first. It stands beside the gate. The last line counts the edits;
-# the status is 1 where two such paintings differ, a run ends otherwise or another text is saved, and 77 where the program is not
-# built or there is no python3.
+# the status is 1 where two such paintings differ or a run ends otherwise, and 77 where the program is not built or there is no
+# python3.
+#
+# Where there is gdb, it counts in 2,000 more edits of notes in how many the levels are kept but for those between two strong
+# characters: the status is 1 where these are less than nine in ten.
 set -eu
 
 top=$(cd "$(dirname "$0")/.." && pwd)
@@ -28,7 +31,7 @@ trap 'exit 1' HUP INT TERM
 cd "$folder"
 
 cat >edits.py <<'END'
-import random, subprocess, sys
+import random, re, shutil, subprocess, sys
 
 editor, data, edits, seed = sys.argv[1], sys.argv[2], int(sys.argv[3]), int(sys.argv[4])
 chance = random.Random(seed)
@@ -95,6 +98,33 @@ def check(count):
     return ""
 
 
+# What is called at each edit that a layout follows and once more where strong characters cut it off, and what in the second case alone.
+FUNCTIONS = ["bx_paragraph::text_edit::joined", "bx_resolve::edited::resolve_span"]
+
+
+def count_ways(count):
+    """Of so many edits of notes, how many a layout followed, and how many of these strong characters cut off."""
+    with open("text", "w") as file:
+        file.write("\n".join(words(chance.randrange(40, 2001)) for _ in range(20)))
+    keys = b""
+    for _ in range(count):
+        for _ in range(chance.randrange(4)):
+            keys += chance.choice(MOVES)
+        keys += edit(True)
+    with open("keys", "wb") as file:
+        file.write(keys + b"\x11\x11")
+    words_of = f"--rows=24 --cols=80 --classes={data}/DerivedBidiClass.txt --brackets={data}/BidiBrackets.txt --mirroring={data}/BidiMirroring.txt"
+    commands = ["set pagination off"] + [f"rbreak ^{name}" for name in FUNCTIONS] + ["ignore 1 1000000000", "ignore 2 1000000000"]
+    commands += [f"run {words_of} text <keys >/dev/null", "info breakpoints"]
+    with open("commands", "w") as file:
+        file.write("\n".join(commands) + "\n")
+    run = subprocess.run(["gdb", "-nx", "-q", "-batch", "-x", "commands", editor], stdin=subprocess.DEVNULL, capture_output=True, text=True)
+    hits = [int(n) for n in re.findall(r"breakpoint already hit (\d+) times?", run.stdout)]
+    if len(hits) != 2:
+        return None
+    return hits[0] - hits[1], hits[1]
+
+
 done = failed = 0
 while done < edits:
     count = min(PER_TEXT, edits - done)
@@ -103,6 +133,15 @@ while done < edits:
     if wrong:
         failed += 1
         print(f"FAILS text {(done + PER_TEXT - 1) // PER_TEXT} of seed {seed}: {wrong}")
+if shutil.which("gdb"):
+    ways = count_ways(2000)
+    if ways is None or 10 * ways[1] < 9 * ways[0] or ways[0] == 0:
+        failed += 1
+        print("FAILS the count of edits that strong characters cut off:", ways)
+    else:
+        print(f"of {ways[0]} edits of notes that a layout followed, strong characters cut off {ways[1]}")
+else:
+    print("skipped: the count of edits that strong characters cut off, since there is no gdb")
 print(f"{done} edits, {failed} texts failed")
 sys.exit(1 if failed else 0)
 END
