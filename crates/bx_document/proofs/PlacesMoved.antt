@@ -3,9 +3,8 @@ use Rattle.std.proofs.Common.{◌≡◌, ℕ, true, List, Option, IsUtf8, sym, s
 use Rattle.bx_terms.specs.Sizes.{is_side}
 use Rattle.bx_ucd.specs.declared.class.Class.{Class}
 use Rattle.bx_ucd.specs.declared.data.Side.{Side}
-use Rattle.bx_paragraph.specs.declared.moves.Visual.{Visual}
-use Rattle.bx_view.specs.declared.moves.Logical.{Logical}
-use Rattle.bx_view.specs.declared.moves.Vertical.{Vertical}
+use Rattle.bx_view.specs.declared.moves.Move.{Move}
+use Rattle.bx_view.specs.declared.moves.Move.TheVariants as variants
 use Rattle.bx_view.specs.Laws.{MovesKeep}
 use Rattle.bx_view.specs.Moves as moves
 use Rattle.bx_view.specs.Places.{IsTextPlace}
@@ -38,20 +37,13 @@ module _ {D : Type 0} (class_of : D → ℕ → Class) (bracket_of : D → ℕ �
   pub from : (offset o : ℕ) → o ≡ moves.place_from rows offset → IsOf now o
   from offset o e = there o (moves.place_from rows offset) e (kept.from offset)
 
-  pub logical : (way : Logical) (place o : ℕ) → o ≡ moves.step_logical rows way place → IsOf now place → IsOf now o
-  logical way place o e h = there o (moves.step_logical rows way place) e (kept.logical way place (here place h))
+  pub by-move : (m : Move) (place o : ℕ) → o ≡ moves.moved w rows m place → IsOf now place → IsOf now o
+  by-move m place o e h = there o (moves.moved w rows m place) e (kept.moved m place (here place h))
 
-  pub visual : (side : Visual) (place o : ℕ) → o ≡ moves.step_visual w rows side place → IsOf now place → IsOf now o
-  visual side place o e h = there o (moves.step_visual w rows side place) e (kept.visual side place (here place h))
-
-  pub vertical : (way : Vertical) (place o : ℕ) → o ≡ moves.vertical w rows way place → IsOf now place → IsOf now o
-  vertical way place o e h = there o (moves.vertical w rows way place) e (kept.vertical way place (here place h))
-
-  pub page : (way : Vertical) (t place o : ℕ) → o ≡ moves.page w rows way t place → IsOf now place → IsOf now o
-  page way t place o e h = there o (moves.page w rows way t place) e (kept.page way t place (here place h))
-
-  pub home : (place o : ℕ) → o ≡ moves.row_home rows place → IsOf now o
-  home place o e = there o (moves.row_home rows place) e (kept.home place)
-
-  pub end : (place o : ℕ) → o ≡ moves.row_end rows place → IsOf now o
-  end place o e = there o (moves.row_end rows place) e (kept.end place)
+  -- from any offset
+  pub to-row-end : (m : Move) (place o : ℕ) → o ≡ moves.moved w rows m place → moves.is_to_row_end m ≡ true → IsOf now o
+  to-row-end variants.RowHome place o e h = there o (moves.row_home rows place) e (kept.home place)
+  to-row-end variants.RowEnd place o e h = there o (moves.row_end rows place) e (kept.end place)
+  to-row-end (variants.Logical way) place o e h = absurd (cc)
+  to-row-end (variants.Visual side) place o e h = absurd (cc)
+  to-row-end (variants.Rows way n) place o e h = absurd (cc)

@@ -9,7 +9,7 @@ use crate::error::EditorError;
 use crate::message::Message;
 use bx_document::Answers;
 use bx_ucd::BidiData;
-use bx_view::Logical;
+use bx_view::{Logical, Move};
 
 impl<D: BidiData + Drop> Editor<D> {
     /// Puts a character in at the place, unless the text has no room for it.
@@ -63,7 +63,7 @@ impl<D: BidiData + Drop> Editor<D> {
         // tells the proof that the text is UTF-8
         let _utf8 = self.document.len();
         let place = self.place;
-        let start = self.document.step_logical(Logical::Back, place)?;
+        let start = self.document.moved(Move::Logical(Logical::Back), place)?;
         self.remove(start, place)?;
         Ok(())
     }
@@ -79,7 +79,7 @@ impl<D: BidiData + Drop> Editor<D> {
         // tells the proof that the text is UTF-8
         let _utf8 = self.document.len();
         let place = self.place;
-        let stop = self.document.step_logical(Logical::Forward, place)?;
+        let stop = self.document.moved(Move::Logical(Logical::Forward), place)?;
         self.remove(place, stop)?;
         Ok(())
     }

@@ -9,9 +9,8 @@ use crate::message::Message;
 use bx_document::Answers;
 use bx_explicit::Base;
 use bx_keys::Key;
-use bx_paragraph::Visual;
 use bx_ucd::BidiData;
-use bx_view::{Logical, Vertical};
+use bx_view::{Logical, Move, Vertical, Visual};
 
 /// The direction after one.
 fn next_base(base: Base) -> Base
@@ -86,20 +85,21 @@ impl<D: BidiData + Drop> Editor<D> {
         ensures err { OnErr result (self.new ≡ self.old) }
         ensures edits { OnErr result (is_edit_or_move key ≡ true) }
     {
+        let page = self.page();
         match key {
             Key::Insert(c) => self.insert(c),
             Key::Erase => self.erase(),
             Key::Delete => self.delete(),
-            Key::Back => self.step_logical(Logical::Back),
-            Key::Forward => self.step_logical(Logical::Forward),
-            Key::Up => self.vertical(Vertical::Up),
-            Key::Down => self.vertical(Vertical::Down),
-            Key::Right => self.step_visual(Visual::Right),
-            Key::Left => self.step_visual(Visual::Left),
-            Key::RowHome => self.row_home(),
-            Key::RowEnd => self.row_end(),
-            Key::PageUp => self.page(Vertical::Up),
-            Key::PageDown => self.page(Vertical::Down),
+            Key::Back => self.moved(Move::Logical(Logical::Back)),
+            Key::Forward => self.moved(Move::Logical(Logical::Forward)),
+            Key::Up => self.moved(Move::Rows(Vertical::Up, 1)),
+            Key::Down => self.moved(Move::Rows(Vertical::Down, 1)),
+            Key::Right => self.moved(Move::Visual(Visual::Right)),
+            Key::Left => self.moved(Move::Visual(Visual::Left)),
+            Key::RowHome => self.moved(Move::RowHome),
+            Key::RowEnd => self.moved(Move::RowEnd),
+            Key::PageUp => self.moved(Move::Rows(Vertical::Up, page)),
+            Key::PageDown => self.moved(Move::Rows(Vertical::Down, page)),
             Key::Undo => self.undo(),
             Key::Redo => self.redo(),
             Key::Quit => {

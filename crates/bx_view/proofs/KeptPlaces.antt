@@ -24,8 +24,10 @@ use Rattle.bx_paragraph.specs.Slots.{AreReordered, beside, entry, or_else, readi
 use Rattle.bx_paragraph.proofs.OnceEach.{once-each}
 use Rattle.bx_view.specs.declared.moves.Logical.{Logical}
 use Rattle.bx_view.specs.declared.moves.Logical.TheVariants.{Back, Forward}
+use Rattle.bx_view.specs.declared.moves.Move.{Move}
+use Rattle.bx_view.specs.declared.moves.Move.TheVariants as moves
 use Rattle.bx_view.specs.declared.moves.Vertical.{Vertical}
-use Rattle.bx_view.specs.Moves.{end_of, entry_in, past, place_from, place_in, row_after, row_away}
+use Rattle.bx_view.specs.Moves.{end_of, entry_in, moved, past, place_from, place_in, row_after, row_away}
 use Rattle.bx_view.specs.Moves.{row_before, row_end, row_home, rows_away, start_of, step_logical, step_visual}
 use Rattle.bx_view.specs.Cells.{times}
 use Rattle.bx_view.specs.Laws.{MovesKeep}
@@ -243,6 +245,13 @@ module _ (w : ℕ) (rows : List TextRow) (P : ℕ → Type 0) (each : All (λ r.
   kept-row_end offset =
       let r = row_at rows (row_of rows offset) in last-fits (λ o. P (r.start + o)) w r.row (row-lies (row_of rows offset) (own-row offset))
 
+  pub kept-moved : (m : Move) (place : ℕ) → P place → P (moved w rows m place)
+  kept-moved (moves.Logical way) place b = kept-step_logical way place b
+  kept-moved (moves.Visual side) place b = kept-step_visual side place b
+  kept-moved (moves.Rows way n) place b = kept-rows_away way n place b
+  kept-moved moves.RowHome place b = kept-row_home place
+  kept-moved moves.RowEnd place b = kept-row_end place
+
   pub kept-follow : (top place t : ℕ) → 0 < t → P (follow rows top place t)
   kept-follow top place t shown =
       let above = own-row top in
@@ -253,6 +262,7 @@ module _ (w : ℕ) (rows : List TextRow) (P : ℕ → Type 0) (each : All (λ r.
   pub moves-keep : MovesKeep w rows P
   moves-keep = record {
     from = kept-place_from;
+    moved = kept-moved;
     logical = kept-step_logical;
     visual = kept-step_visual;
     vertical = λ way place b. kept-rows_away way 1 place b;

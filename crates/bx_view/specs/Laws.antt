@@ -9,8 +9,9 @@ use Rattle.bx_ucd.specs.declared.data.Side.{Side}
 use Rattle.bx_explicit.specs.declared.base.Base.{Base}
 use Rattle.bx_paragraph.specs.declared.moves.Visual.{Visual}
 use Rattle.bx_view.specs.declared.moves.Logical.{Logical}
+use Rattle.bx_view.specs.declared.moves.Move.{Move}
 use Rattle.bx_view.specs.declared.moves.Vertical.{Vertical}
-use Rattle.bx_view.specs.Moves.{entry_in, page, place_from, row_end, row_home, step_logical, step_visual, vertical}
+use Rattle.bx_view.specs.Moves.{entry_in, moved, page, place_from, row_end, row_home, step_logical, step_visual, vertical}
 use Rattle.bx_view.specs.Places.{pieces, text_places}
 use Rattle.bx_view.specs.TextRows.{TextRow, row_at, row_of, text_rows}
 use Rattle.bx_view.specs.Top.{follow}
@@ -33,6 +34,7 @@ pub record SpansText (class : ℕ → Class) (text : List ℕ) : Type 0 where
 -- each move leads from an offset that passes to one that does
 pub record MovesKeep (w : ℕ) (rows : List TextRow) (P : ℕ → Type 0) : Type 0 where
   pub from : (offset : ℕ) → P (place_from rows offset)
+  pub moved : (m : Move) (place : ℕ) → P place → P (moved w rows m place)
   pub logical : (way : Logical) (place : ℕ) → P place → P (step_logical rows way place)
   pub visual : (side : Visual) (place : ℕ) → P place → P (step_visual w rows side place)
   pub vertical : (way : Vertical) (place : ℕ) → P place → P (vertical w rows way place)

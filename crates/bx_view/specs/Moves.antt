@@ -1,11 +1,13 @@
 -- The cursor's moves, from place to place.
-use Rattle.std.specs.Prelude.{ℕ, zero, suc, ◌+◌, ◌-◌, ◌==◌, nat_le, nat_lt, min, true}
+use Rattle.std.specs.Prelude.{ℕ, zero, suc, ◌+◌, ◌-◌, ◌==◌, nat_le, nat_lt, min, Bool, true}
 use Rattle.std.specs.Prelude.{false, List, length, reverse, find, slice_get, Option, Some, None, option_map, unwrap_or}
 use Rattle.bx_paragraph.specs.declared.moves.Visual.{Visual}
 use Rattle.bx_paragraph.specs.BodyRows.{last_of, last_offset}
 use Rattle.bx_paragraph.specs.Slots.{beside, entry, or_else, reading_end, reading_start, reads_on}
 use Rattle.bx_view.specs.declared.moves.Logical.{Logical}
 use Rattle.bx_view.specs.declared.moves.Logical.TheVariants.{Back, Forward}
+use Rattle.bx_view.specs.declared.moves.Move.{Move}
+use Rattle.bx_view.specs.declared.moves.Move.TheVariants as moves
 use Rattle.bx_view.specs.declared.moves.Vertical.{Vertical}
 use Rattle.bx_view.specs.declared.moves.Vertical.TheVariants.{Up, Down}
 use Rattle.bx_view.specs.TextRows.{TextRow, cell_of, first, places, row_at, row_of}
@@ -87,3 +89,17 @@ row_home rows place = first (row_at rows (row_of rows place))
 -- RowEnd: the paragraph's end in its last row, else the place before the row's last unit
 abbrev pub row_end : List TextRow → ℕ → ℕ
 row_end rows place = let r = row_at rows (row_of rows place) in r.start + last_of r.row
+
+-- any of these moves
+abbrev pub moved : ℕ → List TextRow → Move → ℕ → ℕ
+moved w rows (moves.Logical way) place = step_logical rows way place
+moved w rows (moves.Visual side) place = step_visual w rows side place
+moved w rows (moves.Rows way n) place = rows_away w rows way n place
+moved w rows moves.RowHome place = row_home rows place
+moved w rows moves.RowEnd place = row_end rows place
+
+-- a move to an end of the row: it leads to a place from any offset
+abbrev pub is_to_row_end : Move → Bool
+is_to_row_end moves.RowHome = true
+is_to_row_end moves.RowEnd = true
+is_to_row_end _ = false

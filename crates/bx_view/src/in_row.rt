@@ -121,7 +121,7 @@ impl Layout {
     /// unit begins.
     ///
     /// Errors: `OutOfMemory`.
-    pub fn row_end<D: BidiData>(
+    pub(crate) fn row_end<D: BidiData>(
         &mut self,
         source: &Source<'_, D>,
         place: usize,

@@ -257,7 +257,7 @@ impl Layout {
     /// The first offset of the row that a place falls in.
     ///
     /// Errors: `OutOfMemory`.
-    pub fn row_home<D: BidiData>(
+    pub(crate) fn row_home<D: BidiData>(
         &mut self,
         source: &Source<'_, D>,
         place: usize,

@@ -160,7 +160,7 @@ impl Layout {
     /// The place behind one or before it in the order of the text; at the text's end the place itself.
     ///
     /// Errors: `OutOfMemory`.
-    pub fn step_logical<D: BidiData>(
+    pub(crate) fn step_logical<D: BidiData>(
         &mut self,
         source: &Source<'_, D>,
         way: Logical,

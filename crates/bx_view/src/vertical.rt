@@ -1,7 +1,7 @@
 //! The moves from row to row.
 ghost use Rattle.std.specs.Prelude.{◌≡◌, ℕ, ◌+◌, ◌-◌, IfOk, length, min};
 ghost use Rattle.std.specs.Str.{IsCharBoundary};
-ghost use Rattle.bx_view.specs.Moves.{page, row_away, rows_away, vertical};
+ghost use Rattle.bx_view.specs.Moves.{row_away, rows_away};
 ghost use Rattle.bx_view.specs.Source.{IsViewBy, Keeps, Stands, StandsOn, bytes, rows};
 
 use crate::cursor::RowAt;
@@ -89,7 +89,7 @@ impl Layout {
 
     /// The place where the row that is so many rows above or below that of a place is entered, in the column of the
     /// place; where that is the same row, the place itself.
-    fn rows_away<D: BidiData>(
+    pub(crate) fn rows_away<D: BidiData>(
         &mut self,
         source: &Source<'_, D>,
         way: Vertical,
@@ -111,44 +111,5 @@ impl Layout {
         }
         let entry = self.entry(source, there, column)?;
         Ok(entry.unwrap_or(place))
-    }
-
-    /// The place in the row above or below that of a place, in the same column: where the unit begins that covers it, else
-    /// the place at the reading end of that row; the place itself where there is no row.
-    ///
-    /// Errors: `OutOfMemory`.
-    pub fn vertical<D: BidiData>(
-        &mut self,
-        source: &Source<'_, D>,
-        way: Vertical,
-        place: usize,
-    ) -> Result<usize, ViewError>
-        requires data { IsViewBy source.now self.old }
-        ensures keeps { Keeps source.now self.old self.new }
-        ensures place { IfOk result (λ o. o ≡ vertical self.old.w (rows source.now self.old) way place) }
-        ensures boundary { IsCharBoundary (bytes source.now) place → IfOk result (λ o. IsCharBoundary (bytes source.now) o) }
-    {
-        let place = self.rows_away(source, way, 1, place)?;
-        Ok(place)
-    }
-
-    /// The place in the row that is `t` rows above or below that of a place, at most the first or the last row, in the
-    /// same column; the place itself where that is the same row.
-    ///
-    /// Errors: `OutOfMemory`.
-    pub fn page<D: BidiData>(
-        &mut self,
-        source: &Source<'_, D>,
-        way: Vertical,
-        t: usize,
-        place: usize,
-    ) -> Result<usize, ViewError>
-        requires data { IsViewBy source.now self.old }
-        ensures keeps { Keeps source.now self.old self.new }
-        ensures place { IfOk result (λ o. o ≡ page self.old.w (rows source.now self.old) way t place) }
-        ensures boundary { IsCharBoundary (bytes source.now) place → IfOk result (λ o. IsCharBoundary (bytes source.now) o) }
-    {
-        let place = self.rows_away(source, way, t, place)?;
-        Ok(place)
     }
 }

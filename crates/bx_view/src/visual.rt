@@ -96,7 +96,7 @@ impl Layout {
     /// before is entered; where there is no row, the place itself.
     ///
     /// Errors: `OutOfMemory`.
-    pub fn step_visual<D: BidiData>(
+    pub(crate) fn step_visual<D: BidiData>(
         &mut self,
         source: &Source<'_, D>,
         side: Visual,

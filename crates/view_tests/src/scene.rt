@@ -5,7 +5,7 @@ use bx_document::Document;
 use bx_explicit::Base;
 use bx_terms::is_side;
 use bx_ucd::{BidiData, Tables, sample_tables};
-use bx_view::Visual;
+use bx_view::{Move, Visual};
 use std::alloc::Global;
 use std::test::Fail;
 
@@ -51,6 +51,6 @@ impl Scene<'_> {
         if !self.text.is_char_boundary(place) {
             return Err(Fail::new("within a character"));
         }
-        Ok(self.document.step_visual(side, place)?)
+        Ok(self.document.moved(Move::Visual(side), place)?)
     }
 }

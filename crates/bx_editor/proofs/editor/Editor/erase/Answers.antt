@@ -14,6 +14,6 @@ remove-requires g c =
     let text = t.document.content.text in
     let between : (p : ℕ) → IsTextPlace class text p → IsCharBoundary text p = λ p is. place-between class text p c.len-utf8.ensures.utf8 is in
     record {
-      range = unit-before rows _ _ _ _ (ap (λ (x : DocumentState g.row.D.Denot). x.document.content.text) c.step_logical.ensures.same)
+      range = unit-before rows _ _ _ _ (ap (λ (x : DocumentState g.row.D.Denot). x.document.content.text) c.moved.ensures.same)
           (between c.in_ok-start.start (c.in_ok-start.ensures.text_place c.self.invariant.0)) (between c.self.inside.place c.self.invariant.0) c.in_ok-start.ensures.place;
     }

@@ -1,7 +1,0 @@
-use Rattle.bx_document.proofs.PlacesMoved.{visual}
-use Rattle.bx_document.proofs.document.Document.step_visual.Goals as goal
-
-pub returns-clause-text_place : goal.returns-clause-text_place
-returns-clause-text_place g c = λ h.
-    visual g.D.BidiData.class_of g.D.BidiData.bracket_of _ c.args.self.now c.self.view_is c.width-side.ensures.side c.len-utf8.ensures.utf8
-    c.args.side c.args.place c.in_ok-place.place c.in_ok-place.ensures.step h

@@ -1,7 +1,0 @@
-use Rattle.bx_document.proofs.PlacesMoved.{vertical}
-use Rattle.bx_document.proofs.document.Document.vertical.Goals as goal
-
-pub returns-clause-text_place : goal.returns-clause-text_place
-returns-clause-text_place g c = λ h.
-    vertical g.D.BidiData.class_of g.D.BidiData.bracket_of _ c.args.self.now c.self.view_is c.width-side.ensures.side c.len-utf8.ensures.utf8
-    c.args.way c.args.place c.in_ok-place.place c.in_ok-place.ensures.place h

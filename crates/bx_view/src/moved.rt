@@ -1,0 +1,52 @@
+//! The cursor's moves, by one call.
+ghost use Rattle.std.specs.Prelude.{◌≡◌, true, IfOk};
+ghost use Rattle.std.specs.Str.{IsCharBoundary};
+ghost use Rattle.bx_view.specs.Moves.{is_to_row_end, moved};
+ghost use Rattle.bx_view.specs.Source.{IsViewBy, Keeps, bytes, rows};
+
+use crate::error::ViewError;
+use crate::layout::Layout;
+use crate::moves::Move;
+use crate::source::Source;
+use bx_ucd::BidiData;
+
+impl Layout {
+    /// The place that a move leads to from one.
+    ///
+    /// Errors: `OutOfMemory`.
+    pub fn moved<D: BidiData>(
+        &mut self,
+        source: &Source<'_, D>,
+        m: Move,
+        place: usize,
+    ) -> Result<usize, ViewError>
+        requires data { IsViewBy source.now self.old }
+        ensures keeps { Keeps source.now self.old self.new }
+        ensures place { IfOk result (λ o. o ≡ moved self.old.w (rows source.now self.old) m place) }
+        ensures boundary { IsCharBoundary (bytes source.now) place → IfOk result (λ o. IsCharBoundary (bytes source.now) o) }
+        ensures row_boundary { is_to_row_end m ≡ true → IfOk result (λ o. IsCharBoundary (bytes source.now) o) }
+    {
+        match m {
+            Move::Logical(way) => {
+                let place = self.step_logical(source, way, place)?;
+                Ok(place)
+            }
+            Move::Visual(side) => {
+                let place = self.step_visual(source, side, place)?;
+                Ok(place)
+            }
+            Move::Rows(way, count) => {
+                let place = self.rows_away(source, way, count, place)?;
+                Ok(place)
+            }
+            Move::RowHome => {
+                let place = self.row_home(source, place)?;
+                Ok(place)
+            }
+            Move::RowEnd => {
+                let place = self.row_end(source, place)?;
+                Ok(place)
+            }
+        }
+    }
+}
