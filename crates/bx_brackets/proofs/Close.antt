@@ -1,10 +1,8 @@
 -- The search through the stack of openers, from its end.
-use Rattle.std.proofs.Common.{◌≡◌, ◌<◌, ◌+◌, ◌∙◌, ℕ, List, [], ◌∷◌, length, get_or, take, reverse, refl, ap, arith, Option, Some, None, Bool, true, false}
+use Rattle.std.proofs.Common.{◌≡◌, ◌<◌, ◌+◌, ◌∙◌, ℕ, List, [], ◌∷◌, length, get_or, take, reverse, ap, arith, Some, Bool, true, false}
 use Rattle.std.specs.Prelude.{find}
 use Rattle.std.proofs.lemmas.List.{take_more, reverse-append, take_all}
-use Rattle.std.specs.Prelude.{IfSome}
-use Rattle.bx_brackets.specs.Search.{below_first, is_for, index_of, IsFalling}
-use Rattle.bx_brackets.proofs.Stack.{found_below}
+use Rattle.bx_brackets.specs.Search.{below_first, is_for}
 
 reverse_more : (os : List (ℕ × ℕ)) (k : ℕ) (d : ℕ × ℕ) → k < length os → reverse (take (k + 1) os) ≡ get_or os k d ∷ reverse (take k os)
 reverse_more os k d h = ap reverse (take_more os k d h) ∙ reverse-append (take k os) (get_or os k d ∷ [])
@@ -31,11 +29,3 @@ below_more c os k d h e = ap (below_first (is_for c)) (reverse_more os k d h) �
 
 pub take_it : (os : List (ℕ × ℕ)) → take (length os) os ≡ os
 take_it os = take_all (length os) os (omega arith)
-
-found_of : (c n : ℕ) (os : List (ℕ × ℕ)) → IsFalling n os → (b : Option (ℕ × ℕ)) → find (is_for c) os ≡ b → IfSome (index_of b) (λ p. p < n)
-found_of c n os f None e = tt
-found_of c n os f (Some o) e = found_below (is_for c) n os o f e
-
--- an opener that a closer meets stands before the index that all of them stand before
-pub found_within : (c n : ℕ) (os : List (ℕ × ℕ)) → IsFalling n os → IfSome (index_of (find (is_for c) os)) (λ p. p < n)
-found_within c n os f = found_of c n os f (find (is_for c) os) refl

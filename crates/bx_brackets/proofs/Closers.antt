@@ -1,10 +1,10 @@
 -- The pairs by a list of closers, and the openers that have none.
 use Rattle.std.proofs.Common.{◌≡◌, ◌≢◌, ◌<◌, ◌≤◌, ◌+◌, ◌∙◌, ℕ, zero, suc, List, []}
-use Rattle.std.proofs.Common.{◌∷◌, length, get_or, set, drop, replicate, refl, ap, sym, subst, arith, cond}
+use Rattle.std.proofs.Common.{◌∷◌, length, get_or, set, replicate, refl, ap, sym, subst, arith, cond}
 use Rattle.std.proofs.Common.{Option, Some, None, Bool, true, false, inl, inr}
 use Rattle.std.specs.Prelude.{All, IfSome, find, nat_lt}
 use Rattle.std.proofs.lemmas.Bool.Decides.{nat_tests}
-use Rattle.std.proofs.lemmas.List.{at_drop_more, get_or-set_other, length-replicate}
+use Rattle.std.proofs.lemmas.List.{get_or-set_other, length-replicate}
 use Rattle.std.proofs.lemmas.List.Elements.{All-nil, All-cons, All-head, All-tail}
 use Rattle.std.proofs.Math.ListN.{length-set}
 use Rattle.bx_ucd.specs.declared.data.Side.{Side}
@@ -138,22 +138,6 @@ searched_entries count j os cs h e s = record {
   met = all_none (λ c. c ≤ j) count (omega arith);
 }
 
-pub searched_first : (count : ℕ) → IsSearched count 0 [] []
-searched_first count = record { falling = tt; unclosed = tt; long = inl refl; within = All-nil (λ c. c < count); met = All-nil (λ c. c ≤ 0) }
-
-pub searched_push : (count j c : ℕ) (os : List (ℕ × ℕ)) (cs : List ℕ) → j < count → length cs ≡ count → IsSearched count j os cs
-    → IsSearched count (j + 1) ((j, c) ∷ os) cs
-searched_push count j c os cs h e s =
-    let none : get_or cs j 0 ≤ j = s.met j 0 (omega arith) in
-    let later : IsSearched count (j + 1) os cs = searched_later count j (j + 1) os cs (omega arith) s in
-    record {
-      falling = (omega arith, s.falling);
-      unclosed = (record { inside = omega arith; none = none }, s.unclosed);
-      long = s.long;
-      within = s.within;
-      met = later.met;
-    }
-
 module _ (count j c : ℕ) (os : List (ℕ × ℕ)) (cs : List ℕ) (h : j < count) (s : IsSearched count j os cs) where
   closed_by : (b : Option (ℕ × ℕ)) → find (is_for c) os ≡ b → IsSearched count (j + 1) (left_by b c os) (with_closer (index_of b) j cs)
   closed_by None e = searched_later count j (j + 1) os cs (omega arith) s
@@ -180,13 +164,6 @@ module _ (count j c : ℕ) (os : List (ℕ × ℕ)) (cs : List ℕ) (h : j < cou
 
   pub pairs_close : pairs_in 0 (with_closer (index_of (find (is_for c) os)) j cs) ≡ found_by (find (is_for c) os) j (pairs_in 0 cs)
   pairs_close = pairs_by (find (is_for c) os) refl
-
--- what a walk over the closers does at an index
-pub step_pair : (i : ℕ) (cs : List ℕ) → i < length cs → i < get_or cs i 0 → pairs_in i (drop i cs) ≡ (i, get_or cs i 0) ∷ pairs_in (i + 1) (drop (i + 1) cs)
-step_pair i cs h l = at_drop_more (pairs_in i) cs i 0 h ∙ next_pair i (get_or cs i 0) (drop (i + 1) cs) l
-
-pub step_none : (i : ℕ) (cs : List ℕ) → i < length cs → get_or cs i 0 ≤ i → pairs_in i (drop i cs) ≡ pairs_in (i + 1) (drop (i + 1) cs)
-step_none i cs h l = at_drop_more (pairs_in i) cs i 0 h ∙ no_pair i (get_or cs i 0) (drop (i + 1) cs) l
 
 -- a turn at an opener does not ask for the character
 pub opener_turn : (j c : ℕ) (b : Side × ℕ) (p : Progress) → b.0 ≡ Opener → turn j 0 (Some (Opener, b.1)) p ≡ turn j c (Some b) p

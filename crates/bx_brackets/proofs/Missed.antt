@@ -27,9 +27,6 @@ set_some (x ∷ noted) (suc k) c d e = set_some noted k c d e
 pub missed_none : (missed : List (Option ℕ)) (os : List (ℕ × ℕ)) → ((k : ℕ) → get_or missed k None ≡ None) → AreMissed missed os
 missed_none missed os h k c e = let none : get_or missed k None ≡ None = h k in absurd (cc)
 
-pub missed_empty : (missed : List (Option ℕ)) (os : List (ℕ × ℕ)) → AreMissed missed os → AreMissed missed []
-missed_empty missed os a k c e = ((a k c e).0, refl)
-
 find_below : (p q : ℕ × ℕ → Bool) (os : List (ℕ × ℕ)) → find q os ≡ None → find q (below_first p os) ≡ None
 find_below p q [] e = refl
 find_below p q (o ∷ os) e = (elim (q o) as (λ b. cond b (Some o) (find q os) ≡ None
