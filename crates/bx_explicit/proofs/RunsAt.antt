@@ -1,14 +1,14 @@
 -- The run that begins at an index: what a character more does to it.
-use Rattle.std.proofs.Common.{◌≡◌, ◌≢◌, ◌<◌, ◌≤◌, ◌+◌, ◌-◌, ◌∙◌, ℕ, suc, List, [], ◌∷◌, ◌++◌, length, get_or, drop, refl, ap, sym, subst, arith, Bool, true}
-use Rattle.std.proofs.Common.{false, Option, Some, None, length-append}
-use Rattle.std.specs.Prelude.{All, ◌==◌}
+use Rattle.std.proofs.Common.{◌≡◌, ◌≢◌, ◌<◌, ◌≤◌, ◌+◌, ◌∙◌, ℕ, List, [], ◌∷◌, length, get_or, drop, refl, ap, sym, arith, Bool, true}
+use Rattle.std.proofs.Common.{false, Option, Some, None}
+use Rattle.std.specs.Prelude.{◌==◌}
 use Rattle.std.proofs.lemmas.Bool.Decides.{nat_tests}
-use Rattle.std.proofs.lemmas.List.{at_drop_more, at_drop_all, get_or_at}
+use Rattle.std.proofs.lemmas.List.{at_drop_more, at_drop_all}
 use Rattle.bx_explicit.specs.declared.entry.Kept.{Kept}
 use Rattle.bx_explicit.specs.declared.runs.Run.{Run}
 use Rattle.bx_explicit.specs.Kept.{HasLevel}
-use Rattle.bx_explicit.specs.Runs.{run, join_run, runs_from, IsRunWithin}
-use Rattle.bx_explicit.proofs.LevelRuns.{runs_some, runs_within}
+use Rattle.bx_explicit.specs.Runs.{run, join_run, runs_from}
+use Rattle.bx_explicit.proofs.LevelRuns.{runs_some}
 
 -- a run that reaches the index `last`, before the runs after it
 abbrev pub extend : ℕ → ℕ → ℕ → List Run → List Run
@@ -88,48 +88,3 @@ ends_last g k level f last h = ap (extend level f last) (no_more g k h) ∙ sym 
 pub level_of_some : (o : Option Kept) (c : Kept) → o ≡ Some c → HasLevel c.level o
 level_of_some None c e = absurd (cc)
 level_of_some (Some d) c e = cc
-
--- the runs from the first index of one of them on
-index_in : (k n : ℕ) (before : List Run) (r : Run) (rest rs : List Run) → rs ≡ before ++ (r ∷ rest) → All (IsRunWithin k n) rs → k ≤ r.first
-index_in k n before r rest rs e a =
-    let w : IsRunWithin k n r = subst (IsRunWithin k n) (get_or_at before r rest r (length before) refl)
-    (subst (All (IsRunWithin k n)) e a (length before) r (omega (arith, length-append before (r ∷ rest)))) in
-    w.starts
-
-begins_there : (k level : ℕ) (rs : List Run) (r : Run) (rest : List Run) → join_run k level rs ≡ r ∷ rest → r.first ≡ k
-begins_there k level [] r rest e = cc
-begins_there k level (q ∷ qs) r rest e = elim (q.level == level) as
-    (λ b. (elim b as (λ x. List Run) [ true ↦ run level k q.last ∷ qs | false ↦ run level k k ∷ q ∷ qs ]) ≡ r ∷ rest → r.first ≡ k) [
-      | true ↦ λ t. cc
-      | false ↦ λ t. cc
-    ] e
-
--- a run that is not the first one is a run of what comes after a character
-stays_later : (k level : ℕ) (rs : List Run) (b : Run) (before : List Run) (r : Run) (rest : List Run) → join_run k level rs ≡ b ∷ before ++ (r ∷ rest)
-    → (xs : List Run) × (rs ≡ xs ++ (r ∷ rest))
-stays_later k level [] b [] r rest e = absurd (cc)
-stays_later k level [] b (x ∷ before) r rest e = absurd (cc)
-stays_later k level (q ∷ qs) b before r rest e = elim (q.level == level) as
-    (λ v. (elim v as (λ x. List Run) [ true ↦ run level k q.last ∷ qs | false ↦ run level k k ∷ q ∷ qs ]) ≡ b ∷ before ++ (r ∷ rest)
-    → (xs : List Run) × ((q ∷ qs) ≡ xs ++ (r ∷ rest))) [
-      | true ↦ λ t. let f : qs ≡ before ++ (r ∷ rest) = cc in (q ∷ before, ap (λ xs. q ∷ xs) f)
-      | false ↦ λ t. let f : q ∷ qs ≡ before ++ (r ∷ rest) = cc in (before, f)
-    ] e
-
-runs_there : (g : List (Option Kept)) (k : ℕ) (before : List Run) (r : Run) (rest : List Run) → runs_from k g ≡ before ++ (r ∷ rest)
-    → runs_from r.first (drop (r.first - k) g) ≡ r ∷ rest
-runs_there [] k [] r rest e = absurd (cc)
-runs_there [] k (b ∷ before) r rest e = absurd (cc)
-runs_there (None ∷ g) k before r rest e =
-    let l : k + 1 ≤ r.first = index_in (k + 1) (k + 1 + length g) before r rest (runs_from (k + 1) g) e (runs_within (k + 1) g) in
-    let m : r.first - k ≡ suc (r.first - (k + 1)) = omega arith in
-    ap (λ n. runs_from r.first (drop n (None ∷ g))) m ∙ runs_there g (k + 1) before r rest e
-runs_there (Some c ∷ g) k [] r rest e =
-    let f : r.first ≡ k = begins_there k c.level (runs_from (k + 1) g) r rest e in
-    let z : r.first - k ≡ 0 = omega arith in
-    ap (λ n. runs_from r.first (drop n (Some c ∷ g))) z ∙ ap (λ n. runs_from n (Some c ∷ g)) f ∙ e
-runs_there (Some c ∷ g) k (b ∷ before) r rest e =
-    let (xs, f) = stays_later k c.level (runs_from (k + 1) g) b before r rest e in
-    let l : k + 1 ≤ r.first = index_in (k + 1) (k + 1 + length g) xs r rest (runs_from (k + 1) g) f (runs_within (k + 1) g) in
-    let m : r.first - k ≡ suc (r.first - (k + 1)) = omega arith in
-    ap (λ n. runs_from r.first (drop n (Some c ∷ g))) m ∙ runs_there g (k + 1) xs r rest f

@@ -14,11 +14,10 @@ use Rattle.bx_explicit.specs.ParagraphLevel.{isolate_level}
 use Rattle.std.proofs.lemmas.Bool.Decides.{nat_tests}
 use Rattle.bx_explicit.specs.declared.state.State.{State}
 use Rattle.bx_explicit.specs.Stack.{max_depth, IsRising, top_of, after_isolate, after_embedding, entry}
-use Rattle.bx_explicit.proofs.Rising.{rising_push, rising_top, rising_length}
+use Rattle.bx_explicit.proofs.Rising.{rising_push}
 use Rattle.bx_ucd.specs.declared.class.Class.TheVariants.{FSI}
 use Rattle.bx_explicit.specs.TextLevels.{is_fsi}
 use Rattle.bx_explicit.specs.Explicit.{first_above, state_after, next_state, kept_by, explicit_from, embed, isolate, end_isolate, end_embedding, is_valid}
-use Rattle.bx_explicit.specs.Explicit.{start}
 
 abbrev pub total : State → ℕ
 total s = s.overflow_isolates + s.overflow_embeddings + s.valid_isolates
@@ -171,18 +170,6 @@ abbrev pub state_at : ℕ → List Class → State → State
 state_at zero cs s = s
 state_at (suc k) [] s = s
 state_at (suc k) (c ∷ cs) s = state_at k cs (next_state (role_of c) cs s)
-
-rising_run : (k : ℕ) (cs : List Class) (s : State) → IsRising s.stack → IsRising (state_at k cs s).stack
-rising_run zero cs s h = h
-rising_run (suc k) [] s h = h
-rising_run (suc k) (c ∷ cs) s h = rising_run k cs (next_state (role_of c) cs s) (rising_next (role_of c) cs s h)
-
--- the stack never holds more entries than there are levels, 0 to the greatest
-pub never_deep : (level k : ℕ) (cs : List Class) → level ≤ max_depth → length (state_at k cs (start level)).stack ≤ max_depth + 1
-never_deep level k cs h = let r : IsRising (state_at k cs (start level)).stack =
-    rising_run k cs (start level) (h, tt, tt) in let a : length (state_at k cs (start level)).stack ≤ (top_of (state_at k cs (start level)).stack).level + 1 =
-    rising_length (state_at k cs (start level)).stack r in let b : (top_of (state_at k cs (start level)).stack).level ≤ max_depth =
-    rising_top (state_at k cs (start level)).stack r in omega arith
 
 -- so the levels at other indexes do not matter
 for_fsi : (c : Class) (first n : ℕ) (s : State) → (is_fsi c ≡ true → first ≡ n) → state_after (role_of c) first s ≡ state_after (role_of c) n s
