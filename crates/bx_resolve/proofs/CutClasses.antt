@@ -36,12 +36,6 @@ sos_free x e sos other ts =
     weak_cut sos other x e 0 (x ∷ ts) (x ∷ []) (x ∷ ts) (at_cut x [] ts) in
     first_cut (w3_at x) (weak sos (x ∷ ts)) (weak other (x ∷ ts)) c.before c.after c.before_is c.whole_is c.back_is
 
--- both sides of one direction, and nothing of the other between them
-one_side : (p q : Class → Bool) (xs ys : List Class) → list_any p xs ≡ true → list_any p ys ≡ true → list_any q xs ≡ false → list_any q ys ≡ false → (b : Bool)
-    → list_any (λ t. elim b as (λ z. Bool) [ true ↦ p t | false ↦ q t ]) xs ≡ list_any (λ t. elim b as (λ z. Bool) [ true ↦ p t | false ↦ q t ]) ys
-one_side p q xs ys a b c d true = a ∙ sym b
-one_side p q xs ys a b c d false = c ∙ sym d
-
 or_true : (b : Bool) → (b || true) ≡ true
 or_true true = refl
 or_true false = refl

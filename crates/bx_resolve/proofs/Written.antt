@@ -42,9 +42,6 @@ module _ (bracket : ℕ → Option (Side × ℕ)) (chars : List ℕ) (kept : Lis
       ≡ with_sequences bracket chars kept (drop (i + 1) ss) (with_levels (get_or ss i d).indexes (levels_in bracket chars kept (get_or ss i d)) each)
   sequences_more ss each i d h = at_drop_more (λ xs. with_sequences bracket chars kept xs each) ss i d h
 
-  pub sequences_all : (ss : List RunSequence) (each : List (Option ℕ)) (i : ℕ) → length ss ≤ i → with_sequences bracket chars kept (drop i ss) each ≡ each
-  sequences_all ss each i h = ap (λ xs. with_sequences bracket chars kept xs each) (drop_all i ss h)
-
 written_all : (level : ℕ) (ps : List ℕ) (ts : List Class) (i : ℕ) (each : List (Option ℕ)) → length ts ≤ i
     → with_levels ps (implicit level (drop i ts)) each ≡ each
 written_all level ps ts i each h = ap (λ xs. with_levels ps (implicit level xs) each) (drop_all i ts h) ∙ no_levels ps each

@@ -3,32 +3,15 @@
 ghost use Rattle.std.specs.Prelude.{◌≡◌, ◌≤◌, ◌++◌, IfOk, OnErr, OnOk, chars, drop, length, take};
 ghost use Rattle.std.specs.List.{splice};
 ghost use Rattle.bx_resolve.specs.Levels.{paragraph_levels};
-ghost use Rattle.bx_resolve.specs.Edited.{one_way, FollowsBetween, FollowsFromStart, FollowsToEnd};
+ghost use Rattle.bx_resolve.specs.Edited.{FollowsBetween, FollowsFromStart, FollowsToEnd};
 
 use crate::error::ResolveError;
 use crate::paragraph::Levels;
-use crate::plain::{are_from_right, are_plain};
 use crate::resolve::levels;
 use crate::splice::{Span, replace_span};
 use bx_explicit::Base;
-use bx_ucd::{BidiData, Class};
+use bx_ucd::BidiData;
 use std::alloc::Global;
-
-/// Whether nothing that stands between two strong classes of one direction is or becomes of the other.
-pub fn is_one_way(before: Class, behind: Class, between: &[Class]) -> bool
-    ensures { result ≡ one_way before behind between.now }
-{
-    match before {
-        Class::L => match behind {
-            Class::L => are_plain(between),
-            _ => true,
-        },
-        _ => match behind {
-            Class::L => true,
-            _ => are_from_right(between),
-        },
-    }
-}
 
 /// The levels of a piece of a paragraph of a level, by itself.
 fn piece_levels<D: BidiData>(

@@ -18,7 +18,7 @@ mod splice;
 mod weak;
 
 pub use by_rules::levels_by_rules;
-pub use edited::{follow_between, follow_from_start, follow_to_end, is_one_way};
+pub use edited::{follow_between, follow_from_start, follow_to_end};
 pub use error::ResolveError;
 pub use laws::each_in_one_sequence;
 pub use paragraph::Levels;
