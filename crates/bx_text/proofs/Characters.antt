@@ -1,7 +1,7 @@
 -- Where a text may be cut between characters, and what parts of it are made of.
 use Rattle.std.proofs.Common.{◌≡◌, ℕ, ◌+◌, ◌-◌, ◌≤◌, List, ◌++◌, length, take, drop, refl, ap, subst, ◌∙◌, append_assoc, length-append, arith}
 use Rattle.std.proofs.lemmas.List.{length-take-le, length-drop, get_or_append_left, get_or-append_right, get_or-drop}
-use Rattle.std.proofs.lemmas.Str.{IsUtf8-append, IsUtf8-take, IsUtf8-drop, IsCharBoundary-at_seam}
+use Rattle.std.proofs.lemmas.Str.{IsUtf8-append, IsUtf8-drop, IsCharBoundary-at_seam}
 use Rattle.std.specs.Str.{IsUtf8, IsCharBoundary}
 use Rattle.bx_text.specs.Edits.{IsRange, splice}
 
@@ -17,17 +17,6 @@ IsCharBoundary-right xs ys n k e h c =
 pub IsCharBoundary-drop : (xs : List ℕ) (i k : ℕ) → IsCharBoundary xs (i + k) → IsCharBoundary (drop i xs) k
 IsCharBoundary-drop xs i k c =
     (omega (arith, length-drop i xs, c.0), λ inside high. omega (arith, get_or-drop i xs k 0, length-drop i xs, c.1))
-
--- what stands between two offsets
-pub IsUtf8-inside : (text : List ℕ) (start len : ℕ) → IsUtf8 text → IsRange text start (start + len) → IsUtf8 (take len (drop start text))
-IsUtf8-inside text start len utf8 r =
-    IsUtf8-take (drop start text) len (IsUtf8-drop text start utf8 r.start_bounds) (IsCharBoundary-drop text start len r.stop_bounds)
-
-pub IsUtf8-splice : (text new : List ℕ) (start len : ℕ) → IsUtf8 text → IsUtf8 new → IsRange text start (start + len)
-    → IsUtf8 (splice text start (start + len) new)
-IsUtf8-splice text new start len utf8 more r =
-    IsUtf8-append (take start text ++ new) (drop (start + len) text) (IsUtf8-append (take start text) new (IsUtf8-take text start utf8 r.start_bounds) more)
-    (IsUtf8-drop text (start + len) utf8 r.stop_bounds)
 
 -- what was put in stands between two offsets
 pub IsRange-splice : (text new : List ℕ) (start len : ℕ) → IsUtf8 text → IsUtf8 new → IsRange text start (start + len)

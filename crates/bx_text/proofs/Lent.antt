@@ -1,30 +1,11 @@
 -- A text lent piece by piece.
-use Rattle.std.proofs.Common.{◌≡◌, ℕ, ◌+◌, ◌-◌, ◌≤◌, List, [], ◌∷◌, ◌++◌, length, take, drop, get_or, ap, sym, ◌∙◌, arith}
-use Rattle.std.proofs.lemmas.List.{get_or-take, get_or-drop, drop-drop, take_all, take-take}
+use Rattle.std.proofs.Common.{◌≡◌, ℕ, ◌+◌, ◌-◌, ◌≤◌, List, [], ◌∷◌, ◌++◌, length, take, drop, ap, sym, ◌∙◌, arith}
+use Rattle.std.proofs.lemmas.List.{drop-drop, take_all}
 use Rattle.std.proofs.Math.Seq.{take-add}
 use Rattle.std.specs.Prelude.{slice_range}
 use Rattle.std.specs.Borrow.{Bor}
 use Rattle.std.specs.Iterator.{Yields, Drains}
-use Rattle.std.specs.Str.{IsCharBoundary}
 use Rattle.bx_text.specs.Slices.{lends, joined}
-
--- an offset in what a text goes on with
-pub IsCharBoundary-part : (text rest : List ℕ) (at j : ℕ) → take (length rest) (drop at text) ≡ rest → at + length rest ≤ length text → j ≤ length rest
-    → IsCharBoundary text (at + j) → IsCharBoundary rest j
-IsCharBoundary-part text rest at j e long short c = (
-  short,
-  λ inside high. omega (
-    arith,
-    ap (λ xs. get_or xs j 0) e,
-    get_or-take (length rest) (drop at text) j 0 inside,
-    get_or-drop at text j 0,
-    c.1,
-  ),
-)
-
--- a part of a part
-pub take_part : (rest xs : List ℕ) (n : ℕ) → take (length rest) xs ≡ rest → n ≤ length rest → take n xs ≡ take n rest
-take_part rest xs n e h = sym (take-take n (length rest) xs h) ∙ ap (take n) e
 
 pub range_split : (text s : List ℕ) (at stop : ℕ) → take (length s) (drop at text) ≡ s → at + length s ≤ stop
     → slice_range text at stop ≡ s ++ slice_range text (at + length s) stop
