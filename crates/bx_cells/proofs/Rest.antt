@@ -107,10 +107,6 @@ next-cluster class w body at p ps u b h =
       boundary = IsCharBoundary-from_drop body (at + length p) (omega (arith, count, within, length-drop at body)) (subst IsUtf8 left f.utf8);
     }
 
-pub none-left : (class : ℕ → Class) (w : ℕ) (body : List ℕ) (at : ℕ) → graphemes true (drop at body) ≡ [] → units_from class w body at ≡ []
-unfolding with_offsets
-none-left class w body at h = ap (λ x. map (unit_at class w) (with_offsets at x)) h
-
 -- nothing is left at the end
 pub none-behind : (class : ℕ → Class) (w : ℕ) (body : List ℕ) (at : ℕ) → length body ≤ at → units_from class w body at ≡ []
 unfolding segments with_offsets cut
