@@ -11,16 +11,12 @@ use Rattle.bx_keys.specs.declared.key.Key.TheVariants.{Insert}
 pub no_escape : (a : ℕ) (bs : List ℕ) → (a ≡ 0x1B → ⊥) → fate (a ∷ bs) ≡ fate_in characters (a ∷ bs)
 no_escape a bs n = grind (arith, nat_tests)
 
--- with one byte more
-pub character_more : (bs : List ℕ) (b : ℕ) → 1 ≤ length bs → (get_or bs 0 0 ≡ 0x1B → ⊥) → fate (bs ++ b ∷ []) ≡ fate_in characters (bs ++ b ∷ [])
-character_more [] b l n = absurd (omega arith)
-character_more (a ∷ bs) b l n = no_escape a (bs ++ b ∷ []) n
-
 key_by_chars : (a b : ℕ) (bs : List ℕ) (c : ℕ) → (a ≡ 0x1B → ⊥) → chars (a ∷ b ∷ bs) ≡ c ∷ [] → key_of (a ∷ b ∷ bs) ≡ Some (Insert c)
 key_by_chars a b bs c n e =
     let other : nat_eq a 0x1B ≡ false = grind (arith, nat_tests) in
     rw (other, e) refl
 
+-- with one byte more
 pub character_key_more : (bs : List ℕ) (b c : ℕ) → 1 ≤ length bs → (get_or bs 0 0 ≡ 0x1B → ⊥) → chars (bs ++ b ∷ []) ≡ c ∷ []
     → key_of (bs ++ b ∷ []) ≡ Some (Insert c)
 character_key_more [] b c l n e = absurd (omega arith)

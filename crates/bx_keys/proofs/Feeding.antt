@@ -44,9 +44,6 @@ cut n bs long =
     cond (is_item (take long bs)) (with_key (key_of (take long bs)) (decoding_within n (drop long bs)))
     (cond (nat_eq long (length bs)) (record { keys = []; rest = bs }) (decoding_within n (drop (max 1 long) bs)))
 
-first_cut : (n b : ℕ) (bs : List ℕ) → decoding_within (suc n) (b ∷ bs) ≡ cut n (b ∷ bs) (beginning (b ∷ bs))
-first_cut n b bs = refl
-
 pub take_whole : (bs : List ℕ) → take (length bs) bs ≡ bs
 take_whole bs = take_all (length bs) bs (omega arith)
 

@@ -20,11 +20,6 @@ semicolon b = nat_eq b 0x3B
 
 -- ---- bytes without a semicolon, and with one
 
-one_field_with : (x : ℕ) (t : Bool) (xs : List ℕ) → slice_split semicolon xs ≡ xs ∷ []
-    → cond t ([] ∷ slice_split semicolon xs) (onto_first x (slice_split semicolon xs)) ≡ cond t ([] ∷ xs ∷ []) ((x ∷ xs) ∷ [])
-one_field_with x true xs e = ap (λ fields. [] ∷ fields) e
-one_field_with x false xs e = ap (onto_first x) e
-
 -- whether bytes are one field
 pub record HasMore (xs : List ℕ) : Type 0 where
   pub first : List ℕ
