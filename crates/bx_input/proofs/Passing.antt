@@ -86,9 +86,6 @@ rows_become = all_rows rows are_rows
 pub none_behind : (patterns : List (List Piece)) (xs ys : List ℕ) → HasNone patterns (xs ++ ys) → HasNone patterns ys
 none_behind patterns xs ys h front middle back e = h (xs ++ front) middle back (ap (λ zs. xs ++ zs) e ∙ sym (append_assoc xs front (middle ++ back)))
 
-as_it_came : Step → List ℕ
-as_it_came s = s.output ++ at_end s.state
-
 pub pass_by : (f : Fate) (waiting : List ℕ) (is_open : Bool) (b : ℕ) (bs : List ℕ) → fate (waiting ++ b ∷ []) ≡ f → HasNone sequences (waiting ++ b ∷ bs)
     → ((w : List ℕ) (o : Bool) → HasNone sequences (w ++ bs) → (run (Outside w o) bs).output ++ at_end (run (Outside w o) bs).state ≡ w ++ bs)
     → (step_by f waiting is_open b).output ++ ((run (step_by f waiting is_open b).state bs).output ++ at_end (run (step_by f waiting is_open b).state bs).state)
