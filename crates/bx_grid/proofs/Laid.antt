@@ -1,19 +1,14 @@
 -- Glyphs put one after another over blanks: what a caller's loop keeps.
-use Rattle.std.proofs.Common.{◌≡◌, ℕ, ◌+◌, ◌-◌, ◌≤◌, Bool, true, List, [], ◌∷◌, ◌++◌, length, take, drop, replicate, refl, ap, sym, ◌∙◌, arith}
+use Rattle.std.proofs.Common.{◌≡◌, ℕ, ◌+◌, ◌-◌, ◌≤◌, Bool, true, List, [], ◌∷◌, ◌++◌, length, take, drop, replicate, refl, ap, ◌∙◌, arith}
 use Rattle.std.proofs.Math.Seq.{take-append-add, drop-append-add}
-use Rattle.std.proofs.lemmas.List.{append-nil, drop-drop, drop-replicate, take-replicate, length-replicate}
+use Rattle.std.proofs.lemmas.List.{append-nil, drop-replicate, take-replicate}
 use Rattle.bx_grid.specs.Columns.{Col, Glyph, blank, is_ascii_glyph, run_columns, paste, AreBlank, run_width}
-use Rattle.bx_grid.specs.Columns.{is_one_glyph}
 use Rattle.bx_grid.specs.Columns.{is_ascii_printable}
-use Rattle.bx_grid.proofs.Pasted.{length-paste, paste_around}
 
 -- ---- a character from SPACE to TILDE is a glyph of one column
 
 pub plain_text : (byte : ℕ) (text : List ℕ) → text ≡ byte ∷ [] → is_ascii_printable byte ≡ true → is_ascii_glyph text ≡ true
 plain_text byte text e h = ap is_ascii_glyph e ∙ h
-
-pub plain_glyph : (text : List ℕ) → is_ascii_glyph text ≡ true → is_one_glyph text ≡ true
-plain_glyph text h = rw h refl
 
 pub plain_is_one : (negative : Bool) (text : List ℕ) (byte : ℕ) → text ≡ byte ∷ [] → is_ascii_printable byte ≡ true
     → run_columns negative text ≡ Glyph (byte ∷ []) 1 0 negative ∷ []
@@ -51,32 +46,3 @@ laid_next done news k m rest at split =
     ap (λ l. drop l cs) end ∙ drop-append-add done (replicate m blank) (length news) ∙ drop-replicate (length news) m blank
     ∙ ap (λ l. replicate l blank) left in
     rw (front, back) refl
-
--- ---- all from an index on are blanks
-
-abbrev pub RestIsBlank : ℕ → List Col → Type 0
-RestIsBlank k columns = drop k columns ≡ replicate (length columns - k) blank
-
-pub rest_blank : (count : ℕ) → RestIsBlank 0 (replicate count blank)
-rest_blank count =
-    let all : length (replicate count blank) - 0 ≡ count = omega (arith, length-replicate count blank) in
-    rw all refl
-
-pub rest_later : (k m : ℕ) (columns : List Col) → k ≤ m → RestIsBlank k columns → RestIsBlank m columns
-rest_later k m columns low h =
-    let split : k + (m - k) ≡ m = omega arith in
-    let left : length columns - k - (m - k) ≡ length columns - m = omega arith in
-    sym (drop-drop (m - k) k columns ∙ ap (λ l. drop l columns) split)
-    ∙ ap (drop (m - k)) h
-    ∙ drop-replicate (m - k) (length columns - k) blank
-    ∙ ap (λ l. replicate l blank) left
-
--- the rest after a glyph that was put there
-pub rest_after : (k : ℕ) (columns news : List Col) → k + length news ≤ length columns → RestIsBlank k columns
-    → RestIsBlank (k + length news) (paste columns k news)
-rest_after k columns news fits h =
-    let n = length news in
-    let len : length (paste columns k news) ≡ length columns = length-paste columns news k fits in
-    (paste_around columns news k n (omega arith) fits).after
-    ∙ rest_later k (k + n) columns (omega arith) h
-    ∙ ap (λ l. replicate (l - (k + n)) blank) (sym len)

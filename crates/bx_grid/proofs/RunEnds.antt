@@ -50,23 +50,6 @@ put_is u row column count negative text columns position run counted some fits e
     let b : nat_le (column + count) u.width ≡ true = grind (arith, nat_tests) in
     rw (ec, ep, er, len, a, b) refl
 
-none_left : (t : Terminal) (p : ℕ × ℕ) (fits : Bool) (new : List Col) → nat_le 1 (length new) && nat_le (p.1 + length new) t.width ≡ fits
-    → record (glyphs_put t p new) { run = [] } ≡ glyphs_put t p new
-none_left t p true new e = rw e refl
-none_left t p false new e = rw e refl
-
--- a run that was taken out of the terminal is put, and then there is none
-pub put_taken : (t u v : Terminal) (p : ℕ × ℕ) (negative : Bool) (text taken run : List ℕ) → u ≡ t → taken ≡ [] → text ≡ t.run → run ≡ []
-    → v ≡ glyphs_put (record u { run = taken }) p (run_columns negative text)
-    → record v { run = run } ≡ glyphs_put t p (run_columns negative t.run)
-put_taken t u v p negative text taken run same none is left put =
-    let new = run_columns negative t.run in
-    ap (λ r. record v { run = r }) left
-    ∙ ap (λ (x : Terminal). record x { run = [] })
-    (put ∙ ap (λ bs. glyphs_put (record u { run = taken }) p (run_columns negative bs)) is
-    ∙ ap (λ (x : Terminal). glyphs_put (record x { run = taken }) p new) same)
-    ∙ none_left t p (nat_le 1 (length new) && nat_le (p.1 + length new) t.width) new refl
-
 put_by : (t : Terminal) (p : ℕ × ℕ) (negative : Bool) (run : List ℕ) → 0 < length run
     → run_put t (Some p) (Some negative) run ≡ glyphs_put t p (run_columns negative run)
 put_by t p negative [] h = absurd (omega arith)
@@ -115,14 +98,6 @@ pub escape_begun : (u t : Terminal) (b : ℕ) (half_read : List ℕ) → u ≡ r
 escape_begun u t b half_read e is eh =
     let test : nat_eq b 0x1B ≡ true = grind (arith, nat_tests) in
     rw (e, eh, test) refl
-
--- ---- a text that takes effect with no run before it
-
-pub shown : (t : Terminal) (p : ℕ × ℕ) (negative : Bool) (text : List ℕ) → t.position ≡ Some p → t.negative ≡ Some negative → t.run ≡ [] → 0 < length text
-    → glyphs_put t p (run_columns negative text) ≡ run_ended (record t { run = t.run ++ text })
-shown t p negative text ep en none some =
-    sym (ap (λ run. run_ended (record t { run = run ++ text })) none
-    ∙ ends_put (record t { run = text }) p negative ep en some)
 
 -- ---- an escape that comes sooner
 
