@@ -153,9 +153,6 @@ module _ {class : ℕ → Class} {old : List ℕ} {c : Change} {new : List ℕ} 
       sym (total_lengths class new touched.new_utf8) ∙ ap total e ∙ total_append (take first.number ps) (w ++ back)
       ∙ ap (λ n. total (take first.number ps) + n) (total_append w back)
 
-  pub count_of_old : length ps ≤ length old
-  count_of_old = omega (arith, ap length touched.were, length-append ps (u ∷ []), few_lengths class old touched.old_utf8)
-
   -- ---- told by the offset where the first paragraph begins
 
   -- the paragraphs that end from there to an offset in the new text

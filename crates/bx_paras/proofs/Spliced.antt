@@ -1,13 +1,11 @@
 -- The paragraphs of blocks that are cut, lengthened and joined.
-use Rattle.std.proofs.Common.{◌≡◌, ◌<◌, ◌≤◌, ◌+◌, ◌-◌, ◌∙◌, ◌==◌, ◌⊎◌, inl, inr, ℕ, Bool, true, false, List, [], ◌∷◌, ◌++◌, length, take, drop, get_or, insert}
-use Rattle.std.proofs.Common.{refl, ap, sym, subst, arith, length-append, append_assoc, append-nil, if◌then◌else◌}
-use Rattle.std.proofs.lemmas.Bool.Decides.{nat_tests}
+use Rattle.std.proofs.Common.{◌≡◌, ◌<◌, ◌≤◌, ◌+◌, ◌∙◌, ◌⊎◌, inl, inr, ℕ, Bool, true, List, [], ◌∷◌, ◌++◌, length, take, drop, get_or, insert}
+use Rattle.std.proofs.Common.{ap, sym, subst, arith, length-append, append_assoc, append-nil, if◌then◌else◌}
 use Rattle.std.proofs.lemmas.List.{take-append-drop, take-append-le, take-take, drop_at, length-take-le, length-take, length-drop, get_or_default}
-use Rattle.std.proofs.Math.Seq.{take-append_seam, get_or-append_seam}
+use Rattle.std.proofs.Math.Seq.{take-append_seam}
 use Rattle.bx_paras.specs.declared.lengths.Lengths.{Lengths}
-use Rattle.bx_paras.specs.Capacity.{block_capacity}
 use Rattle.bx_paras.specs.Positions.{bytes_of, total}
-use Rattle.bx_paras.specs.Flat.{flat, free_before}
+use Rattle.bx_paras.specs.Flat.{flat}
 use Rattle.bx_paras.proofs.Totals.{total_append, total_push, total_cut, total_front}
 use Rattle.bx_paras.proofs.Flats.{flat_append, flat_one, flat_cut, flat_more, total_flat_more, total_flat_front, length_flat_front, length_flat_front_of}
 use Rattle.bx_paras.proofs.Flats.{whole_back, ordered, front_in_block, back_in_block}
@@ -25,10 +23,6 @@ drop_behind bs ds b n e =
 
 flat_behind : (bs ds : List (List Lengths)) (b : List Lengths) (n : ℕ) → length bs ≡ n → flat (take (n + 1) (bs ++ b ∷ ds)) ≡ flat bs ++ b
 flat_behind bs ds b n e = ap flat (take_behind bs ds b n e) ∙ flat_append bs (b ∷ []) ∙ ap (λ ls. flat bs ++ ls) (flat_one b)
-
--- the last block in front of a position
-last_block : (bs ds : List (List Lengths)) (b : List Lengths) (n : ℕ) → length bs ≡ n → get_or (bs ++ b ∷ ds) n [] ≡ b
-last_block bs ds b n e = ap (λ k. get_or (bs ++ b ∷ ds) k []) (sym e) ∙ get_or-append_seam bs b ds []
 
 module _ (bs : List (List Lengths)) (i : ℕ) (h : i < length bs) where
   front_len : length (take i bs) ≡ i
@@ -78,9 +72,6 @@ module _ (bs : List (List Lengths)) (i : ℕ) (h : i < length bs) where
   pub pushed_back : (p : Lengths) → drop (i + 1) (pushed_blocks p) ≡ drop (i + 1) bs
   pushed_back p = drop_behind (take i bs) (drop (i + 1) bs) (get_or bs i [] ++ p ∷ []) i front_len
 
-  pub pushed_last : (p : Lengths) → get_or (pushed_blocks p) i [] ≡ get_or bs i [] ++ p ∷ []
-  pushed_last p = last_block (take i bs) (drop (i + 1) bs) (get_or bs i [] ++ p ∷ []) i front_len
-
 -- ---- a block put in
 
 module _ (bs : List (List Lengths)) (at : ℕ) (h : at ≤ length bs) (p : Lengths) where
@@ -95,9 +86,6 @@ module _ (bs : List (List Lengths)) (at : ℕ) (h : at ≤ length bs) (p : Lengt
 
   pub put_back : drop (at + 1) put_blocks ≡ drop at bs
   put_back = drop_behind (take at bs) (drop at bs) (p ∷ []) at put_len
-
-  pub put_last : get_or put_blocks at [] ≡ p ∷ []
-  put_last = last_block (take at bs) (drop at bs) (p ∷ []) at put_len
 
 -- ---- one paragraph more among others
 
@@ -184,37 +172,12 @@ pushed_in_block ds bs new i at p same e h n =
     (subst (λ k. IsPushed bs (take i bs ++ (get_or bs i [] ++ p ∷ []) ∷ drop (i + 1) bs) k k p) n
     (pushed_from bs _ (i + 1) (i + 1) p (pushed_front bs i h p) (ap flat (pushed_back bs i h p))))
 
-pub free_in_block : (bs ds : List (List Lengths)) (i at : ℕ) (p : Lengths) → ds ≡ take i bs ++ (get_or bs i [] ++ p ∷ []) ∷ drop (i + 1) bs → i < length bs
-    → i + 1 ≡ at → length (get_or bs i []) < block_capacity → free_before ds at + 1 ≡ free_before bs at
-free_in_block bs ds i at p e h n room =
-    let some : (at == 0) ≡ false = grind (arith, nat_tests) in
-    let back : at - 1 ≡ i = omega arith in
-    let last : get_or ds (at - 1) [] ≡ get_or bs i [] ++ p ∷ [] = ap (λ k. get_or ds k []) back ∙ ap (λ cs. get_or cs i []) e ∙ pushed_last bs i h p in
-    let old : get_or bs (at - 1) [] ≡ get_or bs i [] = ap (λ k. get_or bs k []) back in
-    rw some (omega (arith, ap length last, ap length old, length-append (get_or bs i []) (p ∷ [])))
-
 -- into a block of its own
 pub pushed_alone : (ds bs new : List (List Lengths)) (at : ℕ) (p : Lengths) → ds ≡ bs → new ≡ take at ds ++ (p ∷ []) ∷ drop at ds → at ≤ length bs
     → IsPushed bs new at (at + 1) p
 pushed_alone ds bs new at p same e h =
     subst (λ cs. IsPushed bs cs at (at + 1) p) (sym (e ∙ ap (λ cs. take at cs ++ (p ∷ []) ∷ drop at cs) same))
     (pushed_from bs _ at (at + 1) p (put_front bs at h p) (ap flat (put_back bs at h p)))
-
-pub free_alone : (bs ds : List (List Lengths)) (at : ℕ) (p : Lengths) → ds ≡ take at bs ++ (p ∷ []) ∷ drop at bs → at ≤ length bs
-    → free_before ds (at + 1) + 1 ≡ block_capacity
-free_alone bs ds at p e h =
-    let some : (at + 1 == 0) ≡ false = grind (arith, nat_tests) in
-    let back : at + 1 - 1 ≡ at = omega arith in
-    let last : get_or ds (at + 1 - 1) [] ≡ p ∷ [] = ap (λ k. get_or ds k []) back ∙ ap (λ cs. get_or cs at []) e ∙ put_last bs at h p in
-    rw some (omega (arith, ap length last))
-
-free_none_at : (bs : List (List Lengths)) (at : ℕ) (none : Bool) → (at == 0) ≡ none
-    → (0 < at → block_capacity ≤ length (get_or bs (at - 1) [])) → free_before bs at ≡ 0
-free_none_at bs at true e h = rw e refl
-free_none_at bs at false e h = let full : block_capacity ≤ length (get_or bs (at - 1) []) = h (grind (arith, nat_tests)) in rw e (omega arith)
-
-pub free_none : (bs : List (List Lengths)) (at : ℕ) → (0 < at → block_capacity ≤ length (get_or bs (at - 1) [])) → free_before bs at ≡ 0
-free_none bs at h = free_none_at bs at (at == 0) refl h
 
 -- what an insertion that succeeds puts in
 pub alone_in : (ok : Bool) (new ds : List (List Lengths)) (at : ℕ) (b e : List Lengths) (p : Lengths) → new ≡ (if ok then insert ds at b else ds) → ok ≡ true

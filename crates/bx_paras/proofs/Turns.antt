@@ -87,17 +87,6 @@ module _ (class : ℕ → Class) where
         let b : nat_le (bytes_of p) k ≡ true = grind (arith, nat_tests) in
         ap (ended_within k) t.more ∙ rw (a, b, ended_within) refl
 
-    pub within_last : (p : Lengths) (k : ℕ) → p ≡ first (lengths class (drop at text)) → p.separator ≡ 0 → ended_within k (lengths class (drop at text)) ≡ []
-    within_last p k e none = ap (ended_within k) (last p e none)
-
-    pub within_long : (p : Lengths) (k : ℕ) → p ≡ first (lengths class (drop at text)) → 0 < p.separator → k < bytes_of p
-        → ended_within k (lengths class (drop at text)) ≡ []
-    within_long p k e some long =
-        let t = turn p e some in
-        let a : (p.separator == 0) ≡ false = grind (arith, nat_tests) in
-        let b : nat_le (bytes_of p) k ≡ false = grind (arith, nat_tests) in
-        ap (ended_within k) t.more ∙ rw (a, b, ended_within) refl
-
     -- one of them put in
     pub record IsStep (p : Lengths) (stop r : ℕ) : Type 0 where
       pub left : ended_within (stop - at) (lengths class (drop at text)) ≡ p ∷ ended_within (stop - (at + r)) (lengths class (drop (at + r) text))
@@ -155,13 +144,6 @@ module _ (class : ℕ → Class) (text : List ℕ) where
         goes_on = further_none (first (lengths class (drop to text))) ∙ ap (λ n. further n (first (lengths class (drop to text)))) none;
         behind = h.behind;
       }
-
-  -- a scan that comes to the window's end
-  pub at_stop : (start at : ℕ) (w : Window) → IsWindow class text start w → start ≤ at → at ≡ w.stop
-      → first (lengths class (drop start text)) ≡ further (at - start) (first (lengths class (drop at text)))
-      → record { body = at - start + w.body; separator = w.separator } ≡ first (lengths class (drop start text))
-  at_stop start at w h start_before e g =
-      sym (g ∙ ap (λ s. further (at - start) (first (lengths class (drop s text)))) e ∙ ap (further (at - start)) h.behind)
 
   pub stop_within : (start at : ℕ) (w : Window) → IsWindow class text start w → IsUtf8 text → IsCharBoundary text at → at ≡ w.stop
       → at + w.body + w.separator ≤ length text
