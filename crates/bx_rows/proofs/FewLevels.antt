@@ -1,7 +1,7 @@
 -- Runs that are reversed where they stand, level by level, from the highest level down.
 use Rattle.std.proofs.Common.{◌≡◌, ℕ, zero, suc, ◌+◌, ◌-◌, max, ◌<◌, ◌≤◌, List, [], ◌∷◌, ◌++◌, length}
 use Rattle.std.proofs.Common.{get_or, take, drop, reverse, refl, sym, ap, ap₂, ◌∙◌, arith, append_assoc}
-use Rattle.std.proofs.lemmas.List.{append-nil, at_drop_more, reverse-append, take_more}
+use Rattle.std.proofs.lemmas.List.{at_drop_more, reverse-append, take_more}
 use Rattle.std.proofs.lemmas.List.Edits.{between_more}
 use Rattle.std.specs.List.{between, enumerate_from}
 use Rattle.bx_rows.specs.VisualOrder.{highest, reverse_runs, reverse_down}
@@ -65,24 +65,6 @@ run_below n us from i d h k =
     let run = reverse (between from i us) in
     at_drop_more (reverse_runs n run) us i d h ∙ low n run u (drop (i + 1) us) k
     ∙ ap (λ xs. run ++ xs) (sym (at_drop_more (reverse_runs n []) us i d h ∙ low n [] u (drop (i + 1) us) k))
-
-drop-end : (us : List (ℕ × ℕ)) (i : ℕ) → length us ≤ i → drop i us ≡ []
-drop-end [] zero h = refl
-drop-end [] (suc i) h = refl
-drop-end (u ∷ us) zero h = absurd (omega (arith, h))
-drop-end (u ∷ us) (suc i) h = drop-end us i (omega (arith, h))
-
-pub run_end : (n : ℕ) (us : List (ℕ × ℕ)) (from i : ℕ) → length us ≤ i
-    → run_to n us from i ≡ reverse (between from i us) ++ reverse_runs n [] (drop i us)
-run_end n us from i h =
-    let run = reverse (between from i us) in
-    let e = drop-end us i h in
-    ap (reverse_runs n run) e ∙ sym (append-nil run) ∙ ap (λ xs. run ++ reverse_runs n [] xs) (sym e)
-
-pub all_reversed : (n : ℕ) (us : List (ℕ × ℕ)) (i : ℕ) → length us ≤ i → i ≤ length us → reversed_from n us i ≡ us
-all_reversed n us i h k =
-    let e : i ≡ length us = omega (arith, h, k) in
-    ap (λ xs. take i us ++ reverse_runs n [] xs) (drop-end us i h) ∙ append-nil (take i us) ∙ Rattle.std.proofs.Common.take_all i us h
 
 -- a run is turned round where it stands: what is done before and after, and the list now
 pub turned_round : (n : ℕ) (us new all : List (ℕ × ℕ)) (i stop : ℕ) → take stop new ≡ take i us ++ reverse (between i stop us) → drop stop new ≡ drop stop us

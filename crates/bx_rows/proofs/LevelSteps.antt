@@ -152,10 +152,6 @@ more-kept : (p l : ℕ) (class : Class) (old new : List ℕ) (waiting next : ℕ
 more-kept p l class old new waiting next reads = λ n counts cs.
     ap (λ xs. with_levels_behind p xs (unit_levels counts (drop n (l1 p cs)))) (sym (reads l (only_trailing cs)))
 
-not-kept : (p : ℕ) (class : Class) (k : Bool) (found : List ℕ) (waiting : ℕ) → ReadsChar p class k None found waiting found waiting
-not-kept p class true found waiting = λ n counts cs. refl
-not-kept p class false found waiting = λ n counts cs. refl
-
 pub char-first : (p l : ℕ) (class : Class) (k : Bool) (level : Option ℕ) (old new : List ℕ) (waiting next : ℕ) → k ≡ false → level ≡ Some l
     → waiting ≤ length old → Reads p class (old ++ l ∷ []) waiting new next → ReadsChar p class k level old waiting new next
 char-first p l class k level old new waiting next e f h reads =
@@ -167,10 +163,6 @@ pub char-more : (p l : ℕ) (class : Class) (k : Bool) (level : Option ℕ) (old
 char-more p l class k level old new waiting next e f reads =
     subst (λ x. ReadsChar p class x level old waiting new next) (sym e)
     (subst (λ x. ReadsChar p class true x old waiting new next) (sym f) (more-kept p l class old new waiting next reads))
-
-pub char-none : (p : ℕ) (class : Class) (k : Bool) (level : Option ℕ) (old : List ℕ) (waiting : ℕ) → level ≡ None
-    → ReadsChar p class k level old waiting old waiting
-char-none p class k level old waiting e = subst (λ x. ReadsChar p class k x old waiting old waiting) (sym e) (not-kept p class k old waiting)
 
 drop-nil : (n : ℕ) → drop {A = Option ℕ} n [] ≡ []
 drop-nil zero = refl

@@ -34,11 +34,6 @@ part-boundary text behind c u e =
     let at : drop n text ≡ behind = ap (drop n) e ∙ drop_at (encode_utf8 c) behind n (part-end text behind c e) in
     IsCharBoundary-from_drop text n (omega arith) (subst IsUtf8 (sym at) (IsUtf8-past_char text behind c u e))
 
-pub part-text : (text behind : List ℕ) (c : ℕ) → text ≡ encode_utf8 c ++ behind → take (length text - length behind) text ≡ encode_utf8 c
-part-text text behind c e =
-    let n = length text - length behind in
-    ap (take n) e ∙ take_at (encode_utf8 c) behind n (part-end text behind c e)
-
 -- ---- single characters
 
 -- each character begins a cluster, and shows itself in one column where it is one
@@ -184,11 +179,6 @@ pub record IsReadTo (class : ℕ → Class) (w p : ℕ) (body : List ℕ) (at : 
   pub within : waiting ≤ length found
   pub levels_are : (more counts : List ℕ) → levels_from p [] 0 0 (ones cs ++ counts) (zip (map class (cs ++ more)) levels)
       ≡ levels_from p found waiting 0 counts (zip (map class more) left)
-
-pub read-none : (class : ℕ → Class) (w p : ℕ) (body : List ℕ) (at : ℕ) (levels : List (Option ℕ)) (rest : List ℕ) → rest ≡ drop at body
-    → IsReadTo class w p body at levels [] [] 0 levels rest
-read-none class w p body at levels rest e =
-    record { cs = []; bytes = sym e; plain = tt; glyphs_are = refl; count = refl; within = omega arith; levels_are = λ more counts. refl }
 
 ones-push : (cs : List ℕ) (c : ℕ) (counts : List ℕ) → ones (cs ++ c ∷ []) ++ counts ≡ ones cs ++ 1 ∷ counts
 ones-push [] c counts = refl
