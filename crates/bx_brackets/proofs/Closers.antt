@@ -13,6 +13,7 @@ use Rattle.bx_brackets.specs.Pairs.{insert_pair}
 use Rattle.bx_brackets.specs.Search.{below_first, is_for, index_of, left_by, IsFalling, pairs_in}
 use Rattle.bx_brackets.specs.Search.{with_closer, found_by, turn, Progress, IsUnclosed, AreUnclosed, IsSearched}
 use Rattle.bx_brackets.proofs.Stack.{found_below, falling_later, falling_below}
+use Rattle.bx_brackets.proofs.Insert.{insert_later}
 
 -- one index
 pub next_pair : (k c : ℕ) (cs : List ℕ) → k < c → pairs_in k (c ∷ cs) ≡ (k, c) ∷ pairs_in (k + 1) cs
@@ -49,9 +50,6 @@ pairs_begin k (c ∷ cs) = elim (nat_lt k c) as
 insert_first : (p : ℕ × ℕ) (ps : List (ℕ × ℕ)) → BeginsFrom (p.0 + 1) ps → insert_pair p ps ≡ p ∷ ps
 insert_first p [] h = refl
 insert_first p (q ∷ qs) h = let e : nat_lt p.0 q.0 ≡ true = grind (arith, nat_tests) in rw (e, insert_pair)
-
-insert_later : (p q : ℕ × ℕ) (qs : List (ℕ × ℕ)) → q.0 ≤ p.0 → insert_pair p (q ∷ qs) ≡ q ∷ insert_pair p qs
-insert_later p q qs h = let e : nat_lt p.0 q.0 ≡ false = grind (arith, nat_tests) in rw (e, insert_pair)
 
 -- to write the closer of an opener is to insert the pair
 pub write_inserts : (k i o j : ℕ) (cs : List ℕ) → k + i ≡ o → i < length cs → get_or cs i 0 ≤ o → o < j

@@ -9,7 +9,7 @@ use Rattle.bx_brackets.specs.Resolve.{IsPairWithin}
 use Rattle.bx_brackets.specs.Search.{AreSorted, AreFound, is_for, index_of, left_by, found_by, below_first}
 use Rattle.bx_brackets.proofs.Stack.{found_below, falling_later, falling_below}
 
-insert_later : (p q : ℕ × ℕ) (qs : List (ℕ × ℕ)) → q.0 ≤ p.0 → insert_pair p (q ∷ qs) ≡ q ∷ insert_pair p qs
+pub insert_later : (p q : ℕ × ℕ) (qs : List (ℕ × ℕ)) → q.0 ≤ p.0 → insert_pair p (q ∷ qs) ≡ q ∷ insert_pair p qs
 insert_later p q qs h = let e : nat_lt p.0 q.0 ≡ false = grind (arith, nat_tests) in rw (e, insert_pair)
 
 insert_before : (p q : ℕ × ℕ) (qs : List (ℕ × ℕ)) → p.0 < q.0 → insert_pair p (q ∷ qs) ≡ p ∷ q ∷ qs

@@ -14,15 +14,15 @@ use Rattle.bx_bytes.proofs.Codes.{code_of_three_fits, code_of_four_fits, too_lon
 
 -- ---- the rows, by fates
 
-ends_by : (m b : Bool) → cond m Ends (cond b Waits Breaks) ≡ Ends → m ≡ true
+pub ends_by : (m b : Bool) → cond m Ends (cond b Waits Breaks) ≡ Ends → m ≡ true
 ends_by true b h = refl
 ends_by false true h = absurd (cc h)
 ends_by false false h = absurd (cc h)
 
-is_whole : (bs : List ℕ) → fate_in characters bs ≡ Ends → is_character bs ≡ true
+pub is_whole : (bs : List ℕ) → fate_in characters bs ≡ Ends → is_character bs ≡ true
 is_whole bs h = ends_by (is_character bs) (begins_any characters bs) h
 
-ends : (bs : List ℕ) → is_character bs ≡ true → fate_in characters bs ≡ Ends
+pub ends : (bs : List ℕ) → is_character bs ≡ true → fate_in characters bs ≡ Ends
 ends bs h = cond-true (is_character bs) Ends _ h
 
 two_end : (a b : ℕ) → 0xC2 ≤ a → a ≤ 0xDF → 0x80 ≤ b → b ≤ 0xBF → fate_in characters (a ∷ b ∷ []) ≡ Ends
@@ -115,7 +115,7 @@ encoded_by c r most = elim (cases_lt c 128) [
   ]
 ]
 
-encoded : (c : ℕ) → IsScalar c → is_character (encode_utf8 c) ≡ true
+pub encoded : (c : ℕ) → IsScalar c → is_character (encode_utf8 c) ≡ true
 encoded c h = elim (scalar_cases c h) [
   | inl low ↦ encoded_by c (inl low) (omega arith)
   | inr high ↦ encoded_by c (inr high.0) high.1
