@@ -32,7 +32,7 @@ begins_it kept g level k last c e h =
     let m : last + 1 - k ≡ suc (last - k) = omega arith in
     (kept_indexes (k + 1) (take (last - k) g), ap (λ n. kept_indexes k (take n (drop k kept))) m ∙ ap (λ xs. kept_indexes k (take (suc (last - k)) xs)) e)
 
-drop_on : (kept g : List (Option Kept)) (k : ℕ) (o : Option Kept) → drop k kept ≡ o ∷ g → drop (k + 1) kept ≡ g
+pub drop_on : (kept g : List (Option Kept)) (k : ℕ) (o : Option Kept) → drop k kept ≡ o ∷ g → drop (k + 1) kept ≡ g
 drop_on [] g zero o e = absurd (cc)
 drop_on [] g (suc k) o e = absurd (cc)
 drop_on (x ∷ kept) g zero o e = cc

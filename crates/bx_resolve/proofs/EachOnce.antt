@@ -1,5 +1,5 @@
 -- Each kept character stands in one isolating run sequence, once.
-use Rattle.std.proofs.Common.{◌≡◌, ◌≤◌, ◌+◌, ◌-◌, ◌∙◌, ℕ, zero, suc, List, [], ◌∷◌, ◌++◌, length, drop, take, reverse, refl, ap, ap₂, sym, subst, arith}
+use Rattle.std.proofs.Common.{◌≡◌, ◌≤◌, ◌+◌, ◌-◌, ◌∙◌, ℕ, suc, List, [], ◌∷◌, ◌++◌, length, drop, take, reverse, refl, ap, ap₂, sym, subst, arith}
 use Rattle.std.proofs.Common.{Bool, true, false, ◌==◌, Option, Some, None, append-nil, append_assoc}
 use Rattle.std.specs.Prelude.{All}
 use Rattle.std.specs.List.Sorted.{IsPermutation}
@@ -19,13 +19,8 @@ use Rattle.bx_explicit.proofs.LevelRuns.{runs_within}
 use Rattle.bx_explicit.proofs.Ending.{ending_over, ending_open}
 use Rattle.bx_explicit.proofs.Waits.{indexes_of_runs}
 use Rattle.bx_explicit.proofs.Overtaken.{given_by_levels}
+use Rattle.bx_explicit.proofs.Ordered.{drop_on}
 use Rattle.bx_resolve.specs.Laws.{all_indexes}
-
-drop_on : (kept g : List (Option Kept)) (k : ℕ) (o : Option Kept) → drop k kept ≡ o ∷ g → drop (k + 1) kept ≡ g
-drop_on [] g zero o e = absurd (cc)
-drop_on [] g (suc k) o e = absurd (cc)
-drop_on (x ∷ kept) g zero o e = cc
-drop_on (x ∷ kept) g (suc k) o e = let n : suc k + 1 ≡ suc (k + 1) = omega arith in ap (λ m. drop m (x ∷ kept)) n ∙ drop_on kept g k o e
 
 -- the level runs hold the kept characters, in order
 module _ (kept : List (Option Kept)) where

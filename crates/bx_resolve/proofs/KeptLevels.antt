@@ -22,6 +22,7 @@ use Rattle.bx_explicit.specs.ParagraphLevel.{base_level, first_strong, level_of,
 use Rattle.bx_explicit.specs.Runs.{kept_indexes}
 use Rattle.bx_explicit.specs.Sequences.{RunSequence, sequences}
 use Rattle.bx_explicit.proofs.Bounds.{levels_low, sequences_low}
+use Rattle.bx_explicit.proofs.Steps.{levels_length as explicit_length}
 use Rattle.bx_resolve.specs.Neutral.{implicit, implicit_at, rise_even, rise_odd}
 use Rattle.bx_resolve.specs.Levels.{chars_at, is_kept, levels_in, levels_under, max_level, paragraph_levels, types_at, with_levels, with_sequences}
 use Rattle.bx_resolve.specs.Laws.{all_indexes}
@@ -125,10 +126,6 @@ kept_each s [] = refl
 kept_each s (c ∷ cs) =
     let t : State = next_state (role_of c) cs s in
     ap₂ (λ b bs. b ∷ bs) (kept_one c s t) (kept_each t cs)
-
-explicit_length : (s : State) (cs : List Class) → length (explicit_from s cs) ≡ length cs
-explicit_length s [] = refl
-explicit_length s (c ∷ cs) = ap (λ n. suc n) (explicit_length (next_state (role_of c) cs s) cs)
 
 none_found : (n : ℕ) → map (is_some {T = ℕ}) (replicate n None) ≡ replicate n false
 none_found zero = refl

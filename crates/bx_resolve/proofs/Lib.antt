@@ -12,10 +12,10 @@ pub mod PlainKept
 pub mod PlainPairs
 pub mod PlainLengths
 pub mod PlainTypes
-pub mod RightTypes
 pub mod PairTypes
 pub mod RightMarks
 pub mod RightLevels
+pub mod RightTypes
 pub mod PlainLevels
 pub mod Mapped
 pub mod EachOnce

@@ -4,7 +4,7 @@ use Rattle.std.proofs.Common.{[], ◌∷◌, ◌++◌, length, take, drop, rever
 use Rattle.std.proofs.Common.{sym, subst, arith, Bool, false, Option, Some, None, length-append}
 use Rattle.bx_ucd.specs.declared.class.Class.{Class}
 use Rattle.bx_brackets.specs.Resolve.{nearest, pair_direction, change_bracket, context_of, resolve_pair, resolve_pairs}
-use Rattle.bx_resolve.proofs.PlainLengths.{change_length}
+use Rattle.bx_brackets.proofs.Context.{change_length}
 use Rattle.bx_resolve.proofs.MovedPairs.{shift, shift_below, shift_from, moved_pair}
 use Rattle.bx_resolve.proofs.FramedPairs.{in_front, in_back, around, changed, resolved_by, changed_both, HasSame, same_within, same_direction}
 

@@ -1,11 +1,11 @@
 -- A sequence has as many levels as types.
-use Rattle.std.proofs.Common.{◌≡◌, ◌<◌, ◌+◌, ◌-◌, ◌∙◌, ℕ, suc, List, [], ◌∷◌, length, drop, take, map, refl, ap, arith, Bool, true, false, Option, Some, None}
-use Rattle.std.proofs.Common.{length-append, length-drop}
-use Rattle.std.proofs.lemmas.List.{length-take-le}
+use Rattle.std.proofs.Common.{◌≡◌, ◌<◌, ◌+◌, ◌-◌, ◌∙◌, ℕ, suc, List, [], ◌∷◌, length, drop, take, map, refl, ap, arith, Bool, Option, Some, None}
+use Rattle.std.proofs.lemmas.List.{length-map}
 use Rattle.bx_ucd.specs.declared.class.Class.{Class}
 use Rattle.bx_ucd.specs.declared.data.Side.{Side}
 use Rattle.bx_brackets.specs.Pairs.{pairs}
-use Rattle.bx_brackets.specs.Resolve.{context_of, pair_direction, change_marks, change_bracket, resolve_in, resolve_pairs}
+use Rattle.bx_brackets.specs.Resolve.{context_of, pair_direction, change_bracket, resolve_in, resolve_pairs}
+use Rattle.bx_brackets.proofs.Context.{change_length}
 use Rattle.bx_explicit.specs.Sequences.{direction}
 use Rattle.bx_resolve.specs.AtEach.{at_each}
 use Rattle.bx_resolve.specs.Weak.{w1, w2, w3, w4, w5, w6, w1_at, w2_at, w3_at, w4_at, w5_at, w6_at, w7_at, weak, is_nsm}
@@ -17,10 +17,6 @@ pub at_each_length : (rule : List Class → Class → List Class → Class) (b t
 at_each_length rule b [] = refl
 at_each_length rule b (t ∷ ts) = ap (λ n. suc n) (at_each_length rule (t ∷ b) ts)
 
-map_length : {B : Type 0} (f : Class → B) (ts : List Class) → length (map f ts) ≡ length ts
-map_length f [] = refl
-map_length f (t ∷ ts) = ap (λ n. suc n) (map_length f ts)
-
 pub weak_length : (sos : Class) (ts : List Class) → length (weak sos ts) ≡ length ts
 weak_length sos ts =
     let a : List Class = w1 sos ts in
@@ -29,23 +25,8 @@ weak_length sos ts =
     let d : List Class = w4 c in
     let e : List Class = w5 d in
     let f : List Class = w6 e in
-    at_each_length (w7_at sos) [] f ∙ map_length w6_at e ∙ at_each_length w5_at [] d ∙ at_each_length w4_at [] c ∙ map_length w3_at b
+    at_each_length (w7_at sos) [] f ∙ length-map e w6_at ∙ at_each_length w5_at [] d ∙ at_each_length w4_at [] c ∙ length-map b w3_at
     ∙ at_each_length (w2_at sos) [] a ∙ at_each_length (w1_at sos) [] ts
-
-marks_length : (d : Class) (was : List Bool) (ts : List Class) → length (change_marks d was ts) ≡ length ts
-marks_length d [] ts = refl
-marks_length d (false ∷ was) ts = refl
-marks_length d (true ∷ was) [] = refl
-marks_length d (true ∷ was) (t ∷ ts) = ap (λ n. suc n) (marks_length d was ts)
-
-pub change_length : (d : Class) (was : List Bool) (ts : List Class) (p : ℕ) → p < length ts → length (change_bracket d was ts p) ≡ length ts
-change_length d was ts p h =
-    let a : length (take p ts) ≡ p = length-take-le p ts (omega arith) in
-    let b : length (change_marks d (drop (p + 1) was) (drop (p + 1) ts)) ≡ length (drop (p + 1) ts) = marks_length d (drop (p + 1) was) (drop (p + 1) ts) in
-    let c : length (drop (p + 1) ts) ≡ length ts - (p + 1) = length-drop (p + 1) ts in
-    let e : length (change_bracket d was ts p) ≡ length (take p ts) + length (d ∷ change_marks d (drop (p + 1) was) (drop (p + 1) ts)) =
-    length-append (take p ts) (d ∷ change_marks d (drop (p + 1) was) (drop (p + 1) ts)) in
-    omega arith
 
 by_length : (was : List Bool) (p : ℕ × ℕ) (ts : List Class) (m : Option Class) → p.0 < p.1 → p.1 < length ts
     → length (elim m as (λ x. List Class) [ None ↦ ts | Some d ↦ change_bracket d was (change_bracket d was ts p.0) p.1 ]) ≡ length ts
@@ -71,5 +52,5 @@ levels_length bracket level sos eos chars ts =
     let paired : List Class = resolve_pairs (direction level) sos (map is_nsm ts) (pairs bracket chars weak_types) weak_types in
     let l : length paired ≡ length weak_types = pairs_length (length weak_types) (direction level) sos (map is_nsm ts) (pairs bracket chars weak_types)
     weak_types (pairs_inside bracket chars weak_types) refl in
-    map_length (implicit_at level) (n2 (direction level) (n1 sos eos paired)) ∙ map_length (n2_at (direction level)) (n1 sos eos paired)
+    length-map (n2 (direction level) (n1 sos eos paired)) (implicit_at level) ∙ length-map (n1 sos eos paired) (n2_at (direction level))
     ∙ at_each_length (n1_at sos eos) [] paired ∙ l ∙ weak_length sos ts

@@ -9,6 +9,7 @@ use Rattle.bx_ucd.specs.declared.data.Side.{Side}
 use Rattle.bx_ucd.specs.Class.{is_strong}
 use Rattle.bx_brackets.specs.Pairs.{pairs}
 use Rattle.bx_brackets.specs.Resolve.{counts_as, opposite, context_of, pair_direction, change_marks, change_bracket, resolve_in, resolve_pairs}
+use Rattle.bx_brackets.proofs.Context.{change_length}
 use Rattle.bx_resolve.specs.AtEach.{at_each}
 use Rattle.bx_resolve.specs.Weak.{w1, w2, w3, w4, w5, w6, w1_at, w2_at, w3_at, w4_at, w5_at, w6_at, w7_at, weak, is_nsm, is_en, is_an, mark_class, nearest_that}
 use Rattle.bx_resolve.specs.Weak.{number_after, left_number, is_left_or_right, beside, terminator_of, is_en_past}
@@ -17,7 +18,7 @@ use Rattle.bx_resolve.specs.Levels.{sequence_levels}
 use Rattle.bx_resolve.specs.Plain.{is_plain}
 use Rattle.bx_resolve.proofs.PlainKept.{Each}
 use Rattle.bx_resolve.proofs.PlainPairs.{AreInside, pairs_inside}
-use Rattle.bx_resolve.proofs.PlainLengths.{at_each_length, weak_length, change_length}
+use Rattle.bx_resolve.proofs.PlainLengths.{at_each_length, weak_length}
 
 -- a rule that turns each class of one kind into one of another
 module _ (p q : Class → Bool) (rule : List Class → Class → List Class → Class)

@@ -1,22 +1,19 @@
 -- A sequence of classes that are plain from right to left: what each rule leaves.
-use Rattle.std.proofs.Common.{◌≡◌, ◌<◌, ◌+◌, ◌-◌, ◌∙◌, ℕ, List, [], ◌∷◌, length, drop, take, map, replicate, refl, ap, sym, arith, subst, Bool, true, false}
-use Rattle.std.proofs.Common.{Option, Some, None, ◌⊎◌, inl, inr}
+use Rattle.std.proofs.Common.{◌≡◌, ◌∙◌, ℕ, List, [], ◌∷◌, length, replicate, refl, ap, Bool, true, false}
+use Rattle.std.proofs.Common.{Option}
 use Rattle.std.specs.Prelude.{◌&&◌}
-use Rattle.std.specs.List.{list_any}
 use Rattle.bx_ucd.specs.declared.class.Class.{Class}
-use Rattle.bx_ucd.specs.declared.class.Class.TheVariants.{L, R, AL, AN, EN, ES, ET, CS, NSM, B, S, WS, ON}
+use Rattle.bx_ucd.specs.declared.class.Class.TheVariants.{R, AL, AN, EN, ES, ET, CS, NSM, B, S, WS, ON}
 use Rattle.bx_ucd.specs.declared.data.Side.{Side}
-use Rattle.bx_brackets.specs.Pairs.{pairs}
-use Rattle.bx_brackets.specs.Resolve.{counts_as, opposite, context_of, pair_direction, change_marks, change_bracket, resolve_in, resolve_pairs}
-use Rattle.bx_resolve.specs.Weak.{w1, w2, w3, w4, w5, w6, w1_at, w2_at, w3_at, w4_at, w5_at, w6_at, w7_at, weak, is_nsm, is_en, is_an, mark_class, beside}
+use Rattle.bx_resolve.specs.Weak.{w1, w2, w3, w4, w5, w6, w1_at, w2_at, w3_at, w4_at, w5_at, w6_at, w7_at, weak, is_en, is_an, mark_class, beside}
 use Rattle.bx_resolve.specs.Weak.{terminator_of, is_en_past}
-use Rattle.bx_resolve.specs.Neutral.{n1, n2, n1_at, side, agreed, implicit}
+use Rattle.bx_resolve.specs.Neutral.{implicit}
 use Rattle.bx_resolve.specs.Levels.{sequence_levels}
-use Rattle.bx_resolve.specs.Plain.{is_plain_right}
+use Rattle.bx_resolve.specs.Plain.{is_plain_right, is_from_right}
 use Rattle.bx_resolve.proofs.PlainKept.{Each}
-use Rattle.bx_resolve.proofs.PlainPairs.{AreInside, pairs_inside}
-use Rattle.bx_resolve.proofs.PlainLengths.{at_each_length, weak_length, change_length}
-use Rattle.bx_resolve.proofs.PlainTypes.{each_by_rule, each_map, each_take, each_drop, each_append}
+use Rattle.bx_resolve.proofs.PlainLengths.{weak_length}
+use Rattle.bx_resolve.proofs.RightLevels.{right_sequence}
+use Rattle.bx_resolve.proofs.PlainTypes.{each_by_rule, each_map}
 
 -- the plain classes but NSM; those that W3 leaves; those that W6 leaves
 abbrev is_unmarked : Class → Bool
@@ -49,10 +46,6 @@ is_rest S = true
 is_rest WS = true
 is_rest ON = true
 is_rest _ = false
-
-abbrev is_r : Class → Bool
-is_r R = true
-is_r _ = false
 
 mark_unmarked : (b : List Class) → Each is_plain_right b → is_unmarked (mark_class R b) ≡ true
 mark_unmarked [] h = refl
@@ -205,104 +198,34 @@ weak_plain ts h =
     let f : Each is_rest (w6 t5) = each_map is_weak is_rest w6_at w6_turns t5 e in
     each_by_rule is_rest is_rest (w7_at R) w7_turns [] (w6 t5) tt f
 
--- N0: with no L inside, a pair takes R or stays
-no_left : (ts : List Class) → Each is_rest ts → list_any (counts_as L) ts ≡ false
-no_left [] h = refl
-no_left (R ∷ ts) h = no_left ts h.1
-no_left (B ∷ ts) h = no_left ts h.1
-no_left (S ∷ ts) h = no_left ts h.1
-no_left (WS ∷ ts) h = no_left ts h.1
-no_left (ON ∷ ts) h = no_left ts h.1
-no_left (t ∷ ts) h = let e : is_rest t ≡ true = h.0 in absurd (cc)
+-- none of these rises
+level_one : (ts : List Class) → Each is_rest ts → implicit 1 ts ≡ replicate (length ts) 1
+level_one [] h = refl
+level_one (R ∷ ts) h = ap (λ ls. 1 ∷ ls) (level_one ts h.1)
+level_one (B ∷ ts) h = ap (λ ls. 1 ∷ ls) (level_one ts h.1)
+level_one (S ∷ ts) h = ap (λ ls. 1 ∷ ls) (level_one ts h.1)
+level_one (WS ∷ ts) h = ap (λ ls. 1 ∷ ls) (level_one ts h.1)
+level_one (ON ∷ ts) h = ap (λ ls. 1 ∷ ls) (level_one ts h.1)
+level_one (t ∷ ts) h = let e : is_rest t ≡ true = h.0 in absurd (cc)
 
-abbrev taken_by : Bool → Bool → Bool → Option Class
-taken_by a b c = elim a as (λ x. Option Class) [
-  | true ↦ Some R
-  | false ↦ elim b as (λ x. Option Class)
-      [ true ↦ elim c as (λ x. Option Class) [ true ↦ Some R | false ↦ Some (opposite R) ] | false ↦ None ]
-]
+from_right : (t : Class) → is_plain_right t ≡ true → is_from_right t ≡ true
+from_right R e = refl
+from_right AL e = refl
+from_right ES e = refl
+from_right ET e = refl
+from_right CS e = refl
+from_right NSM e = refl
+from_right B e = refl
+from_right S e = refl
+from_right WS e = refl
+from_right ON e = refl
+from_right _ e = absurd (cc)
 
-pair_by : (a b c : Bool) → b ≡ false → (taken_by a b c ≡ None) ⊎ (taken_by a b c ≡ Some R)
-pair_by true b c e = inr refl
-pair_by false false c e = inl refl
-pair_by false true c e = absurd (cc)
-
-pair_right : (context : Class) (inside : List Class) → Each is_rest inside
-    → (pair_direction R context inside ≡ None) ⊎ (pair_direction R context inside ≡ Some R)
-pair_right context inside h = pair_by (list_any (counts_as R) inside) (list_any (counts_as (opposite R)) inside) (counts_as R context) (no_left inside h)
-
-marks_rest : (was : List Bool) (ts : List Class) → Each is_rest ts → Each is_rest (change_marks R was ts)
-marks_rest [] ts h = h
-marks_rest (false ∷ was) ts h = h
-marks_rest (true ∷ was) [] h = tt
-marks_rest (true ∷ was) (t ∷ ts) h = (refl, marks_rest was ts h.1)
-
-change_rest : (was : List Bool) (ts : List Class) (p : ℕ) → Each is_rest ts → Each is_rest (change_bracket R was ts p)
-change_rest was ts p h =
-    let marks : List Class = change_marks R (drop (p + 1) was) (drop (p + 1) ts) in
-    let later : Each is_rest marks = marks_rest (drop (p + 1) was) (drop (p + 1) ts) (each_drop is_rest (p + 1) ts h) in
-    each_append is_rest (take p ts) (R ∷ marks) (each_take is_rest p ts h) (refl, later)
-
--- types that rest, as many as before
-record IsRest (n : ℕ) (ts : List Class) : Type 0 where
-  pub each : Each is_rest ts
-  pub as_long : length ts ≡ n
-
-resolve_by : (n : ℕ) (was : List Bool) (p : ℕ × ℕ) (ts : List Class) (m : Option Class) → (m ≡ None) ⊎ (m ≡ Some R) → p.0 < p.1 → p.1 < n → IsRest n ts
-    → IsRest n (elim m as (λ x. List Class) [ None ↦ ts | Some d ↦ change_bracket d was (change_bracket d was ts p.0) p.1 ])
-resolve_by n was p ts None o a b h = h
-resolve_by n was p ts (Some d) o a b h =
-    let s : d ≡ R = elim o [ inl e ↦ absurd (cc) | inr e ↦ cc ] in
-    let l : length ts ≡ n = h.as_long in
-    let one : List Class = change_bracket R was ts p.0 in
-    let r : Each is_rest (change_bracket R was one p.1) = change_rest was one p.1 (change_rest was ts p.0 h.each) in
-    let k : length one ≡ length ts = change_length R was ts p.0 (omega arith) in
-    let q : length (change_bracket R was one p.1) ≡ length one = change_length R was one p.1 (omega arith) in
-    subst (λ x. IsRest n (change_bracket x was (change_bracket x was ts p.0) p.1)) (sym s) (record { each = r; as_long = q ∙ k ∙ l })
-
-pairs_rest : (n : ℕ) (was : List Bool) (ps : List (ℕ × ℕ)) (ts : List Class) → AreInside n ps → IsRest n ts → IsRest n (resolve_pairs R R was ps ts)
-pairs_rest n was [] ts i h = h
-pairs_rest n was (p ∷ ps) ts i h =
-    let inside : List Class = take (p.1 - p.0 - 1) (drop (p.0 + 1) ts) in
-    let e : Each is_rest inside = each_take is_rest (p.1 - p.0 - 1) (drop (p.0 + 1) ts) (each_drop is_rest (p.0 + 1) ts h.each) in
-    let context : Class = context_of R ts p.0 in
-    pairs_rest n was ps (resolve_in R context was p ts) i.2 (resolve_by n was p ts (pair_direction R context inside) (pair_right context inside e) i.0 i.1 h)
-
--- N1: all become R
-side_r : (b : List Class) → Each is_rest b → side R b ≡ R
-side_r [] h = refl
-side_r (R ∷ b) h = refl
-side_r (B ∷ b) h = side_r b h.1
-side_r (S ∷ b) h = side_r b h.1
-side_r (WS ∷ b) h = side_r b h.1
-side_r (ON ∷ b) h = side_r b h.1
-side_r (t ∷ b) h = let e : is_rest t ≡ true = h.0 in absurd (cc)
-
-agreed_r : (t : Class) (b a : List Class) → Each is_rest b → Each is_rest a → is_r (agreed t (side R b) (side R a)) ≡ true
-agreed_r t b a hb ha = ap (λ s. is_r (agreed t s (side R a))) (side_r b hb) ∙ ap (λ s. is_r (agreed t R s)) (side_r a ha)
-
-n1_turns : (b : List Class) (t : Class) (a : List Class) → Each is_rest b → is_rest t ≡ true → Each is_rest a → is_r (n1_at R R b t a) ≡ true
-n1_turns b B a hb e ha = agreed_r B b a hb ha
-n1_turns b S a hb e ha = agreed_r S b a hb ha
-n1_turns b WS a hb e ha = agreed_r WS b a hb ha
-n1_turns b ON a hb e ha = agreed_r ON b a hb ha
-n1_turns b R a hb e ha = refl
-n1_turns b _ a hb e ha = absurd (cc)
-
--- so all levels are 1
-levels_r : (ts : List Class) → Each is_r ts → implicit 1 (n2 R ts) ≡ replicate (length ts) 1
-levels_r [] h = refl
-levels_r (R ∷ ts) h = ap (λ ls. 1 ∷ ls) (levels_r ts h.1)
-levels_r (t ∷ ts) h = let e : is_r t ≡ true = h.0 in absurd (cc)
+all_from_right : (ts : List Class) → Each is_plain_right ts → Each is_from_right ts
+all_from_right [] h = tt
+all_from_right (t ∷ ts) h = (from_right t h.0, all_from_right ts h.1)
 
 pub plain_right_sequence : (bracket : ℕ → Option (Side × ℕ)) (chars : List ℕ) (ts : List Class) → Each is_plain_right ts
     → sequence_levels bracket 1 R R chars ts ≡ replicate (length ts) 1
 plain_right_sequence bracket chars ts h =
-    let weak_types : List Class = weak R ts in
-    let was : List Bool = map is_nsm ts in
-    let found : List (ℕ × ℕ) = pairs bracket chars weak_types in
-    let paired : List Class = resolve_pairs R R was found weak_types in
-    let r : IsRest (length weak_types) paired = pairs_rest (length weak_types) was found weak_types (pairs_inside bracket chars weak_types)
-    (record { each = weak_plain ts h; as_long = refl }) in
-    let l : Each is_r (n1 R R paired) = each_by_rule is_rest is_r (n1_at R R) n1_turns [] paired tt r.each in
-    levels_r (n1 R R paired) l ∙ ap (λ n. replicate n 1) (at_each_length (n1_at R R) [] paired ∙ r.as_long ∙ weak_length R ts)
+    right_sequence bracket chars ts (all_from_right ts h) ∙ level_one (weak R ts) (weak_plain ts h) ∙ ap (λ n. replicate n 1) (weak_length R ts)
