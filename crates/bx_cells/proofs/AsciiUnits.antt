@@ -2,7 +2,6 @@
 use Rattle.std.proofs.Common.{◌≡◌, ℕ, ◌+◌, ◌<◌, true, false, List, [], ◌∷◌, ◌++◌, length, drop, get_or, encode_utf8, sym, ap, ◌∙◌, arith}
 use Rattle.bx_terms.specs.Characters.{is_ascii_printable}
 use Rattle.std.specs.Str.{IsUtf8, IsCharBoundary}
-use Rattle.std.proofs.lemmas.Bool.Decides.{nat_tests}
 use Rattle.std.proofs.lemmas.List.{drop_more, length-drop}
 use Rattle.std.proofs.lemmas.Str.{encode_ascii}
 use Rattle.bx_ucd.specs.declared.class.Class.{Class}
@@ -12,11 +11,8 @@ use Rattle.bx_cells.specs.Simple.{begins, own_columns}
 use Rattle.bx_cells.specs.SimpleFace.{simple_face}
 use Rattle.bx_cells.specs.Units.{units_from}
 use Rattle.bx_cells.proofs.OpenCluster.{IsOpen, open-first, open-boundary, unit-more}
-use Rattle.bx_cells.proofs.Printable.{printable_common}
+use Rattle.bx_cells.proofs.Printable.{printable_common, ascii_byte}
 use Rattle.bx_cells.proofs.RangeFacts.{of_common}
-
-ascii_byte : (b : ℕ) → is_ascii_printable b ≡ true → b < 128
-ascii_byte b h = grind (arith, nat_tests)
 
 pub begins_ascii : (c : ℕ) → is_ascii_printable c ≡ true → (begins c ≡ true) × (own_columns c ≡ 1)
 begins_ascii c h = of_common c (printable_common c h)

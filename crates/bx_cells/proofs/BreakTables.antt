@@ -15,6 +15,7 @@ use Rattle.ucd_derived.proofs.IndicConjunctBreakLemmas.{indic_conjunct_break_ste
 use Rattle.ucd_emoji.specs.Binary.{is_extended_pictographic}
 use Rattle.ucd_emoji.proofs.BinaryLemmas.{is_extended_pictographic_stepped}
 use Rattle.unicode_segmentation.specs.Grapheme.{is_extend, is_zwj}
+use Rattle.bx_cells.proofs.RangeFacts.{implied}
 
 -- it breaks from all behind it, but for a line feed
 abbrev pub is_breaking : GraphemeClusterBreak → Bool
@@ -61,10 +62,6 @@ extend_stays_pass = Stepped-everywhere extend_stays extend_stays_stepped refl
 breaking_ends_pass : (c : ℕ) → breaking_ends c ≡ true
 unfolding tables breaking_ends_stepped grapheme_cluster_break_stepped indic_conjunct_break_stepped is_extended_pictographic_stepped
 breaking_ends_pass = Stepped-everywhere breaking_ends breaking_ends_stepped refl
-
-implied : (a b : Bool) → (not a || b) ≡ true → a ≡ true → b ≡ true
-implied true b h e = h
-implied false b h e = cc
 
 -- a character that goes on a conjunct stays on what is before it
 pub stays-extend : (c : ℕ) → extends_conjunct (indic_conjunct_break c) ≡ true → stays (grapheme_cluster_break c) ≡ true

@@ -8,7 +8,7 @@ use Rattle.bx_cells.proofs.AsciiUnits.{begins_ascii, left_at}
 use Rattle.bx_rows.specs.declared.narrow_run.NarrowRun.{NarrowRun}
 use Rattle.bx_rows.specs.NarrowRuns.{grown}
 use Rattle.bx_rows.specs.Wrapping.{is_blank}
-use Rattle.bx_rows.proofs.NarrowSteps.{IsLonger, open-narrow, longer-next, grown-stop, run-none, run-in-none}
+use Rattle.bx_rows.proofs.NarrowSteps.{IsLonger, open-narrow, longer-next, grown-stop, run-none, run-in-none, grown-count}
 
 abbrev run : ℕ → ℕ → ℕ → ℕ → NarrowRun
 run stop count last next = record { stop = stop; count = count; last = last; next = next }
@@ -16,10 +16,6 @@ run stop count last next = record { stop = stop; count = count; last = last; nex
 same_run : (a b c d e f g h : ℕ) → a ≡ e → b ≡ f → c ≡ g → d ≡ h → run a b c d ≡ run e f g h
 same_run a b c d e f g h i j k l =
     ap (λ x. run x b c d) i ∙ ap (λ x. run e x c d) j ∙ ap (λ x. run e f x d) k ∙ ap (λ x. run e f g x) l
-
-grown-count : (r : NarrowRun) (stop : ℕ) (b : Bool) → (grown r stop b).count ≡ r.count + 1
-grown-count r stop true = refl
-grown-count r stop false = refl
 
 module _ (class : ℕ → Class) (body : List ℕ) (at : ℕ) (u : IsUtf8 body) (boundary : IsCharBoundary body at) where
   -- one more byte, before another one

@@ -1,6 +1,6 @@
 -- The glyphs of a unit whose face is that of its text: each is one glyph, and their columns are the unit's.
-use Rattle.std.proofs.Common.{◌≡◌, ℕ, zero, suc, ◌%◌, ◌<◌, ◌≤◌, ◌==◌, nat_lt, nat_le, Bool, true, false, not, ◌&&◌, ◌||◌, List, [], ◌∷◌, length, map, sum_by}
-use Rattle.std.proofs.Common.{chars, Option, Some, None, All, IsAscii, refl, sym, subst, ap, ◌∙◌, arith}
+use Rattle.std.proofs.Common.{◌≡◌, ℕ, zero, suc, ◌%◌, ◌≤◌, ◌==◌, nat_lt, nat_le, Bool, true, false, not, ◌&&◌, ◌||◌, List, [], ◌∷◌, length, map, sum_by}
+use Rattle.std.proofs.Common.{chars, Option, Some, None, All, refl, sym, subst, ap, ◌∙◌, arith}
 use Rattle.std.specs.Prelude.{⊤}
 use Rattle.std.specs.List.{list_all, list_any}
 use Rattle.std.proofs.lemmas.Bool.{and_parts, and_from, or_left, or_right}
@@ -18,6 +18,7 @@ use Rattle.bx_ucd.specs.declared.class.Class.TheVariants.{L, R, AL, EN, ES, ET, 
 use Rattle.bx_cells.specs.declared.unit.Face.{Face}
 use Rattle.bx_cells.specs.declared.unit.Face.TheVariants.{Tab, Mark, Own}
 use Rattle.bx_cells.specs.Faces.{face, face_of, only_char, is_tab, letter_of, format_letter, sized_face, columns_of}
+use Rattle.bx_cells.proofs.Printable.{ascii_bytes}
 use Rattle.bx_rows.specs.RowPicture.{Glyph, glyph, blank, mirror_image, is_own, mirror_image_within, shown_text, face_glyphs}
 use Rattle.bx_rows.specs.Wrapping.{columns_at}
 use Rattle.bx_rows.specs.Shown.{HasLetter}
@@ -148,14 +149,6 @@ text-one : (text : List ℕ) (n : ℕ) (b : Bool) → are_ascii_printable text �
 text-one text n true e h = All-map IsOneGlyph (λ x. glyph (x ∷ []) 1 false) text (letters-one text e)
 text-one text n false e h = All-cons IsOneGlyph (glyph text n false) [] (whole-one text n e h) (All-nil IsOneGlyph)
 
-ascii-byte : (b : ℕ) → is_ascii_printable b ≡ true → b < 128
-ascii-byte b h = grind (arith, nat_tests)
-
-pub ascii-bytes : (bs : List ℕ) → are_ascii_printable bs ≡ true → IsAscii bs
-ascii-bytes [] h i = omega arith
-ascii-bytes (b ∷ bs) h zero = ascii-byte b (and_parts (is_ascii_printable b) (are_ascii_printable bs) h).0
-ascii-bytes (b ∷ bs) h (suc i) = ascii-bytes bs (and_parts (is_ascii_printable b) (are_ascii_printable bs) h).1 i
-
 letters-sum : (text : List ℕ) → sum_by (λ g. g.columns) (map (λ x. glyph (x ∷ []) 1 false) text) ≡ length text
 letters-sum [] = refl
 letters-sum (b ∷ bs) = sum_by-cons (λ g. g.columns) (glyph (b ∷ []) 1 false) (map (λ x. glyph (x ∷ []) 1 false) bs) ∙ omega (arith, letters-sum bs)
@@ -163,7 +156,7 @@ letters-sum (b ∷ bs) = sum_by-cons (λ g. g.columns) (glyph (b ∷ []) 1 false
 text-sum : (text : List ℕ) (n : ℕ) (b : Bool) → are_ascii_printable text ≡ b → Tells (chars text) (Own n)
     → sum_by (λ g. g.columns) (elim b [ true ↦ map (λ x. glyph (x ∷ []) 1 false) text | false ↦ glyph text n false ∷ [] ]) ≡ n
 text-sum text n true e h =
-    letters-sum text ∙ sym (str_width-printable false text e) ∙ ap (str_width false) (sym (chars-IsAscii text (ascii-bytes text e))) ∙ h.1
+    letters-sum text ∙ sym (str_width-printable false text e) ∙ ap (str_width false) (sym (chars-IsAscii text (ascii_bytes text e))) ∙ h.1
 text-sum text n false e h = sum_by-cons (λ g. g.columns) (glyph text n false) [] ∙ omega arith
 
 -- ---- the glyphs of a face

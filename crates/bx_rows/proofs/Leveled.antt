@@ -1,13 +1,12 @@
 -- Glyphs at their levels, one after another: mirrored at an odd one.
 use Rattle.std.proofs.Common.{◌≡◌, ℕ, zero, suc, ◌+◌, ◌<◌, ◌≤◌, List, [], ◌∷◌, map, length, get_or, take, set, refl, sym, ap, ap₂, ◌∙◌, arith, take_all}
 use Rattle.std.specs.Prelude.{Option}
-use Rattle.std.proofs.lemmas.List.{map-set, get_or-map}
+use Rattle.std.proofs.lemmas.List.{map-set, get_or-map, length-map}
 use Rattle.bx_ucd.specs.declared.class.Class.{Class}
 use Rattle.bx_rows.specs.declared.drawn.Drawn.{Drawn}
 use Rattle.bx_rows.specs.PlainRows.{leveled_glyphs, single_glyph}
 use Rattle.bx_rows.specs.RowPicture.{Glyph, glyph, blank, shown_text}
 use Rattle.bx_rows.specs.Shown.{glyph_of}
-use Rattle.bx_rows.proofs.Pieces.{map-length}
 
 -- a glyph of one column at a level
 abbrev pub at_level : (ℕ → Class) → (ℕ → Option ℕ) → ℕ → Glyph → ℕ → Glyph
@@ -65,5 +64,5 @@ pub turned : (class : ℕ → Class) (mirror : ℕ → Option ℕ) (w : ℕ) (ol
     → length old ≡ length levels → length levels ≤ i → map glyph_of old ≡ map single_glyph cs
     → new ≡ leveled class mirror w (map glyph_of old) (take i levels) → new ≡ leveled_glyphs class mirror w cs levels
 turned class mirror w old cs levels i new count end single same =
-    let many : length cs ≡ length levels = sym (map-length single_glyph cs) ∙ ap length (sym single) ∙ map-length glyph_of old ∙ count in
+    let many : length cs ≡ length levels = sym (length-map cs single_glyph) ∙ ap length (sym single) ∙ length-map old glyph_of ∙ count in
     same ∙ ap₂ (λ gs ls. leveled class mirror w gs ls) single (take_all i levels end) ∙ leveled-single class mirror w cs levels many

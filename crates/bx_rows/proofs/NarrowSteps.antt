@@ -144,7 +144,7 @@ open-behind class body r q b k rest more stop d u boundary o e next begin blank 
     subst (λ x. HasOpen class body x k more) (sym (grown-stop r q stop b is))
     (open-narrow class body stop d k more (open-left body r.stop o.first o.is_marked rest u boundary o.cluster stop e ∙ next) begin blank)
 
-grown-count : (r : NarrowRun) (stop : ℕ) (b : Bool) → (grown r stop b).count ≡ r.count + 1
+pub grown-count : (r : NarrowRun) (stop : ℕ) (b : Bool) → (grown r stop b).count ≡ r.count + 1
 grown-count r stop true = refl
 grown-count r stop false = refl
 

@@ -1,9 +1,9 @@
 -- The glyphs of one unit of a row.
-use Rattle.std.proofs.Common.{◌≡◌, ℕ, zero, suc, ◌+◌, ◌-◌, ◌%◌, ◌<◌, ◌++◌, List, [], ◌∷◌, length, get_or, map, replicate, take, refl, sym, ap, ◌∙◌, arith}
+use Rattle.std.proofs.Common.{◌≡◌, ℕ, zero, suc, ◌+◌, ◌-◌, ◌%◌, ◌<◌, ◌++◌, List, [], ◌∷◌, length, get_or, replicate, take, refl, sym, ap, ◌∙◌, arith}
 use Rattle.std.proofs.Common.{append_assoc, append-nil, Option}
 use Rattle.std.specs.Prelude.{flat_map}
 use Rattle.std.specs.List.{zip}
-use Rattle.std.proofs.lemmas.List.{get_or-map, take_more}
+use Rattle.std.proofs.lemmas.List.{get_or-map, take_more, length-map}
 use Rattle.std.proofs.lemmas.Grind.{flat_map-append}
 use Rattle.std.proofs.lemmas.Slice.Zip.{get_or-zip}
 use Rattle.bx_ucd.specs.declared.class.Class.{Class}
@@ -40,16 +40,12 @@ pieces-more f order i k old items new piece h at inv pushed is =
     ∙ ap (λ xs. old ++ xs) (sym (flat_map-append f (take i order) (get_or order i 0 ∷ [])))
     ∙ ap (λ xs. old ++ flat_map f xs) (sym (take_more order i 0 h))
 
-pub map-length : {A B : Type 0} (f : A → B) (xs : List A) → length (map f xs) ≡ length xs
-map-length f [] = refl
-map-length f (x ∷ xs) = ap suc (map-length f xs)
-
 -- as many pieces as units
 pub pieces-length : (class : ℕ → Class) (mirror : ℕ → Option ℕ) (w : ℕ) (body : List ℕ) (us : List Unit) (columns levels : List ℕ) → length columns ≡ length us
     → length levels ≡ length us → length (unit_glyphs class mirror w body us columns levels) ≡ length us
 pieces-length class mirror w body us columns levels e f =
     let piece : Unit × (ℕ × ℕ) → List Glyph = λ p. face_glyphs class mirror w (unit_text body p.0) p.0.face p.1.0 p.1.1 in
-    map-length piece (zip us (zip columns levels)) ∙ length-zip us (zip columns levels) (length us) refl (length-zip columns levels (length us) e f)
+    length-map (zip us (zip columns levels)) piece ∙ length-zip us (zip columns levels) (length us) refl (length-zip columns levels (length us) e f)
 
 -- ---- the blanks
 

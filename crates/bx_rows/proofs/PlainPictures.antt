@@ -15,10 +15,11 @@ use Rattle.bx_ucd.specs.declared.class.Class.{Class}
 use Rattle.bx_cells.specs.declared.unit.Face.TheVariants.{Own}
 use Rattle.bx_cells.specs.declared.unit.Unit.{Unit}
 use Rattle.bx_cells.specs.Units.{unit_text, HasFace}
+use Rattle.bx_cells.proofs.Printable.{ascii_bytes}
 use Rattle.bx_rows.specs.PlainRows.{single_units, leveled_glyph, leveled_glyphs}
 use Rattle.bx_rows.specs.RowPicture.{Glyph, glyph, blank, shown_text, text_glyphs, unit_columns, unit_glyphs, columns_used, with_blanks, draw}
 use Rattle.bx_rows.specs.VisualOrder.{visual}
-use Rattle.bx_rows.proofs.FaceGlyphs.{Tells, ascii-bytes, tells-face, tells-shown}
+use Rattle.bx_rows.proofs.FaceGlyphs.{Tells, tells-face, tells-shown}
 use Rattle.bx_rows.proofs.NumbersBelow.{below_if_visual}
 
 -- ---- the glyphs by themselves
@@ -75,7 +76,7 @@ one-letter (b ∷ c ∷ bs) e = absurd (omega (arith, e))
 one-glyph_by : (text : List ℕ) (b : Bool) → are_ascii_printable text ≡ b → Tells (chars text) (Own 1)
     → elim b [ true ↦ map (λ x. glyph (x ∷ []) 1 false) text | false ↦ glyph text 1 false ∷ [] ] ≡ glyph text 1 false ∷ []
 one-glyph_by text true e h =
-    one-letter text (sym (str_width-printable false text e) ∙ ap (str_width false) (sym (chars-IsAscii text (ascii-bytes text e))) ∙ h.1)
+    one-letter text (sym (str_width-printable false text e) ∙ ap (str_width false) (sym (chars-IsAscii text (ascii_bytes text e))) ∙ h.1)
 one-glyph_by text false e h = refl
 
 one-glyph : (text : List ℕ) → Tells (chars text) (Own 1) → text_glyphs 1 text ≡ glyph text 1 false ∷ []

@@ -1,11 +1,11 @@
 -- The characters before a row, and that each of its units has a level.
 use Rattle.std.proofs.Common.{◌≡◌, ℕ, suc, ◌<◌, List, [], ◌∷◌, map, length, get_or, take, drop, chars}
 use Rattle.std.proofs.Common.{Option, unwrap_or, refl, ap, ◌∙◌, arith}
+use Rattle.std.proofs.lemmas.List.{length-map}
 use Rattle.bx_cells.specs.declared.unit.Unit.{Unit}
 use Rattle.bx_rows.specs.RowLevels.{chars_before, l1, unit_levels, levels_or_before, row_chars, row_levels}
 use Rattle.bx_ucd.specs.declared.class.Class.{Class}
 use Rattle.bx_cells.specs.Units.{unit_chars}
-use Rattle.bx_rows.proofs.Pieces.{map-length}
 
 pub before_none : (body : List ℕ) (us : List Unit) → length us ≡ 0 → chars_before body us ≡ 0
 before_none body [] h = refl
@@ -28,4 +28,4 @@ pub one_each : (class : ℕ → Class) (body : List ℕ) (paragraph : ℕ) (each
 one_each class body paragraph each us v e =
     let counts = map (λ u. length (unit_chars body u)) us in
     ap length e ∙ levels_or_before-length paragraph (unit_levels counts (l1 paragraph (row_chars class body each us)))
-    ∙ levels-length counts (l1 paragraph (row_chars class body each us)) ∙ map-length (λ u. length (unit_chars body u)) us
+    ∙ levels-length counts (l1 paragraph (row_chars class body each us)) ∙ length-map us (λ u. length (unit_chars body u))

@@ -1,8 +1,8 @@
 -- The units that rows are read from, and the starts of all rows once no unit is left.
-use Rattle.std.proofs.Common.{◌≡◌, ℕ, ◌+◌, ◌<◌, ◌≤◌, Bool, true, false, nat_lt, ◌==◌, List, [], ◌∷◌, map, length, length-append, length-take-le, take, drop}
-use Rattle.std.proofs.Common.{slice_range, Option, Some, None, refl, sym, ap, ◌∙◌, arith}
+use Rattle.std.proofs.Common.{◌≡◌, ℕ, ◌+◌, ◌<◌, ◌≤◌, Bool, true, false, nat_lt, List, [], ◌∷◌, map, length, length-append, length-take-le, take}
+use Rattle.std.proofs.Common.{slice_range, Option, Some, None, refl, ap, ◌∙◌, arith}
 use Rattle.std.specs.Str.{chars, IsUtf8, IsCharBoundary}
-use Rattle.std.proofs.lemmas.Str.{chars-nil, chars-append, encodes-chars, length-le-encodes, IsUtf8-take}
+use Rattle.std.proofs.lemmas.Str.{chars-nil, chars-append, IsUtf8-take}
 use Rattle.unicode_segmentation.proofs.TextLemmas.{take_split}
 use Rattle.unicode_segmentation.specs.Grapheme.{graphemes}
 use Rattle.unicode_segmentation.specs.Segments.{with_offsets}
@@ -17,6 +17,7 @@ use Rattle.bx_cells.proofs.Rest.{no-cluster, none-behind}
 use Rattle.bx_rows.specs.declared.start_search.RowStart.{RowStart}
 use Rattle.bx_rows.specs.RowStarts.{start_of, row_starts}
 use Rattle.bx_rows.specs.Wrapping.{columns_at, is_break, rows_from, rows_of}
+use Rattle.bx_resolve.proofs.Small.{few_chars}
 
 one_sized : (w c : ℕ) (b : Bool) → columns_at w c (elim b [ true ↦ Mark 35 | false ↦ Own 1 ]) ≡ 1
 one_sized w c true = refl
@@ -57,9 +58,6 @@ starts-of-none class w body e =
 
 -- ---- characters
 
-pub chars-few : (xs : List ℕ) → IsUtf8 xs → length (chars xs) ≤ length xs
-chars-few xs u = omega (arith, length-le-encodes (chars xs), ap length (encodes-chars xs u))
-
 -- the characters before an offset, counted from an earlier one
 pub chars-behind : (body : List ℕ) (from to : ℕ) → IsUtf8 body → IsCharBoundary body from → from ≤ to
     → length (chars (take to body)) ≡ length (chars (take from body)) + length (chars (slice_range body from to))
@@ -69,4 +67,4 @@ chars-behind body from to u b le =
     ∙ length-append (chars (take from body)) (chars (slice_range body from to))
 
 pub chars-within : (body : List ℕ) (at : ℕ) → IsUtf8 body → IsCharBoundary body at → length (chars (take at body)) ≤ at
-chars-within body at u b = omega (arith, chars-few (take at body) (IsUtf8-take body at u b), length-take-le at body b.0)
+chars-within body at u b = omega (arith, few_chars (take at body) (IsUtf8-take body at u b), length-take-le at body b.0)
