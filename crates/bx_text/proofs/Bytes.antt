@@ -32,16 +32,6 @@ rest_bytes b p k h =
 
 -- ---- totals
 
-total_cut_at : (fits none : Bool) (x : Piece) (xs : List Piece) (k : ℕ) → nat_le x.len k ≡ fits → (k == 0) ≡ none
-    → total (front xs (k - x.len)) + total (back xs (k - x.len)) ≡ total xs → total (front (x ∷ xs) k) + total (back (x ∷ xs) k) ≡ total (x ∷ xs)
-total_cut_at true none x xs k e f more = rw e (omega (arith, more))
-total_cut_at false true x xs k e f more = rw (e, f) (omega arith)
-total_cut_at false false x xs k e f more = let short : k ≤ x.len = grind (arith, nat_tests) in rw (e, f) (omega arith)
-
-pub total_cut : (ps : List Piece) (k : ℕ) → total (front ps k) + total (back ps k) ≡ total ps
-total_cut [] k = refl
-total_cut (x ∷ xs) k = total_cut_at (nat_le x.len k) (k == 0) x xs k refl refl (total_cut xs (k - x.len))
-
 addressable_back_at : (fits none : Bool) (x : Piece) (xs : List Piece) (k : ℕ) → nat_le x.len k ≡ fits → (k == 0) ≡ none
     → (IsAddressable xs → IsAddressable (back xs (k - x.len))) → IsAddressable (x ∷ xs) → IsAddressable (back (x ∷ xs) k)
 addressable_back_at true none x xs k e f more h = rw e (more h.1)

@@ -1,7 +1,7 @@
 use Rattle.std.proofs.Common.{ap, arith}
-use Rattle.bx_pieces.proofs.Cuts.{total_append}
+use Rattle.bx_pieces.proofs.Cuts.{total_append, total_cut}
 use Rattle.bx_pieces.specs.Pieces.{total}
-use Rattle.bx_text.proofs.Bytes.{total_cut, IsAddressable-back}
+use Rattle.bx_text.proofs.Bytes.{IsAddressable-back}
 use Rattle.bx_text.proofs.swap.swap.Goals as goal
 
 pub cut-old-requires-clause-fits : goal.cut-old-requires-clause-fits
