@@ -1,5 +1,5 @@
 -- What half-read bytes look like, and what their token does.
-use Rattle.std.proofs.Common.{◌≡◌, ℕ, ◌≤◌, Bool, true, false, cond, nat_le, min, List, [], ◌∷◌, ◌++◌, drop, get_or, Result, Ok, Err, OnOk, inl, inr, refl, ap}
+use Rattle.std.proofs.Common.{◌≡◌, ℕ, ◌≤◌, true, false, nat_le, min, List, [], ◌∷◌, ◌++◌, drop, get_or, Result, Ok, Err, OnOk, inl, inr, refl, ap}
 use Rattle.std.proofs.Common.{sym, ◌∙◌, arith}
 use Rattle.std.proofs.lemmas.Bool.{cases_lt}
 use Rattle.std.proofs.lemmas.Bool.Decides.{nat_tests}
@@ -9,23 +9,16 @@ use Rattle.bx_grid.specs.Capped.{capped}
 use Rattle.bx_grid.specs.Tokens.{command}
 use Rattle.bx_grid.specs.Terminal.{Terminal, after_move, after_command, token_read}
 use Rattle.bx_terms.specs.Sizes.{largest_side}
-use Rattle.bx_bytes.specs.declared.fate.Fate.TheVariants.{Waits, Ends, Breaks}
+use Rattle.bx_bytes.specs.declared.fate.Fate.TheVariants.{Ends}
 use Rattle.bx_bytes.specs.Fate.{fate_in}
-use Rattle.bx_bytes.specs.Utf8.{characters, is_character, begins_character}
-use Rattle.bx_bytes.proofs.Encoded.{are_encodings}
+use Rattle.bx_bytes.specs.Utf8.{characters}
+use Rattle.bx_bytes.proofs.Encoded.{are_encodings, is_whole}
 use Rattle.std.specs.Char.{encode_utf8, IsScalar}
 use Rattle.std.specs.Str.{chars}
 use Rattle.std.proofs.lemmas.Str.{chars-encodes}
 use Rattle.std.proofs.lemmas.List.{append-nil}
 use Rattle.bx_grid.specs.declared.token.Command.{Command}
 use Rattle.bx_grid.specs.declared.token.Command.TheVariants.{Move, Clear, Erase, Render, Other}
-
-never : {A : Type 0} (t : Bool) (x y z : A) → (x ≡ z → ⊥) → (y ≡ z → ⊥) → cond t x y ≡ z → ⊥
-never true x y z nx ny e = nx e
-never false x y z nx ny e = ny e
-
-run_never_ends : (t : Bool) → cond t Waits Breaks ≡ Ends → ⊥
-run_never_ends t h = never t Waits Breaks Ends (λ (w : Waits ≡ Ends). cc w) (λ (w : Breaks ≡ Ends). cc w) h
 
 -- ---- commands
 
@@ -75,13 +68,6 @@ end_read t b rest h e hh ww =
     ∙ ap (token_read t) (sym h)
 
 -- ---- characters
-
-is_whole_by : (t : Bool) (bs : List ℕ) → is_character bs ≡ t → fate_in characters bs ≡ Ends → is_character bs ≡ true
-is_whole_by true bs e h = e
-is_whole_by false bs e h = absurd (run_never_ends (begins_character bs) (let g = rw e at h in g))
-
-pub is_whole : (bs : List ℕ) → fate_in characters bs ≡ Ends → is_character bs ≡ true
-is_whole bs h = is_whole_by (is_character bs) bs refl h
 
 pub head_is : (a b : ℕ) → a ∷ [] ≡ b ∷ [] → a ≡ b
 head_is a b e = ap (λ xs. get_or xs 0 0) e

@@ -36,7 +36,7 @@ idle_erase t (Some p) (Some true) i = record { no_run = refl; no_token = refl }
 idle_erase t (Some p) None i = record { no_run = refl; no_token = refl }
 idle_erase t None n i = record { no_run = refl; no_token = refl }
 
-idle_command : (t : Terminal) (c : Command) → IsIdle t → IsIdle (after_command t c)
+pub idle_command : (t : Terminal) (c : Command) → IsIdle t → IsIdle (after_command t c)
 idle_command t (Move line column) i =
     idle_move (nat_le 1 line && nat_le line t.height && nat_le 1 column && nat_le column t.width) t line column i refl
 idle_command t Clear i = idle_clear t t.negative i

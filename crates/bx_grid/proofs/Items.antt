@@ -10,6 +10,7 @@ use Rattle.bx_bytes.specs.Grammar.{is_grammar}
 use Rattle.bx_bytes.specs.declared.fate.Fate.{Fate}
 use Rattle.bx_bytes.specs.declared.fate.Fate.TheVariants.{Waits, Ends, Breaks}
 use Rattle.bx_bytes.proofs.Patterns.{begins_any_front, matches_any_begins, none_begins_longer}
+use Rattle.bx_bytes.proofs.Encoded.{ends_by}
 use Rattle.bx_grid.specs.Cutting.{items, is_item, begins_item, beginning_up_to, beginning}
 use Rattle.bx_grid.specs.Tokens.{fate, final_fate, after_params, after_intermediates, is_param, is_intermediate}
 
@@ -91,13 +92,8 @@ begins_by false false h = absurd (cc h)
 pub begins_if_waits : (bs : List ℕ) → fate bs ≡ Waits → begins_item bs ≡ true
 begins_if_waits bs h = begins_by (is_item bs) (begins_item bs) (sym (fate_is bs) ∙ h)
 
-item_by : (m b : Bool) → cond m Ends (cond b Waits Breaks) ≡ Ends → m ≡ true
-item_by true b h = refl
-item_by false true h = absurd (cc h)
-item_by false false h = absurd (cc h)
-
 pub begins_if_ends : (bs : List ℕ) → fate bs ≡ Ends → begins_item bs ≡ true
-begins_if_ends bs h = matches_any_begins items bs (item_by (is_item bs) (begins_item bs) (sym (fate_is bs) ∙ h))
+begins_if_ends bs h = matches_any_begins items bs (ends_by (is_item bs) (begins_item bs) (sym (fate_is bs) ∙ h))
 
 pub waits_before : (bs more : List ℕ) → fate (bs ++ more) ≡ Waits → fate bs ≡ Waits
 waits_before bs [] h = ap fate (sym (append-nil bs)) ∙ h

@@ -12,11 +12,10 @@ use Rattle.bx_bytes.specs.Fate.{fate_in}
 use Rattle.bx_bytes.specs.Utf8.{characters, is_control}
 use Rattle.bx_bytes.specs.declared.fate.Fate.TheVariants.{Ends}
 use Rattle.bx_bytes.proofs.Codes.{after_two, after_three, chars_of_one, chars_of_two, chars_of_three, code_of_three, IsOfThree}
-use Rattle.bx_bytes.proofs.Encoded.{are_encodings}
+use Rattle.bx_bytes.proofs.Encoded.{are_encodings, is_whole}
 use Rattle.bx_grid.specs.Printables.{is_second, IsPrintable, IsBeforeEscape}
 use Rattle.bx_grid.specs.Terminal.{Terminal, reads, run_ended}
 use Rattle.bx_grid.proofs.AtOnce.{shown_before}
-use Rattle.bx_grid.proofs.Halves.{is_whole}
 
 -- ---- texts
 

@@ -9,10 +9,10 @@ use Rattle.std.proofs.lemmas.List.{append-nil}
 use Rattle.std.proofs.lemmas.Str.{chars-encodes}
 use Rattle.bx_bytes.specs.Fate.{fate_in}
 use Rattle.bx_bytes.specs.Pattern.{matches_any, begins_any}
-use Rattle.bx_bytes.specs.Utf8.{characters, is_character, is_control, are_printable}
+use Rattle.bx_bytes.specs.Utf8.{characters, is_control, are_printable}
 use Rattle.bx_bytes.specs.declared.fate.Fate.TheVariants.{Waits, Ends, Breaks}
 use Rattle.bx_bytes.proofs.Codes.{after_low, chars_of_one}
-use Rattle.bx_bytes.proofs.Encoded.{are_encodings}
+use Rattle.bx_bytes.proofs.Encoded.{is_whole, ends, encoded}
 use Rattle.bx_bytes.proofs.Patterns.{matches_any_begins, begins_any_front, none_begins_longer}
 use Rattle.unicode_width.specs.Width.{str_width}
 use Rattle.bx_grid.specs.Columns.{is_ascii_glyph}
@@ -21,7 +21,7 @@ use Rattle.bx_grid.specs.Glyphs.{WholeGlyph, IsGlyph}
 use Rattle.bx_grid.specs.Terminal.{Terminal, read_after, reads}
 use Rattle.bx_grid.specs.Columns.{is_ascii_printable}
 use Rattle.bx_grid.proofs.Doing.{run, run_step, run-append, run_is}
-use Rattle.bx_grid.proofs.Halves.{is_whole, chars_of, head_is}
+use Rattle.bx_grid.proofs.Halves.{chars_of, head_is}
 use Rattle.bx_grid.proofs.Reading.{at, and_left, and_right, prints}
 
 -- ---- the beginning of a character
@@ -124,12 +124,6 @@ made t some half_read = record t { run = some; half_read = half_read }
 same_run : (t : Terminal) → t.half_read ≡ [] → record t { run = t.run ++ []; half_read = [] } ≡ t
 same_run t h = ap (λ some. made t some []) (append-nil t.run) ∙ ap (made t t.run) (sym h)
 
-encoded_is : (c : ℕ) → IsScalar c → is_character (encode_utf8 c) ≡ true
-encoded_is c h = (are_encodings (encode_utf8 c)).1 (c, h, refl)
-
-ends_whole : (bs : List ℕ) → is_character bs ≡ true → fate_in characters bs ≡ Ends
-ends_whole bs h = rw h refl
-
 not_true : (b : Bool) → not b ≡ true → b ≡ false
 not_true true h = sym h
 not_true false h = refl
@@ -141,7 +135,7 @@ chars_do t log (c ∷ cs) scalars fine idle =
     let here : IsScalar c = and_left (scalar c) (all_scalars cs) scalars in
     let bs = encode_utf8 c in
     let rest = encode_utf8_all cs in
-    let first = char_does t log bs c idle (ends_whole bs (encoded_is c here)) (chars_of c here)
+    let first = char_does t log bs c idle (ends bs (encoded c here)) (chars_of c here)
     (not_true (is_control c) (and_left (not (is_control c)) (list_all (λ x. not (is_control x)) cs) fine)) in
     let u : Terminal = record t { run = t.run ++ bs; half_read = [] } in
     run-append (t, log) bs rest

@@ -8,6 +8,7 @@ use Rattle.bx_grid.specs.Columns.{Col, blank, columns_before, cut_after, put, pu
 use Rattle.bx_grid.specs.Glyphs.{WholeGlyph, IsGlyph, columns_of, AreWhole}
 use Rattle.bx_grid.proofs.Pasted.{past_blanks}
 use Rattle.bx_grid.proofs.Whole.{columns_form, whole_split, whole_after, whole_left, whole_right}
+use Rattle.bx_grid.proofs.Spoils.{length-cut_after}
 
 -- ---- what is left of columns after an index
 
@@ -32,10 +33,6 @@ drop_right (suc n) d (x ∷ xs) = drop_right n (d + 1) xs ∙ ap (λ k. cut_afte
 
 right_rest : (n : ℕ) (xs : List Col) → cut_after 0 (drop n (cut_after 0 xs)) ≡ cut_after 0 (drop n xs)
 right_rest n xs = ap (cut_after 0) (drop_right n 0 xs) ∙ right_again 0 (0 + n) (drop n xs) (omega arith)
-
-pub length-right : (d : ℕ) (xs : List Col) → length (cut_after d xs) ≡ length xs
-length-right d [] = refl
-length-right d (x ∷ xs) = ap suc (length-right (d + 1) xs)
 
 -- ---- a glyph that stays
 
@@ -92,7 +89,7 @@ pub put_partly : (above done rest below new : List Col) (r c w : ℕ) → IsAtCo
     → put w (partly above done rest below) r c new ≡ partly above (done ++ new) (drop (length new) rest) below
 put_partly above done rest below new r c w h =
     let row = done ++ cut_after 0 rest in
-    let wide : length row ≡ w = length-append done (cut_after 0 rest) ∙ omega (arith, length-right 0 rest, h.at, h.wide) in
+    let wide : length row ≡ w = length-append done (cut_after 0 rest) ∙ omega (arith, length-cut_after 0 rest, h.at, h.wide) in
     let front : take (r * w) (above ++ (row ++ below)) ≡ above = take_at above (row ++ below) (r * w) h.high in
     let back : drop (r * w) (above ++ (row ++ below)) ≡ row ++ below = drop_at above (row ++ below) (r * w) h.high in
     let here : take w (row ++ below) ≡ row = take_at row below w wide in

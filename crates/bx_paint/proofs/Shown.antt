@@ -1,5 +1,5 @@
 -- A run that is half read while a row is half painted: what it does to the row, and what a glyph's text adds to it.
-use Rattle.std.proofs.Common.{◌≡◌, ℕ, ◌+◌, ◌*◌, ◌<◌, ◌≤◌, Bool, true, false, nat_le, nat_lt, nat_eq, List, [], ◌∷◌, ◌++◌, length, drop, Option, Some, refl, ap}
+use Rattle.std.proofs.Common.{◌≡◌, ℕ, ◌+◌, ◌*◌, ◌<◌, ◌≤◌, Bool, true, false, nat_le, nat_eq, List, [], ◌∷◌, ◌++◌, length, drop, Option, Some, refl, ap}
 use Rattle.std.proofs.Common.{sym, ◌∙◌, append_assoc, length-append, arith}
 use Rattle.std.proofs.lemmas.Bool.Decides.{nat_tests}
 use Rattle.std.proofs.lemmas.List.{append-nil, drop-drop}
@@ -11,6 +11,7 @@ use Rattle.bx_grid.specs.Picture.{PictureState}
 use Rattle.bx_grid.proofs.Doing.{run}
 use Rattle.bx_grid.proofs.Texts.{glyph_does}
 use Rattle.bx_grid.proofs.Whole.{columns_some, glyph_effects}
+use Rattle.bx_grid.proofs.RunEnds.{within_at}
 use Rattle.bx_paint.proofs.Rest.{partly, IsAtColumn, put_partly}
 use Rattle.bx_paint.proofs.Sequences.{screen, Leaves}
 
@@ -23,11 +24,6 @@ room_put t r c new some fits =
     let a : nat_le 1 (length new) ≡ true = grind (arith, nat_tests) in
     let b : nat_le (c + length new) t.width ≡ true = grind (arith, nat_tests) in
     (rw (a, b) refl, rw (a, b) refl)
-
-within_is : (w r c : ℕ) → c < w → within w r c ≡ Some (r, c)
-within_is w r c h =
-    let test : nat_lt c w ≡ true = grind (arith, nat_tests) in
-    rw test refl
 
 -- a run, taken to its effect
 record Flushed (p : PictureState) (t : Terminal) (columns : List Col) (r c : ℕ) (negative : Bool) (effects : List Effect) : Type 0 where
@@ -57,7 +53,7 @@ flushed p above start over below r from negative (b ∷ bs) index some fits =
       position = within p.width r (from + length new);
       effect = does.0 ∙ ap (λ cs. screen p cs (within p.width r (from + length new)) negative []) (put_partly above start over below new r from p.width index);
       effects_are = does.1;
-      at_column = within_is p.width r (from + length new);
+      at_column = within_at p.width r (from + length new);
     }
 
 -- ---- the state before a text

@@ -1,27 +1,28 @@
 -- What is painted are whole sequences and whole characters, and a sequence comes last: nothing stays half read.
-use Rattle.std.proofs.Common.{◌≡◌, ℕ, ◌+◌, ◌*◌, ◌<◌, ◌≤◌, ◌^◌, Bool, true, false, List, [], ◌∷◌, ◌++◌, length, take}
-use Rattle.std.proofs.Common.{drop, zero, suc, Option, Some, None, refl, ap, sym, ◌∙◌, ◌&&◌, ◌-◌, nat_le, replicate, min, arith, if◌then◌else◌}
+use Rattle.std.proofs.Common.{◌≡◌, ℕ, ◌+◌, ◌*◌, ◌<◌, ◌^◌, Bool, true, false, List, [], ◌∷◌, ◌++◌, length, take}
+use Rattle.std.proofs.Common.{drop, zero, suc, refl, ap, sym, ◌∙◌, ◌&&◌, ◌-◌, replicate, min, arith, if◌then◌else◌}
 use Rattle.std.specs.List.{list_all, All}
 use Rattle.std.proofs.lemmas.List.{length-take, length-drop}
 use Rattle.std.proofs.lemmas.List.Elements.{All-nil, All-cons, All-head, All-tail, All-append, All-take, All-drop}
-use Rattle.bx_grid.specs.Columns.{Col, Unknown, Glyph, blank, is_blank, is_ascii_glyph, glyph_columns_from, run_columns}
+use Rattle.bx_grid.specs.Columns.{Col, Unknown, Glyph, blank, is_blank, is_ascii_glyph, glyph_columns_from}
 use Rattle.bx_grid.specs.Effects.{Effect}
 use Rattle.bx_grid.specs.Glyphs.{WholeGlyph, IsGlyph, columns_of, all_columns, AreWhole}
 use Rattle.bx_grid.specs.Picture.{PictureState, AreWholeTokens, IsIdle, IsPicture}
-use Rattle.bx_grid.specs.Terminal.{Terminal, reads, run_ended, run_put, all_unknown, after_command, after_clear, after_erase}
+use Rattle.bx_grid.specs.Terminal.{Terminal, reads, run_ended, after_command}
 use Rattle.bx_grid.specs.Tokens.{is_param, command_of}
-use Rattle.bx_grid.specs.declared.token.Command.{Command}
-use Rattle.bx_grid.specs.declared.token.Command.TheVariants.{Move, Clear, Erase, Render, Other}
 use Rattle.bx_grid.proofs.Doing.{run_is, sequence_does}
 use Rattle.bx_grid.proofs.Reading.{at, IsFinal, move_params, move_params_fit, reads-append}
 use Rattle.bx_grid.proofs.Texts.{glyph_does}
 use Rattle.bx_grid.proofs.Whole.{columns_form, rows_whole}
+use Rattle.bx_grid.proofs.InTokens.{idle_command}
+use Rattle.bx_grid.proofs.RunEnds.{no_run}
 use Rattle.bx_paint.specs.Painting.{Step, Sent, nothing_sent, move_bytes, render_bytes, render_change, erase_bytes, before_tail}
 use Rattle.bx_paint.specs.Painting.{leading_blanks, is_sent, glyph_bytes, column_sent, columns_sent}
 use Rattle.bx_paint.specs.Painting.{tail_sent, row_sent, rows_sent, columns_changed, ended, is_none}
 use Rattle.bx_paint.specs.Painting.{is_at_cursor_of, changes_bytes, whole_bytes}
 use Rattle.bx_paint.proofs.Sequences.{final_H, final_K, final_J, final_m}
 use Rattle.bx_paint.proofs.Tails.{front_le}
+use Rattle.bx_paint.proofs.Sent.{leading_blanks_le}
 
 -- no token stays half read, and after the second no run either
 abbrev EndTokens : List ℕ → Type 0
@@ -44,55 +45,14 @@ all_append xs ys a b t g = rw (reads-append t xs ys) (b (reads t xs) (a t g))
 
 -- ---- sequences
 
-put_by : (fits : Bool) (t u : Terminal) → t.run ≡ [] → (if fits then t else all_unknown u).run ≡ []
-put_by true t u h = h
-put_by false t u h = refl
-
-run_by : (t : Terminal) (position : Option (ℕ × ℕ)) (negative : Option Bool) (run : List ℕ) → t.run ≡ run → (run_put t position negative run).run ≡ []
-run_by t position negative [] h = h
-run_by t (Some p) (Some negative) (b ∷ bs) h =
-    let new = run_columns negative (b ∷ bs) in
-    put_by (nat_le 1 (length new) && nat_le (p.1 + length new) t.width) _ t refl
-run_by t (Some p) None (b ∷ bs) h = refl
-run_by t None negative (b ∷ bs) h = refl
-
-no_run : (t : Terminal) → (run_ended t).run ≡ []
-no_run t = run_by t t.position t.negative t.run refl
-
-idle_unknown : (t : Terminal) → IsIdle (all_unknown t)
-idle_unknown t = record { no_run = refl; no_token = refl }
-
-idle_by : (fits : Bool) (t u : Terminal) → IsIdle t → IsIdle (if fits then t else all_unknown u)
-idle_by true t u h = h
-idle_by false t u h = idle_unknown u
-
-clear_idle : (t : Terminal) (negative : Option Bool) → IsIdle t → IsIdle (after_clear t negative)
-clear_idle t (Some false) h = record { no_run = h.no_run; no_token = h.no_token }
-clear_idle t (Some true) h = idle_unknown t
-clear_idle t None h = idle_unknown t
-
-erase_idle : (t : Terminal) (position : Option (ℕ × ℕ)) (negative : Option Bool) → IsIdle t → IsIdle (after_erase t position negative)
-erase_idle t (Some p) (Some false) h = record { no_run = h.no_run; no_token = h.no_token }
-erase_idle t (Some p) (Some true) h = idle_unknown t
-erase_idle t (Some p) None h = idle_unknown t
-erase_idle t None negative h = idle_unknown t
-
-command_idle : (t : Terminal) (command : Command) → IsIdle t → IsIdle (after_command t command)
-command_idle t (Move line column) h =
-    idle_by (nat_le 1 line && nat_le line t.height && nat_le 1 column && nat_le column t.width) _ t (record { no_run = h.no_run; no_token = h.no_token })
-command_idle t Clear h = clear_idle t t.negative h
-command_idle t Erase h = erase_idle t t.position t.negative h
-command_idle t (Render negative) h = record { no_run = h.no_run; no_token = h.no_token }
-command_idle t Other h = idle_unknown t
-
 sequence_ends : (ps : List ℕ) (f : ℕ) → list_all is_param ps ≡ true → IsFinal f → EndAll (0x1B ∷ 0x5B ∷ (ps ++ f ∷ []))
 sequence_ends ps f fit final t g =
     let bytes = 0x1B ∷ 0x5B ∷ (ps ++ f ∷ []) in
     let u : Terminal = at (run_ended t) [] in
     let state : reads t bytes ≡ after_command u (command_of ps f) =
     ap (λ (v : Terminal × List Effect). v.0) (sym (run_is t [] bytes) ∙ sequence_does t [] ps f g fit final) in
-    let idle : IsIdle u = record { no_run = no_run t; no_token = refl } in
-    rw state (command_idle u (command_of ps f) idle)
+    let idle : IsIdle u = record { no_run = no_run t t.position t.negative t.run refl; no_token = refl } in
+    rw state (idle_command u (command_of ps f) idle)
 
 move_ends : (row column : ℕ) → row < 2 ^ 63 → column < 2 ^ 63 → EndAll (move_bytes row column)
 move_ends row column r c =
@@ -189,14 +149,6 @@ columns_end row column near negative old (c ∷ cs) r k h =
     (column_ends row column near negative old c cs r here (All-head IsText c cs h))
     (columns_end row (column + 1) s.near s.negative (drop 1 old) cs r next (All-tail IsText c cs h))
 
-leading_by : (is : Bool) (xs : List Col) → leading_blanks xs ≤ length xs → (if is then leading_blanks xs + 1 else 0) ≤ suc (length xs)
-leading_by true xs h = omega (arith, h)
-leading_by false xs h = omega arith
-
-leading_le : (xs : List Col) → leading_blanks xs ≤ length xs
-leading_le [] = omega arith
-leading_le (x ∷ xs) = leading_by (is_blank x) xs (leading_le xs)
-
 either_ends : (first : Bool) (s u : Sent) → EndTokens s.bytes → EndTokens u.bytes → EndTokens (if first then s else u).bytes
 either_ends true s u a b = a
 either_ends false s u a b = b
@@ -204,7 +156,7 @@ either_ends false s u a b = b
 tail_ends : (row column : ℕ) (negative : Bool) (old : List Col) → row < 2 ^ 63 → column + length old < 2 ^ 63
     → EndTokens (tail_sent row column negative old).bytes
 tail_ends row column negative old r k =
-    let few = leading_le old in
+    let few = leading_blanks_le old in
     let low : column + leading_blanks old < 2 ^ 63 = omega (arith, few, k) in
     let move = move_bytes row (column + leading_blanks old) in
     let rest = render_change negative false ++ erase_bytes in
