@@ -1,4 +1,4 @@
--- What goes out is at most a third longer.
+-- What goes out is at most a third length_push.
 use Rattle.std.proofs.Common.{◌≡◌, ℕ, ◌+◌, ◌*◌, ◌≤◌, inl, inr, Bool, true, false, not, ◌&&◌, ◌||◌, nat_eq, nat_le}
 use Rattle.std.proofs.Common.{cond, List, [], ◌∷◌, ◌++◌, length, Option, Some, None, refl, ap, sym, ◌∙◌, arith, length-append}
 use Rattle.std.specs.Prelude.{find}
@@ -7,6 +7,7 @@ use Rattle.std.specs.Str.{bytes_eq}
 use Rattle.std.proofs.lemmas.Bool.{cases_Bool, and_parts, or_cases, both_ways, not-true, leb-true, cond-true, cond-false}
 use Rattle.std.proofs.lemmas.Slice.Eq.{bytes_eq-Decides}
 use Rattle.std.proofs.lemmas.Bool.Decides.{nat_tests}
+use Rattle.std.proofs.lemmas.List.{length_push}
 use Rattle.bx_bytes.specs.declared.fate.Fate.{Fate}
 use Rattle.bx_bytes.specs.declared.fate.Fate.TheVariants.{Waits, Ends, Breaks}
 use Rattle.bx_input.specs.Table.{Row, rows, fate, row_of, paste_end}
@@ -64,19 +65,16 @@ ended_weighs is_open read (Some r) h some =
 
 -- ---- a byte
 
-longer : (waiting : List ℕ) (b : ℕ) → length (waiting ++ b ∷ []) ≡ length waiting + 1
-longer waiting b = length-append waiting (b ∷ [])
-
 broken_weighs : (waiting : List ℕ) (is_open : Bool) (b : ℕ) → weight (broken waiting is_open b) ≤ 4 * length waiting + 4
 broken_weighs waiting is_open b = elim (cases_Bool (nat_eq b 0x1B)) [
   | inl escape ↦ rw escape (omega arith)
-  | inr other ↦ rw other (omega (arith, longer waiting b))
+  | inr other ↦ rw other (omega (arith, length_push waiting b))
 ]
 
 outside_weighs : (f : Fate) (waiting : List ℕ) (is_open : Bool) (b : ℕ) → weight (step_by f waiting is_open b) ≤ 4 * length waiting + 4
-outside_weighs Waits waiting is_open b = omega (arith, longer waiting b)
+outside_weighs Waits waiting is_open b = omega (arith, length_push waiting b)
 outside_weighs Ends waiting is_open b =
-    omega (arith, longer waiting b, ended_weighs is_open (waiting ++ b ∷ []) (row_of (waiting ++ b ∷ [])) refl (omega (arith, longer waiting b)))
+    omega (arith, length_push waiting b, ended_weighs is_open (waiting ++ b ∷ []) (row_of (waiting ++ b ∷ [])) refl (omega (arith, length_push waiting b)))
 outside_weighs Breaks waiting is_open b = broken_weighs waiting is_open b
 
 byte_is_one : (after_return : Bool) (b : ℕ) → length (pasted_byte after_return b) ≤ 1
@@ -96,7 +94,7 @@ after_end_weighs true = omega arith
 after_end_weighs false = omega arith
 
 within_weighs : (f : Fate) (waiting : List ℕ) (after_return : Bool) (b : ℕ) → weight (paste_step_by f waiting after_return b) ≤ 4 * length waiting + 4
-within_weighs Waits waiting after_return b = omega (arith, longer waiting b)
+within_weighs Waits waiting after_return b = omega (arith, length_push waiting b)
 within_weighs Ends waiting after_return b = omega (arith, after_end_weighs (bytes_eq (waiting ++ b ∷ []) paste_end))
 within_weighs Breaks waiting after_return b =
     let fresh : Step = fresh_in_paste (paste_fate (b ∷ [])) after_return b in
@@ -167,16 +165,16 @@ ended_counts is_open read (Some r) h some q =
 broken_counts : (waiting : List ℕ) (is_open : Bool) (b : ℕ) → count (broken waiting is_open b) ≤ length waiting + 1
 broken_counts waiting is_open b = elim (cases_Bool (nat_eq b 0x1B)) [
   | inl escape ↦ rw escape (omega arith)
-  | inr other ↦ rw other (omega (arith, longer waiting b))
+  | inr other ↦ rw other (omega (arith, length_push waiting b))
 ]
 
 outside_counts : (f : Fate) (waiting : List ℕ) (is_open : Bool) (b : ℕ) → nat_eq b 0x51 ≡ false → count (step_by f waiting is_open b) ≤ length waiting + 1
-outside_counts Waits waiting is_open b q = omega (arith, longer waiting b)
+outside_counts Waits waiting is_open b q = omega (arith, length_push waiting b)
 outside_counts Ends waiting is_open b q =
     omega (
       arith,
-      longer waiting b,
-      ended_counts is_open (waiting ++ b ∷ []) (row_of (waiting ++ b ∷ [])) refl (omega (arith, longer waiting b)) (last_is waiting b ∙ q),
+      length_push waiting b,
+      ended_counts is_open (waiting ++ b ∷ []) (row_of (waiting ++ b ∷ [])) refl (omega (arith, length_push waiting b)) (last_is waiting b ∙ q),
     )
 outside_counts Breaks waiting is_open b q = broken_counts waiting is_open b
 
@@ -186,7 +184,7 @@ fresh_counts Ends after_return b = omega (arith, byte_is_one after_return b)
 fresh_counts Breaks after_return b = omega (arith, byte_is_one after_return b)
 
 within_counts : (f : Fate) (waiting : List ℕ) (after_return : Bool) (b : ℕ) → count (paste_step_by f waiting after_return b) ≤ length waiting + 1
-within_counts Waits waiting after_return b = omega (arith, longer waiting b)
+within_counts Waits waiting after_return b = omega (arith, length_push waiting b)
 within_counts Ends waiting after_return b = omega (arith, after_end_weighs (bytes_eq (waiting ++ b ∷ []) paste_end))
 within_counts Breaks waiting after_return b =
     let fresh : Step = fresh_in_paste (paste_fate (b ∷ [])) after_return b in

@@ -8,11 +8,12 @@ use Rattle.bx_bytes.specs.Grammar.{is_grammar}
 use Rattle.bx_bytes.specs.declared.fate.Fate.{Fate}
 use Rattle.bx_bytes.specs.declared.fate.Fate.TheVariants.{Waits, Ends, Breaks}
 use Rattle.bx_bytes.proofs.Patterns.{begins_any_front, none_begins_longer}
+use Rattle.bx_bytes.proofs.Encoded.{ends_by}
 use Rattle.bx_keys.specs.Items.{items, is_item, begins_item}
 use Rattle.bx_keys.specs.Keys.{Decoding, key_of, with_key, beginning_up_to, beginning, decoding_within, decoding, first_key, key_after, rest_after}
 use Rattle.bx_keys.specs.Waiting.{fate}
 use Rattle.bx_keys.specs.declared.key.Key.{Key}
-use Rattle.bx_keys.proofs.Feeding.{nothing_left, take_whole, waits_decoding, item_decoding, broken_decoding, alone_dropped, ends_by, first_of_option}
+use Rattle.bx_keys.proofs.Feeding.{nothing_left, take_whole, waits_decoding, item_decoding, broken_decoding, alone_dropped, first_of_option}
 
 items_are_grammar : is_grammar items ≡ true
 items_are_grammar = refl

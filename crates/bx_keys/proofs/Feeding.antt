@@ -7,6 +7,7 @@ use Rattle.std.proofs.lemmas.Bool.{ne_eqb, eq-eqb, cond-true, cond-false}
 use Rattle.bx_bytes.proofs.Patterns.{matches_any_begins}
 use Rattle.bx_bytes.specs.declared.fate.Fate.{Fate}
 use Rattle.bx_bytes.specs.declared.fate.Fate.TheVariants.{Waits, Ends, Breaks}
+use Rattle.bx_bytes.proofs.Encoded.{ends_by}
 use Rattle.bx_keys.specs.Items.{items, is_item, begins_item}
 use Rattle.bx_keys.specs.Keys.{Decoding, key_of, with_key, beginning_up_to, beginning, decoding_within, decoding, first_key, key_after, rest_after}
 use Rattle.bx_keys.specs.Waiting.{fate}
@@ -26,11 +27,6 @@ waits_by false false h = absurd (cc h)
 pub waits_says : (bs : List ℕ) → fate bs ≡ Waits → IsBeginning bs
 waits_says bs h =
     let parts = waits_by (is_item bs) (begins_item bs) h in record { not_item = parts.0; begins = parts.1 }
-
-pub ends_by : (m b : Bool) → cond m Ends (cond b Waits Breaks) ≡ Ends → m ≡ true
-ends_by true b h = refl
-ends_by false true h = absurd (cc h)
-ends_by false false h = absurd (cc h)
 
 pub breaks_by : (m b : Bool) → cond m Ends (cond b Waits Breaks) ≡ Breaks → (m ≡ false) × (b ≡ false)
 breaks_by true b h = absurd (cc h)
