@@ -1,13 +1,13 @@
 -- Ranges that are clear of a direction: what a look into one tells, and what a change leaves of it.
 use Rattle.std.proofs.Common.{◌≡◌, ◌<◌, ◌≤◌, ◌+◌, ◌-◌, ◌∙◌, ℕ, zero, suc, List, [], ◌∷◌, length, get_or, take, drop, refl, ap, arith, Bool, true, false, ◌⊎◌}
 use Rattle.std.proofs.Common.{inl, inr}
-use Rattle.std.specs.Prelude.{◌||◌}
 use Rattle.std.specs.List.{list_any}
 use Rattle.std.proofs.lemmas.List.{get_or-take, get_or-drop, get_or_default, length-take, get_or-append_right}
-use Rattle.std.proofs.lemmas.List.Folds.{list_any_none}
+use Rattle.std.proofs.lemmas.List.Folds.{list_any_none, list_any_at}
 use Rattle.std.proofs.Math.ListN.{get_or-append}
 use Rattle.std.proofs.Math.Seq.{get_or-append_seam}
 use Rattle.std.proofs.Common.{length-drop}
+use Rattle.std.proofs.lemmas.Bool.{cases_lt}
 use Rattle.bx_ucd.specs.declared.class.Class.{Class}
 use Rattle.bx_ucd.specs.declared.class.Class.TheVariants.{L, R, EN, AN}
 use Rattle.bx_brackets.specs.declared.resolve.Clear.{Clear}
@@ -15,25 +15,15 @@ use Rattle.bx_brackets.specs.declared.resolve.Clears.{Clears}
 use Rattle.bx_brackets.specs.Resolve.{counts_as, opposite, is_left, is_right, change_marks, change_bracket}
 use Rattle.bx_brackets.specs.Clear.{IsClear, AreClear, AreSameFrom, between, clear_after}
 
-less_or_not : (j k : ℕ) → (j < k) ⊎ (k ≤ j)
-less_or_not j zero = inr (omega arith)
-less_or_not zero (suc k) = inl (omega arith)
-less_or_not (suc j) (suc k) = elim (less_or_not j k) [ inl l ↦ inl (omega arith) | inr l ↦ inr (omega arith) ]
-
 -- one index more is clear
 pub clear_more : (d : Class) (ts : List Class) (a n : ℕ) → ((k : ℕ) → a ≤ k → k < n → counts_as d (get_or ts k L) ≡ false) → counts_as d (get_or ts n L) ≡ false
     → (k : ℕ) → a ≤ k → k < n + 1 → counts_as d (get_or ts k L) ≡ false
-clear_more d ts a n old new k low high = elim (less_or_not k n) [
+clear_more d ts a n old new k low high = elim (cases_lt k n) [
   | inl x ↦ old k low x
   | inr x ↦ let s : k ≡ n = omega arith in ap (λ i. counts_as d (get_or ts i L)) s ∙ new
 ]
 
 -- an element that passes
-any_at : (p : Class → Bool) (xs : List Class) (i : ℕ) (d : Class) → i < length xs → p (get_or xs i d) ≡ true → list_any p xs ≡ true
-any_at p [] i d h e = absurd (omega arith)
-any_at p (x ∷ xs) zero d h e = ap (λ b. b || list_any p xs) e
-any_at p (x ∷ xs) (suc i) d h e = elim (p x) as (λ b. (b || list_any p xs) ≡ true) [ true ↦ refl | false ↦ any_at p xs i d (omega arith) e ]
-
 range_length : (ts : List Class) (a b : ℕ) → b ≤ length ts → length (take (b - a) (drop a ts)) ≤ b - a
 range_length ts a b h = omega (arith, length-take (b - a) (drop a ts))
 
@@ -53,7 +43,7 @@ some_in d ts a b k h low high e =
     let s : a + (k - a) ≡ k = omega arith in
     let at : get_or (take (b - a) (drop a ts)) (k - a) L ≡ get_or ts k L = get_or-take (b - a) (drop a ts) (k - a) L (omega arith) ∙ get_or-drop a ts (k - a) L
     ∙ ap (λ n. get_or ts n L) s in
-    any_at (counts_as d) (take (b - a) (drop a ts)) (k - a) L (omega arith) (ap (counts_as d) at ∙ e)
+    list_any_at (counts_as d) (take (b - a) (drop a ts)) (k - a) L (omega arith) (ap (counts_as d) at ∙ e)
 
 -- a change of a bracket leaves what stands before it, and all others or makes them the direction
 marks_either : (d : Class) (was : List Bool) (ts : List Class) (k : ℕ)
@@ -88,7 +78,7 @@ module _ (d : Class) (was : List Bool) (ts : List Class) (p : ℕ) (h : p < leng
       ]
 
   pub change_either : (k : ℕ) → (get_or (change_bracket d was ts p) k L ≡ get_or ts k L) ⊎ (get_or (change_bracket d was ts p) k L ≡ d)
-  change_either k = elim (less_or_not k p) [ inl x ↦ inl (change_before k x) | inr x ↦ change_from (k - p) k (omega arith) ]
+  change_either k = elim (cases_lt k p) [ inl x ↦ inl (change_before k x) | inr x ↦ change_from (k - p) k (omega arith) ]
 
 -- no type counts as both directions
 left_not_right : (t : Class) → is_left t ≡ true → is_right t ≡ false

@@ -5,7 +5,7 @@ use Rattle.std.proofs.Common.{Option, Some, None, Bool, true, false, inl, inr}
 use Rattle.std.specs.Prelude.{All, IfSome, find, nat_lt}
 use Rattle.std.proofs.lemmas.Bool.Decides.{nat_tests}
 use Rattle.std.proofs.lemmas.List.{get_or-set_other, length-replicate}
-use Rattle.std.proofs.lemmas.List.Elements.{All-nil, All-cons, All-head, All-tail}
+use Rattle.std.proofs.lemmas.List.Elements.{All-nil, All-cons, All-set}
 use Rattle.std.proofs.Math.ListN.{length-set}
 use Rattle.bx_ucd.specs.declared.data.Side.{Side}
 use Rattle.bx_ucd.specs.declared.data.Side.TheVariants.{Opener, Closer}
@@ -111,11 +111,6 @@ all_none : (P : ℕ → Type 0) (n : ℕ) → P 0 → All P (replicate n 0)
 all_none P zero h = All-nil P
 all_none P (suc n) h = All-cons P 0 (replicate n 0) h (all_none P n h)
 
-all_set : (P : ℕ → Type 0) (i j : ℕ) (cs : List ℕ) → P j → All P cs → All P (set cs i j)
-all_set P i j [] h a = a
-all_set P zero j (c ∷ cs) h a = All-cons P j cs h (All-tail P c cs a)
-all_set P (suc i) j (c ∷ cs) h a = All-cons P c (set cs i j) (All-head P c cs a) (all_set P i j cs h (All-tail P c cs a))
-
 -- what holds once a character more is met
 pub searched_later : (count i j : ℕ) (os : List (ℕ × ℕ)) (cs : List ℕ) → i ≤ j → IsSearched count i os cs → IsSearched count j os cs
 searched_later count i j os cs h s = record {
@@ -147,8 +142,8 @@ module _ (count j c : ℕ) (os : List (ℕ × ℕ)) (cs : List ℕ) (h : j < cou
         falling = falling_later o.0 (j + 1) (below_first (is_for c) os) (omega arith) f;
         unclosed = unclosed_set o.0 j o.0 cs (below_first (is_for c) os) (omega arith) f (unclosed_below (is_for c) cs os s.unclosed);
         long = elim s.long [ inl x ↦ inl (length-set cs o.0 j ∙ x) | inr x ↦ inr (length-set cs o.0 j ∙ x) ];
-        within = all_set (λ x. x < count) o.0 j cs h s.within;
-        met = all_set (λ x. x ≤ j + 1) o.0 j cs (omega arith) later.met;
+        within = All-set (λ x. x < count) cs o.0 j h s.within;
+        met = All-set (λ x. x ≤ j + 1) cs o.0 j (omega arith) later.met;
       }
 
   pub searched_close : IsSearched count (j + 1) (left_by (find (is_for c) os) c os) (with_closer (index_of (find (is_for c) os)) j cs)
