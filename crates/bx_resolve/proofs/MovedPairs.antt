@@ -1,10 +1,11 @@
 -- The bracket pairs of a list in whose middle stands more without brackets: the same, with the indexes behind the middle moved.
-use Rattle.std.proofs.Common.{◌≡◌, ◌<◌, ◌≤◌, ◌+◌, ◌∙◌, ◌⊎◌, inl, inr, ℕ, zero, suc, List, [], ◌∷◌, ◌++◌, length, map, refl, ap, ap₂, sym, arith, Bool}
+use Rattle.std.proofs.Common.{◌≡◌, ◌<◌, ◌≤◌, ◌+◌, ◌∙◌, inl, inr, ℕ, suc, List, [], ◌∷◌, ◌++◌, length, map, refl, ap, ap₂, sym, arith, Bool}
 use Rattle.std.proofs.Common.{true, false, cond, Option, Some, None}
 use Rattle.std.specs.Prelude.{◌&&◌, ◌||◌, ◌==◌, not, nat_lt, nat_le, filter, find}
 use Rattle.std.specs.List.{list_any}
 use Rattle.std.proofs.lemmas.Bool.Decides.{nat_tests}
 use Rattle.std.proofs.lemmas.List.{length-map}
+use Rattle.std.proofs.lemmas.Bool.{cases_lt}
 use Rattle.bx_ucd.specs.declared.class.Class.{Class}
 use Rattle.bx_ucd.specs.declared.data.Side.{Side}
 use Rattle.bx_ucd.specs.declared.data.Side.TheVariants.{Opener, Closer}
@@ -120,26 +121,21 @@ shift_below n m j h = let e : nat_lt j n ≡ true = grind (arith, nat_tests) in 
 pub shift_from : (n m j : ℕ) → n ≤ j → shift n m j ≡ j + m
 shift_from n m j h = let e : nat_lt j n ≡ false = grind (arith, nat_tests) in rw (e, shift)
 
-pub either : (j n : ℕ) → (j < n) ⊎ (n ≤ j)
-either j zero = inr (omega arith)
-either zero (suc n) = inl (omega arith)
-either (suc j) (suc n) = elim (either j n) [ inl h ↦ inl (omega arith) | inr h ↦ inr (omega arith) ]
-
 pub lt_alike : (a b c d : ℕ) → (a < b → c < d) → (b ≤ a → d ≤ c) → nat_lt c d ≡ nat_lt a b
-lt_alike a b c d h k = elim (either a b) [
+lt_alike a b c d h k = elim (cases_lt a b) [
   | inl l ↦ let u : c < d = h l in let e : nat_lt c d ≡ true = grind (arith, nat_tests) in let i : nat_lt a b ≡ true = grind (arith, nat_tests) in e ∙ sym i
   | inr l ↦ let u : d ≤ c = k l in let e : nat_lt c d ≡ false = grind (arith, nat_tests) in let i : nat_lt a b ≡ false = grind (arith, nat_tests) in e ∙ sym i
 ]
 
 pub le_alike : (a b c d : ℕ) → (b < a → d < c) → (a ≤ b → c ≤ d) → nat_le c d ≡ nat_le a b
-le_alike a b c d h k = elim (either b a) [
+le_alike a b c d h k = elim (cases_lt b a) [
   | inl l ↦ let u : d < c = h l in let e : nat_le c d ≡ false = grind (arith, nat_tests) in let i : nat_le a b ≡ false = grind (arith, nat_tests) in e ∙ sym i
   | inr l ↦ let u : c ≤ d = k l in let e : nat_le c d ≡ true = grind (arith, nat_tests) in let i : nat_le a b ≡ true = grind (arith, nat_tests) in e ∙ sym i
 ]
 
 shift_lt : (n m a b : ℕ) → a < b → shift n m a < shift n m b
-shift_lt n m a b h = elim (either a n) [
-  | inl l ↦ elim (either b n) [
+shift_lt n m a b h = elim (cases_lt a n) [
+  | inl l ↦ elim (cases_lt b n) [
     | inl k ↦ let e : shift n m a ≡ a = shift_below n m a l in let i : shift n m b ≡ b = shift_below n m b k in omega arith
     | inr k ↦ let e : shift n m a ≡ a = shift_below n m a l in let i : shift n m b ≡ b + m = shift_from n m b k in omega arith
   ]
@@ -147,8 +143,8 @@ shift_lt n m a b h = elim (either a n) [
 ]
 
 shift_le : (n m a b : ℕ) → a ≤ b → shift n m a ≤ shift n m b
-shift_le n m a b h = elim (either a n) [
-  | inl l ↦ elim (either b n) [
+shift_le n m a b h = elim (cases_lt a n) [
+  | inl l ↦ elim (cases_lt b n) [
     | inl k ↦ let e : shift n m a ≡ a = shift_below n m a l in let i : shift n m b ≡ b = shift_below n m b k in omega arith
     | inr k ↦ let e : shift n m a ≡ a = shift_below n m a l in let i : shift n m b ≡ b + m = shift_from n m b k in omega arith
   ]
