@@ -5,7 +5,7 @@ use Rattle.std.specs.List.{list_all, list_any}
 use Rattle.std.specs.Str.{chars, IsUtf8, IsCharBoundary, all_scalars}
 use Rattle.std.proofs.lemmas.Bool.{and_parts, and_from, or_left, or_right}
 use Rattle.std.proofs.lemmas.Bool.Decides.{nat_tests}
-use Rattle.std.proofs.lemmas.List.{drop-drop, drop_at, take_at, length-drop}
+use Rattle.std.proofs.lemmas.List.{drop-drop, drop_at, take_at, length-drop, nil_from_length}
 use Rattle.std.proofs.lemmas.Str.{chars-nil, chars-encodes, chars_past_char, scalars-chars, encodes-append, IsUtf8-drop, IsCharBoundary-from_drop}
 use Rattle.unicode_segmentation.specs.Grapheme.{graphemes, is_grapheme_break}
 use Rattle.unicode_segmentation.specs.Segments.{prepend, cut, segments, with_offsets}
@@ -26,10 +26,6 @@ use Rattle.bx_cells.proofs.SimpleUnits.{unit_is_no_tab}
 use Rattle.unicode_segmentation.proofs.TextLemmas.{encode_utf8_nonempty}
 use Rattle.bx_cells.proofs.Locality.{cut-own}
 use Rattle.bx_cells.proofs.Rest.{IsUtf8-past_all, chars_past_all, scalars_front}
-
-empty_from_length : (xs : List ℕ) → length xs ≡ 0 → xs ≡ []
-empty_from_length [] h = refl
-empty_from_length (x ∷ xs) h = absurd (omega (arith, h))
 
 -- ---- its face
 
@@ -187,7 +183,7 @@ module _ (body : List ℕ) (start c : ℕ) (k : Bool) (rest : List ℕ) (u : IsU
   unfolding segments with_offsets
   open-last class w stop e z =
       let R = is_grapheme_break true in
-      let none : rest ≡ [] = empty_from_length rest z in
+      let none : rest ≡ [] = nil_from_length rest z in
       let whole : stop + length rest ≡ length body = omega (arith, e, z) in
       let clusters : graphemes true (drop start body) ≡ encode_utf8_all (c ∷ o.marks) ∷ [] =
       ap (λ cs. map encode_utf8_all (cut R [] cs [])) (open-chars ∙ ap (λ x. c ∷ (o.marks ++ chars x)) none ∙ ap (λ x. c ∷ (o.marks ++ x)) chars-nil
@@ -198,7 +194,7 @@ module _ (body : List ℕ) (start c : ℕ) (k : Bool) (rest : List ℕ) (u : IsU
   pub open-none : (class : ℕ → Class) (w stop : ℕ) → stop ≡ length body → length rest ≡ 0 → units_from class w body stop ≡ []
   unfolding segments with_offsets cut
   open-none class w stop e z =
-      let none : rest ≡ [] = empty_from_length rest z in
+      let none : rest ≡ [] = nil_from_length rest z in
       let whole : stop + length rest ≡ length body = omega (arith, e, z) in
       ap (λ x. map (unit_at class w) (with_offsets stop (map encode_utf8_all (cut (is_grapheme_break true) [] (chars x) [])))) (open-left stop whole ∙ none)
       ∙ ap (λ x. map (unit_at class w) (with_offsets stop (map encode_utf8_all (cut (is_grapheme_break true) [] x [])))) chars-nil
