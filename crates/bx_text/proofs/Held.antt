@@ -6,6 +6,7 @@ use Rattle.std.proofs.lemmas.List.{get_or_append_left, get_or-append_right, get_
 use Rattle.std.proofs.lemmas.Str.{IsUtf8-append, IsUtf8-take, IsUtf8-drop, IsCharBoundary-start, IsCharBoundary-from_take, IsCharBoundary-from_rest}
 use Rattle.std.proofs.Math.Seq.{take-add}
 use Rattle.std.specs.Str.{IsUtf8, IsCharBoundary}
+use Rattle.std.proofs.lemmas.Option.{same_Some}
 use Rattle.bx_pieces.specs.declared.piece.Piece.{Piece}
 use Rattle.bx_pieces.specs.Pieces.{total, holding, rest_of}
 use Rattle.bx_text.specs.Buffers.{Buffers, buffer_bytes, piece_bytes, bytes_of, IsInBuffer, AreInBuffers, IsRest}
@@ -45,16 +46,13 @@ further b x xs k p j in_buffers past h =
       bytes = ap (take (p.len - j)) (drop_past (piece_bytes b x) (bytes_of b xs) x.len k count past) ∙ h.bytes;
     }
 
-some_same : (x y : Piece × ℕ) → Some x ≡ Some y → x ≡ y
-some_same x y e = cc
-
 holds_at : (fits : Bool) (b : Buffers) (x : Piece) (xs : List Piece) (k : ℕ) (p : Piece) (j : ℕ) → nat_le x.len k ≡ fits
     → IsInBuffer b x
     → (holding xs (k - x.len) ≡ Some (p, j) → Holds b xs (k - x.len) p j) → holding (x ∷ xs) k ≡ Some (p, j) → Holds b (x ∷ xs) k p j
 holds_at true b x xs k p j e in_buffers more h = further b x xs k p j in_buffers (grind (arith, nat_tests)) (more (rw e at h))
 holds_at false b x xs k p j e in_buffers more h =
     let g = rw e at h in
-    let both : (x, k) ≡ (p, j) = some_same (x, k) (p, j) g in
+    let both : (x, k) ≡ (p, j) = same_Some (x, k) (p, j) g in
     let same_piece : x ≡ p = ap (λ (z : Piece × ℕ). z.0) both in
     let same_offset : k ≡ j = ap (λ (z : Piece × ℕ). z.1) both in
     rw (sym same_piece, sym same_offset) (here b x xs k in_buffers (grind (arith, nat_tests)))

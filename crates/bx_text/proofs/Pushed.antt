@@ -1,11 +1,12 @@
 -- The bytes of pieces with one piece more, which may make the last one longer.
-use Rattle.std.proofs.Common.{◌≡◌, ℕ, ◌+◌, Bool, true, false, ◌&&◌, ◌==◌, List, [], ◌∷◌, ◌++◌, length, take, drop, Option, Some, None, refl, ap, sym, subst}
+use Rattle.std.proofs.Common.{◌≡◌, ℕ, ◌+◌, Bool, true, false, ◌==◌, List, [], ◌∷◌, ◌++◌, length, take, drop, Option, Some, None, refl, ap, sym, subst}
 use Rattle.std.proofs.Common.{◌∙◌, append_assoc, length-append, arith}
 use Rattle.std.proofs.lemmas.Bool.Decides.{nat_tests}
 use Rattle.std.proofs.lemmas.List.{append-nil, drop-drop, drop_at, take_all}
 use Rattle.std.proofs.lemmas.Str.{IsUtf8-append}
 use Rattle.std.proofs.Math.Seq.{take-add}
 use Rattle.std.specs.Str.{IsUtf8}
+use Rattle.std.proofs.lemmas.Bool.{and_parts}
 use Rattle.bx_pieces.specs.declared.piece.Buffer.{Buffer}
 use Rattle.bx_pieces.specs.declared.piece.Buffer.TheVariants.{Opened, Added}
 use Rattle.bx_pieces.specs.declared.piece.Piece.{Piece}
@@ -16,11 +17,6 @@ use Rattle.bx_text.proofs.Bytes.{bytes_of-append, AreInBuffers-append}
 use Rattle.bx_text.proofs.Versions.{grown, bytes_of-grown, AreInBuffers-grown}
 
 -- ---- two pieces that are one
-
-both : (a b : Bool) → (a && b) ≡ true → (a ≡ true) × (b ≡ true)
-both true true e = (refl, refl)
-both true false e = absurd (cc)
-both false b e = absurd (cc)
 
 same_buffer : (x y : Buffer) → are_same x y ≡ true → x ≡ y
 same_buffer Opened Opened e = refl
@@ -34,7 +30,7 @@ record GoesOn (p q : Piece) : Type 0 where
 
 goes_on_parts : (p q : Piece) → goes_on p q ≡ true → GoesOn p q
 goes_on_parts p q e =
-    let h = both (are_same p.buffer q.buffer) (p.start + p.len == q.start) e in
+    let h = and_parts (are_same p.buffer q.buffer) (p.start + p.len == q.start) e in
     record { buffer = same_buffer p.buffer q.buffer h.0; start = grind (arith, nat_tests, h.1) }
 
 abbrev joined : Piece → Piece → Piece
