@@ -10,6 +10,7 @@ use Rattle.std.proofs.lemmas.List.{length-take-le, map-append, set_at, take_more
 use Rattle.std.proofs.lemmas.List.{drop-map}
 use Rattle.std.proofs.lemmas.Bool.Decides.{nat_tests}
 use Rattle.std.proofs.lemmas.Nat.{le_or_l, le_or_r}
+use Rattle.std.proofs.lemmas.Grind.{get_or_default_zero}
 use Rattle.bx_grid.specs.Columns.{Col, Unknown, Glyph, col_eq, are_equal, paste}
 use Rattle.bx_grid.specs.Codes.{is_byte, is_short, packed, no_code, is_code, code_in, code_of, codes_of, columns_in, offset_in, are_same_code}
 use Rattle.bx_grid.specs.Glyphs.{BeginAlike}
@@ -283,18 +284,13 @@ below_or f i all h = below_more (λ k. f k ≤ bit_or all (f i)) i
 pub codes_told : (xs : List ℕ) (all : ℕ) → ((k : ℕ) → k < length xs → get_or xs k 0 ≤ all) → all < no_code → list_all is_code xs ≡ true
 codes_told xs all h low = all_codes xs (λ k inside. let le : get_or xs k 0 ≤ all = h k inside in omega arith)
 
-at_default : (xs : List ℕ) (k d : ℕ) → k < length xs → get_or xs k d ≡ get_or xs k 0
-at_default [] k d h = absurd (omega arith)
-at_default (x ∷ xs) zero d h = refl
-at_default (x ∷ xs) (suc k) d h = at_default xs k d (omega arith)
-
 pub codes_equal : (xs ys : List ℕ) (differing : ℕ) → length xs ≡ length ys → ((k : ℕ) → k < length xs → bit_xor (get_or xs k 0) (get_or ys k 0) ≤ differing)
     → differing ≡ 0 → xs ≡ ys
 codes_equal xs ys differing len h none =
     same_lists xs ys len (λ k d inside.
     let small : bit_xor (get_or xs k 0) (get_or ys k 0) ≤ differing = h k inside in
     let zero_bits : bit_xor (get_or xs k 0) (get_or ys k 0) ≡ 0 = omega arith in
-    at_default xs k d inside ∙ xor_tells (get_or xs k 0) (get_or ys k 0) zero_bits ∙ sym (at_default ys k d (omega (arith, len))))
+    get_or_default_zero xs k d inside ∙ xor_tells (get_or xs k 0) (get_or ys k 0) zero_bits ∙ sym (get_or_default_zero ys k d (omega (arith, len))))
 
 -- ---- codes noted column by column
 

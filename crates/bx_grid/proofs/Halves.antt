@@ -1,5 +1,5 @@
 -- What half-read bytes look like, and what their token does.
-use Rattle.std.proofs.Common.{◌≡◌, ℕ, ◌≤◌, true, false, nat_le, min, List, [], ◌∷◌, ◌++◌, drop, get_or, Result, Ok, Err, OnOk, inl, inr, refl, ap}
+use Rattle.std.proofs.Common.{◌≡◌, ℕ, ◌≤◌, true, false, nat_le, min, List, [], ◌∷◌, ◌++◌, drop, get_or, inl, inr, refl, ap}
 use Rattle.std.proofs.Common.{sym, ◌∙◌, arith}
 use Rattle.std.proofs.lemmas.Bool.{cases_lt}
 use Rattle.std.proofs.lemmas.Bool.Decides.{nat_tests}
@@ -81,7 +81,3 @@ spelled bs c h e =
     let found = (are_encodings bs).0 (is_whole bs h) in
     let same : chars bs ≡ found.0 ∷ [] = ap chars (sym found.2) ∙ chars_of found.0 found.1 in
     ap encode_utf8 (head_is c found.0 (sym e ∙ same)) ∙ found.2
-
-pub on_ok : {T E : Type 0} (r : Result T E) (P Q : Type 0) → (P → Q) → OnOk r P → OnOk r Q
-on_ok (Ok x) P Q f h = f h
-on_ok (Err e) P Q f h = h

@@ -7,6 +7,7 @@ use Rattle.std.specs.Str.{IsUtf8, chars, encode_utf8_all, all_scalars}
 use Rattle.std.proofs.lemmas.Bool.Decides.{nat_tests}
 use Rattle.std.proofs.lemmas.List.{append-nil}
 use Rattle.std.proofs.lemmas.Str.{chars-encodes}
+use Rattle.std.proofs.lemmas.Bool.{not-true}
 use Rattle.bx_bytes.specs.Fate.{fate_in}
 use Rattle.bx_bytes.specs.Pattern.{matches_any, begins_any}
 use Rattle.bx_bytes.specs.Utf8.{characters, is_control, are_printable}
@@ -124,10 +125,6 @@ made t some half_read = record t { run = some; half_read = half_read }
 same_run : (t : Terminal) → t.half_read ≡ [] → record t { run = t.run ++ []; half_read = [] } ≡ t
 same_run t h = ap (λ some. made t some []) (append-nil t.run) ∙ ap (made t t.run) (sym h)
 
-not_true : (b : Bool) → not b ≡ true → b ≡ false
-not_true true h = sym h
-not_true false h = refl
-
 chars_do : (t : Terminal) (log : List Effect) (cs : List ℕ) → all_scalars cs ≡ true → list_all (λ c. not (is_control c)) cs ≡ true → t.half_read ≡ []
     → run (t, log) (encode_utf8_all cs) ≡ (record t { run = t.run ++ encode_utf8_all cs; half_read = [] }, log)
 chars_do t log [] scalars fine idle = ap (λ u. run_step u log) (sym (same_run t idle))
@@ -136,7 +133,7 @@ chars_do t log (c ∷ cs) scalars fine idle =
     let bs = encode_utf8 c in
     let rest = encode_utf8_all cs in
     let first = char_does t log bs c idle (ends bs (encoded c here)) (chars_of c here)
-    (not_true (is_control c) (and_left (not (is_control c)) (list_all (λ x. not (is_control x)) cs) fine)) in
+    (not-true (is_control c) (and_left (not (is_control c)) (list_all (λ x. not (is_control x)) cs) fine)) in
     let u : Terminal = record t { run = t.run ++ bs; half_read = [] } in
     run-append (t, log) bs rest
     ∙ ap (λ w. run w rest) first

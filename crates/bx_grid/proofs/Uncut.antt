@@ -293,7 +293,7 @@ right_stop e (x ∷ y ∷ ys) h low =
     ] in
     rw test (ap (λ zs. x ∷ zs) (right_stop (e + 1) (y ∷ ys) h.1 next))
 
-cut_after-drop : (e i : ℕ) (xs : List Col) → drop i (cut_after e xs) ≡ cut_after (e + i) (drop i xs)
+pub cut_after-drop : (e i : ℕ) (xs : List Col) → drop i (cut_after e xs) ≡ cut_after (e + i) (drop i xs)
 cut_after-drop e zero xs = ap (λ n. cut_after n xs) (omega arith)
 cut_after-drop e (suc i) [] = refl
 cut_after-drop e (suc i) (x ∷ xs) = cut_after-drop (e + 1) i xs ∙ ap (λ n. cut_after n (drop i xs)) (omega arith)

@@ -4,9 +4,10 @@ use Rattle.std.proofs.Common.{replicate, zero, suc, refl, ap, sym, ◌∙◌, ap
 use Rattle.std.specs.List.{list_all, All}
 use Rattle.std.specs.Str.{chars}
 use Rattle.std.proofs.lemmas.Bool.Decides.{nat_tests}
-use Rattle.std.proofs.lemmas.List.{append-nil, append_cancel_left, take-append-drop, length-drop, replicate-append-replicate, take_at, drop_at}
+use Rattle.std.proofs.lemmas.List.{append-nil, append_cancel_left, take-append-drop, length-drop, replicate-append-replicate, take_at, drop_at, nil_from_length}
 use Rattle.std.proofs.lemmas.List.{length-replicate}
 use Rattle.std.proofs.lemmas.List.Elements.{All-nil, All-cons, All-head, All-tail, All-append}
+use Rattle.std.proofs.lemmas.Bool.{not-true}
 use Rattle.unicode_width.specs.Width.{str_width}
 use Rattle.bx_bytes.specs.Utf8.{are_printable}
 use Rattle.bx_grid.specs.Columns.{Col, Glyph, blank, is_ascii_glyph, glyph_columns, glyph_columns_from, run_columns, cut_before, cut_after}
@@ -17,10 +18,6 @@ use Rattle.bx_grid.proofs.Puts.{length-glyph}
 use Rattle.bx_grid.proofs.Reading.{and_left, and_right}
 
 -- ---- the columns of a glyph
-
-not_false : (b : Bool) → not b ≡ true → b ≡ false
-not_false true h = sym h
-not_false false h = refl
 
 plain_form : (text : List ℕ) (negative : Bool) → is_ascii_glyph text ≡ true → run_columns negative text ≡ glyph_columns text 1 negative
 plain_form [] negative h = absurd (cc h)
@@ -34,7 +31,7 @@ form_by true text negative e h = (1, omega arith, plain_form text negative e)
 form_by false text negative e h =
     let w = str_width false (chars text) in
     let other : list_all is_ascii_printable text ≡ false =
-    not_false (list_all is_ascii_printable text)
+    not-true (list_all is_ascii_printable text)
     (and_right (are_printable text) (not (list_all is_ascii_printable text))
     (and_left (are_printable text && not (list_all is_ascii_printable text)) (nat_le 1 w) h)) in
     let wide : nat_le 1 w ≡ true = and_right (are_printable text && not (list_all is_ascii_printable text)) (nat_le 1 w) h in
@@ -221,12 +218,8 @@ pub whole_blanks : (n : ℕ) → AreWhole (replicate n blank)
 whole_blanks zero = whole-nil
 whole_blanks (suc n) = whole-append (columns_of space) (replicate n blank) (whole_glyph space space_is) (whole_blanks n)
 
-none_left : (cs : List Col) → length cs ≡ 0 → cs ≡ []
-none_left [] h = refl
-none_left (c ∷ cs) h = absurd (omega (arith, h))
-
 pub rows_whole : (h w : ℕ) (cs : List Col) → length cs ≡ h * w → AreWholeRows h w cs → AreWhole cs
-rows_whole zero w cs len rows = whole_along [] cs (sym (none_left cs (omega (arith, len)))) whole-nil
+rows_whole zero w cs len rows = whole_along [] cs (sym (nil_from_length cs (omega (arith, len)))) whole-nil
 rows_whole (suc h) w cs len rows =
     whole_along (take w cs ++ drop w cs) cs (take-append-drop w cs)
     (whole-append (take w cs) (drop w cs) rows.0 (rows_whole h w (drop w cs) (length-drop w cs ∙ omega (arith, len)) rows.1))

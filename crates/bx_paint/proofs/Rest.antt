@@ -9,6 +9,7 @@ use Rattle.bx_grid.specs.Glyphs.{WholeGlyph, IsGlyph, columns_of, AreWhole}
 use Rattle.bx_grid.proofs.Pasted.{past_blanks}
 use Rattle.bx_grid.proofs.Whole.{columns_form, whole_split, whole_after, whole_left, whole_right}
 use Rattle.bx_grid.proofs.Spoils.{length-cut_after}
+use Rattle.bx_grid.proofs.Uncut.{cut_after-drop}
 
 -- ---- what is left of columns after an index
 
@@ -26,13 +27,8 @@ right_again : (e d : ℕ) (xs : List Col) → e ≤ d → cut_after e (cut_after
 right_again e d [] h = refl
 right_again e d (x ∷ xs) h = right_by (nat_lt d (columns_before x)) e d x xs refl h (right_again (e + 1) (d + 1) xs (omega arith))
 
-drop_right : (n d : ℕ) (xs : List Col) → drop n (cut_after d xs) ≡ cut_after (d + n) (drop n xs)
-drop_right zero d xs = ap (λ k. cut_after k xs) (let e : d ≡ d + zero = omega arith in e)
-drop_right (suc n) d [] = refl
-drop_right (suc n) d (x ∷ xs) = drop_right n (d + 1) xs ∙ ap (λ k. cut_after k (drop n xs)) (let e : (d + 1) + n ≡ d + suc n = omega arith in e)
-
 right_rest : (n : ℕ) (xs : List Col) → cut_after 0 (drop n (cut_after 0 xs)) ≡ cut_after 0 (drop n xs)
-right_rest n xs = ap (cut_after 0) (drop_right n 0 xs) ∙ right_again 0 (0 + n) (drop n xs) (omega arith)
+right_rest n xs = ap (cut_after 0) (cut_after-drop 0 n xs) ∙ right_again 0 (0 + n) (drop n xs) (omega arith)
 
 -- ---- a glyph that stays
 

@@ -1,8 +1,8 @@
 use Rattle.std.proofs.Common.{sym, ap, ◌∙◌, arith}
 use Rattle.std.proofs.lemmas.List.{length-map}
+use Rattle.std.proofs.lemmas.Result.{on_ok_weaker}
 use Rattle.bx_grid.specs.Columns.{Glyph, paste}
 use Rattle.bx_grid.specs.Seen.{seen, all_seen}
-use Rattle.bx_grid.proofs.Halves.{on_ok}
 use Rattle.bx_grid.proofs.Grids.{set_seen}
 use Rattle.bx_grid.proofs.Puts.{narrow_columns}
 use Rattle.bx_grid.proofs.RunEnds.{glyphs_of}
@@ -10,7 +10,7 @@ use Rattle.bx_grid.proofs.columns.put_glyphs.Goals as goal
 
 pub returns-clause-ok : goal.returns-clause-ok
 returns-clause-ok c =
-    on_ok c.put_glyph.result _ _
+    on_ok_weaker c.put_glyph.result
     (λ e. e ∙ ap (paste (all_seen c.args.columns.now) c.args.from)
     (glyphs_of c.args.negative c.args.run.now c.args.count (sym c.if-are_ascii_printable.ensures) c.requires.counted))
     c.put_glyph.ensures.ok

@@ -1,12 +1,12 @@
 use Rattle.bx_grid.specs.Columns.{run_columns}
-use Rattle.bx_grid.proofs.Halves.{on_ok}
 use Rattle.bx_grid.proofs.Pieces.{row_put}
 use Rattle.bx_grid.proofs.Uncut.{seen_row}
 use Rattle.bx_grid.proofs.columns.show_at.Goals as goal
+use Rattle.std.proofs.lemmas.Result.{on_ok_weaker}
 
 pub returns-else-is_err-clause-ok : goal.returns-else-is_err-clause-ok
 returns-else-is_err-clause-ok c =
-    on_ok c.show_in_row-shown.result _ _
+    on_ok_weaker c.show_in_row-shown.result
     (λ e. row_put c.args.columns.now c.show_in_row-shown.new.row c.args.width c.args.row c.args.from (run_columns c.args.negative c.args.run.now) e)
     c.show_in_row-shown.ensures
 

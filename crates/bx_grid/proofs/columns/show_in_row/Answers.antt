@@ -1,6 +1,6 @@
 use Rattle.std.proofs.Common.{sym, ◌∙◌}
+use Rattle.std.proofs.lemmas.Result.{on_ok_weaker}
 use Rattle.bx_grid.specs.Columns.{run_columns}
-use Rattle.bx_grid.proofs.Halves.{on_ok}
 use Rattle.bx_grid.proofs.Pieces.{row_shown}
 use Rattle.bx_grid.proofs.Puts.{run_length}
 use Rattle.bx_grid.proofs.Uncut.{seen_take}
@@ -9,7 +9,7 @@ use Rattle.bx_grid.proofs.columns.show_in_row.Goals as goal
 
 pub returns : goal.returns
 returns c =
-    on_ok c.put_glyphs.result _ _
+    on_ok_weaker c.put_glyphs.result
     (λ e. e ∙ row_shown c.args.row.now c.forget_left.new.row c.forget_right.new.row c.args.from c.args.count (run_columns c.args.negative c.args.run.now)
     (run_length c.args.negative c.args.run.now ∙ sym c.requires.counted) c.requires.inside c.forget_left.ensures c.forget_right.ensures)
     c.put_glyphs.ensures.ok

@@ -1,6 +1,6 @@
-use Rattle.std.proofs.Common.{◌≡◌, ◌++◌, Result, Ok, Err, IfOk, ◌≤◌, length, take, drop, false, ap, sym, ◌∙◌, arith}
+use Rattle.std.proofs.Common.{◌≡◌, ◌++◌, ◌≤◌, length, take, drop, false, ap, sym, ◌∙◌, arith}
 use Rattle.std.proofs.lemmas.List.{length-map, length-take-le, take-map}
-use Rattle.bx_grid.proofs.Halves.{on_ok}
+use Rattle.std.proofs.lemmas.Result.{IfOk-weaker, on_ok_weaker}
 use Rattle.bx_grid.specs.Seen.{seen, all_seen}
 use Rattle.bx_paint.specs.Painting.{Sent, before_tail, columns_sent, tail_sent, tail_after, row_sent}
 use Rattle.bx_paint.proofs.Sent.{row_by, row_bytes}
@@ -27,21 +27,16 @@ returns-clause-bytes c =
     let out = c.args.out.now.painting in
     let f = c.front_len-front.result in
     let tail = all_seen c.columns-2.result.now in
-    on_ok c.write_tail.result
-    (c.write_tail.new.out.painting ≡ c.write_columns.new.out.painting ++ (tail_sent c.args.row f c.in_ok-negative.negative tail).bytes) _
-    (λ sent. row_bytes c.args.row f c.args.negative c.in_ok-negative.negative c.front.result tail c.front-2.result out c.write_columns.new.out.painting
+    on_ok_weaker c.write_tail.result
+    (λ (sent : c.write_tail.new.out.painting ≡ c.write_columns.new.out.painting ++ (tail_sent c.args.row f c.in_ok-negative.negative tail).bytes). row_bytes c.args.row f c.args.negative c.in_ok-negative.negative c.front.result tail c.front-2.result out c.write_columns.new.out.painting
     c.write_tail.new.out.painting
     c.in_ok-negative.ensures.bytes c.in_ok-negative.ensures.rendition sent ∙ ap (λ (s : Sent). out ++ s.bytes) (sym (parts c)))
     c.write_tail.ensures.bytes
-
-if_ok : {T E : Type 0} (r : Result T E) (P Q : T → Type 0) → ((x : T) → P x → Q x) → IfOk r P → IfOk r Q
-if_ok (Ok x) P Q f h = f x h
-if_ok (Err e) P Q f h = h
 
 pub returns-clause-rendition : goal.returns-clause-rendition
 returns-clause-rendition c =
     let f = c.front_len-front.result in
     let tail = all_seen c.columns-2.result.now in
-    if_ok c.write_tail.result (λ after. after ≡ (tail_sent c.args.row f c.in_ok-negative.negative tail).negative) _
+    IfOk-weaker c.write_tail.result (λ after. after ≡ (tail_sent c.args.row f c.in_ok-negative.negative tail).negative) _
     (λ after is. is ∙ ap (λ n. (tail_sent c.args.row f n tail).negative) c.in_ok-negative.ensures.rendition ∙ ap (λ (s : Sent). s.negative) (sym (parts c)))
     c.write_tail.ensures.rendition

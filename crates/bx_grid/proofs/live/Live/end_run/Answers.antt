@@ -1,8 +1,8 @@
 use Rattle.std.proofs.Common.{◌≡◌, ◌<◌, ℕ, List, false, nat_eq, length, ap, sym, ◌∙◌, arith}
 use Rattle.std.proofs.lemmas.Bool.Decides.{nat_tests}
+use Rattle.std.proofs.lemmas.Result.{on_ok_weaker}
 use Rattle.bx_grid.specs.Terminal.{Terminal}
 use Rattle.bx_grid.specs.Live.{terminal_of}
-use Rattle.bx_grid.proofs.Halves.{on_ok}
 use Rattle.bx_grid.proofs.RunEnds.{ends_put, ends_nowhere}
 use Rattle.bx_grid.proofs.live.Live.end_run.Goals as goal
 
@@ -22,7 +22,7 @@ returns-in-None c =
 pub returns-in-Some-negative : goal.returns-in-Some-negative
 returns-in-Some-negative c =
     let t = c.args.self.now in
-    on_ok c.put_run.result _ _
+    on_ok_weaker c.put_run.result
     (λ e. e ∙ sym (ends_put t (c.in-Some.row, c.in-Some.column) c.in-Some-negative.negative
     (sym (ap (λ (x : Terminal). x.position) c.self.view_is) ∙ c.in-Some.is)
     (sym (ap (λ (x : Terminal). x.negative) c.self.view_is) ∙ c.in-Some-negative.is)
