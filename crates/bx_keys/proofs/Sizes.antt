@@ -11,6 +11,7 @@ use Rattle.std.proofs.lemmas.Bool.Decides.{nat_tests}
 use Rattle.std.proofs.lemmas.List.Elements.{All-from_get_or}
 use Rattle.std.proofs.lemmas.List.Sums.{fails_before_first}
 use Rattle.std.proofs.lemmas.List.Splits.{slice_split_first, slice_split_none}
+use Rattle.std.proofs.lemmas.Option.{cond_some}
 use Rattle.bx_keys.specs.Keys.{is_side_in_digits, size_key}
 use Rattle.bx_keys.specs.declared.key.Key.{Key}
 use Rattle.bx_keys.specs.declared.key.Key.TheVariants.{Size}
@@ -78,14 +79,10 @@ fields_size h w = elim (one_or_more w) [
 ]
 
 -- where the first semicolon stands
-found : (t : Bool) (n i : ℕ) → cond t (Some n) None ≡ Some i → (t ≡ true) × (n ≡ i)
-found true n i h = (refl, cc h)
-found false n i h = absurd (cc h)
-
 pub size_by_sides : (sides : List ℕ) (i : ℕ) → position semicolon sides ≡ Some i
     → size_key (codes "8" ∷ slice_split semicolon sides) ≡ sized (take i sides) (drop (i + 1) sides)
 size_by_sides sides i h =
-    let at = found (nat_lt (position_or_len semicolon sides) (length sides)) (position_or_len semicolon sides) i h in
+    let at = cond_some (nat_lt (position_or_len semicolon sides) (length sides)) (position_or_len semicolon sides) i h in
     let within : position_or_len semicolon sides < length sides = ltb-true (position_or_len semicolon sides) (length sides) at.0 in
     ap (λ fields. size_key (codes "8" ∷ fields)) (slice_split_first semicolon sides 0 within)
     ∙ fields_size (before_first semicolon sides) (after_first semicolon sides)
