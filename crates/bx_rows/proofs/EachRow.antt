@@ -5,7 +5,7 @@ use Rattle.std.specs.Prelude.{option_map, slice_get, IfSome}
 use Rattle.std.specs.Str.{chars, IsUtf8, IsCharBoundary}
 use Rattle.std.proofs.lemmas.Bool.Decides.{nat_tests}
 use Rattle.std.proofs.lemmas.List.Elements.{All-drop, All-weaker}
-use Rattle.std.proofs.lemmas.Option.{get_or_from_slice_get, slice_get-get_or, slice_get-map, slice_get_within}
+use Rattle.std.proofs.lemmas.Option.{get_or_from_slice_get, slice_get-get_or, slice_get-map, slice_get_within, same_Some}
 use Rattle.std.proofs.lemmas.Str.{IsCharBoundary-start}
 use Rattle.std.proofs.Math.Seq.{drop-cons, take-length}
 use Rattle.bx_terms.specs.Characters.{is_control}
@@ -98,9 +98,6 @@ first-row : (p : Unit → Bool) (w i : ℕ) (us : List Unit) → next_from (i + 
 first-row p w i [] = omega arith
 first-row p w i (u ∷ us) = refl
 
-pub same-row : (a b : Row) → Some a ≡ Some b → a ≡ b
-same-row a b e = cc
-
 row-and-next : (p : Unit → Bool) (w : ℕ) (k i : ℕ) (us : List Unit) → All (λ u. FitsWindow w u.face) us → (r : Row)
     → slice_get (rows_from p w i 0 us) k ≡ Some r → IsFollowed w (i + length us) r (slice_get (rows_from p w i 0 us) (suc k))
 row-and-next p w k i [] fit r e = cc
@@ -109,7 +106,7 @@ row-and-next p w zero i (u ∷ us) fit r e =
     let row : Row = record { start = i; stop = i + n } in
     let left = drop (max n 1) (u ∷ us) in
     let turn = rows_turn p w i (u ∷ us) (omega arith) in
-    let same : row ≡ r = same-row row r (sym (ap (λ x. slice_get x 0) turn) ∙ e) in
+    let same : row ≡ r = same_Some row r (sym (ap (λ x. slice_get x 0) turn) ∙ e) in
     let one : length (u ∷ us) ≡ suc (length us) = refl in
     let within : n ≤ length (u ∷ us) = omega (arith, row-within p w (u ∷ us), fit-length w 0 (u ∷ us)) in
     let total : i + max n 1 + length left ≡ i + length (u ∷ us) = omega (arith, length-drop (max n 1) (u ∷ us), within, one) in

@@ -2,7 +2,7 @@
 use Rattle.std.proofs.Common.{◌≡◌, ℕ, zero, suc, ◌+◌, ◌-◌, max, ◌<◌, ◌≤◌, List, [], ◌∷◌, ◌++◌, length}
 use Rattle.std.proofs.Common.{get_or, take, drop, reverse, refl, sym, ap, ap₂, ◌∙◌, arith, append_assoc}
 use Rattle.std.proofs.lemmas.List.{at_drop_more, reverse-append, take_more}
-use Rattle.std.proofs.lemmas.List.Edits.{between_more}
+use Rattle.std.proofs.lemmas.List.Edits.{between_more, between_none}
 use Rattle.std.specs.List.{between, enumerate_from}
 use Rattle.bx_rows.specs.VisualOrder.{highest, reverse_runs, reverse_down}
 use Rattle.bx_rows.specs.Ordered.{order_of}
@@ -38,20 +38,14 @@ low_more n us i d h k =
 abbrev pub run_to : ℕ → List (ℕ × ℕ) → ℕ → ℕ → List (ℕ × ℕ)
 run_to n us from i = reverse_runs n (reverse (between from i us)) (drop i us)
 
-between_one : (us : List (ℕ × ℕ)) (from i : ℕ) (d : ℕ × ℕ) → from ≤ i → i < length us → between from (i + 1) us ≡ between from i us ++ get_or us i d ∷ []
-between_one us from i d a h = between_more us from i d a h
-
 pub run_more : (n : ℕ) (us : List (ℕ × ℕ)) (from i : ℕ) (d : ℕ × ℕ) → from ≤ i → i < length us → n ≤ (get_or us i d).1
     → run_to n us from (i + 1) ≡ run_to n us from i
 run_more n us from i d a h k =
     let u = get_or us i d in
     let run = reverse (between from i us) in
-    ap (λ xs. reverse_runs n (reverse xs) (drop (i + 1) us)) (between_one us from i d a h)
+    ap (λ xs. reverse_runs n (reverse xs) (drop (i + 1) us)) (between_more us from i d a h)
     ∙ ap (λ xs. reverse_runs n xs (drop (i + 1) us)) (reverse-append (between from i us) (u ∷ []))
     ∙ sym (at_drop_more (reverse_runs n run) us i d h ∙ high n run u (drop (i + 1) us) k)
-
-between_none : (us : List (ℕ × ℕ)) (from : ℕ) → between from from us ≡ []
-between_none us from = let e : from - from ≡ 0 = omega arith in ap (λ k. take k (drop from us)) e
 
 pub run_start : (n : ℕ) (us : List (ℕ × ℕ)) (from : ℕ) (d : ℕ × ℕ) → from < length us → n ≤ (get_or us from d).1
     → run_to n us from (from + 1) ≡ reverse_runs n [] (drop from us)

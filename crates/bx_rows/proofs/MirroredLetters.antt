@@ -1,8 +1,9 @@
 -- Texts of one character, and their mirror images.
-use Rattle.std.proofs.Common.{◌≡◌, ℕ, true, false, List, [], ◌∷◌, ◌++◌, map, length, refl, sym, ap, ◌∙◌, arith, append-nil, encode_utf8, chars, IsUtf8}
+use Rattle.std.proofs.Common.{◌≡◌, ℕ, true, false, List, [], ◌∷◌, ◌++◌, map, length, refl, sym, ap, ◌∙◌, append-nil, encode_utf8, chars, IsUtf8}
 use Rattle.std.specs.Prelude.{None, Option, encode_utf8_all, unwrap_or}
 use Rattle.std.specs.Cow.{cow_str_bytes}
 use Rattle.std.proofs.lemmas.Str.{chars-nil, chars_past_char, encodes-chars}
+use Rattle.std.proofs.lemmas.List.{nil_from_length}
 use Rattle.bx_ucd.specs.declared.class.Class.{Class}
 use Rattle.bx_cells.specs.declared.unit.Face.TheVariants.{Own}
 use Rattle.bx_cells.specs.Faces.{face, face_of}
@@ -14,14 +15,10 @@ use Rattle.bx_rows.specs.RowPicture.{glyph, mirror_image, mirror_image_within}
 use Rattle.bx_rows.specs.Shown.{glyph_of}
 use Rattle.bx_rows.proofs.Unmirrored.{shown_if_same}
 
-none-left : (xs : List ℕ) → length xs ≡ 0 → xs ≡ []
-none-left [] h = refl
-none-left (x ∷ xs) h = absurd (omega (arith, h))
-
 -- a text whose first character has nothing behind it
 pub single : (text behind : List ℕ) (c : ℕ) → IsUtf8 text → text ≡ encode_utf8 c ++ behind → length behind ≡ 0 → chars text ≡ c ∷ []
 single text behind c u e z =
-    chars_past_char text behind c u e ∙ ap (λ x. c ∷ chars x) (none-left behind z) ∙ ap (λ x. c ∷ x) chars-nil
+    chars_past_char text behind c u e ∙ ap (λ x. c ∷ chars x) (nil_from_length behind z) ∙ ap (λ x. c ∷ x) chars-nil
 
 -- the text of a character that begins is shown as the character is by itself
 pub single-face : (class : ℕ → Class) (w : ℕ) (text : List ℕ) (c : ℕ) → IsUtf8 text → text ≡ encode_utf8 c → begins c ≡ true

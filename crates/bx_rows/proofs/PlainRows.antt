@@ -6,7 +6,7 @@ use Rattle.std.specs.Prelude.{flat_map}
 use Rattle.std.specs.List.{zip}
 use Rattle.std.proofs.lemmas.Bool.Decides.{nat_tests}
 use Rattle.std.specs.Str.{chars, IsUtf8, IsCharBoundary, all_scalars}
-use Rattle.std.proofs.lemmas.List.{take_at, drop_at, map-append, length-map}
+use Rattle.std.proofs.lemmas.List.{take_at, drop_at, map-append, length-map, length_push}
 use Rattle.std.proofs.lemmas.Str.{chars-encodes, scalars-chars, IsUtf8-drop, IsUtf8-past_char, IsCharBoundary-from_drop}
 use Rattle.bx_ucd.specs.declared.class.Class.{Class}
 use Rattle.bx_cells.specs.declared.unit.Face.TheVariants.{Own}
@@ -188,9 +188,6 @@ encodes-push : (cs : List ℕ) (c : ℕ) → encode_utf8_all (cs ++ c ∷ []) �
 encodes-push [] c = append-nil (encode_utf8 c)
 encodes-push (x ∷ cs) c = ap (λ xs. encode_utf8 x ++ xs) (encodes-push cs c) ∙ sym (append_assoc (encode_utf8 x) (encode_utf8_all cs) (encode_utf8 c))
 
-push-length : (cs : List ℕ) (c : ℕ) → length (cs ++ c ∷ []) ≡ length cs + 1
-push-length cs c = length-append cs (c ∷ [])
-
 pub read-more : (class : ℕ → Class) (w p : ℕ) (body : List ℕ) (at : ℕ) (levels : List (Option ℕ)) (glyphs new : List Drawn) (found found' : List ℕ)
     (waiting next : ℕ) (left after : List (Option ℕ)) (rest behind : List ℕ) (c l : ℕ) (d : Drawn) (level : Option ℕ)
     → IsReadTo class w p body at levels glyphs found waiting left rest → rest ≡ encode_utf8 c ++ behind → begins c ≡ true
@@ -206,7 +203,7 @@ read-more class w p body at levels glyphs new found found' waiting next left aft
       plain = plain-push class w i.cs c i.plain begin face;
       glyphs_are = ap (map glyph_of) pushed ∙ map-append glyph_of glyphs (d ∷ []) ∙ ap₂ (λ x y. x ++ y ∷ []) i.glyphs_are shown
           ∙ sym (map-append single_glyph i.cs (c ∷ []));
-      count = reads-length p (class c) (found ++ l ∷ []) waiting found' next reads ∙ push-length found l ∙ ap (λ n. n + 1) i.count ∙ sym (push-length i.cs c);
+      count = reads-length p (class c) (found ++ l ∷ []) waiting found' next reads ∙ length_push found l ∙ ap (λ n. n + 1) i.count ∙ sym (length_push i.cs c);
       within = within;
       levels_are = λ more counts.
           ap₂ (λ x y. levels_from p [] 0 0 x (zip (map class y) levels)) (ones-push i.cs c counts) (append_assoc i.cs (c ∷ []) more)

@@ -1,5 +1,5 @@
 -- Rows read from unit to unit: the starts so far, the row that is being read, and what is left.
-use Rattle.std.proofs.Common.{◌≡◌, ℕ, ◌+◌, ◌<◌, ◌≤◌, ◌⊎◌, ◌&&◌, Bool, nat_lt, nat_le, true, false, true≢false, leb-true, ltb-true, inl, inr, ⊎_elim, List, []}
+use Rattle.std.proofs.Common.{◌≡◌, ℕ, zero, suc, ◌+◌, ◌<◌, ◌≤◌, ◌⊎◌, ◌&&◌, Bool, nat_lt, nat_le, true, false, true≢false, leb-true, ltb-true, inl, inr, ⊎_elim, List, []}
 use Rattle.std.proofs.Common.{◌∷◌, ◌++◌, map, length, take, drop, refl, sym, ap, subst, ◌∙◌, arith, append_assoc, append-nil}
 use Rattle.std.specs.Str.{chars, IsUtf8}
 use Rattle.std.proofs.lemmas.Bool.{and_parts, and_from, cases_lt, lt-ltb, le-leb}
@@ -23,6 +23,11 @@ first_from : (class : ℕ → Class) (w : ℕ) (at : ℕ) (gs : List (List ℕ))
 unfolding with_offsets
 first_from class w at [] h = absurd (omega (arith, h))
 first_from class w at (g ∷ gs) h = refl
+
+-- a count that is not 0
+pub some-if : (n : ℕ) → (n ≡ 0 → ⊥) → 0 < n
+some-if zero h = absurd (h refl)
+some-if (suc n) h = omega arith
 
 pub read-new : (class : ℕ → Class) (w : ℕ) (body : List ℕ)
     → IsRead class w body [] (new_scan (record { offset = 0; units = 0; chars = 0 })) (units_from class w body 0)

@@ -7,6 +7,7 @@ use Rattle.std.proofs.lemmas.Bool.{cases_lt}
 use Rattle.std.proofs.lemmas.List.{take-map, drop-map, length-map}
 use Rattle.std.proofs.lemmas.Str.{IsUtf8-drop}
 use Rattle.std.proofs.Math.Seq.{drop-cons}
+use Rattle.std.proofs.lemmas.Option.{same_Some}
 use Rattle.unicode_segmentation.specs.Grapheme.{graphemes}
 use Rattle.unicode_segmentation.specs.Segments.{with_offsets}
 use Rattle.bx_ucd.specs.declared.class.Class.{Class}
@@ -19,7 +20,7 @@ use Rattle.bx_rows.specs.declared.start_search.RowStart.{RowStart}
 use Rattle.bx_rows.specs.Laws.{behind, moved}
 use Rattle.bx_rows.specs.RowStarts.{first_offset, row_starts, start_of}
 use Rattle.bx_rows.specs.Wrapping.{columns_at, fit_count_from, is_break, is_one_blank, row_len, rows_from, up_to_break, up_to_last}
-use Rattle.bx_rows.proofs.EachRow.{found-row, same-row}
+use Rattle.bx_rows.proofs.EachRow.{found-row}
 use Rattle.bx_rows.proofs.RowUnits.{chars-behind, starts-of-none, starts-of-some}
 use Rattle.bx_rows.proofs.RowsFit.{rest-of}
 use Rattle.bx_rows.proofs.Wraps.{no_unit, rows_turn}
@@ -135,7 +136,7 @@ rows-later : (p : Unit → Bool) (w k i : ℕ) (us all : List Unit) → us ≡ d
 rows-later p w k i [] all e r h = cc
 rows-later p w zero i (u ∷ us) all e r h =
     let row : Row = record { start = i; stop = i + row_len p w (u ∷ us) } in
-    let same : row ≡ r = same-row row r h in
+    let same : row ≡ r = same_Some row r h in
     let start : i ≡ r.start = ap (λ x. x.start) same in
     let some : length (u ∷ us) ≡ length all - i = ap length e ∙ length-drop i all in
     let one : length (u ∷ us) ≡ suc (length us) = refl in (

@@ -1,12 +1,8 @@
-use Rattle.std.proofs.Common.{ℕ, zero, suc, ◌≡◌, ◌<◌, length, take, chars, refl, sym, ap, subst, ◌∙◌, arith}
+use Rattle.std.proofs.Common.{length, take, chars, refl, sym, ap, subst, ◌∙◌}
 use Rattle.std.proofs.lemmas.Result.{IfOk-weaker}
 use Rattle.bx_rows.specs.RowScan.{Takes, new_scan}
-use Rattle.bx_rows.proofs.RowReads.{takes-full}
+use Rattle.bx_rows.proofs.RowReads.{takes-full, some-if}
 use Rattle.bx_rows.proofs.row_scan.take_unbroken.Goals as goal
-
-some-if : (n : ℕ) → (n ≡ 0 → ⊥) → 0 < n
-some-if zero h = absurd (h refl)
-some-if (suc n) h = omega arith
 
 pub returns-then-fits-clause-takes : goal.returns-then-fits-clause-takes
 returns-then-fits-clause-takes c = c.advance.ensures.takes c.args.starts.now.items

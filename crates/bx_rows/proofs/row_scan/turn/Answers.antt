@@ -1,12 +1,8 @@
-use Rattle.std.proofs.Common.{ℕ, zero, suc, ◌≡◌, ◌<◌, length, take, chars, refl, subst, arith}
+use Rattle.std.proofs.Common.{length, take, chars, refl, subst}
 use Rattle.std.proofs.lemmas.Result.{IfOk-weaker}
 use Rattle.bx_rows.specs.RowScan.{Takes}
-use Rattle.bx_rows.proofs.RowReads.{takes-at-break}
+use Rattle.bx_rows.proofs.RowReads.{takes-at-break, some-if}
 use Rattle.bx_rows.proofs.row_scan.turn.Goals as goal
-
-some-if : (n : ℕ) → (n ≡ 0 → ⊥) → 0 < n
-some-if zero h = absurd (h refl)
-some-if (suc n) h = omega arith
 
 pub returns-clause-takes : goal.returns-clause-takes
 returns-clause-takes c =

@@ -1,10 +1,10 @@
-use Rattle.std.proofs.Common.{◌≡◌, ℕ, zero, suc, ◌+◌, ◌<◌, ◌==◌, true, false, [], ◌∷◌, ◌++◌, length, refl, sym, ap, subst, ◌∙◌, arith}
+use Rattle.std.proofs.Common.{◌≡◌, ℕ, ◌+◌, ◌<◌, ◌==◌, true, false, [], ◌∷◌, ◌++◌, length, sym, ap, subst, ◌∙◌, arith}
 use Rattle.std.proofs.lemmas.Bool.Decides.{nat_tests}
 use Rattle.std.proofs.lemmas.Str.{IsCharBoundary-start}
 use Rattle.bx_cells.specs.Units.{units_from}
 use Rattle.bx_cells.proofs.Rest.{none-behind}
 use Rattle.bx_rows.specs.RowScan.{IsInOrder, IsRead, new_scan}
-use Rattle.bx_rows.proofs.RowReads.{in_turn-new, read-new, read-last, read-empty}
+use Rattle.bx_rows.proofs.RowReads.{in_turn-new, read-new, read-last, read-empty, some-if}
 use Rattle.bx_rows.proofs.RowUnits.{starts-of-some, starts-of-none}
 use Rattle.bx_rows.proofs.start_search.row_starts.Goals as goal
 
@@ -13,10 +13,6 @@ is_none n h = grind (arith, nat_tests)
 
 is_some : (n : ℕ) → false ≡ (n == 0) → 0 < n
 is_some n h = grind (arith, nat_tests)
-
-some-if : (n : ℕ) → (n ≡ 0 → ⊥) → 0 < n
-some-if zero h = absurd (h refl)
-some-if (suc n) h = omega arith
 
 pub returns-then-is_empty : goal.returns-then-is_empty
 returns-then-is_empty g c =
