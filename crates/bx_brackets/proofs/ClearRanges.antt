@@ -23,7 +23,6 @@ clear_more d ts a n old new k low high = elim (cases_lt k n) [
   | inr x ↦ let s : k ≡ n = omega arith in ap (λ i. counts_as d (get_or ts i L)) s ∙ new
 ]
 
--- an element that passes
 range_length : (ts : List Class) (a b : ℕ) → b ≤ length ts → length (take (b - a) (drop a ts)) ≤ b - a
 range_length ts a b h = omega (arith, length-take (b - a) (drop a ts))
 

@@ -9,7 +9,7 @@ use Rattle.bx_grid.specs.Effects.{Effect, Clears, run_effects, pending_effects, 
 use Rattle.bx_grid.specs.Terminal.{Terminal, reads, run_put, run_ended, after_rendition, after_clear}
 use Rattle.bx_grid.specs.Picture.{PictureState, IsGrid, IsIdle, IsPicture, Shows}
 use Rattle.bx_grid.proofs.Doing.{run, run-append, run_is, sequence_does}
-use Rattle.bx_grid.proofs.Reading.{at, IsFinal, and_left, and_right}
+use Rattle.bx_grid.proofs.Reading.{at, and_left, and_right}
 use Rattle.bx_paint.specs.Painting.{columns_changed, ended, is_none, is_at_cursor_of, changes_bytes, whole_bytes, move_bytes, render_bytes, render_change}
 use Rattle.bx_paint.specs.Changed.{changed, rows_changed}
 use Rattle.bx_grid.proofs.Whole.{rows-blank}

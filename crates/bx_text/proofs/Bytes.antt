@@ -30,7 +30,7 @@ rest_bytes b p k h =
     ∙ drop-take k (p.len - k) (drop p.start text)
     ∙ ap (take (p.len - k)) (drop-drop k p.start text))
 
--- ---- totals
+-- ---- pieces that can be addressed
 
 addressable_back_at : (fits none : Bool) (x : Piece) (xs : List Piece) (k : ℕ) → nat_le x.len k ≡ fits → (k == 0) ≡ none
     → (IsAddressable xs → IsAddressable (back xs (k - x.len))) → IsAddressable (x ∷ xs) → IsAddressable (back (x ∷ xs) k)
