@@ -3,6 +3,7 @@ ghost use Rattle.std.specs.Prelude.{◌≡◌, ℕ, List, [], Some, true, false,
 ghost use Rattle.bx_paras.specs.Paragraphs.{lengths};
 ghost use Rattle.bx_text.specs.Edits.{IsRange, Leads, fits, next_redo, next_undo, redone, splice, undone};
 ghost use Rattle.bx_view.specs.Places.{IsTextPlace};
+ghost use Rattle.bx_view.specs.Source.{IsViewBy, Keeps};
 ghost use Rattle.bx_document.specs.Document.{after_insertion, after_removal, place_behind};
 
 use crate::answers::Answers;
@@ -13,7 +14,7 @@ use bx_paras::Index;
 use bx_terms::LARGEST_TEXT;
 use bx_text::{Change, Text};
 use bx_ucd::BidiData;
-use bx_view::Source;
+use bx_view::{Layout, Source};
 
 /// Follows an edit, where room was made for as many separators as it adds bytes. No memory.
 fn follow<D: BidiData>(index: &mut Index, text: &Text, tables: &D, change: &Change)
@@ -27,6 +28,26 @@ fn follow<D: BidiData>(index: &mut Index, text: &Text, tables: &D, change: &Chan
     // tells the proof that the text is UTF-8
     let _utf8 = text.len();
     index.edited(text, tables, change);
+}
+
+/// Lays out what is held of a paragraph as a change will leave it that only removes. After one that adds, the paragraph is laid out
+/// anew when it is looked for.
+///
+/// Errors: `OutOfMemory`.
+fn follow_removal<D: BidiData>(
+    layout: &mut Layout,
+    source: &Source<'_, D>,
+    change: &Change,
+) -> Result<(), DocumentError>
+    requires data { IsViewBy source.now layout.old }
+    ensures keeps { Keeps source.now layout.old layout.new }
+    ensures memory { OnErr result (IsErrOf result DocumentError.OutOfMemory) }
+{
+    if change.added == 0 {
+        let stop = change.start.saturating_add(change.removed);
+        let _place = layout.edit(source, change.start, stop, "")?;
+    }
+    Ok(())
 }
 
 impl<D: BidiData + Drop> Document<D> {
@@ -138,6 +159,12 @@ impl<D: BidiData + Drop> Document<D> {
         let Some(next) = self.text.next_undo() else {
             return Ok(None);
         };
+        let source = Source {
+            text: &self.text,
+            index: &self.index,
+            tables: &self.tables,
+        };
+        follow_removal(&mut self.layout, &source, &next)?;
         self.index.ready(next.added)?;
         let Ok(Some(change)) = self.text.undo() else {
             return Err(DocumentError::OutOfMemory);
@@ -161,6 +188,12 @@ impl<D: BidiData + Drop> Document<D> {
         let Some(next) = self.text.next_redo() else {
             return Ok(None);
         };
+        let source = Source {
+            text: &self.text,
+            index: &self.index,
+            tables: &self.tables,
+        };
+        follow_removal(&mut self.layout, &source, &next)?;
         self.index.ready(next.added)?;
         let Ok(Some(change)) = self.text.redo() else {
             return Err(DocumentError::OutOfMemory);
