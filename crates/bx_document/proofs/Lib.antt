@@ -4,8 +4,6 @@ pub mod RowGlyphs
 pub mod RowsDrawn
 pub mod ShownRows
 pub mod CellColumns
-pub mod Cutting
-pub mod LeastPlace
 pub mod WindowPlace
 pub mod WindowTold
 pub mod PlaceBehind

@@ -1,4 +1,4 @@
--- The place behind an edit, found in the window.
+-- The place behind an edit, as a window tells it and as a document says it.
 use Rattle.std.proofs.Common.{◌≡◌, ℕ, ◌+◌, ◌-◌, ◌≤◌, true, List, ◌++◌, length, take, drop, Option, IsUtf8, IsCharBoundary, sym, ap, subst, ◌∙◌}
 use Rattle.std.proofs.Common.{arith, length-append, length-drop}
 use Rattle.std.proofs.lemmas.Bool.Decides.{nat_tests}
@@ -39,17 +39,31 @@ splice_short text start stop new range e =
     let most : length text - (stop - start) + length new ≤ largest_text = grind (arith, nat_tests) in
     omega (arith, most, splice_bytes text start stop new range)
 
--- what is found in the window
-pub record IsFound (class : ℕ → Class) (bracket : ℕ → Option (Side × ℕ)) (base : Base) (w : ℕ) (text : List ℕ) (start stop : ℕ) (new : List ℕ)
+-- the place behind an edit
+pub record IsBehind (class : ℕ → Class) (bracket : ℕ → Option (Side × ℕ)) (base : Base) (w : ℕ) (text : List ℕ) (start stop : ℕ) (new : List ℕ)
     (o : ℕ) : Type 0 where
   pub place : o ≡ place_from (text_rows class bracket base w (splice text start stop new)) (start + length new)
   pub text_place : IsTextPlace class (splice text start stop new) o
   pub boundary : IsCharBoundary (splice text start stop new) o
 
+pub behind : (class : ℕ → Class) (bracket : ℕ → Option (Side × ℕ)) (base : Base) (w : ℕ) (text : List ℕ) (start stop : ℕ) (new : List ℕ) (o : ℕ)
+    → is_side w ≡ true → IsUtf8 text → IsRange text start stop → IsUtf8 new
+    → o ≡ place_from (text_rows class bracket base w (splice text start stop new)) (start + length new)
+    → IsBehind class bracket base w text start stop new o
+behind class bracket base w text start stop new o side utf8 range new_utf8 is =
+    let some : 1 ≤ w = grind (arith, nat_tests) in
+    let now = splice text start stop new in
+    let valid : IsUtf8 now = splice_utf8 class text utf8 start stop new range new_utf8 in
+    let kept : IsTextPlace class now (place_from (text_rows class bracket base w now) (start + length new)) =
+    (text-places-kept class bracket base w some now valid).from (start + length new) in
+    let own : IsTextPlace class now o = subst (IsTextPlace class now) (sym is) kept in
+    record { place = is; text_place = own; boundary = place-between class now o valid own }
+
+-- found in the window
 pub found : (class : ℕ → Class) (bracket : ℕ → Option (Side × ℕ)) (base : Base) (w : ℕ) (text : List ℕ) (start stop : ℕ) (new bytes : List ℕ)
     (first offset place : ℕ) → is_side w ≡ true → IsUtf8 text → IsRange text start stop → IsUtf8 new → first ≡ window_start class text start
     → bytes ≡ window class text start stop new → offset ≡ start - first + length new → place ≡ place_from (text_rows class bracket base w bytes) offset
-    → IsFound class bracket base w text start stop new (first + place)
+    → IsBehind class bracket base w text start stop new (first + place)
 found class bracket base w text start stop new bytes first offset place side utf8 range new_utf8 a b e f =
     let some : 1 ≤ w = grind (arith, nat_tests) in
     let same : offset ≡ start - window_start class text start + length new = omega (arith, e, a) in
@@ -58,30 +72,23 @@ found class bracket base w text start stop new bytes first offset place side utf
     (f ∙ ap (λ bs. place_from (text_rows class bracket base w bs) offset) b
     ∙ ap (place_from (text_rows class bracket base w (window class text start stop new))) same)
     ∙ sym (window_place class text utf8 start stop new range new_utf8 bracket base w some) in
-    let now = splice text start stop new in
-    let valid : IsUtf8 now = splice_utf8 class text utf8 start stop new range new_utf8 in
-    let kept : IsTextPlace class now (place_from (text_rows class bracket base w now) (start + length new)) =
-    (text-places-kept class bracket base w some now valid).from (start + length new) in
-    let own : IsTextPlace class now (first + place) = subst (IsTextPlace class now) (sym is) kept in
-    record { place = is; text_place = own; boundary = place-between class now (first + place) valid own }
+    behind class bracket base w text start stop new (first + place) side utf8 range new_utf8 is
 
--- and so for a document
-pub found_by : {D : Type 0} (class_of : D → ℕ → Class) (bracket_of : D → ℕ → Option (Side × ℕ)) (inner now : DocumentState D) (start stop : ℕ)
-    (new bytes : List ℕ)
-    (first offset place : ℕ) (base : Base) (w : ℕ) → inner ≡ now → is_side inner.document.w ≡ true → IsUtf8 inner.document.content.text
-    → IsRange now.document.content.text start stop → IsUtf8 new
-    → first ≡ window_start (class_of inner.tables) inner.document.content.text start
-    → bytes ≡ window (class_of inner.tables) inner.document.content.text start stop new → offset ≡ start - first + length new
-    → base ≡ inner.document.base → w ≡ inner.document.w
-    → place ≡ place_from (text_rows (class_of inner.tables) (bracket_of inner.tables) base w bytes) offset
-    → IsFound (class_of now.tables) (bracket_of now.tables) now.document.base now.document.w now.document.content.text start stop new (first + place)
-found_by {D} class_of bracket_of inner now start stop new bytes first offset place base w same side utf8 range new_utf8 a b e same_base same_w f =
+-- and as a document says it
+pub behind_by : {D : Type 0} (class_of : D → ℕ → Class) (bracket_of : D → ℕ → Option (Side × ℕ)) (inner now : DocumentState D) (start stop : ℕ)
+    (new : List ℕ) (o : ℕ) (base : Base) (w : ℕ) → inner ≡ now → is_side inner.document.w ≡ true → IsUtf8 inner.document.content.text
+    → IsRange now.document.content.text start stop → IsUtf8 new → base ≡ inner.document.base → w ≡ inner.document.w
+    → o ≡ place_from (text_rows (class_of inner.tables) (bracket_of inner.tables) base w (splice inner.document.content.text start stop new))
+    (start + length new)
+    → IsBehind (class_of now.tables) (bracket_of now.tables) now.document.base now.document.w now.document.content.text start stop new o
+behind_by {D} class_of bracket_of inner now start stop new o base w same side utf8 range new_utf8 same_base same_w is =
     let class = class_of inner.tables in
     let bracket = bracket_of inner.tables in
-    let f : place ≡ place_from (text_rows class bracket inner.document.base inner.document.w bytes) offset =
-    f ∙ ap (λ based. place_from (text_rows class bracket based w bytes) offset) same_base
-    ∙ ap (λ n. place_from (text_rows class bracket inner.document.base n bytes) offset) same_w in
+    let text = inner.document.content.text in
+    let own : o ≡ place_from (text_rows class bracket inner.document.base inner.document.w (splice text start stop new)) (start + length new) =
+    is ∙ ap (λ based. place_from (text_rows class bracket based w (splice text start stop new)) (start + length new)) same_base
+    ∙ ap (λ n. place_from (text_rows class bracket inner.document.base n (splice text start stop new)) (start + length new)) same_w in
     subst (λ (s : DocumentState D).
-    IsFound (class_of s.tables) (bracket_of s.tables) s.document.base s.document.w s.document.content.text start stop new (first + place)) same
-    (found class bracket inner.document.base inner.document.w inner.document.content.text start stop new bytes first offset
-    place side utf8 (subst (λ (s : DocumentState D). IsRange s.document.content.text start stop) (sym same) range) new_utf8 a b e f)
+    IsBehind (class_of s.tables) (bracket_of s.tables) s.document.base s.document.w s.document.content.text start stop new o) same
+    (behind class bracket inner.document.base inner.document.w text start stop new o side utf8
+    (subst (λ (s : DocumentState D). IsRange s.document.content.text start stop) (sym same) range) new_utf8 own)

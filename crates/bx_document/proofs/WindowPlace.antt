@@ -1,83 +1,30 @@
 -- The place behind an edit is told by the paragraphs that the edit touches.
-use Rattle.std.proofs.Common.{◌≡◌, ℕ, ◌+◌, ◌-◌, ◌<◌, ◌≤◌, ◌⊎◌, inl, inr, true, List, [], ◌∷◌, ◌++◌, map, length, take, drop, chars, slice_range, Option}
-use Rattle.std.proofs.Common.{encode_utf8_all, IsUtf8, IsCharBoundary, refl, sym, ap, subst, ◌∙◌, arith, append_assoc, append-nil, length-append, length-drop}
+use Rattle.std.proofs.Common.{◌≡◌, ℕ, ◌+◌, ◌-◌, ◌<◌, ◌≤◌, ◌⊎◌, inl, inr, true, List, [], ◌++◌, length, take, drop, chars, slice_range, Option}
+use Rattle.std.proofs.Common.{IsUtf8, IsCharBoundary, refl, sym, ap, subst, ◌∙◌, arith, append_assoc, append-nil, length-append, length-drop}
 use Rattle.std.proofs.Common.{⊎_elim}
 use Rattle.std.proofs.lemmas.Bool.{cases_lt}
-use Rattle.std.proofs.lemmas.Bool.Decides.{nat_tests}
-use Rattle.std.proofs.lemmas.List.{append_cancel_right, drop-drop, drop-take, drop_all, drop_at}
-use Rattle.std.proofs.lemmas.List.{length-take-le, map-append, take-append-drop, take-take, take_all}
-use Rattle.std.proofs.lemmas.Str.{chars-append, chars-encodes, encodes-append, encodes-chars, scalars-chars, IsUtf8-append, IsUtf8-between, IsUtf8-drop}
-use Rattle.std.proofs.lemmas.Str.{IsUtf8-take, IsCharBoundary-end, IsCharBoundary-from_drop}
-use lib.Utf8.{scalars}
+use Rattle.std.proofs.lemmas.List.{drop_all}
+use Rattle.std.proofs.lemmas.List.{length-take-le, take_all}
+use Rattle.std.proofs.lemmas.Str.{chars-append, IsUtf8-append, IsUtf8-between, IsUtf8-drop}
+use Rattle.std.proofs.lemmas.Str.{IsUtf8-take, IsCharBoundary-end}
 use Rattle.bx_ucd.specs.declared.class.Class.{Class}
 use Rattle.bx_ucd.specs.declared.data.Side.{Side}
 use Rattle.bx_explicit.specs.declared.base.Base.{Base}
 use Rattle.bx_text.specs.Edits.{IsRange, splice}
-use Rattle.bx_paras.specs.Paragraphs.{lengths, lengths_of}
+use Rattle.bx_paras.specs.Paragraphs.{lengths}
 use Rattle.bx_paras.specs.Positions.{paragraph_of, total}
-use Rattle.bx_paras.proofs.Cuts.{lens, parts, widths}
+use Rattle.bx_paras.proofs.Cuts.{parts}
 use Rattle.bx_paras.proofs.Turns.{total_lengths}
 use Rattle.bx_view.specs.Moves.{place_from}
 use Rattle.bx_view.specs.Standing.{count, start_at}
 use Rattle.bx_view.specs.TextRows.{text_rows}
-use Rattle.bx_view.proofs.Numbers.{ahead, behind, falls-at, here, holds-of, lengths-count, parts-at, some-paragraph, start-is}
+use Rattle.bx_view.proofs.Begins.{begin_at, drop_parts, no_chars, some_chars, take_parts}
+use Rattle.bx_view.proofs.Cutting.{parts_ahead, parts_behind}
+use Rattle.bx_view.proofs.LeastPlace.{place_before_back, place_behind_front}
+use Rattle.bx_view.proofs.Numbers.{behind, falls-at, holds-of, lengths-count, some-paragraph}
 use Rattle.bx_document.specs.Window.{window, window_start, window_stop}
-use Rattle.bx_document.proofs.Cutting.{parts_ahead, parts_behind, seam}
-use Rattle.bx_document.proofs.LeastPlace.{place_before_back, place_behind_front}
-
--- ---- bytes
-
-scalars_back : (x m : List ℕ) → scalars (x ++ m) ≡ true → scalars m ≡ true
-scalars_back [] m e = e
-scalars_back (c ∷ x) m e = scalars_back x m (grind (arith, nat_tests))
-
-pub take_parts : (i j : ℕ) (xs : List ℕ) → i ≤ j → take j xs ≡ take i xs ++ take (j - i) (drop i xs)
-take_parts i j xs h =
-    let sum : j ≡ i + (j - i) = omega (arith, h) in
-    sym (take-append-drop i (take j xs)) ∙ ap (λ ys. ys ++ drop i (take j xs)) (take-take i j xs h)
-    ∙ ap (λ n. take i xs ++ drop i (take n xs)) sum ∙ ap (λ ys. take i xs ++ ys) (drop-take i (j - i) xs)
-
-drop_parts : (i j : ℕ) (xs : List ℕ) → i ≤ j → drop i xs ≡ take (j - i) (drop i xs) ++ drop j xs
-drop_parts i j xs h =
-    let sum : i + (j - i) ≡ j = omega (arith, h) in
-    sym (take-append-drop (j - i) (drop i xs)) ∙ ap (λ ys. take (j - i) (drop i xs) ++ ys) (drop-drop (j - i) i xs ∙ ap (λ n. drop n xs) sum)
-
-no_chars : chars [] ≡ []
-no_chars = chars-encodes [] refl
-
-some_chars : (bs cs : List ℕ) → IsUtf8 bs → 0 < length bs → chars bs ≡ cs → 0 < length cs
-some_chars bs [] u some e = absurd (omega (arith, some, ap length (sym (encodes-chars bs u) ∙ ap encode_utf8_all e)))
-some_chars bs (c ∷ cs) u some e = omega arith
 
 module _ (class : ℕ → Class) (text : List ℕ) (utf8 : IsUtf8 text) where
-  -- ---- where paragraphs begin
-
-  -- a paragraph begins at an offset
-  pub record IsBegin (at : ℕ) : Type 0 where
-    pub bounds : IsCharBoundary text at
-    pub parts : parts class (chars (take at text)) (chars (drop at text)) ≡ true
-
-  begin_at : (n : ℕ) → n < count class text → IsBegin (start_at class text n)
-  begin_at n within =
-      let told : lens class (chars text) ≡ map lengths_of (ahead class text n within)
-      ++ lengths_of (here class text n within) ∷ map lengths_of (behind class text n within) = ap (map lengths_of) (parts-at class text n within)
-      ∙ map-append lengths_of (ahead class text n within) (here class text n within ∷ behind class text n within) in
-      let (x, m, s) = seam class (chars text) (map lengths_of (ahead class text n within)) (lengths_of (here class text n within))
-      (map lengths_of (behind class text n within)) told in
-      let at = start_at class text n in
-      let size : widths x ≡ at = s.bytes ∙ sym (start-is class text n) in
-      let spelt : text ≡ encode_utf8_all x ++ encode_utf8_all m = sym (encodes-chars text utf8) ∙ ap encode_utf8_all s.whole ∙ encodes-append x m in
-      let sound : scalars m ≡ true = scalars_back x m (ap scalars (sym s.whole) ∙ scalars-chars text utf8) in
-      let rest : drop at text ≡ encode_utf8_all m = ap (drop at) spelt ∙ drop_at (encode_utf8_all x) (encode_utf8_all m) at size in
-      let inside : at ≤ length text = omega (arith, ap length spelt, length-append (encode_utf8_all x) (encode_utf8_all m), size) in
-      let bounds = IsCharBoundary-from_drop text at inside (subst IsUtf8 (sym rest) (m, (sound, refl))) in
-      let after : chars (drop at text) ≡ m = ap chars rest ∙ chars-encodes m sound in
-      let before : chars (take at text) ≡ x =
-      append_cancel_right (chars (take at text)) x m
-      (ap (λ r. chars (take at text) ++ r) (sym after) ∙ sym (chars-append (take at text) (drop at text) (IsUtf8-take text at utf8 bounds))
-      ∙ ap chars (take-append-drop at text) ∙ s.whole) in
-      record { bounds = bounds; parts = ap (λ v. parts class v (chars (drop at text))) before ∙ ap (parts class x) after ∙ s.parts }
-
   -- ---- where a window begins and ends
 
   pub record IsFront (start at : ℕ) : Type 0 where
@@ -89,7 +36,7 @@ module _ (class : ℕ → Class) (text : List ℕ) (utf8 : IsUtf8 text) where
   pub front_is : (start : ℕ) → IsFront start (window_start class text start)
   front_is start =
       let falls = falls-at class text (start - 1) (paragraph_of (lengths class text) (start - 1)) utf8 refl in
-      let begin = begin_at (paragraph_of (lengths class text) (start - 1)) falls.within in
+      let begin = begin_at class text utf8 (paragraph_of (lengths class text) (start - 1)) falls.within in
       let at = window_start class text start in
       record {
         bounds = begin.bounds;
@@ -110,7 +57,7 @@ module _ (class : ℕ → Class) (text : List ℕ) (utf8 : IsUtf8 text) where
       let holds = holds-of stop ls n (omega (arith, sized, some-paragraph class text utf8)) e in
       let at = start_at class text (n + 1) in
       ⊎_elim (λ more.
-      let begin = begin_at (n + 1) more in
+      let begin = begin_at class text utf8 (n + 1) more in
       let past : stop < at = omega (arith, holds.ended (omega (arith, more, sized))) in
       record { bounds = begin.bounds; reached = omega (arith, past); ends = inr (past, begin.parts) }) (λ none.
       let all : at ≡ length text = ap total (take_all (n + 1) ls (omega (arith, none, sized))) ∙ total_lengths class text utf8 in

@@ -10,9 +10,10 @@ use Rattle.bx_paras.specs.Paragraphs.{lengths}
 use Rattle.bx_paras.specs.Positions.{paragraph_of, separators, spans, total}
 use Rattle.bx_paras.proofs.Asked.{separator_at, span_at}
 use Rattle.bx_paras.proofs.Totals.{total_more}
+use Rattle.bx_view.proofs.Begins.{take_parts}
 use Rattle.bx_view.proofs.Numbers.{falls-at, lengths-count}
 use Rattle.bx_document.specs.Window.{window_start, window_stop}
-use Rattle.bx_document.proofs.WindowPlace.{back_is, front_is, take_parts}
+use Rattle.bx_document.proofs.WindowPlace.{back_is, front_is}
 
 -- one part more of what stands from one offset to another
 pub pushed_part : (text was part now all : List ℕ) (at stop : ℕ) → now ≡ was ++ part → take (length part) (drop at text) ≡ part → at + length part ≤ stop

@@ -9,7 +9,7 @@ ghost use Rattle.bx_document.specs.Document.{after_insertion, after_removal, pla
 use crate::answers::Answers;
 use crate::document::Document;
 use crate::error::DocumentError;
-use crate::window::{place_in, window};
+use crate::window::place_in_window;
 use bx_paras::Index;
 use bx_terms::LARGEST_TEXT;
 use bx_text::{Change, Text};
@@ -70,19 +70,11 @@ impl<D: BidiData + Drop> Document<D> {
             index: &self.index,
             tables: &self.tables,
         };
-        // what is held of the paragraph need not be resolved anew
-        self.layout.edit(&source, start, stop, new)?;
-        let (first, characters) = window(self.alloc, &source, start, stop, new)?;
-        // They are no more bytes than the text has after the edit.
-        let offset = start - first + new.len();
-        let place = place_in(
-            self.alloc,
-            characters,
-            &self.tables,
-            &mut self.layout,
-            offset,
-        )?;
-        Ok(first + place)
+        if let Some(place) = self.layout.edit(&source, start, stop, new)? {
+            return Ok(place);
+        }
+        let place = place_in_window(self.alloc, &source, &mut self.layout, start..stop, new)?;
+        Ok(place)
     }
 
     /// Puts characters in at a place, and answers the new place; none where the text would pass 16,777,216 bytes, and then

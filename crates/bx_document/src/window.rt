@@ -1,6 +1,6 @@
 //! The part of a text that tells the place behind an edit: the paragraphs that the edit touches, as they are after it.
-ghost use Rattle.std.specs.Prelude.{◌≡◌, ◌≤◌, ◌++◌, true, IfOk, IsCharBoundary, IsErrOf, OnErr, OnOk, slice_range, string_bytes};
-ghost use Rattle.bx_text.specs.Edits.{IsRange, fits};
+ghost use Rattle.std.specs.Prelude.{◌≡◌, ◌≤◌, ◌+◌, ◌++◌, true, IfOk, IsCharBoundary, IsErrOf, OnErr, OnOk, length, slice_range, string_bytes};
+ghost use Rattle.bx_text.specs.Edits.{IsRange, fits, splice};
 ghost use Rattle.bx_view.specs.Cursor.{rows_by};
 ghost use Rattle.bx_view.specs.Holding.{IsViewBy, Keeps};
 ghost use Rattle.bx_view.specs.Moves.{place_from};
@@ -13,6 +13,7 @@ use bx_text::Text;
 use bx_ucd::BidiData;
 use bx_view::{Layout, Source};
 use std::alloc::{AllocError, Global};
+use std::ops::Range;
 
 /// Where the paragraph begins that the byte before an offset stands in. No memory.
 fn start_before<D: BidiData>(source: &Source<'_, D>, start: usize) -> usize
@@ -54,7 +55,7 @@ fn push_range(
 }
 
 /// Where the paragraphs begin that an edit touches, and their text after it.
-pub(crate) fn window<D: BidiData>(
+fn window<D: BidiData>(
     alloc: Global,
     source: &Source<'_, D>,
     start: usize,
@@ -80,7 +81,7 @@ pub(crate) fn window<D: BidiData>(
 /// The place at an offset of some characters or behind it, where they are a text of their own, which is not too long.
 ///
 /// Errors: `OutOfMemory`.
-pub(crate) fn place_in<D: BidiData>(
+fn place_in<D: BidiData>(
     alloc: Global,
     characters: String,
     tables: &D,
@@ -99,4 +100,33 @@ pub(crate) fn place_in<D: BidiData>(
     let index = Index::build(alloc, &text, tables)?;
     let place = layout.place_from(&Source::of(&text, &index, tables), offset)?;
     Ok(place)
+}
+
+/// The place behind an edit that puts characters instead of those of a range, which is not made yet: found in a copy of the
+/// paragraphs that it touches.
+///
+/// Errors: `OutOfMemory`.
+pub(crate) fn place_in_window<D: BidiData>(
+    alloc: Global,
+    source: &Source<'_, D>,
+    layout: &mut Layout,
+    range: Range<usize>,
+    new: &str,
+) -> Result<usize, DocumentError>
+    requires data { IsViewBy (D.class_of source.now.tables.now) (D.bracket_of source.now.tables.now) layout.old }
+    requires range { IsRange (bytes source.now) range.start range.end }
+    requires fits { fits (bytes source.now) range.start range.end new.now ≡ true }
+    ensures keeps { Keeps (D.class_of source.now.tables.now) (D.bracket_of source.now.tables.now) layout.old layout.new }
+    ensures place { IfOk result (λ o. o ≡ place_from
+        (rows_by (D.class_of source.now.tables.now) (D.bracket_of source.now.tables.now) layout.old
+        (splice (bytes source.now) range.start range.end new.now)) (range.start + length new.now)) }
+    ensures memory { OnErr result (IsErrOf result DocumentError.OutOfMemory) }
+{
+    // tells the proof what sides a window may have
+    let _side = layout.width();
+    let (first, characters) = window(alloc, source, range.start, range.end, new)?;
+    // They are no more bytes than the text has after the edit.
+    let offset = range.start - first + new.len();
+    let place = place_in(alloc, characters, source.tables, layout, offset)?;
+    Ok(first + place)
 }

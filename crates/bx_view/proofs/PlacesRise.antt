@@ -154,11 +154,11 @@ heads-append : (rs ss : List TextRow) → AllHeads rs → AllHeads ss → AllHea
 heads-append [] ss a b = b
 heads-append (r ∷ rs) ss a b = (a.0, heads-append rs ss a.1 b)
 
-heads-moved : (start : ℕ) (rs : List BodyRow) → AllHeaded rs → AllHeads (map (text_row start) rs)
+pub heads-moved : (start : ℕ) (rs : List BodyRow) → AllHeaded rs → AllHeads (map (text_row start) rs)
 heads-moved start [] a = tt
 heads-moved start (r ∷ rs) a = ((map (λ o. start + o) a.0.0, ap (map (λ o. start + o)) a.0.1), heads-moved start rs a.1)
 
-places-moved : (start : ℕ) (rs : List BodyRow) → places (map (text_row start) rs) ≡ map (λ o. start + o) (flat_map offsets_of rs)
+pub places-moved : (start : ℕ) (rs : List BodyRow) → places (map (text_row start) rs) ≡ map (λ o. start + o) (flat_map offsets_of rs)
 places-moved start [] = refl
 places-moved start (r ∷ rs) =
     flat_map-cons places_of (text_row start r) (map (text_row start) rs) ∙ ap (λ os. places_of (text_row start r) ++ os) (places-moved start rs)

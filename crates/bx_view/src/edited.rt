@@ -1,21 +1,74 @@
-//! A layout that follows an edit of the text.
-ghost use Rattle.bx_view.specs.Source.{IsViewBy, Keeps};
+//! A layout that follows an edit of the text, and the place behind the edit.
+ghost use Rattle.std.specs.Prelude.{◌≡◌, ◌≤◌, ◌+◌, ◌==◌, ◌||◌, IfOk, IfSome, chars, length, nat_lt};
+ghost use Rattle.std.specs.List.{list_any};
+ghost use Rattle.bx_paragraph.specs.Layout.{IsLayoutBy, rows_by as rows_of_body};
+ghost use Rattle.bx_paras.specs.Paragraphs.{is_separator};
+ghost use Rattle.bx_text.specs.Edits.{splice};
+ghost use Rattle.bx_view.specs.BodyPlaces.{place_in_body};
+ghost use Rattle.bx_view.specs.Cursor.{rows_by};
+ghost use Rattle.bx_view.specs.Moves.{place_from};
+ghost use Rattle.bx_view.specs.Source.{IsViewBy, Keeps, bytes};
 
 use crate::error::ViewError;
-use crate::holder::{edit_in, position};
+use crate::holder::{edit_in, lay_out_in, position};
 use crate::layout::Layout;
+use crate::logical::first_from;
 use crate::source::Source;
 use crate::span::paragraph_under;
+use bx_paragraph::ParagraphLayout;
 use bx_ucd::{BidiData, Class};
 
 /// Whether a character separates paragraphs.
-fn has_separator<D: BidiData>(new: &str, tables: &D) -> bool {
-    new.chars().any(|c| tables.class(c) == Class::B)
+fn separates<D: BidiData>(c: char, tables: &D) -> bool
+    ensures { result ≡ is_separator (D.class_of tables.now c) }
+{
+    matches!(tables.class(c), Class::B)
+}
+
+/// Whether a text has a character that separates paragraphs.
+fn has_separator<D: BidiData>(new: &str, tables: &D) -> bool
+    ensures { result ≡ list_any (λ c. is_separator (D.class_of tables.now c)) (chars new.now) }
+{
+    new.chars().any(|c| separates(c, tables))
+}
+
+/// Whether a byte of the paragraph that begins at `first` stands before an offset, or none of the text does.
+fn is_behind_begin(first: usize, offset: usize) -> bool
+    ensures { result ≡ ((first == 0) || nat_lt first offset) }
+{
+    first == 0 || first < offset
+}
+
+/// The first place of a paragraph that is not before an offset of its body; its last one, where all are before it.
+fn place_in_body<D: BidiData>(
+    paragraph: &ParagraphLayout,
+    offset: usize,
+    tables: &D,
+) -> Result<usize, ViewError>
+    requires data { IsLayoutBy (D.class_of tables.now) (D.bracket_of tables.now) paragraph.now }
+    ensures place { IfOk result (λ o. o ≡ place_in_body (rows_of_body (D.class_of tables.now) (D.bracket_of tables.now) paragraph.now) offset) }
+    ensures within { IfOk result (λ o. o ≤ length paragraph.now.body) }
+{
+    // tell the proof that the body is UTF-8, and what sides a window may have
+    let _utf8 = paragraph.body();
+    let _side = paragraph.width();
+    let row = paragraph.row_of(offset);
+    let offsets = paragraph.offsets(row, tables)?;
+    if let Some(place) = first_from(&offsets, offset) {
+        return Ok(place);
+    }
+    let rows = paragraph.row_count();
+    if row + 1 < rows {
+        return Ok(paragraph.first(row + 1));
+    }
+    let last = paragraph.last(row, tables)?;
+    Ok(last)
 }
 
 impl Layout {
     /// Lays a paragraph out as an edit of the text will leave it, which puts characters in the place of those from start to
-    /// stop. Nothing changes where it is not held, or where the edit goes beyond it: it is laid out anew then, when it is
+    /// stop, and answers the place behind the edit. None where the paragraph is not held, where the edit goes beyond it, and
+    /// at its begin, where a CR and an LF may become one separator: the paragraphs are laid out anew then, when they are
     /// looked for.
     ///
     /// Errors: `OutOfMemory`.
@@ -25,19 +78,32 @@ impl Layout {
         start: usize,
         stop: usize,
         new: &str,
-    ) -> Result<(), ViewError>
+    ) -> Result<Option<usize>, ViewError>
         requires data { IsViewBy source.now self.old }
         ensures keeps { Keeps source.now self.old self.new }
+        ensures place { IfOk result (λ found. IfSome found (λ o. o ≡ place_from
+            (rows_by (D.class_of source.now.tables.now) (D.bracket_of source.now.tables.now) self.old (splice (bytes source.now) start stop new.now))
+            (start + length new.now))) }
     {
         let (_, first, last) = paragraph_under(source, start);
         if stop < start || last < stop || has_separator(new, source.tables) {
-            return Ok(());
+            return Ok(None);
         }
         let Some(i) = position(&self.held, self.recent, source.text, first, last) else {
-            return Ok(());
+            return Ok(None);
         };
         self.recent = i;
+        lay_out_in(&mut self.held, i, source.tables, self.base, self.w)?;
         let range = start - first..stop - first;
-        edit_in(&mut self.held, i, range, new, source.tables, self.base)
+        let is_edited = edit_in(&mut self.held, i, range, new, source.tables, self.base)?;
+        if !is_edited {
+            return Ok(None);
+        }
+        if !is_behind_begin(first, start) {
+            return Ok(None);
+        }
+        let offset = start - first + new.len();
+        let place = place_in_body(&self.held[i], offset, source.tables)?;
+        Ok(Some(first + place))
     }
 }

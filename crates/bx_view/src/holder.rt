@@ -1,6 +1,8 @@
 //! The paragraphs that a layout holds.
 ghost use Rattle.std.specs.Prelude.{◌≡◌, ◌≤◌, ◌<◌, ℕ, List, true, All, IfOk, IfSome, IsTrue, OnOk, length, slice_range};
+ghost use Rattle.std.specs.List.{splice};
 ghost use Rattle.bx_terms.specs.Sizes.{is_side};
+ghost use Rattle.bx_text.specs.Edits.{IsRange};
 ghost use Rattle.bx_view.specs.Holding.{HasBody, HoldsBody, IsHeld};
 
 use crate::error::ViewError;
@@ -142,7 +144,7 @@ pub(crate) fn lay_out_in<D: BidiData>(
 }
 
 /// Lays a paragraph that is held out as an edit of its body leaves it, which puts a text in the place of what stands in a
-/// range of bytes. Offsets that bound no characters change nothing.
+/// range of bytes; tells whether it did. Offsets that bound no characters change nothing.
 ///
 /// Errors: `OutOfMemory`, and nothing has changed.
 pub(crate) fn edit_in<D: BidiData>(
@@ -152,17 +154,21 @@ pub(crate) fn edit_in<D: BidiData>(
     new: &str,
     tables: &D,
     base: Base,
-) -> Result<(), ViewError>
+) -> Result<bool, ViewError>
     requires held { All (IsHeld (D.class_of tables.now) (D.bracket_of tables.now) base) held.old.items }
     requires within { i < length held.old.items }
     requires order { range.start ≤ range.end }
     ensures held { All (IsHeld (D.class_of tables.now) (D.bracket_of tables.now) base) held.new.items }
+    ensures range { IfOk result (λ did. did ≡ true → (body : List ℕ) → HasBody body held.old.items i → IsRange body range.start range.end) }
+    ensures body { IfOk result (λ did. did ≡ true → (body : List ℕ) → (w : ℕ) → HoldsBody body w held.old.items i
+        → HoldsBody (splice body range.start range.end new.now) w held.new.items i) }
 {
     // the contract alone speaks of it
     let _ = base;
     let body = held[i].body();
-    if body.is_char_boundary(range.start) && body.is_char_boundary(range.end) {
-        held[i].edit(range.start, range.end, new, tables)?;
+    if !body.is_char_boundary(range.start) || !body.is_char_boundary(range.end) {
+        return Ok(false);
     }
-    Ok(())
+    held[i].edit(range.start, range.end, new, tables)?;
+    Ok(true)
 }

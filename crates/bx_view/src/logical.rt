@@ -14,7 +14,7 @@ use crate::source::Source;
 use bx_ucd::BidiData;
 
 /// The first of some offsets that is not before one.
-fn first_from(offsets: &[usize], offset: usize) -> Option<usize>
+pub(crate) fn first_from(offsets: &[usize], offset: usize) -> Option<usize>
     ensures { result ≡ find (nat_le offset) offsets.now }
 {
     offsets.iter().copied().find(|o| offset <= *o)

@@ -1,24 +1,25 @@
-use Rattle.std.proofs.Common.{arith, refl, string_bytes}
-use Rattle.bx_document.proofs.PlaceBehind.{found_by, splice_short}
+use Rattle.std.proofs.Common.{◌≡◌, ◌+◌, length, subst}
+use Rattle.std.specs.Prelude.{IfSome}
+use Rattle.bx_text.specs.Edits.{splice}
+use Rattle.bx_view.specs.Moves.{place_from}
+use Rattle.bx_view.specs.TextRows.{text_rows}
+use Rattle.bx_document.proofs.PlaceBehind.{behind_by}
 use Rattle.bx_document.proofs.document.Document.place_behind.Goals as goal
+use Rattle.std.proofs.Common.{refl}
 
-pub overflow_add-result : goal.overflow_add-result
-overflow_add-result g c =
-    let is = found_by g.D.BidiData.class_of g.D.BidiData.bracket_of _ c.args.self.now c.args.start c.args.stop c.args.new.now
-    (string_bytes c.in_ok-first.characters) c.in_ok-first.first _ c.in_ok-place.place _ _ c.self.view_is c.width-side.ensures.side c.len-utf8.ensures.utf8
-    c.requires.range c.utf8.new c.in_ok-first.ensures.start c.in_ok-first.ensures.text refl c.edit.ensures.keeps.base c.edit.ensures.keeps.w c.in_ok-place.ensures.place in
-    omega (
-      arith,
-      is.boundary.0,
-      splice_short c.args.self.now.document.content.text c.args.start c.args.stop c.args.new.now c.requires.range c.requires.fits,
-    )
-
-pub returns-clause-place : goal.returns-clause-place
-returns-clause-place g c = (found_by g.D.BidiData.class_of g.D.BidiData.bracket_of _ c.args.self.now c.args.start c.args.stop c.args.new.now
-    (string_bytes c.in_ok-first.characters) c.in_ok-first.first _ c.in_ok-place.place _ _ c.self.view_is c.width-side.ensures.side c.len-utf8.ensures.utf8
-    c.requires.range c.utf8.new c.in_ok-first.ensures.start c.in_ok-first.ensures.text refl c.edit.ensures.keeps.base c.edit.ensures.keeps.w c.in_ok-place.ensures.place).place
+pub returns-in-Some-clause-text_place : goal.returns-in-Some-clause-text_place
+returns-in-Some-clause-text_place g c =
+    let class = g.D.BidiData.class_of c.self.inside.tables in
+    let bracket = g.D.BidiData.bracket_of c.self.inside.tables in
+    let layout = c.self.inside.layout in
+    let now = splice c.self.inside.text.edited.text c.args.start c.args.stop c.args.new.now in
+    let is : c.in-Some.place ≡ place_from (text_rows class bracket layout.base layout.w now) (c.args.start + length c.args.new.now) =
+    subst (λ found. IfSome found (λ o. o ≡ place_from (text_rows class bracket layout.base layout.w now) (c.args.start + length c.args.new.now)))
+    c.in-Some.is c.in_ok-place.ensures.place in
+    (behind_by g.D.BidiData.class_of g.D.BidiData.bracket_of _ c.args.self.now c.args.start c.args.stop c.args.new.now c.in-Some.place layout.base layout.w
+    c.self.view_is c.width-side.ensures.side c.len-utf8.ensures.utf8 c.requires.range c.utf8.new refl refl is).text_place
 
 pub returns-clause-text_place : goal.returns-clause-text_place
-returns-clause-text_place g c = (found_by g.D.BidiData.class_of g.D.BidiData.bracket_of _ c.args.self.now c.args.start c.args.stop c.args.new.now
-    (string_bytes c.in_ok-first.characters) c.in_ok-first.first _ c.in_ok-place.place _ _ c.self.view_is c.width-side.ensures.side c.len-utf8.ensures.utf8
-    c.requires.range c.utf8.new c.in_ok-first.ensures.start c.in_ok-first.ensures.text refl c.edit.ensures.keeps.base c.edit.ensures.keeps.w c.in_ok-place.ensures.place).text_place
+returns-clause-text_place g c = (behind_by g.D.BidiData.class_of g.D.BidiData.bracket_of _ c.args.self.now c.args.start c.args.stop c.args.new.now
+    c.in_ok-place-2.place _ _ c.self.view_is c.width-side.ensures.side c.len-utf8.ensures.utf8 c.requires.range c.utf8.new
+    c.edit.ensures.keeps.base c.edit.ensures.keeps.w c.in_ok-place-2.ensures.place).text_place

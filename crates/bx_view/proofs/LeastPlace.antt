@@ -24,7 +24,7 @@ use Rattle.bx_view.proofs.BodyFirsts.{body-firsts}
 use Rattle.bx_view.proofs.Parts.{AreUtf8, text-parts}
 use Rattle.bx_view.proofs.PlacesRise.{AllHeaded, body-headed, places-rise}
 use Rattle.bx_view.proofs.Rising.{Rises, rises-within}
-use Rattle.bx_document.proofs.Cutting.{joins}
+use Rattle.bx_view.proofs.Cutting.{joins}
 
 -- ---- the least of some offsets
 
@@ -73,12 +73,20 @@ least_behind offset low a (o ∷ before) os r h some =
     ∙ least_behind offset (o + 1) a before os r.1 h some
 
 -- and offsets behind it
-least_stops : (offset : ℕ) (before : List ℕ) (z : ℕ) (ys zs : List ℕ) → offset ≤ z → least offset (before ++ z ∷ ys) ≡ least offset (before ++ z ∷ zs)
+pub least_stops : (offset : ℕ) (before : List ℕ) (z : ℕ) (ys zs : List ℕ) → offset ≤ z → least offset (before ++ z ∷ ys) ≡ least offset (before ++ z ∷ zs)
 least_stops offset [] z ys zs h = least_here offset z ys h ∙ sym (least_here offset z zs h)
 least_stops offset (o ∷ before) z ys zs h = ⊎_elim
     (λ past. least_past offset o (before ++ z ∷ ys) past (omega (arith, length-append before (z ∷ ys))) ∙ least_stops offset before z ys zs h
     ∙ sym (least_past offset o (before ++ z ∷ zs) past (omega (arith, length-append before (z ∷ zs)))))
     (λ here. least_here offset o (before ++ z ∷ ys) here ∙ sym (least_here offset o (before ++ z ∷ zs) here)) (cases_lt o offset)
+
+-- offsets that rise
+pub least_below : (offset low : ℕ) (os : List ℕ) (high : ℕ) → Rises low os high → 0 < length os → least offset os < high
+least_below offset low [] high r some = absurd (omega (arith, some))
+least_below offset low (o ∷ []) high r some = omega (arith, least_one offset o, r.1)
+least_below offset low (o ∷ p ∷ os) high r some = ⊎_elim
+    (λ past. omega (arith, least_past offset o (p ∷ os) past (omega arith), least_below offset (o + 1) (p ∷ os) high r.1 (omega arith)))
+    (λ here. omega (arith, least_here offset o (p ∷ os) here, rises-within (o + 1) (p ∷ os) high r.1)) (cases_lt o offset)
 
 rises_ahead : (low : ℕ) (os : List ℕ) (p : ℕ) (ps : List ℕ) (high : ℕ) → Rises low (os ++ p ∷ ps) high → Rises low os p
 rises_ahead low [] p ps high r = r.0
@@ -120,7 +128,7 @@ module _ (class : ℕ → Class) (bracket : ℕ → Option (Side × ℕ)) (base 
       ap places (from-append class bracket base w start ps qs)
       ∙ flat_map-append places_of (rows_from class bracket base w start ps) (rows_from class bracket base w (start + total (map lengths_of ps)) qs)
 
-  spots_more : (start : ℕ) (p : Paragraph) (ps : List Paragraph)
+  pub spots_more : (start : ℕ) (p : Paragraph) (ps : List Paragraph)
       → spots start (p ∷ ps) ≡ map (λ o. start + o) (flat_map offsets_of (own class bracket base w p)) ++ spots (start + bytes_of (lengths_of p)) ps
   spots_more start p ps =
       let mine = own class bracket base w p in

@@ -1,19 +1,22 @@
 -- Characters that are cut where a paragraph begins: each part has its own paragraphs.
-use Rattle.std.proofs.Common.{◌≡◌, ◌<◌, ◌∙◌, inl, inr, ℕ, Bool, true, false, List, [], ◌∷◌, ◌++◌, length, encode_utf8, refl, ap, sym, arith, append_assoc}
+use Rattle.std.proofs.Common.{◌≡◌, ◌<◌, ◌∙◌, inl, inr, ℕ, Bool, true, false, List, [], ◌∷◌, ◌++◌, length, encode_utf8, encode_utf8_all, refl, ap, sym, arith, append_assoc}
 use Rattle.std.proofs.Common.{append-nil, length-append}
+use Rattle.std.specs.List.{list_any}
 use Rattle.std.proofs.lemmas.Bool.Decides.{nat_tests}
 use Rattle.bx_ucd.specs.declared.class.Class.{Class}
 use Rattle.bx_paras.specs.declared.lengths.Lengths.{Lengths}
-use Rattle.bx_paras.specs.Paragraphs.{Paragraph, after_character, after_cr, bare, cut}
+use Rattle.bx_paras.specs.Paragraphs.{Paragraph, after_character, after_cr, bare, cut, is_separator}
 use Rattle.bx_paras.specs.Positions.{bytes_of, total}
+use Rattle.bx_paras.specs.Scan.{HasNone}
 use Rattle.bx_paras.proofs.Cuts.{Beginning, beginning, ends, is_paired, lens, parts, parts_append, parts_same, widths, widths_append}
 
 module _ (class : ℕ → Class) where
   -- ---- where a paragraph begins
 
-  pub record IsSeam (cs x m : List ℕ) (front : List Lengths) : Type 0 where
+  pub record IsSeam (cs x m : List ℕ) (front back : List Lengths) : Type 0 where
     pub whole : cs ≡ x ++ m
     pub bytes : widths x ≡ total front
+    pub rest : lens class m ≡ back
     pub parts : parts class x m ≡ true
 
   later : (w x m : List ℕ) → parts class w (x ++ m) ≡ true → parts class x m ≡ true → parts class (w ++ x) m ≡ true
@@ -22,8 +25,8 @@ module _ (class : ℕ → Class) where
 
   after_first : (cs : List ℕ) (k : Lengths) (front : List Lengths) (l : Lengths) (back : List Lengths) → lens class cs ≡ k ∷ (front ++ l ∷ back)
       → Beginning class cs
-      → ((z : List ℕ) → lens class z ≡ front ++ l ∷ back → (x : List ℕ) × (m : List ℕ) × IsSeam z x m front)
-      → (x : List ℕ) × (m : List ℕ) × IsSeam cs x m (k ∷ front)
+      → ((z : List ℕ) → lens class z ≡ front ++ l ∷ back → (x : List ℕ) × (m : List ℕ) × IsSeam z x m front (l ∷ back))
+      → (x : List ℕ) × (m : List ℕ) × IsSeam cs x m (k ∷ front) (l ∷ back)
   after_first cs k front l back e (inl one) more = absurd (omega (arith, ap length (sym one ∙ e), length-append front (l ∷ back)))
   after_first cs k front l back e (inr (f, w, z, h)) more =
       let both : f ∷ lens class z ≡ k ∷ (front ++ l ∷ back) = sym h.first ∙ e in
@@ -35,13 +38,14 @@ module _ (class : ℕ → Class) where
         record {
           whole = h.whole ∙ ap (λ v. w ++ v) s.whole ∙ sym (append_assoc w x m);
           bytes = omega (arith, widths_append w x, h.bytes, s.bytes, ap bytes_of same);
+          rest = s.rest;
           parts = later w x m (ap (parts class w) (sym s.whole) ∙ h.parts) s.parts;
         },
       )
 
   pub seam : (cs : List ℕ) (front : List Lengths) (l : Lengths) (back : List Lengths) → lens class cs ≡ front ++ l ∷ back
-      → (x : List ℕ) × (m : List ℕ) × IsSeam cs x m front
-  seam cs [] l back e = ([], cs, record { whole = refl; bytes = refl; parts = refl })
+      → (x : List ℕ) × (m : List ℕ) × IsSeam cs x m front (l ∷ back)
+  seam cs [] l back e = ([], cs, record { whole = refl; bytes = refl; rest = e; parts = refl })
   seam cs (k ∷ front) l back e = after_first cs k front l back e (beginning class cs) (λ z f. seam z front l back f)
 
   -- characters part as before where the same ones stand behind
@@ -108,3 +112,71 @@ module _ (class : ℕ → Class) where
   pub joins : (w z : List ℕ) → parts class w z ≡ true → Joins w z
   joins [] z p = record { front = []; alone = refl; together = refl }
   joins (c ∷ w) z p = let j = joins_from c w z p in record { front = j.first ∷ j.others; alone = j.alone; together = j.together }
+
+  -- ---- the first paragraph
+
+  -- a separator in front is a paragraph of no body
+  ended_by : (c : ℕ) (cs : List ℕ) (paired : Bool) → ends class c ≡ true → is_paired class c cs ≡ paired
+      → (q : List ℕ) × (others : List Paragraph) × (cut class (c ∷ cs) ≡ bare q ∷ others)
+  ended_by c cs false e p = (encode_utf8 c, cut class cs, cut_ended c cs e p)
+  ended_by c [] true e p = absurd (grind (arith, nat_tests))
+  ended_by c (d ∷ cs) true e p =
+      let lf : d ≡ 10 = grind (arith, nat_tests) in
+      let f : ends class d ≡ true = grind (arith, nat_tests) in
+      let single : is_paired class d cs ≡ false = grind (arith, nat_tests) in
+      (encode_utf8 13 ++ encode_utf8 d, cut class cs, cut_paired c (d ∷ cs) e p ∙ ap after_cr (cut_ended d cs f single))
+
+  -- characters without a separator stand in the body of the first paragraph
+  pub quiet_cut : (cs ds q : List ℕ) (others : List Paragraph) → HasNone class cs → cut class ds ≡ bare q ∷ others
+      → cut class (cs ++ ds) ≡ record { body = encode_utf8_all cs; separator = q } ∷ others
+  quiet_cut [] ds q others none e = e
+  quiet_cut (c ∷ cs) ds q others none e = cut_plain c (cs ++ ds) none.0 ∙ ap (after_character c) (quiet_cut cs ds q others none.1 e)
+
+  -- the characters of the first body, and what stands behind it
+  pub record Opens (cs : List ℕ) : Type 0 where
+    pub body : List ℕ
+    pub rest : List ℕ
+    pub separator : List ℕ
+    pub others : List Paragraph
+    pub whole : cs ≡ body ++ rest
+    pub none : HasNone class body
+    pub behind : cut class rest ≡ bare separator ∷ others
+
+  opens_at : (c : ℕ) (cs : List ℕ) (ended : Bool) → ends class c ≡ ended → Opens cs → Opens (c ∷ cs)
+  opens_at c cs false e o = record {
+    body = c ∷ o.body;
+    rest = o.rest;
+    separator = o.separator;
+    others = o.others;
+    whole = ap (λ v. c ∷ v) o.whole;
+    none = (e, o.none);
+    behind = o.behind;
+  }
+  opens_at c cs true e o =
+      let (q, others, f) = ended_by c cs (is_paired class c cs) e refl in
+      record { body = []; rest = c ∷ cs; separator = q; others = others; whole = refl; none = tt; behind = f }
+
+  pub opens : (cs : List ℕ) → Opens cs
+  opens [] = record { body = []; rest = []; separator = []; others = []; whole = refl; none = tt; behind = refl }
+  opens (c ∷ cs) = opens_at c cs (ends class c) refl (opens cs)
+
+  -- ---- characters of which none is a separator
+
+  pub none_front : (cs ds : List ℕ) → HasNone class (cs ++ ds) → HasNone class cs
+  none_front [] ds h = tt
+  none_front (c ∷ cs) ds h = (h.0, none_front cs ds h.1)
+
+  pub none_back : (cs ds : List ℕ) → HasNone class (cs ++ ds) → HasNone class ds
+  none_back [] ds h = h
+  none_back (c ∷ cs) ds h = none_back cs ds h.1
+
+  pub none_joined : (cs ds : List ℕ) → HasNone class cs → HasNone class ds → HasNone class (cs ++ ds)
+  none_joined [] ds h k = k
+  none_joined (c ∷ cs) ds h k = (h.0, none_joined cs ds h.1 k)
+
+  pub none_found : (cs : List ℕ) → list_any (λ c. is_separator (class c)) cs ≡ false → HasNone class cs
+  none_found [] e = tt
+  none_found (c ∷ cs) e =
+      let first : is_separator (class c) ≡ false = grind (arith, nat_tests) in
+      let others : list_any (λ d. is_separator (class d)) cs ≡ false = grind (arith, nat_tests) in
+      (first, none_found cs others)
