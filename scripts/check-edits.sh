@@ -7,7 +7,7 @@
 # python3.
 #
 # Where there is gdb, it counts in 2,000 more edits of notes in how many the levels are kept but for those between two strong
-# characters: the status is 1 where these are less than nine in ten.
+# characters: the status is 1 where these are less than four in five.
 set -eu
 
 top=$(cd "$(dirname "$0")/.." && pwd)
@@ -53,8 +53,11 @@ KINDS = [0x61, 0x5A, 0x05D0, 0x05D1, 0x0627, 0x0628, 0x31, 0x38, 0x0661, 0x2B, 0
 CONTROLS = [0x202A, 0x202B, 0x202C, 0x202D, 0x202E, 0x2066, 0x2067, 0x2068, 0x2069, 0x200E, 0x200F, 0xAD]
 
 
-def words(count):
-    kinds = chance.choice([[HEBREW], [ARABIC], [HEBREW, LATIN, NUMBERS], [ARABIC, LATIN, NUMBERS], [LATIN], [HEBREW, ARABIC, LATIN, NUMBERS]])
+NOTES = [[HEBREW], [ARABIC], [HEBREW, LATIN, NUMBERS], [ARABIC, LATIN, NUMBERS], [LATIN], [HEBREW, ARABIC, LATIN, NUMBERS]]
+
+
+def words(count, kinds=None):
+    kinds = kinds or chance.choice(NOTES)
     text = ""
     while len(text) < count:
         text += chance.choice(chance.choice(kinds)) + " "
@@ -65,10 +68,10 @@ def characters(count, controls):
     return "".join(chr(chance.choice(CONTROLS if controls and chance.random() < 0.1 else KINDS)) for _ in range(count))
 
 
-def edit(is_note):
+def edit(is_note, kinds=None):
     kind = chance.random()
     if kind < 0.6:
-        return (words(1 + chance.randrange(9)) if is_note else characters(1, chance.random() < 0.1)).encode()
+        return (words(1 + chance.randrange(9), kinds) if is_note else characters(1, chance.random() < 0.1)).encode()
     return b"\x7f" if kind < 0.75 else b"\x1b[3~" if kind < 0.85 else b"\x1a" if kind < 0.93 else b"\x19" if kind < 0.97 else b"\r"
 
 
@@ -102,15 +105,15 @@ def check(count):
 FUNCTIONS = ["bx_paragraph::text_edit::joined", "bx_resolve::edited::resolve_span"]
 
 
-def count_ways(count):
-    """Of so many edits of notes, how many a layout followed, and how many of these strong characters cut off."""
+def count_ways(count, kinds):
+    """Of so many edits of a note of some kinds of words, how many a layout followed, and how many of these strong characters cut off."""
     with open("text", "w") as file:
-        file.write("\n".join(words(chance.randrange(40, 2001)) for _ in range(20)))
+        file.write("\n".join(words(chance.randrange(40, 2001), kinds) for _ in range(20)))
     keys = b""
     for _ in range(count):
         for _ in range(chance.randrange(4)):
             keys += chance.choice(MOVES)
-        keys += edit(True)
+        keys += edit(True, kinds)
     with open("keys", "wb") as file:
         file.write(keys + b"\x11\x11")
     words_of = f"--rows=24 --cols=80 --classes={data}/DerivedBidiClass.txt --brackets={data}/BidiBrackets.txt --mirroring={data}/BidiMirroring.txt"
@@ -120,9 +123,7 @@ def count_ways(count):
         file.write("\n".join(commands) + "\n")
     run = subprocess.run(["gdb", "-nx", "-q", "-batch", "-x", "commands", editor], stdin=subprocess.DEVNULL, capture_output=True, text=True)
     hits = [int(n) for n in re.findall(r"breakpoint already hit (\d+) times?", run.stdout)]
-    if len(hits) != 2:
-        return None
-    return hits[0] - hits[1], hits[1]
+    return (hits[0] - hits[1], hits[1]) if len(hits) == 2 else (0, 0)
 
 
 done = failed = 0
@@ -134,12 +135,12 @@ while done < edits:
         failed += 1
         print(f"FAILS text {(done + PER_TEXT - 1) // PER_TEXT} of seed {seed}: {wrong}")
 if shutil.which("gdb"):
-    ways = count_ways(2000)
-    if ways is None or 10 * ways[1] < 9 * ways[0] or ways[0] == 0:
+    ways = [count_ways(2000 // len(NOTES), kinds) for kinds in NOTES]
+    print("edits of notes that a layout followed, and of these those that strong characters cut off:", *(f"{one[0]} {one[1]}" for one in ways), sep=" | ")
+    followed, cut_off = (sum(one[part] for one in ways) for part in (0, 1))
+    if not all(one[0] for one in ways) or 5 * cut_off < 4 * followed:
         failed += 1
-        print("FAILS the count of edits that strong characters cut off:", ways)
-    else:
-        print(f"of {ways[0]} edits of notes that a layout followed, strong characters cut off {ways[1]}")
+        print(f"FAILS {cut_off} of {followed} are cut off")
 else:
     print("skipped: the count of edits that strong characters cut off, since there is no gdb")
 print(f"{done} edits, {failed} texts failed")
