@@ -2,13 +2,9 @@ pub mod Wraps
 pub mod Breaks
 pub mod Resets
 pub mod LevelSteps
+pub mod LevelBounds
 pub mod Reversals
-pub mod Cancels
-pub mod Pivots
-pub mod Growth
-pub mod FromLevels
-pub mod FewLevels
-pub mod GlyphOrder
+pub mod ReversedItems
 pub mod OneRow
 pub mod Computed
 pub mod GlyphTexts

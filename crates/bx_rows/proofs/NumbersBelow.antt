@@ -2,8 +2,10 @@
 use Rattle.std.proofs.Common.{◌≡◌, ℕ, zero, suc, ◌+◌, ◌-◌, ◌<◌, ◌≤◌, nat_le, Bool, true, false, List, [], ◌∷◌, ◌++◌, length, map, sum_by, drop, get_or, Option}
 use Rattle.std.proofs.Common.{Some, None, All, refl, sym, ap, ◌∙◌, arith, drop-cons}
 use Rattle.std.specs.Prelude.{flat_map}
-use Rattle.std.specs.List.{enumerate_from}
+use Rattle.std.specs.List.{enumerate_from, range_with_len}
 use Rattle.std.proofs.lemmas.List.Elements.{All-append, All-cons, All-nil, All-rest, All-map, All-same}
+use Rattle.std.proofs.lemmas.List.Folds.{map_fixed}
+use Rattle.std.proofs.lemmas.List.FromFn.{get_or-range_with_len}
 use Rattle.std.proofs.lemmas.List.Sums.{sum_by-append, sum_by-cons}
 use Rattle.bx_rows.specs.VisualOrder.{reverse_runs, reverse_down, reversals_from, lowest_odd, highest, visual}
 
@@ -44,6 +46,14 @@ numbers-below levels =
 
 pub below_if_visual : (levels order : List ℕ) → order ≡ visual levels → All (λ k. k < length levels) order
 below_if_visual levels order e = All-same (λ k. k < length levels) order (visual levels) e (numbers-below levels)
+
+-- the numbers from 0, put into visual order
+pub numbers-ordered : (levels old new : List ℕ) → old ≡ range_with_len 0 (length levels) → new ≡ map (λ k. get_or old k 0) (visual levels)
+    → new ≡ visual levels
+numbers-ordered levels old new e f =
+    f ∙ ap (λ xs. map (λ k. get_or xs k 0) (visual levels)) e
+    ∙ map_fixed (λ k. get_or (range_with_len 0 (length levels)) k 0) (visual levels)
+    (λ i d h. get_or-range_with_len 0 (length levels) (get_or (visual levels) i d) 0 (numbers-below levels i d h) ∙ omega arith)
 
 -- ---- a sum over the units stays
 

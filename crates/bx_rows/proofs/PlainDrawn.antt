@@ -1,9 +1,9 @@
 -- What a row of single characters shows: its glyphs are read, mirrored and put into visual order, and its blanks are added.
-use Rattle.std.proofs.Common.{◌≡◌, ℕ, ◌-◌, ◌≤◌, List, ◌++◌, map, length, take, drop, get_or, All, Option, Some, refl, sym, ap, ap₂, subst, ◌∙◌, arith}
-use Rattle.std.specs.List.{enumerate_from}
+use Rattle.std.proofs.Common.{◌≡◌, ℕ, ◌-◌, ◌<◌, ◌≤◌, List, [], ◌∷◌, ◌++◌, map, length, take, drop, get_or, All, Option, Some, refl, sym, ap, ap₂, subst, ◌∙◌, arith}
 use Rattle.std.specs.Prelude.{IfSome}
 use Rattle.std.specs.Str.{IsUtf8}
-use Rattle.std.proofs.lemmas.List.{length-map, take_at}
+use Rattle.std.proofs.lemmas.List.{get_or-map, length-map, take_at}
+use Rattle.std.proofs.lemmas.List.Elements.{All-rest}
 use Rattle.bx_ucd.specs.declared.class.Class.{Class}
 use Rattle.bx_cells.specs.declared.unit.Unit.{Unit}
 use Rattle.bx_cells.specs.Units.{HasFace, units_from}
@@ -17,7 +17,8 @@ use Rattle.bx_rows.specs.RowStarts.{most_units, units_of_row}
 use Rattle.bx_rows.specs.Shown.{glyph_of}
 use Rattle.bx_rows.specs.VisualOrder.{visual}
 use Rattle.bx_rows.proofs.EachRow.{IsRowPart, row-alone, whole}
-use Rattle.bx_rows.proofs.PlainPictures.{columns-single, leveled-length, leveled-numbered, single-draw}
+use Rattle.bx_rows.proofs.NumbersBelow.{below_if_visual}
+use Rattle.bx_rows.proofs.PlainPictures.{columns-single, single-draw}
 
 -- the glyphs are as many as the characters
 singles-count : (class : ℕ → Class) (w : ℕ) (body : List ℕ) (at count : ℕ) (first : List Drawn) (s : AreSingle class w body at count first)
@@ -64,14 +65,30 @@ module _ (class : ℕ → Class) (w : ℕ) (body : List ℕ) (k count : ℕ) (st
 pub written : {A : Type 0} (n : ℕ) (new old : List A) → length new ≡ n → take n (new ++ drop (length new) old) ≡ new
 written n new old e = take_at new (drop (length new) old) n e
 
--- the glyphs at their levels, put into visual order by their numbers
-pub arranged-are : (class : ℕ → Class) (mirror : ℕ → Option ℕ) (w : ℕ) (cs levels : List ℕ) (one two : List Glyph) → length levels ≡ length cs
-    → one ≡ leveled_glyphs class mirror w cs levels
-    → ((f : ℕ → Glyph) → one ≡ map (λ x. f x.0) (enumerate_from 0 levels) → two ≡ map f (visual levels))
-    → two ≡ map (λ k. get_or (leveled_glyphs class mirror w cs levels) k blank) (visual levels)
-arranged-are class mirror w cs levels one two e first ordered =
-    let leveled = leveled_glyphs class mirror w cs levels in
-    ordered (λ k. get_or leveled k blank) (first ∙ leveled-numbered leveled levels (leveled-length class mirror w cs levels e))
+-- what glyphs show that are chosen by their numbers
+shown-chosen : (ds : List Drawn) (d : Drawn) (ks : List ℕ) → All (λ k. k < length ds) ks
+    → map glyph_of (map (λ k. get_or ds k d) ks) ≡ map (λ k. get_or (map glyph_of ds) k blank) ks
+shown-chosen ds d [] a = refl
+shown-chosen ds d (k ∷ ks) a =
+    ap₂ (λ g gs. g ∷ gs) (sym (get_or-map glyph_of ds k d blank (a 0 k (omega arith))))
+    (shown-chosen ds d ks (All-rest (λ j. j < length ds) k ks (k ∷ ks) refl a))
+
+shown-ordered : (ds new : List Drawn) (levels : List ℕ) → length ds ≡ length levels → length new ≡ length ds
+    → ((d : Drawn) → new ≡ map (λ k. get_or ds k d) (visual levels)) → map glyph_of new ≡ map (λ k. get_or (map glyph_of ds) k blank) (visual levels)
+shown-ordered [] [] [] e f ordered = refl
+shown-ordered [] [] (l ∷ ls) e f ordered = absurd (omega (arith, e))
+shown-ordered [] (x ∷ xs) levels e f ordered = absurd (omega (arith, f))
+shown-ordered (d ∷ ds) new levels e f ordered =
+    ap (map glyph_of) (ordered d)
+    ∙ shown-chosen (d ∷ ds) d (visual levels) (λ i j h. omega (arith, below_if_visual levels (visual levels) refl i j h, e))
+
+-- the glyphs at their levels, put into visual order
+pub arranged-are : (class : ℕ → Class) (mirror : ℕ → Option ℕ) (w : ℕ) (cs levels : List ℕ) (one two : List Drawn) → length one ≡ length levels
+    → length two ≡ length one → map glyph_of one ≡ leveled_glyphs class mirror w cs levels
+    → ((d : Drawn) → two ≡ map (λ k. get_or one k d) (visual levels))
+    → map glyph_of two ≡ map (λ k. get_or (leveled_glyphs class mirror w cs levels) k blank) (visual levels)
+arranged-are class mirror w cs levels one two e f first ordered =
+    shown-ordered one two levels e f ordered ∙ ap (λ gs. map (λ k. get_or gs k blank) (visual levels)) first
 
 -- what a clause says of a value that is there
 pub if_some : {A : Type 0} (P : A → Type 0) (o : Option A) (x : A) → o ≡ Some x → IfSome o P → P x

@@ -1,9 +1,8 @@
 -- What a row of plain units shows: a glyph for each of its characters.
 use Rattle.std.proofs.Common.{◌≡◌, ℕ, suc, ◌+◌, ◌-◌, ◌%◌, ◌<◌, List, [], ◌∷◌, ◌++◌, Bool, true, false, chars, encode_utf8, length, map, sum, get_or, take, drop}
-use Rattle.std.proofs.Common.{Option, All, refl, sym, ap, ◌∙◌, arith, append_assoc, drop-cons}
+use Rattle.std.proofs.Common.{Option, All, refl, sym, ap, ◌∙◌, arith, append_assoc}
 use Rattle.std.specs.Prelude.{encode_utf8_all, flat_map}
-use Rattle.std.specs.List.{enumerate_from}
-use Rattle.std.proofs.Math.Seq.{take-append_seam, drop-append_seam, drop-length}
+use Rattle.std.proofs.Math.Seq.{take-append_seam, drop-append_seam}
 use Rattle.std.proofs.lemmas.List.{get_or-map, drop-drop}
 use Rattle.std.proofs.lemmas.List.Elements.{All-rest}
 use Rattle.std.proofs.lemmas.List.Sums.{sum_by-cons}
@@ -30,20 +29,6 @@ pub leveled-length : (class : ℕ → Class) (mirror : ℕ → Option ℕ) (w : 
 leveled-length class mirror w [] levels e = sym e
 leveled-length class mirror w (c ∷ cs) [] e = refl
 leveled-length class mirror w (c ∷ cs) (l ∷ ls) e = ap suc (leveled-length class mirror w cs ls (omega arith))
-
-numbered-from : (gs : List Glyph) (n : ℕ) (levels : List ℕ) → length gs ≡ n + length levels
-    → drop n gs ≡ map (λ u. get_or gs u.0 blank) (enumerate_from n levels)
-numbered-from gs n [] e = let all : n ≡ length gs = omega (arith, e) in ap (λ k. drop k gs) all ∙ drop-length gs
-numbered-from gs n (l ∷ ls) e =
-    let more : suc (length ls) ≡ length (l ∷ ls) = refl in
-    let here : n < length gs = omega (arith, e, more) in
-    let one : suc n ≡ n + 1 = omega arith in
-    drop-cons gs n blank here
-    ∙ ap (λ xs. get_or gs n blank ∷ xs) (ap (λ k. drop k gs) one ∙ numbered-from gs (n + 1) ls (omega (arith, e, more)))
-
--- glyphs in the order of the text are those of the numbers in that order
-pub leveled-numbered : (gs : List Glyph) (levels : List ℕ) → length gs ≡ length levels → gs ≡ map (λ u. get_or gs u.0 blank) (enumerate_from 0 levels)
-leveled-numbered gs levels e = numbered-from gs 0 levels (omega (arith, e))
 
 -- pieces of one glyph each, chosen by their numbers
 singles-chosen : (gs : List Glyph) (ks : List ℕ) → All (λ k. k < length gs) ks

@@ -5,8 +5,6 @@
 
 mod ascii_part;
 mod drawn;
-mod few_levels;
-mod glyph_order;
 mod glyphs;
 mod laws;
 mod level_read;
@@ -14,7 +12,6 @@ mod mirrors;
 mod narrow_run;
 mod numbered_row;
 mod one_row;
-mod order;
 mod picture;
 mod plain_picture;
 mod plain_row;
@@ -23,6 +20,7 @@ mod row_part;
 mod row_scan;
 mod start_search;
 mod unit_levels;
+mod visual_order;
 mod wrapping;
 
 pub use drawn::{Drawn, RowPicture};
@@ -31,10 +29,10 @@ pub use laws::{
 };
 pub use numbered_row::row_picture;
 pub use one_row::has_one_row;
-pub use order::visual;
 pub use picture::{draw, unit_columns};
 pub use row::Row;
 pub use row_part::units_of_row;
 pub use start_search::{RowStart, row_starts};
 pub use unit_levels::{row_levels, row_levels_behind};
+pub use visual_order::visual;
 pub use wrapping::wrap;

@@ -10,8 +10,8 @@ ghost use Rattle.bx_rows.specs.Wrapping.{row_units};
 
 use crate::drawn::{Drawn, RowPicture};
 use crate::glyphs::{push_blanks, push_face};
-use crate::order::visual;
 use crate::row::Row;
+use crate::visual_order::visual;
 use crate::wrapping::columns_at;
 use bx_cells::Unit;
 use bx_terms::OutOfMemory;

@@ -10,14 +10,12 @@ ghost use Rattle.bx_rows.specs.Shown.{glyph_of};
 ghost use Rattle.bx_rows.specs.VisualOrder.{visual};
 
 use crate::drawn::{Drawn, RowPicture};
-use crate::few_levels::highest_level;
-use crate::glyph_order::order_glyphs;
 use crate::glyphs::push_blanks;
 use crate::mirrors::mirror_odd;
-use crate::order::FEW;
 use crate::plain_row::{PlainRow, plain_row};
 use crate::row_part::{most_units, start_of};
 use crate::start_search::RowStart;
+use crate::visual_order::reorder;
 use bx_resolve::Levels;
 use bx_terms::OutOfMemory;
 use bx_ucd::BidiData;
@@ -58,17 +56,14 @@ fn arranged<'a, D: BidiData>(
         ≡ map (λ k. slice_index_or (leveled_glyphs (D.class_of tables.now) (D.mirror_of tables.now) w cs row.entry.levels.items) k blank)
         (visual row.entry.levels.items)) }
 {
-    let PlainRow {
-        mut glyphs,
-        mut levels,
-    } = row;
+    let PlainRow { mut glyphs, levels } = row;
     mirror_odd(&mut glyphs, alloc, &levels, tables, w)?;
-    order_glyphs(&mut glyphs, &mut levels);
+    reorder(&mut glyphs, &levels);
     Ok(glyphs)
 }
 
-/// What row `number` of a body shows, where each of its units is one character of one column and no level of them is high;
-/// none of other rows, of which this tells nothing.
+/// What row `number` of a body shows, where each of its units is one character of one column; none of other rows, of which
+/// this tells nothing.
 pub(crate) fn plain_picture<'a, D: BidiData>(
     alloc: Global,
     body: &'a str,
@@ -91,9 +86,6 @@ pub(crate) fn plain_picture<'a, D: BidiData>(
     let Some(row) = plain_row(alloc, body, start, count, levels, tables, w)? else {
         return Ok(None);
     };
-    if highest_level(&row.levels) > FEW {
-        return Ok(None);
-    }
     let glyphs = arranged(alloc, row, tables, w)?;
     let glyphs = with_blanks(alloc, glyphs, levels.paragraph, w)?;
     Ok(Some(RowPicture { glyphs }))
