@@ -1,7 +1,6 @@
 -- Texts of one character, and their mirror images.
 use Rattle.std.proofs.Common.{◌≡◌, ℕ, true, false, List, [], ◌∷◌, ◌++◌, map, length, refl, sym, ap, ◌∙◌, append-nil, encode_utf8, chars, IsUtf8}
 use Rattle.std.specs.Prelude.{None, Option, encode_utf8_all, unwrap_or}
-use Rattle.std.specs.Cow.{cow_str_bytes}
 use Rattle.std.proofs.lemmas.Str.{chars-nil, chars_past_char, encodes-chars}
 use Rattle.std.proofs.lemmas.List.{nil_from_length}
 use Rattle.bx_ucd.specs.declared.class.Class.{Class}
@@ -10,9 +9,7 @@ use Rattle.bx_cells.specs.Faces.{face, face_of}
 use Rattle.bx_cells.specs.Simple.{begins}
 use Rattle.bx_cells.specs.SimpleFace.{simple_face}
 use Rattle.bx_cells.proofs.OpenCluster.{face-simple}
-use Rattle.bx_rows.specs.declared.drawn.Drawn.{Drawn}
-use Rattle.bx_rows.specs.RowPicture.{glyph, mirror_image, mirror_image_within}
-use Rattle.bx_rows.specs.Shown.{glyph_of}
+use Rattle.bx_rows.specs.RowPicture.{mirror_image, mirror_image_within}
 use Rattle.bx_rows.proofs.Unmirrored.{shown_if_same}
 
 -- a text whose first character has nothing behind it
@@ -26,13 +23,12 @@ pub single-face : (class : ℕ → Class) (w : ℕ) (text : List ℕ) (c : ℕ) 
 single-face class w text c u e b f =
     ap (face_of class w) (single text [] c u (e ∙ sym (append-nil (encode_utf8 c))) refl) ∙ face-simple class w c [] b refl ∙ f
 
--- a glyph of one character that has no mirror is shown as it is
-pub single-same : (class : ℕ → Class) (mirror : ℕ → Option ℕ) (w : ℕ) (d : Drawn) (text : List ℕ) (c : ℕ) (m : Option ℕ) → text ≡ cow_str_bytes d.text
-    → IsUtf8 text → chars text ≡ c ∷ [] → m ≡ mirror c → m ≡ None
-    → glyph_of d ≡ glyph (mirror_image_within class mirror w 1 (cow_str_bytes d.text)) d.columns d.negative
-single-same class mirror w d text c m e u one asked none =
+-- a text of one character that has no mirror stays
+pub single-same : (class : ℕ → Class) (mirror : ℕ → Option ℕ) (w n : ℕ) (text : List ℕ) (c : ℕ) (m : Option ℕ) → IsUtf8 text → chars text ≡ c ∷ []
+    → m ≡ mirror c → m ≡ None → mirror_image_within class mirror w n text ≡ text
+single-same class mirror w n text c m u one asked none =
     let f : ℕ → ℕ = λ x. unwrap_or (mirror x) x in
     let own : f c ≡ c = ap (λ o. unwrap_or o c) (sym asked ∙ none) in
     let image : mirror_image mirror text ≡ text =
     ap (λ cs. encode_utf8_all (map f cs)) one ∙ ap (λ x. encode_utf8_all (x ∷ [])) own ∙ ap encode_utf8_all (sym one) ∙ encodes-chars text u in
-    ap (λ t. glyph t d.columns d.negative) (sym e ∙ shown_if_same class mirror w 1 text image ∙ ap (mirror_image_within class mirror w 1) e)
+    sym (shown_if_same class mirror w n text image)

@@ -1,5 +1,5 @@
 -- The glyphs of one unit of a row.
-use Rattle.std.proofs.Common.{◌≡◌, ℕ, zero, suc, ◌+◌, ◌-◌, ◌%◌, ◌<◌, ◌++◌, List, [], ◌∷◌, length, get_or, replicate, take, refl, sym, ap, ◌∙◌, arith}
+use Rattle.std.proofs.Common.{◌≡◌, ℕ, suc, ◌+◌, ◌-◌, ◌<◌, ◌++◌, List, [], ◌∷◌, length, get_or, take, refl, sym, ap, ap₂, ◌∙◌, arith}
 use Rattle.std.proofs.Common.{append_assoc, append-nil, Option}
 use Rattle.std.specs.Prelude.{flat_map}
 use Rattle.std.specs.List.{zip}
@@ -9,7 +9,7 @@ use Rattle.std.proofs.lemmas.Slice.Zip.{get_or-zip}
 use Rattle.bx_ucd.specs.declared.class.Class.{Class}
 use Rattle.bx_cells.specs.declared.unit.Unit.{Unit}
 use Rattle.bx_cells.specs.Units.{unit_text}
-use Rattle.bx_rows.specs.RowPicture.{Glyph, blank, face_glyphs, unit_columns, unit_glyphs, columns_used, draw}
+use Rattle.bx_rows.specs.RowPicture.{Glyph, face_glyphs, unit_columns, unit_glyphs, columns_used, draw, with_blanks}
 use Rattle.bx_rows.specs.VisualOrder.{visual}
 
 length-zip : {A B : Type 0} → (xs : List A) (ys : List B) (n : ℕ) → length xs ≡ n → length ys ≡ n → length (zip xs ys) ≡ n
@@ -47,17 +47,7 @@ pieces-length class mirror w body us columns levels e f =
     let piece : Unit × (ℕ × ℕ) → List Glyph = λ p. face_glyphs class mirror w (unit_text body p.0) p.0.face p.1.0 p.1.1 in
     length-map (zip us (zip columns levels)) piece ∙ length-zip us (zip columns levels) (length us) refl (length-zip columns levels (length us) e f)
 
--- ---- the blanks
-
-blanks-end : (m n : ℕ) (glyphs : List Glyph) → m ≡ 0 → glyphs ++ replicate n blank
-    ≡ elim m [ zero ↦ glyphs ++ replicate n blank | suc _ ↦ replicate n blank ++ glyphs ]
-blanks-end zero n glyphs e = refl
-blanks-end (suc m) n glyphs e = absurd (omega (arith, e))
-
-blanks-begin : (m n : ℕ) (glyphs : List Glyph) → 0 < m → replicate n blank ++ glyphs
-    ≡ elim m [ zero ↦ glyphs ++ replicate n blank | suc _ ↦ replicate n blank ++ glyphs ]
-blanks-begin zero n glyphs e = absurd (omega (arith, e))
-blanks-begin (suc m) n glyphs e = refl
+-- ---- the row
 
 -- the glyphs of units in an order
 abbrev pub in_order : (ℕ → Class) → (ℕ → Option ℕ) → ℕ → List ℕ → List Unit → List ℕ → List ℕ → List ℕ → List Glyph
@@ -69,24 +59,11 @@ same-order : (class : ℕ → Class) (mirror : ℕ → Option ℕ) (w : ℕ) (bo
 same-order class mirror w body us columns levels order e f =
     ap (λ cs. in_order class mirror w body us cs levels order) e ∙ ap (in_order class mirror w body us (unit_columns w 0 us) levels) f
 
-pub drawn-even : (class : ℕ → Class) (mirror : ℕ → Option ℕ) (w : ℕ) (body : List ℕ) (paragraph : ℕ) (us : List Unit) (levels columns order : List ℕ) (n : ℕ)
-    (start mid new : List Glyph) → paragraph % 2 ≡ 0 → columns ≡ unit_columns w 0 us → order ≡ visual levels → n ≡ columns_used w us → start ≡ []
-    → mid ≡ start ++ in_order class mirror w body us columns levels order → new ≡ mid ++ replicate (w - n) blank
+-- the glyphs of a row's units in visual order, and the blanks
+pub drawn-of : (class : ℕ → Class) (mirror : ℕ → Option ℕ) (w : ℕ) (body : List ℕ) (paragraph : ℕ) (us : List Unit) (levels columns order : List ℕ) (n : ℕ)
+    (start mid new : List Glyph) → columns ≡ unit_columns w 0 us → order ≡ visual levels → n ≡ columns_used w us → start ≡ []
+    → mid ≡ start ++ in_order class mirror w body us columns levels order → new ≡ with_blanks paragraph (w - n) mid
     → new ≡ draw class mirror w body paragraph us levels
-drawn-even class mirror w body paragraph us levels columns order n start mid new even e f h s first second =
-    let all = in_order class mirror w body us (unit_columns w 0 us) levels (visual levels) in
-    let mids : mid ≡ all = first ∙ ap (λ xs. xs ++ in_order class mirror w body us columns levels order) s
-    ∙ same-order class mirror w body us columns levels order e f in
-    second ∙ ap (λ xs. xs ++ replicate (w - n) blank) mids ∙ ap (λ k. all ++ replicate (w - k) blank) h
-    ∙ blanks-end (paragraph % 2) (w - columns_used w us) all even
-
-pub drawn-odd : (class : ℕ → Class) (mirror : ℕ → Option ℕ) (w : ℕ) (body : List ℕ) (paragraph : ℕ) (us : List Unit) (levels columns order : List ℕ) (n : ℕ)
-    (start mid new : List Glyph) → 0 < paragraph % 2 → columns ≡ unit_columns w 0 us → order ≡ visual levels → n ≡ columns_used w us → start ≡ []
-    → mid ≡ start ++ replicate (w - n) blank → new ≡ mid ++ in_order class mirror w body us columns levels order
-    → new ≡ draw class mirror w body paragraph us levels
-drawn-odd class mirror w body paragraph us levels columns order n start mid new odd e f h s first second =
-    let all = in_order class mirror w body us (unit_columns w 0 us) levels (visual levels) in
-    let mids : mid ≡ replicate (w - columns_used w us) blank = first ∙ ap (λ xs. xs ++ replicate (w - n) blank) s ∙ ap (λ k. replicate (w - k) blank) h in
-    second ∙ ap (λ xs. xs ++ in_order class mirror w body us columns levels order) mids
-    ∙ ap (λ xs. replicate (w - columns_used w us) blank ++ xs) (same-order class mirror w body us columns levels order e f)
-    ∙ blanks-begin (paragraph % 2) (w - columns_used w us) all odd
+drawn-of class mirror w body paragraph us levels columns order n start mid new e f h s first second =
+    second ∙ ap₂ (λ k xs. with_blanks paragraph (w - k) xs) h
+    (first ∙ ap (λ xs. xs ++ in_order class mirror w body us columns levels order) s ∙ same-order class mirror w body us columns levels order e f)

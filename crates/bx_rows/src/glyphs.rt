@@ -1,13 +1,14 @@
 //! The glyphs of a unit.
-ghost use Rattle.std.specs.Prelude.{◌≡◌, ◌++◌, ◌∷◌, [], IfOk, OnOk, map, replicate, string_bytes, false, true};
+ghost use Rattle.std.specs.Prelude.{◌≡◌, ◌++◌, ◌∷◌, [], IfOk, OnOk, map, replicate, false, true};
 ghost use Rattle.std.specs.List.{range_with_len};
 ghost use Rattle.std.specs.Cow.{cow_str_bytes};
 ghost use Rattle.bx_terms.specs.Characters.{are_ascii_printable, is_ascii_printable};
-ghost use Rattle.bx_rows.specs.RowPicture.{blank, face_glyphs, glyph, is_own, mirror_image, mirror_image_within, shown_text, text_glyphs};
+ghost use Rattle.bx_rows.specs.RowPicture.{blank, face_glyphs, glyph, is_own, shown_text, text_glyphs, with_blanks};
 ghost use Rattle.bx_rows.specs.Shown.{HasLetter, glyph_of};
 
 use crate::drawn::Drawn;
-use bx_cells::{Face, face};
+use crate::mirrors::mirrored;
+use bx_cells::Face;
 use bx_terms::are_ascii_printable;
 use bx_ucd::BidiData;
 use std::alloc::{AllocError, Global};
@@ -49,13 +50,34 @@ fn push_letter<'a>(glyphs: &mut Vec<Drawn<'a>>, byte: u8, negative: bool) -> Res
 }
 
 /// Adds blanks.
-pub(crate) fn push_blanks<'a>(glyphs: &mut Vec<Drawn<'a>>, count: u16) -> Result<(), AllocError>
+fn push_blanks<'a>(glyphs: &mut Vec<Drawn<'a>>, count: u16) -> Result<(), AllocError>
     ensures { OnOk result (map glyph_of glyphs.new.items ≡ map glyph_of glyphs.old.items ++ replicate count blank) }
 {
     for _ in 0..count {
         push_letter(glyphs, b' ', false)?;
     }
     Ok(())
+}
+
+/// Glyphs and a row's blanks: at the right in a paragraph of even level, else at the left.
+pub(crate) fn with_blanks<'a>(
+    alloc: Global,
+    glyphs: Vec<Drawn<'a>>,
+    blanks: u16,
+    paragraph: u8,
+) -> Result<Vec<Drawn<'a>>, AllocError>
+    ensures { IfOk result (λ v. map glyph_of v.items ≡ with_blanks paragraph blanks (map glyph_of glyphs.entry.items)) }
+{
+    let mut glyphs = glyphs;
+    if paragraph % 2 == 0 {
+        push_blanks(&mut glyphs, blanks)?;
+        return Ok(glyphs);
+    }
+    let room = glyphs.len().saturating_add(blanks as usize);
+    let mut all = Vec::with_capacity(alloc, room)?;
+    push_blanks(&mut all, blanks)?;
+    all.append(&mut glyphs)?;
+    Ok(all)
 }
 
 /// Adds a glyph for each character of a text that has only characters from SPACE to TILDE.
@@ -88,33 +110,6 @@ fn push_text<'a>(
     Ok(())
 }
 
-/// Whether a character of a text has a mirror.
-pub(crate) fn has_mirror<D: BidiData>(text: &str, tables: &D) -> bool
-    ensures { result ≡ false → mirror_image (D.mirror_of tables.now) text.now ≡ text.now }
-{
-    for c in text.chars() {
-        if tables.mirror(c).is_some() {
-            return true;
-        }
-    }
-    false
-}
-
-/// A text with each character mirrored that has a mirror.
-pub(crate) fn mirror_image<D: BidiData>(
-    alloc: Global,
-    text: &str,
-    tables: &D,
-) -> Result<String, AllocError>
-    ensures { IfOk result (λ t. string_bytes t ≡ mirror_image (D.mirror_of tables.now) text.now) }
-{
-    let mut other = String::new(alloc);
-    for c in text.chars() {
-        other.push(tables.mirror(c).unwrap_or(c))?;
-    }
-    Ok(other)
-}
-
 /// Whether a face is own text of so many columns.
 pub(crate) fn is_own(face: Face, n: u16) -> bool
     ensures { result ≡ is_own n face }
@@ -122,28 +117,6 @@ pub(crate) fn is_own(face: Face, n: u16) -> bool
     match face {
         Face::Own(m) => m == n,
         _ => false,
-    }
-}
-
-/// The mirrored text where that is shown as itself in as many columns, else the text.
-fn mirror_image_within<'a, D: BidiData>(
-    alloc: Global,
-    text: &'a str,
-    columns: u16,
-    tables: &D,
-    w: u16,
-) -> Result<CowStr<'a, Global>, AllocError>
-    ensures { IfOk result (λ t. cow_str_bytes t ≡ mirror_image_within (D.class_of tables.now) (D.mirror_of tables.now) w columns text.entry.now) }
-{
-    if !has_mirror(text, tables) {
-        return Ok(CowStr::Borrowed(text));
-    }
-    let other = mirror_image(alloc, text, tables)?;
-    let found = face(other.as_str(), tables, w);
-    if is_own(found, columns) {
-        Ok(CowStr::Owned(other))
-    } else {
-        Ok(CowStr::Borrowed(text))
     }
 }
 
@@ -159,9 +132,11 @@ fn shown_text<'a, D: BidiData>(
     ensures { IfOk result (λ t. cow_str_bytes t ≡ shown_text (D.class_of tables.now) (D.mirror_of tables.now) w columns level text.entry.now) }
 {
     if level % 2 == 0 {
-        Ok(CowStr::Borrowed(text))
-    } else {
-        mirror_image_within(alloc, text, columns, tables, w)
+        return Ok(CowStr::Borrowed(text));
+    }
+    match mirrored(alloc, text, columns, tables, w)? {
+        Some(other) => Ok(other),
+        None => Ok(CowStr::Borrowed(text)),
     }
 }
 

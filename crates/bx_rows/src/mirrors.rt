@@ -1,5 +1,5 @@
-//! Mirror images of single characters at odd levels.
-ghost use Rattle.std.specs.Prelude.{◌≡◌, ◌∷◌, [], ℕ, IfSome, List, OnOk, chars, encode_utf8, length, map};
+//! Mirror images of texts at odd levels, L4.
+ghost use Rattle.std.specs.Prelude.{◌≡◌, ◌∷◌, [], ℕ, IfOk, IfSome, List, MatchOption, OnOk, chars, encode_utf8, false, length, map, string_bytes};
 ghost use Rattle.std.specs.Cow.{cow_str_bytes};
 ghost use Rattle.bx_cells.specs.declared.unit.Face.TheVariants.{Own};
 ghost use Rattle.bx_cells.specs.Faces.{face};
@@ -8,31 +8,34 @@ ghost use Rattle.bx_rows.specs.RowPicture.{glyph, mirror_image, mirror_image_wit
 ghost use Rattle.bx_rows.specs.Shown.{glyph_of};
 
 use crate::drawn::Drawn;
-use crate::glyphs::{has_mirror, is_own, letter, mirror_image};
+use crate::glyphs::{is_own, letter};
 use crate::plain_row::is_plain;
 use bx_cells::{face, first_char};
 use bx_ucd::BidiData;
 use std::alloc::{AllocError, Global};
 use std::borrow::CowStr;
 
-/// Shows the mirror image of a glyph's text, where that is shown as itself in one column.
-fn mirror_text<D: BidiData>(
-    drawn: &mut Drawn<'_>,
-    alloc: Global,
-    tables: &D,
-    w: u16,
-) -> Result<(), AllocError>
-    ensures { OnOk result (glyph_of drawn.new
-        ≡ glyph (mirror_image_within (D.class_of tables.now) (D.mirror_of tables.now) w 1 (cow_str_bytes drawn.old.text))
-        drawn.old.columns drawn.old.negative) }
+/// Whether a character of a text has a mirror.
+fn has_mirror<D: BidiData>(text: &str, tables: &D) -> bool
+    ensures { result ≡ false → mirror_image (D.mirror_of tables.now) text.now ≡ text.now }
 {
-    let other = mirror_image(alloc, drawn.text.as_str(), tables)?;
-    let found = face(other.as_str(), tables, w);
-    if !is_own(found, 1) {
-        return Ok(());
+    for c in text.chars() {
+        if tables.mirror(c).is_some() {
+            return true;
+        }
     }
-    drawn.text = CowStr::Owned(other);
-    Ok(())
+    false
+}
+
+/// A text with each character mirrored that has a mirror.
+fn mirror_image<D: BidiData>(alloc: Global, text: &str, tables: &D) -> Result<String, AllocError>
+    ensures { IfOk result (λ t. string_bytes t ≡ mirror_image (D.mirror_of tables.now) text.now) }
+{
+    let mut other = String::new(alloc);
+    for c in text.chars() {
+        other.push(tables.mirror(c).unwrap_or(c))?;
+    }
+    Ok(other)
 }
 
 /// The character of a text, if it has just one.
@@ -61,69 +64,55 @@ fn fixed_text<'a, D: BidiData>(c: char, tables: &D, w: u16) -> Option<&'a str>
     Some(letter(c as u8))
 }
 
-/// Gives a glyph another text, which is lent.
-fn lend<'a>(drawn: &mut Drawn<'a>, text: &'a str)
-    ensures { glyph_of drawn.new ≡ glyph text.now drawn.old.columns drawn.old.negative }
-{
-    drawn.text = CowStr::Borrowed(text);
-}
-
-/// Shows the mirror of a glyph's only character, where that is shown as itself in one column.
-fn mirror_char<D: BidiData>(
-    drawn: &mut Drawn<'_>,
+/// The mirror image of a text of any number of characters, where that is shown as itself in so many columns; none where the
+/// text stays.
+fn mirrored_text<'a, D: BidiData>(
     alloc: Global,
-    mirror: char,
+    text: &str,
+    columns: u16,
     tables: &D,
     w: u16,
-) -> Result<(), AllocError>
-    requires { mirror_image (D.mirror_of tables.now) (cow_str_bytes drawn.old.text) ≡ encode_utf8 mirror }
-    ensures { OnOk result (glyph_of drawn.new
-        ≡ glyph (mirror_image_within (D.class_of tables.now) (D.mirror_of tables.now) w 1 (cow_str_bytes drawn.old.text))
-        drawn.old.columns drawn.old.negative) }
+) -> Result<Option<CowStr<'a, Global>>, AllocError>
+    ensures { IfOk result (λ o. MatchOption o (mirror_image_within (D.class_of tables.now) (D.mirror_of tables.now) w columns text.now ≡ text.now)
+        (λ t. cow_str_bytes t ≡ mirror_image_within (D.class_of tables.now) (D.mirror_of tables.now) w columns text.now)) }
 {
-    if let Some(text) = fixed_text(mirror, tables, w) {
-        lend(drawn, text);
-        return Ok(());
+    if !has_mirror(text, tables) {
+        return Ok(None);
     }
-    mirror_text(drawn, alloc, tables, w)
+    let other = mirror_image(alloc, text, tables)?;
+    let found = face(other.as_str(), tables, w);
+    if !is_own(found, columns) {
+        return Ok(None);
+    }
+    Ok(Some(CowStr::Owned(other)))
 }
 
-/// Shows the mirror image of a glyph of any number of characters, where one of them has a mirror.
-fn mirror_any<D: BidiData>(
-    drawn: &mut Drawn<'_>,
-    alloc: Global,
-    tables: &D,
-    w: u16,
-) -> Result<(), AllocError>
-    ensures { OnOk result (glyph_of drawn.new
-        ≡ glyph (mirror_image_within (D.class_of tables.now) (D.mirror_of tables.now) w 1 (cow_str_bytes drawn.old.text))
-        drawn.old.columns drawn.old.negative) }
-{
-    if !has_mirror(drawn.text.as_str(), tables) {
-        return Ok(());
-    }
-    mirror_text(drawn, alloc, tables, w)
-}
-
-/// Shows the mirror image of a glyph; a single character is asked for its mirror once.
+/// The mirror image of a text, where that is shown as itself in so many columns; none where the text stays. A single
+/// character that has no mirror is asked for it once, and one that mirrors to printable ASCII takes no memory.
 #[inline(always)]
-fn mirror_glyph<D: BidiData>(
-    drawn: &mut Drawn<'_>,
+pub(crate) fn mirrored<'a, D: BidiData>(
     alloc: Global,
+    text: &str,
+    columns: u16,
     tables: &D,
     w: u16,
-) -> Result<(), AllocError>
-    ensures { OnOk result (glyph_of drawn.new
-        ≡ glyph (mirror_image_within (D.class_of tables.now) (D.mirror_of tables.now) w 1 (cow_str_bytes drawn.old.text))
-        drawn.old.columns drawn.old.negative) }
+) -> Result<Option<CowStr<'a, Global>>, AllocError>
+    ensures { IfOk result (λ o. MatchOption o (mirror_image_within (D.class_of tables.now) (D.mirror_of tables.now) w columns text.now ≡ text.now)
+        (λ t. cow_str_bytes t ≡ mirror_image_within (D.class_of tables.now) (D.mirror_of tables.now) w columns text.now)) }
 {
-    let Some(c) = single_char(drawn.text.as_str()) else {
-        return mirror_any(drawn, alloc, tables, w);
+    if columns != 1 {
+        return mirrored_text(alloc, text, columns, tables, w);
+    }
+    let Some(c) = single_char(text) else {
+        return mirrored_text(alloc, text, columns, tables, w);
     };
     let Some(mirror) = tables.mirror(c) else {
-        return Ok(());
+        return Ok(None);
     };
-    mirror_char(drawn, alloc, mirror, tables, w)
+    if let Some(other) = fixed_text(mirror, tables, w) {
+        return Ok(Some(CowStr::Borrowed(other)));
+    }
+    mirrored_text(alloc, text, columns, tables, w)
 }
 
 /// Shows a glyph at a level: mirrored at an odd one, where one of its characters has a mirror.
@@ -142,7 +131,11 @@ fn mirror_at<D: BidiData>(
     if level % 2 == 0 {
         return Ok(());
     }
-    mirror_glyph(drawn, alloc, tables, w)
+    let Some(other) = mirrored(alloc, drawn.text.as_str(), 1, tables, w)? else {
+        return Ok(());
+    };
+    drawn.text = other;
+    Ok(())
 }
 
 /// Mirrors the glyphs of single characters of one column that stand at an odd level, where the mirror takes one column too.

@@ -9,7 +9,7 @@ ghost use Rattle.bx_rows.specs.VisualOrder.{visual};
 ghost use Rattle.bx_rows.specs.Wrapping.{row_units};
 
 use crate::drawn::{Drawn, RowPicture};
-use crate::glyphs::{push_blanks, push_face};
+use crate::glyphs::{push_face, with_blanks};
 use crate::row::Row;
 use crate::visual_order::visual;
 use crate::wrapping::columns_at;
@@ -91,24 +91,7 @@ fn row_glyphs<'a, D: BidiData>(
 {
     let (columns, used) = unit_columns(alloc, units, w)?;
     let order = visual(alloc, levels)?;
-    let blanks = w - used;
     let mut glyphs = Vec::with_capacity(alloc, w as usize)?;
-    if paragraph % 2 == 0 {
-        push_units(
-            &mut glyphs,
-            alloc,
-            body,
-            units,
-            &columns,
-            levels,
-            &order,
-            tables,
-            w,
-        )?;
-        push_blanks(&mut glyphs, blanks)?;
-        return Ok(glyphs);
-    }
-    push_blanks(&mut glyphs, blanks)?;
     push_units(
         &mut glyphs,
         alloc,
@@ -120,7 +103,8 @@ fn row_glyphs<'a, D: BidiData>(
         tables,
         w,
     )?;
-    Ok(glyphs)
+    let all = with_blanks(alloc, glyphs, w - used, paragraph)?;
+    Ok(all)
 }
 
 /// What a row of a body's units shows in a window of `w` columns, from left to right with its blanks, by the levels of the

@@ -1,16 +1,16 @@
 //! What a row shows in which each unit is one character of one column.
-ghost use Rattle.std.specs.Prelude.{◌≡◌, ◌≤◌, ◌<◌, ◌-◌, All, IfOk, IfSome, List, ℕ, length, map, slice_index_or, sum_by, true};
+ghost use Rattle.std.specs.Prelude.{◌≡◌, ◌<◌, All, IfOk, IfSome, List, ℕ, length, map, slice_index_or, sum_by, true};
 ghost use Rattle.std.specs.Cow.{cow_str_bytes};
 ghost use Rattle.bx_terms.specs.Glyphs.{is_one_glyph, run_width};
 ghost use Rattle.bx_rows.specs.NumberedRows.{draw_numbered};
 ghost use Rattle.bx_rows.specs.PlainRows.{leveled_glyphs, single_glyph};
-ghost use Rattle.bx_rows.specs.RowPicture.{blank, with_blanks};
+ghost use Rattle.bx_rows.specs.RowPicture.{blank};
 ghost use Rattle.bx_rows.specs.RowStarts.{row_starts};
 ghost use Rattle.bx_rows.specs.Shown.{glyph_of};
 ghost use Rattle.bx_rows.specs.VisualOrder.{visual};
 
 use crate::drawn::{Drawn, RowPicture};
-use crate::glyphs::push_blanks;
+use crate::glyphs::with_blanks;
 use crate::mirrors::mirror_odd;
 use crate::plain_row::{PlainRow, plain_row};
 use crate::row_part::{most_units, start_of};
@@ -20,28 +20,6 @@ use bx_resolve::Levels;
 use bx_terms::OutOfMemory;
 use bx_ucd::BidiData;
 use std::alloc::{AllocError, Global};
-
-/// Glyphs of one column each and a row's blanks: at the right in a paragraph of even level, else at the left.
-fn with_blanks<'a>(
-    alloc: Global,
-    glyphs: Vec<Drawn<'a>>,
-    paragraph: u8,
-    w: u16,
-) -> Result<Vec<Drawn<'a>>, AllocError>
-    requires { length glyphs.items ≤ w }
-    ensures { IfOk result (λ v. map glyph_of v.items ≡ with_blanks paragraph (w - length glyphs.entry.items) (map glyph_of glyphs.entry.items)) }
-{
-    let mut glyphs = glyphs;
-    let blanks = w - glyphs.len() as u16;
-    if paragraph % 2 == 0 {
-        push_blanks(&mut glyphs, blanks)?;
-        return Ok(glyphs);
-    }
-    let mut all = Vec::with_capacity(alloc, w as usize)?;
-    push_blanks(&mut all, blanks)?;
-    all.append(&mut glyphs)?;
-    Ok(all)
-}
 
 /// The glyphs of single characters, mirrored where their level is odd, in visual order.
 fn arranged<'a, D: BidiData>(
@@ -87,6 +65,7 @@ pub(crate) fn plain_picture<'a, D: BidiData>(
         return Ok(None);
     };
     let glyphs = arranged(alloc, row, tables, w)?;
-    let glyphs = with_blanks(alloc, glyphs, levels.paragraph, w)?;
+    let blanks = w - glyphs.len() as u16;
+    let glyphs = with_blanks(alloc, glyphs, blanks, levels.paragraph)?;
     Ok(Some(RowPicture { glyphs }))
 }

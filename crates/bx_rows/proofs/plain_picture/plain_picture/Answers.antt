@@ -1,4 +1,4 @@
-use Rattle.std.proofs.Common.{refl, sym, arith}
+use Rattle.std.proofs.Common.{refl, sym, ◌∙◌, arith}
 use Rattle.bx_rows.specs.RowLevels.{row_levels}
 use Rattle.bx_rows.specs.RowStarts.{units_of_row}
 use Rattle.bx_rows.proofs.EachRow.{part-at}
@@ -17,8 +17,8 @@ plain_row-requires g c =
     (part-at (g.D.BidiData.class_of c.args.tables.now) c.args.w c.args.body.now c.args.starts.now c.args.number _ c.start_of.result c.utf8.body
     c.requires.starts c.requires.number c.start_of.ensures).boundary
 
-pub with_blanks-requires : goal.with_blanks-requires
-with_blanks-requires g c =
+pub overflow_sub-blanks : goal.overflow_sub-blanks
+overflow_sub-blanks g c =
     let class = g.D.BidiData.class_of c.args.tables.now in
     let body = c.args.body.now in
     let part = part-at class c.args.w body c.args.starts.now c.args.number _ c.start_of.result c.utf8.body c.requires.starts c.requires.number
@@ -26,7 +26,10 @@ with_blanks-requires g c =
     let within = single-fits class c.args.w body c.args.number c.most_units-count.result _ c.start_of.result _ c.utf8.body part c.most_units-count.ensures
     c.in-Some.row.glyphs.items (if_some _ _ c.in-Some.row c.in-Some.is c.in_ok-row.ensures.units) in
     let counted = c.in_ok-glyphs.ensures.count in
-    omega (arith, within, counted)
+    omega (arith, within, counted, c.len.ensures, c.in_ok-glyphs.glyphs.ok.0)
+
+pub overflow_cast-blanks : goal.overflow_cast-blanks
+overflow_cast-blanks g c = let within = overflow_sub-blanks g c in omega (arith, within, c.ranges.w.fits)
 
 pub returns-clause-picture : goal.returns-clause-picture
 returns-clause-picture g c =
@@ -41,7 +44,8 @@ returns-clause-picture g c =
     c.in-Some.row.levels.items (if_some _ _ c.in-Some.row c.in-Some.is c.in_ok-row.ensures.units)
     (if_some _ _ c.in-Some.row c.in-Some.is c.in_ok-row.ensures.count)
     (if_some _ _ c.in-Some.row c.in-Some.is c.in_ok-row.ensures.levels here (sym told) part.chars)
-    c.in_ok-glyphs.ensures.order c.in_ok-glyphs.ensures.count c.in_ok-glyphs-2.ensures
+    c.in_ok-glyphs.ensures.order (c.len.ensures ∙ c.in_ok-glyphs.glyphs.ok.0 ∙ c.in_ok-glyphs.ensures.count)
+    c.in_ok-glyphs-2.ensures
 
 pub returns-clause-glyphs : goal.returns-clause-glyphs
 returns-clause-glyphs g c k d l =

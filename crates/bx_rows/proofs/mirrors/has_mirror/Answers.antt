@@ -3,7 +3,7 @@ use Rattle.std.proofs.lemmas.List.{length_push}
 use Rattle.std.proofs.lemmas.Iterator.{YieldsList-from_chars}
 use Rattle.std.proofs.lemmas.Iterator.Consumers.{YieldsList-turn, YieldsList-end}
 use Rattle.bx_rows.proofs.Unmirrored.{same_all, same_more}
-use Rattle.bx_rows.proofs.glyphs.has_mirror.Goals as goal
+use Rattle.bx_rows.proofs.mirrors.has_mirror.Goals as goal
 
 pub loop-c-preserved : goal.loop-c-preserved
 loop-c-preserved g c =
