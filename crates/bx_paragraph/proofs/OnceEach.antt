@@ -105,12 +105,7 @@ pub once-each : (w : ℕ) (r : BodyRow) → length r.levels ≡ length r.units �
 once-each w r e f = last-once f (r.paragraph % 2) r.is_last (end_slot w r) (unit_slots w r) (map (λ u. u.start) r.units) (units-once f w r e)
 
 -- the same of a row of a layout, by its parts
-pub once-kept : (w : ℕ) (body : List ℕ) (paragraph : ℕ) (us : List Unit) (levels : List ℕ) (l : LayoutState) (p : RowParts) (r : BodyRow) (ss : List Slot)
-    → ss ≡ row_slots w (record { body = body; paragraph = paragraph; units = us; levels = levels; is_last = p.is_last }) → body ≡ l.body
-    → us ≡ p.units.items → levels ≡ p.levels.items → length p.levels.items ≡ length p.units.items → row_of_parts l p ≡ r
-    → AreReordered (map (λ s. s.offset) ss) (offsets_of r)
-once-kept w body paragraph us levels l p r ss is eb eu el count e f =
-    let row : BodyRow = record { body = body; paragraph = paragraph; units = us; levels = levels; is_last = p.is_last } in
-    let offsets : List Unit → List ℕ → List ℕ = λ vs b. map (λ u. u.start) vs ++ elim (p.is_last) [ true ↦ length b ∷ [] | false ↦ [] ] in
-    ap (λ xs. sum_by f (map (λ s. s.offset) xs)) is ∙ once-each w row (ap length el ∙ count ∙ sym (ap length eu)) f
-    ∙ ap (λ vs. sum_by f (offsets vs body)) eu ∙ ap (λ b. sum_by f (offsets p.units.items b)) eb ∙ ap (λ x. sum_by f (offsets_of x)) e
+pub once-kept : (w : ℕ) (l : LayoutState) (p : RowParts) (r : BodyRow) (ss : List Slot) → ss ≡ row_slots w (row_of_parts l p)
+    → length p.levels.items ≡ length p.units.items → row_of_parts l p ≡ r → AreReordered (map (λ s. s.offset) ss) (offsets_of r)
+once-kept w l p r ss is count e f =
+    ap (λ xs. sum_by f (map (λ s. s.offset) xs)) is ∙ once-each w (row_of_parts l p) count f ∙ ap (λ x. sum_by f (offsets_of x)) e

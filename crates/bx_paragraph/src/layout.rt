@@ -192,6 +192,24 @@ impl ParagraphLayout {
         })
     }
 
+    /// The slots of a row from left to right, by its units and their levels.
+    pub(crate) fn slots_of(&self, parts: &RowParts) -> Result<Vec<Slot>, OutOfMemory>
+        requires fits { columns_used self.now.w parts.now.units.items ≤ self.now.w }
+        requires levels { length parts.now.levels.items ≡ length parts.now.units.items }
+        ensures { IfOk result (λ v. v.items ≡ row_slots self.now.w (row_of_parts self.now parts.now)) }
+    {
+        let slots = row_slots(
+            *parts.units.allocator(),
+            self.body(),
+            &parts.units,
+            &parts.levels,
+            self.level(),
+            parts.is_last,
+            self.width(),
+        )?;
+        Ok(slots)
+    }
+
     /// The slots of a row from left to right, each with its columns: one for each place of the row.
     ///
     /// Errors: `OutOfMemory`.
@@ -203,15 +221,7 @@ impl ParagraphLayout {
             (offsets_of (row_by (D.class_of tables.now) (D.bracket_of tables.now) self.now row))) }
     {
         let parts = self.row(row, tables)?;
-        let slots = row_slots(
-            *parts.units.allocator(),
-            self.body(),
-            &parts.units,
-            &parts.levels,
-            self.level(),
-            parts.is_last,
-            self.width(),
-        )?;
+        let slots = self.slots_of(&parts)?;
         Ok(slots)
     }
 

@@ -8,7 +8,7 @@ use bx_terms::OutOfMemory;
 use bx_ucd::BidiData;
 
 /// How many of some units begin before an offset.
-fn count_before(units: &[Unit], offset: usize) -> usize
+pub(crate) fn count_before(units: &[Unit], offset: usize) -> usize
     ensures { result ≡ count_by (λ u. nat_lt u.start offset) units.now }
 {
     units.iter().filter(|u| u.start < offset).count()

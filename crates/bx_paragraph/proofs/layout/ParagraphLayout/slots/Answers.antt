@@ -3,5 +3,5 @@ use Rattle.bx_paragraph.proofs.layout.ParagraphLayout.slots.Goals as goal
 
 pub returns-clause-once : goal.returns-clause-once
 returns-clause-once g c =
-    once-kept c.width.result _ c.level.result _ _ c.args.self.now c.in_ok-parts.parts _ c.in_ok-slots.slots.items c.in_ok-slots.ensures c.body.ensures
-    c.deref.ensures.value c.deref-2.ensures.value c.in_ok-parts.ensures.levels c.in_ok-parts.ensures.row
+    once-kept c.args.self.now.w c.args.self.now c.in_ok-parts.parts _ c.in_ok-slots.slots.items c.in_ok-slots.ensures c.in_ok-parts.ensures.levels
+    c.in_ok-parts.ensures.row

@@ -1,0 +1,45 @@
+//! Where a place stands in its row.
+ghost use Rattle.std.specs.Prelude.{◌≡◌, ◌<◌, IfOk, count_by, length, nat_lt};
+ghost use Rattle.bx_paragraph.specs.Layout.{IsLayoutBy, row_by};
+ghost use Rattle.bx_paragraph.specs.Slots.{column_of};
+
+use crate::layout::ParagraphLayout;
+use crate::numbers::count_before;
+use crate::reading::column_in;
+use bx_terms::OutOfMemory;
+use bx_ucd::BidiData;
+
+/// Where a place stands in its row.
+#[derive(Clone, Copy, PartialEq, Eq, Debug)]
+pub struct Standing {
+    /// The column, from 1, of the slot at the place; 1 where none stands there.
+    pub column: u16,
+    /// How many units of the row begin before it.
+    pub units_before: usize,
+}
+
+impl ParagraphLayout {
+    /// Where the place at an offset of the body, in bytes, stands in a row.
+    ///
+    /// Errors: `OutOfMemory`.
+    pub fn standing<D: BidiData>(
+        &self,
+        row: usize,
+        offset: usize,
+        tables: &D,
+    ) -> Result<Standing, OutOfMemory>
+        requires data { IsLayoutBy (D.class_of tables.now) (D.bracket_of tables.now) self.now }
+        requires row { row < length self.now.starts }
+        ensures column { IfOk result (λ s. s.column
+            ≡ column_of self.now.w (row_by (D.class_of tables.now) (D.bracket_of tables.now) self.now row) offset) }
+        ensures units { IfOk result (λ s. s.units_before
+            ≡ count_by (λ u. nat_lt u.start offset) (row_by (D.class_of tables.now) (D.bracket_of tables.now) self.now row).units) }
+    {
+        let parts = self.row(row, tables)?;
+        let slots = self.slots_of(&parts)?;
+        Ok(Standing {
+            column: column_in(&slots, offset),
+            units_before: count_before(&parts.units, offset),
+        })
+    }
+}
