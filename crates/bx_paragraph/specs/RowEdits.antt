@@ -1,5 +1,5 @@
 -- Rows that an edit of a body leaves, and rows behind it that meet them again.
-use Rattle.std.specs.Prelude.{◌≡◌, ◌<◌, ◌≤◌, ◌+◌, ◌-◌, ℕ, List, length, slice_index_or}
+use Rattle.std.specs.Prelude.{◌≡◌, ◌<◌, ◌≤◌, ◌+◌, ◌-◌, ◌^◌, ℕ, List, length, slice_index_or}
 use Rattle.bx_rows.specs.declared.start_search.RowStart.{RowStart}
 
 -- the start of a body
@@ -25,3 +25,13 @@ pub record DoMeet (shift stop : ℕ) (found starts : List RowStart) (last i k : 
   pub found_inside : i ≤ last
   pub old_inside : k < length starts
   pub place : IsSamePlace shift stop (slice_index_or found i origin) (slice_index_or starts k origin)
+
+-- such rows, where the found ones are those of a text of `len` bytes that goes on: they begin well before its end
+pub record DoMeetNear (w len shift stop : ℕ) (found starts : List RowStart) (i k : ℕ) : Type 0 where
+  pub last : ℕ
+  pub well : IsWellBefore w len found last
+  pub meet : DoMeet shift stop found starts last i k
+
+-- the numbers of a row's start fit a machine word
+abbrev pub HasRoom : RowStart → Type 0
+HasRoom s = (s.offset < 2 ^ 64) × (s.units < 2 ^ 64) × (s.chars < 2 ^ 64)

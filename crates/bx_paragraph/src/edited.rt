@@ -8,13 +8,14 @@ ghost use Rattle.bx_paragraph.specs.Layout.{IsLayoutBy};
 
 use crate::edited_rows::{OldRows, edited_starts};
 use crate::layout::{ParagraphLayout, starts_up_to};
-use crate::text_edit::{TextEdit, follow, joined};
+use crate::text_edit::{TextEdit, follow, join};
 use crate::way::are_unformatted;
 use bx_explicit::Base;
 use bx_resolve::Levels;
 use bx_rows::RowStart;
 use bx_terms::OutOfMemory;
 use bx_ucd::BidiData;
+use std::mem;
 
 /// The edit that puts a text in the place of a body's from an offset up to another. Near it stands what begins with the row
 /// before the one that the edit falls in.
@@ -115,9 +116,14 @@ impl ParagraphLayout {
         ensures rows { IsLayoutBy (D.class_of tables.now) (D.bracket_of tables.now) self.new }
         ensures err { OnErr result (self.new ≡ self.old) }
     {
-        let alloc = *self.starts.allocator();
         let body = self.body.as_str();
-        let changed = joined(alloc, &body[..start], inserted, &body[stop..])?;
+        join(
+            &mut self.spare.body,
+            &body[..start],
+            inserted,
+            &body[stop..],
+        )?;
+        let changed = self.spare.body.as_str();
         let old = OldRows {
             body,
             starts: &self.starts,
@@ -125,19 +131,19 @@ impl ParagraphLayout {
             w: self.w,
         };
         let last = start + inserted.len();
-        let starts = edited_starts(alloc, &old, changed.as_str(), start, last, tables)?;
+        edited_starts(&mut self.spare.starts, &old, changed, start, last, tables)?;
         let edit = text_edit(body, &self.starts, start, stop, inserted);
         self.is_unformatted = edit_levels(
             &mut self.levels,
             self.is_unformatted,
             body,
-            changed.as_str(),
+            changed,
             &edit,
             tables,
             self.base,
         )?;
-        self.body = changed;
-        self.starts = starts;
+        mem::swap(&mut self.body, &mut self.spare.body);
+        mem::swap(&mut self.starts, &mut self.spare.starts);
         Ok(())
     }
 }

@@ -1,14 +1,15 @@
 //! Where the rows begin of a body that an edit changes: they are found from a row well before it until they meet the old ones.
-ghost use Rattle.std.specs.Prelude.{◌≡◌, ◌≤◌, IfOk, IfSome, drop, length, take, true};
+ghost use Rattle.std.specs.Prelude.{◌≡◌, ◌≤◌, ◌++◌, All, IfSome, OnOk, drop, length, map, take, true};
 ghost use Rattle.std.specs.Str.{IsCharBoundary, IsUtf8};
 ghost use Rattle.bx_terms.specs.Sizes.{is_side};
+ghost use Rattle.bx_rows.specs.Laws.{behind};
 ghost use Rattle.bx_rows.specs.RowStarts.{row_starts};
+ghost use Rattle.bx_paragraph.specs.RowEdits.{DoMeetNear, HasRoom};
 
-use crate::row_edit::{meeting, push_behind, push_moved, well_before};
+use crate::row_edit::{behind, meeting, push_behind, push_moved, well_before};
 use bx_rows::{RowStart, row_starts};
 use bx_terms::OutOfMemory;
 use bx_ucd::BidiData;
-use std::alloc::Global;
 
 /// The rows of a body before an edit, in a window of so many columns, and the offset at which what the edit removes ends.
 #[derive(Clone, Copy)]
@@ -37,70 +38,64 @@ fn near_text(rest: &str, shift: usize, w: u16) -> &str
     &rest[..at]
 }
 
-/// The rows of what is left behind a row, where those of its beginning meet the old ones. The edit ends at the offset `shift` of
-/// what is left.
-fn met_starts<D: BidiData>(
-    alloc: Global,
-    old: &OldRows<'_>,
-    rest: &str,
-    near: &str,
+/// The numbers of a row of the beginning of a text and of an old row that begin in the same place behind an edit, which ends
+/// at an offset of the text. That beginning has `len` bytes; rows in which what is behind it has a part are left out.
+fn meeting_near(
+    found: &[RowStart],
+    len: usize,
     shift: usize,
-    tables: &D,
-) -> Result<Option<Vec<RowStart>>, OutOfMemory>
-    requires side { is_side old.now.w ≡ true }
-    requires starts { old.now.starts.now ≡ row_starts (D.class_of tables.now) old.now.w old.now.body.now }
-    requires near { near.now ≡ take (length near.now) rest.now }
-    requires boundary { IsCharBoundary rest.now (length near.now) }
-    requires same { drop old.now.stop old.now.body.now ≡ drop shift rest.now }
-    ensures { IfOk result (λ o. IfSome o (λ v. v.items ≡ row_starts (D.class_of tables.now) old.now.w rest.now)) }
+    old: &OldRows<'_>,
+) -> Option<(usize, usize)>
+    ensures { IfSome result (λ r. DoMeetNear old.now.w len shift old.now.stop found.now old.now.starts.now r.0 r.1) }
 {
-    let mut found = row_starts(alloc, near, tables, old.w)?;
-    let Some(last) = well_before(&found, near.len(), old.w) else {
-        return Ok(None);
-    };
-    let Some((i, k)) = meeting(&found, old.starts, last, shift, old.stop) else {
-        return Ok(None);
-    };
-    let new = found[i];
-    found.truncate(i);
-    if push_moved(&mut found, old.starts[k], new, &old.starts[k..])? {
-        return Ok(Some(found));
-    }
-    Ok(None)
+    let last = well_before(found, len, old.w)?;
+    meeting(found, old.starts, last, shift, old.stop)
 }
 
-/// The rows of what is left behind a row.
-fn rest_starts<D: BidiData>(
-    alloc: Global,
+/// Adds the rows of what is left of a body from a row's start on. The edit ends at the offset `shift` of what is left.
+fn push_rest<D: BidiData>(
+    starts: &mut Vec<RowStart>,
+    first: RowStart,
     old: &OldRows<'_>,
     rest: &str,
     shift: usize,
     tables: &D,
-) -> Result<Vec<RowStart>, OutOfMemory>
+) -> Result<(), OutOfMemory>
     requires side { is_side old.now.w ≡ true }
     requires starts { old.now.starts.now ≡ row_starts (D.class_of tables.now) old.now.w old.now.body.now }
     requires same { drop old.now.stop old.now.body.now ≡ drop shift rest.now }
-    ensures { IfOk result (λ v. v.items ≡ row_starts (D.class_of tables.now) old.now.w rest.now) }
+    requires room { All (λ s. HasRoom (behind first s)) (row_starts (D.class_of tables.now) old.now.w rest.now) }
+    ensures { OnOk result (starts.new.items ≡ starts.old.items ++ map (behind first) (row_starts (D.class_of tables.now) old.now.w rest.now)) }
 {
+    let alloc = *starts.allocator();
     let near = near_text(rest, shift, old.w);
     if near.len() < rest.len() {
-        if let Some(found) = met_starts(alloc, old, rest, near, shift, tables)? {
-            return Ok(found);
+        let found = row_starts(alloc, near, tables, old.w)?;
+        if let Some((i, k)) = meeting_near(&found, near.len(), shift, old) {
+            push_behind(starts, first, &found[..i])?;
+            push_moved(
+                starts,
+                old.starts[k],
+                behind(first, found[i]),
+                &old.starts[k..],
+            )?;
+            return Ok(());
         }
     }
     let found = row_starts(alloc, rest, tables, old.w)?;
-    Ok(found)
+    push_behind(starts, first, &found)?;
+    Ok(())
 }
 
-/// The rows of a body that begins and ends as an old one: up to the offset `start`, and from `stop` on.
+/// Finds where the rows begin of a body that begins and ends as an old one: up to the offset `start`, and from `stop` on.
 pub(crate) fn edited_starts<D: BidiData>(
-    alloc: Global,
+    starts: &mut Vec<RowStart>,
     old: &OldRows<'_>,
     changed: &str,
     start: usize,
     stop: usize,
     tables: &D,
-) -> Result<Vec<RowStart>, OutOfMemory>
+) -> Result<(), OutOfMemory>
     requires side { is_side old.now.w ≡ true }
     requires text { IsUtf8 old.now.body.now }
     requires starts { old.now.starts.now ≡ row_starts (D.class_of tables.now) old.now.w old.now.body.now }
@@ -109,20 +104,23 @@ pub(crate) fn edited_starts<D: BidiData>(
     requires order { start ≤ stop }
     requires front { take start old.now.body.now ≡ take start changed.now }
     requires back { drop old.now.stop old.now.body.now ≡ drop stop changed.now }
-    ensures { IfOk result (λ v. v.items ≡ row_starts (D.class_of tables.now) old.now.w changed.now) }
+    ensures { OnOk result (starts.new.items ≡ row_starts (D.class_of tables.now) old.now.w changed.now) }
 {
+    starts.clear();
     if let Some(row) = well_before(old.starts, start, old.w) {
         let first = old.starts[row];
         if first.offset <= stop && changed.is_char_boundary(first.offset) {
             let rest = &changed[first.offset..];
-            let found = rest_starts(alloc, old, rest, stop - first.offset, tables)?;
-            let mut starts = Vec::new(alloc);
             starts.extend_from_slice(&old.starts[..row])?;
-            if push_behind(&mut starts, first, &found)? {
-                return Ok(starts);
-            }
+            push_rest(starts, first, old, rest, stop - first.offset, tables)?;
+            return Ok(());
         }
     }
-    let starts = rest_starts(alloc, old, changed, stop, tables)?;
-    Ok(starts)
+    let first = RowStart {
+        offset: 0,
+        units: 0,
+        chars: 0,
+    };
+    push_rest(starts, first, old, changed, stop, tables)?;
+    Ok(())
 }

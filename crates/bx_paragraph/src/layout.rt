@@ -14,6 +14,7 @@ ghost use Rattle.bx_paragraph.specs.Slots.{AreReordered, row_slots};
 use crate::row_parts::RowParts;
 use crate::slot::Slot;
 use crate::slots::row_slots;
+use crate::spare::Spare;
 use bx_explicit::Base;
 use bx_resolve::{Levels, levels};
 use bx_rows::{RowPicture, RowStart, row_levels_behind, row_picture, row_starts, units_of_row};
@@ -33,6 +34,7 @@ pub struct ParagraphLayout {
     pub(crate) starts: Vec<RowStart>,
     /// Whether the body is known to have no formatting characters.
     pub(crate) is_unformatted: bool,
+    pub(crate) spare: Spare,
 }
 
 impl Model for ParagraphLayout {
@@ -82,6 +84,7 @@ impl ParagraphLayout {
             levels,
             starts,
             is_unformatted: false,
+            spare: Spare::new(alloc),
         })
     }
 

@@ -15,6 +15,7 @@ mod row_edit;
 mod row_parts;
 mod slot;
 mod slots;
+mod spare;
 mod standing;
 mod strong;
 mod text_edit;

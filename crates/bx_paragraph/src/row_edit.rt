@@ -1,7 +1,7 @@
 //! Rows that an edit of a body leaves, and rows behind it that meet them again.
-ghost use Rattle.std.specs.Prelude.{◌≡◌, ◌≤◌, ◌<◌, ◌+◌, ◌++◌, IfOk, IfSome, length, map, true};
+ghost use Rattle.std.specs.Prelude.{◌≡◌, ◌≤◌, ◌<◌, ◌+◌, ◌++◌, All, IfSome, OnOk, length, map, true};
 ghost use Rattle.bx_rows.specs.Laws.{behind, moved};
-ghost use Rattle.bx_paragraph.specs.RowEdits.{DoMeet, IsSamePlace, IsWellBefore};
+ghost use Rattle.bx_paragraph.specs.RowEdits.{DoMeet, HasRoom, IsSamePlace, IsWellBefore};
 
 use bx_rows::RowStart;
 use std::alloc::AllocError;
@@ -80,70 +80,58 @@ pub(crate) fn meeting(
 }
 
 /// Where a row begins in a body, of which it is known where it begins behind the start of another.
-fn behind(first: RowStart, start: RowStart) -> Option<RowStart>
-    ensures { IfSome result (λ r. r ≡ behind first start) }
+pub(crate) fn behind(first: RowStart, start: RowStart) -> RowStart
+    requires { HasRoom (behind first start) }
+    ensures { result ≡ behind first start }
 {
-    let offset = first.offset.checked_add(start.offset)?;
-    let units = first.units.checked_add(start.units)?;
-    let chars = first.chars.checked_add(start.chars)?;
-    Some(RowStart {
-        offset,
-        units,
-        chars,
-    })
+    RowStart {
+        offset: first.offset + start.offset,
+        units: first.units + start.units,
+        chars: first.chars + start.chars,
+    }
 }
 
 /// Where a row begins that begins as far behind `new` as it did behind `old`.
-fn moved(old: RowStart, new: RowStart, start: RowStart) -> Option<RowStart>
-    ensures { IfSome result (λ r. r ≡ moved old new start) }
+fn moved(old: RowStart, new: RowStart, start: RowStart) -> RowStart
+    requires { HasRoom (moved old new start) }
+    ensures { result ≡ moved old new start }
 {
-    let offset = new
-        .offset
-        .checked_add(start.offset.saturating_sub(old.offset))?;
-    let units = new
-        .units
-        .checked_add(start.units.saturating_sub(old.units))?;
-    let chars = new
-        .chars
-        .checked_add(start.chars.saturating_sub(old.chars))?;
-    Some(RowStart {
-        offset,
-        units,
-        chars,
-    })
+    RowStart {
+        offset: new.offset + start.offset.saturating_sub(old.offset),
+        units: new.units + start.units.saturating_sub(old.units),
+        chars: new.chars + start.chars.saturating_sub(old.chars),
+    }
 }
 
-/// Adds the rows behind a row's start; tells whether their numbers have room.
+/// Adds the rows behind a row's start.
 pub(crate) fn push_behind(
     starts: &mut Vec<RowStart>,
     first: RowStart,
     rest: &[RowStart],
-) -> Result<bool, AllocError>
-    ensures { IfOk result (λ b. b ≡ true → starts.new.items ≡ starts.old.items ++ map (behind first) rest.now) }
+) -> Result<(), AllocError>
+    requires { All (λ s. HasRoom (behind first s)) rest.now }
+    ensures { OnOk result (starts.new.items ≡ starts.old.items ++ map (behind first) rest.now) }
 {
+    starts.reserve(rest.len())?;
     for start in rest {
-        let Some(at) = behind(first, *start) else {
-            return Ok(false);
-        };
-        starts.push(at)?;
+        starts.push_reserved(behind(first, *start));
     }
-    Ok(true)
+    Ok(())
 }
 
-/// Adds rows that move from behind `old` to behind `new`; tells whether their numbers have room.
+/// Adds rows that move from behind `old` to behind `new`.
 pub(crate) fn push_moved(
     starts: &mut Vec<RowStart>,
     old: RowStart,
     new: RowStart,
     rest: &[RowStart],
-) -> Result<bool, AllocError>
-    ensures { IfOk result (λ b. b ≡ true → starts.new.items ≡ starts.old.items ++ map (moved old new) rest.now) }
+) -> Result<(), AllocError>
+    requires { All (λ s. HasRoom (moved old new s)) rest.now }
+    ensures { OnOk result (starts.new.items ≡ starts.old.items ++ map (moved old new) rest.now) }
 {
+    starts.reserve(rest.len())?;
     for start in rest {
-        let Some(at) = moved(old, new, *start) else {
-            return Ok(false);
-        };
-        starts.push(at)?;
+        starts.push_reserved(moved(old, new, *start));
     }
-    Ok(true)
+    Ok(())
 }

@@ -1,5 +1,5 @@
 //! An edit of a text, and the levels that follow it.
-ghost use Rattle.std.specs.Prelude.{◌≡◌, ◌≤◌, ◌+◌, ◌++◌, IfOk, OnErr, chars, length, string_bytes, false, true};
+ghost use Rattle.std.specs.Prelude.{◌≡◌, ◌≤◌, ◌+◌, ◌++◌, IfOk, OnErr, OnOk, chars, length, string_bytes, false, true};
 ghost use Rattle.bx_resolve.specs.Edited.{HasNoFormatting};
 ghost use Rattle.bx_paragraph.specs.Cuts.{AreAsBefore, are_bare, FollowsEdit, IsBareEdit, IsStrongIn};
 
@@ -21,20 +21,30 @@ pub(crate) struct TextEdit<'t> {
     pub(crate) behind: &'t str,
 }
 
-/// Three texts joined.
-pub(crate) fn joined(
-    alloc: Global,
+/// Writes three texts into one, in the place of what it held.
+pub(crate) fn join(
+    text: &mut String,
     first: &str,
     middle: &str,
     last: &str,
-) -> Result<String, AllocError>
-    ensures { IfOk result (λ s. string_bytes s ≡ first.now ++ (middle.now ++ last.now)) }
+) -> Result<(), AllocError>
+    ensures { OnOk result (string_bytes text.new ≡ first.now ++ (middle.now ++ last.now)) }
 {
     let room = first.len().saturating_add(middle.len());
-    let mut text = String::with_capacity(alloc, room.saturating_add(last.len()))?;
+    text.clear();
+    text.reserve(room.saturating_add(last.len()))?;
     text.push_str(first)?;
     text.push_str(middle)?;
     text.push_str(last)?;
+    Ok(())
+}
+
+/// Three texts joined.
+fn joined(alloc: Global, first: &str, middle: &str, last: &str) -> Result<String, AllocError>
+    ensures { IfOk result (λ s. string_bytes s ≡ first.now ++ (middle.now ++ last.now)) }
+{
+    let mut text = String::new(alloc);
+    join(&mut text, first, middle, last)?;
     Ok(text)
 }
 
