@@ -1,6 +1,7 @@
 //! The layout of one paragraph.
 ghost use Rattle.std.specs.Prelude.{◌≡◌, ◌≤◌, ◌<◌, true, All, IfOk, OnErr, OnOk, count_by, length, nat_le, map, slice_index_or, string_bytes, sum_by};
 ghost use Rattle.std.specs.Cow.{cow_str_bytes};
+ghost use Rattle.std.specs.List.Sorted.{IsNonDecreasingBy};
 ghost use Rattle.bx_terms.specs.Glyphs.{is_one_glyph, run_width};
 ghost use Rattle.bx_terms.specs.Sizes.{is_side};
 ghost use Rattle.bx_cells.specs.Units.{HasFace, StandsIn};
@@ -253,7 +254,8 @@ impl ParagraphLayout {
 
 /// How many of the beginnings are at an offset or before it.
 pub(crate) fn starts_up_to(starts: &[RowStart], offset: usize) -> usize
-    ensures { result ≡ count_by (λ o. nat_le o offset) (map (λ s. s.offset) starts.now) }
+    ensures within { result ≤ length starts.now }
+    ensures count { IsNonDecreasingBy (λ s. s.offset) starts.now → result ≡ count_by (λ o. nat_le o offset) (map (λ s. s.offset) starts.now) }
 {
-    starts.iter().filter(|s| s.offset <= offset).count()
+    starts.partition_point(|s| s.offset <= offset)
 }

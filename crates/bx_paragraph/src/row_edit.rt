@@ -14,8 +14,10 @@ fn is_ahead(first: RowStart, row: RowStart, w: u16) -> bool
 }
 
 /// How many rows begin before an offset.
-fn count_before(starts: &[RowStart], offset: usize) -> usize {
-    starts.iter().filter(|s| s.offset < offset).count()
+fn count_before(starts: &[RowStart], offset: usize) -> usize
+    ensures { result ≤ length starts.now }
+{
+    starts.partition_point(|s| s.offset < offset)
 }
 
 /// The number of a row that begins well before an offset: what stands there and behind has no part in where the rows up to it
@@ -61,8 +63,8 @@ pub(crate) fn meeting(
     requires { last < length found.now }
     ensures { IfSome result (λ r. DoMeet shift stop found.now starts.now last r.0 r.1) }
 {
-    let mut i = 0;
-    let mut k = 0;
+    let mut i = count_before(found, shift);
+    let mut k = count_before(starts, stop);
     while i <= last {
         if k >= starts.len() {
             return None;

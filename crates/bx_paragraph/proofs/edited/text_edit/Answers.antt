@@ -1,16 +1,12 @@
-use Rattle.std.proofs.Common.{◌<◌, nat_le, length, map, refl, ap, sym, arith}
-use Rattle.std.proofs.lemmas.List.{length-map}
-use Rattle.std.proofs.lemmas.List.Sums.{count_by-le-length}
+use Rattle.std.proofs.Common.{◌<◌, length, refl, ap, sym, arith}
 use Rattle.std.proofs.lemmas.Str.{chars-nil, IsCharBoundary-start}
 use Rattle.bx_paragraph.proofs.Edits.{edit-of}
 use Rattle.bx_paragraph.proofs.edited.text_edit.Goals as goal
 
 pub returns-then-is_char_boundary : goal.returns-then-is_char_boundary
 returns-then-is_char_boundary c =
-    let offsets = map (λ s. s.offset) c.args.starts.now in
-    let few = count_by-le-length (λ o. nat_le o c.args.start) offsets in
     let within : c.saturating_sub.result < length c.args.starts.now =
-    omega (arith, c.saturating_sub.ensures, c.starts_up_to.ensures, few, length-map c.args.starts.now (λ s. s.offset), c.requires.some) in
+    omega (arith, c.saturating_sub.ensures, c.starts_up_to.ensures.within, c.requires.some) in
     edit-of c.args.body.now _ c.args.start c.args.stop _ c.utf8.body c.utf8.inserted (c.if-is_char_boundary.ensures.test.0 refl) c.requires.start c.requires.stop
     c.if-from-start.true c.requires.order (c.requires.counted c.saturating_sub.result _ within) c.range.ensures.value c.range-removed.ensures.value
     c.range_from-behind.ensures.value
