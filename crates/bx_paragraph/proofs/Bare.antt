@@ -79,6 +79,17 @@ module _ (class : ℕ → Class) (bracket : ℕ → Option (Side × ℕ)) where
       let p = and_parts (is_bare class bracket way c) (list_all (is_bare class bracket way) cs) h in
       ap₂ (λ x y. x || y) (not-true _ (and_parts (is_of_way way (class c)) (not (is_listed bracket c)) p.0).1) (bare-unlisted way cs p.1)
 
+  -- the same of a text that is known to have none
+  pub unlisted : (cs : List ℕ) → list_all (λ c. not (is_listed bracket c)) cs ≡ true → list_any (is_listed bracket) cs ≡ false
+  unlisted [] h = refl
+  unlisted (c ∷ cs) h =
+      let p = and_parts (not (is_listed bracket c)) (list_all (λ c. not (is_listed bracket c)) cs) h in
+      ap₂ (λ x y. x || y) (not-true _ p.0) (unlisted cs p.1)
+
+  pub unlisted-append : (xs ys : List ℕ) → list_all (λ c. not (is_listed bracket c)) xs ≡ true → list_all (λ c. not (is_listed bracket c)) ys ≡ true
+      → list_any (is_listed bracket) (xs ++ ys) ≡ false
+  unlisted-append xs ys h k = unlisted (xs ++ ys) (list_all-append (λ c. not (is_listed bracket c)) xs ys ∙ and_from _ _ h k)
+
   pub bare-append : (way : Way) (xs ys : List ℕ) → list_all (is_bare class bracket way) xs ≡ true → list_all (is_bare class bracket way) ys ≡ true
       → list_all (is_bare class bracket way) (xs ++ ys) ≡ true
   bare-append way xs ys h k = list_all-append (is_bare class bracket way) xs ys ∙ and_from _ _ h k

@@ -38,25 +38,22 @@ part xs i j h =
     sym (take-append-drop (j - i) (drop i xs)) ∙ ap (λ ys. take (j - i) (drop i xs) ++ ys) (drop-drop (j - i) i xs ∙ ap (λ k. drop k xs) n)
 
 pub edit-of : (body : List ℕ) (from start stop : ℕ) (t : TextEdit) → IsUtf8 body → IsUtf8 t.inserted.now → IsCharBoundary body from
-    → IsCharBoundary body start → IsCharBoundary body stop → from ≤ start → start ≤ stop → t.ahead ≡ length (chars (take from body))
-    → t.near.now ≡ take (start - from) (drop from body) → t.removed.now ≡ take (stop - start) (drop start body) → t.behind.now ≡ drop stop body
+    → IsCharBoundary body start → IsCharBoundary body stop → from ≤ start → start ≤ stop → t.front.now ≡ take from body
+    → t.ahead ≡ length (chars (take from body)) → t.near.now ≡ take (start - from) (drop from body) → t.removed.now ≡ take (stop - start) (drop start body) → t.behind.now ≡ drop stop body
     → IsEditOf body (take start body ++ (t.inserted.now ++ drop stop body)) t
-edit-of body from start stop t u v at_from at_start at_stop le le_stop ahead near removed behind =
-    let front = take from body in
-    record {
-      front = front;
-      front_is = IsUtf8-take body from u at_from;
-      near_is = subst IsUtf8 (sym near) (IsUtf8-between body from start u le at_from at_start);
-      removed_is = subst IsUtf8 (sym removed) (IsUtf8-between body start stop u le_stop at_start at_stop);
-      inserted_is = v;
-      ahead_is = ahead;
-      before = sym (take-append-drop from body)
-          ∙ ap (λ xs. front ++ xs) (part body from start le ∙ ap₂ (λ xs ys. xs ++ ys) (sym near)
-          (part body start stop le_stop ∙ ap₂ (λ xs ys. xs ++ ys) (sym removed) (sym behind)));
-      after = ap (λ xs. xs ++ (t.inserted.now ++ drop stop body)) (take_split body from start le ∙ ap (λ xs. front ++ xs) (sym near))
-          ∙ append_assoc front t.near.now (t.inserted.now ++ drop stop body)
-          ∙ ap (λ xs. front ++ (t.near.now ++ (t.inserted.now ++ xs))) (sym behind);
-    }
+edit-of body from start stop t u v at_from at_start at_stop le le_stop front ahead near removed behind = record {
+  front_is = subst IsUtf8 (sym front) (IsUtf8-take body from u at_from);
+  near_is = subst IsUtf8 (sym near) (IsUtf8-between body from start u le at_from at_start);
+  removed_is = subst IsUtf8 (sym removed) (IsUtf8-between body start stop u le_stop at_start at_stop);
+  inserted_is = v;
+  ahead_is = ahead ∙ ap (λ xs. length (chars xs)) (sym front);
+  before = sym (take-append-drop from body)
+      ∙ ap₂ (λ xs ys. xs ++ ys) (sym front) (part body from start le ∙ ap₂ (λ xs ys. xs ++ ys) (sym near)
+      (part body start stop le_stop ∙ ap₂ (λ xs ys. xs ++ ys) (sym removed) (sym behind)));
+  after = ap (λ xs. xs ++ (t.inserted.now ++ drop stop body)) (take_split body from start le ∙ ap₂ (λ xs ys. xs ++ ys) (sym front) (sym near))
+      ∙ append_assoc t.front.now t.near.now (t.inserted.now ++ drop stop body)
+      ∙ ap (λ xs. t.front.now ++ (t.near.now ++ (t.inserted.now ++ xs))) (sym behind);
+}
 
 -- ---- their characters
 
@@ -68,11 +65,11 @@ joined-chars front near middle behind u v w =
     ∙ sym (append_assoc (chars front) (chars near) (chars middle ++ chars behind))
 
 module _ (old new : List ℕ) (t : TextEdit) (e : IsEditOf old new t) where
-  old-chars : chars old ≡ old_text (edit_of (chars e.front) t)
-  old-chars = ap chars e.before ∙ joined-chars e.front t.near.now t.removed.now t.behind.now e.front_is e.near_is e.removed_is
+  old-chars : chars old ≡ old_text (edit_of t)
+  old-chars = ap chars e.before ∙ joined-chars t.front.now t.near.now t.removed.now t.behind.now e.front_is e.near_is e.removed_is
 
-  new-chars : chars new ≡ new_text (edit_of (chars e.front) t)
-  new-chars = ap chars e.after ∙ joined-chars e.front t.near.now t.inserted.now t.behind.now e.front_is e.near_is e.inserted_is
+  new-chars : chars new ≡ new_text (edit_of t)
+  new-chars = ap chars e.after ∙ joined-chars t.front.now t.near.now t.inserted.now t.behind.now e.front_is e.near_is e.inserted_is
 
   module _ (class : ℕ → Class) (bracket : ℕ → Option (Side × ℕ)) where
     -- as many levels as characters
@@ -91,12 +88,12 @@ module _ (old new : List ℕ) (t : TextEdit) (e : IsEditOf old new t) where
         let near = chars t.near.now in
         let removed = chars t.removed.now in
         let behind = chars t.behind.now in
-        let all : length each ≡ length ((chars e.front ++ near) ++ (removed ++ behind)) = ap length is ∙ levels-count base h ∙ ap length old-chars in
+        let all : length each ≡ length ((chars t.front.now ++ near) ++ (removed ++ behind)) = ap length is ∙ levels-count base h ∙ ap length old-chars in
         omega (
           arith,
           all,
-          length-append (chars e.front ++ near) (removed ++ behind),
-          length-append (chars e.front) near,
+          length-append (chars t.front.now ++ near) (removed ++ behind),
+          length-append (chars t.front.now) near,
           length-append removed behind,
           e.ahead_is,
         )
@@ -106,15 +103,15 @@ module _ (old new : List ℕ) (t : TextEdit) (e : IsEditOf old new t) where
         → AreLevelsOf class bracket base (chars old) was → AreLevelsOf class bracket base (chars new) now
     levels-follow base was now h law levels =
         subst (λ cs. AreLevelsOf class bracket base cs now) (sym new-chars)
-        (law base (chars e.front) (sym e.ahead_is) (subst (HasNoFormatting class) old-chars h)
+        (law base (subst (HasNoFormatting class) old-chars h)
         (subst (λ cs. AreLevelsOf class bracket base cs was) old-chars levels))
 
     -- no formatting characters come
     pub stays-plain : HasNoFormatting class (chars old) → HasNoFormatting class (chars t.inserted.now) → HasNoFormatting class (chars new)
     stays-plain h k =
-        let front = chars e.front ++ chars t.near.now in
+        let front = chars t.front.now ++ chars t.near.now in
         let behind = chars t.behind.now in
-        let all = each_pass is_unformatted (map class (old_text (edit_of (chars e.front) t))) (subst (HasNoFormatting class) old-chars h) in
+        let all = each_pass is_unformatted (map class (old_text (edit_of t))) (subst (HasNoFormatting class) old-chars h) in
         let before = less_front class bracket 0 front (chars t.removed.now ++ behind) all in
         let after = less_back class bracket 0 (chars t.removed.now) behind (less_back class bracket 0 front (chars t.removed.now ++ behind) all) in
         subst (HasNoFormatting class) (sym new-chars)

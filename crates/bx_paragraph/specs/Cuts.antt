@@ -1,5 +1,5 @@
 -- Where strong characters cut off an edit of a text, so that the levels of all others stay.
-use Rattle.std.specs.Prelude.{◌≡◌, ◌<◌, ◌+◌, ◌&&◌, ℕ, Bool, true, not, List, ◌++◌, Option, chars, length, slice_index_or, take}
+use Rattle.std.specs.Prelude.{◌≡◌, ◌⊎◌, ◌<◌, ◌+◌, ◌&&◌, ℕ, Bool, true, not, List, ◌++◌, Option, chars, drop, length, slice_index_or, take}
 use Rattle.std.specs.List.{list_all}
 use Rattle.std.specs.Str.{IsUtf8}
 use Rattle.bx_ucd.specs.declared.class.Class.{Class}
@@ -57,25 +57,38 @@ pub record IsBareEdit (class : ℕ → Class) (bracket : ℕ → Option (Side ×
   pub inserted_is : are_bare class bracket way t.inserted.now ≡ true
   pub right_is : are_bare class bracket way right ≡ true
 
--- the edit's characters, where the characters `front` stand before what is near it
-abbrev pub edit_of : List ℕ → TextEdit → Edit
-edit_of front t = record {
-  before = front ++ chars t.near.now;
+-- no character of a text is a bracket
+abbrev pub has_no_bracket : (ℕ → Option (Side × ℕ)) → List ℕ → Bool
+has_no_bracket bracket text = list_all (λ c. not (is_listed bracket c)) (chars text)
+
+-- an edit with no bracket before the strong character `x` that stands before it, or none behind `y` that stands behind it
+abbrev pub IsOpenEdit : (ℕ → Option (Side × ℕ)) → TextEdit → Strong → Strong → Type 0
+IsOpenEdit bracket t x y = ((has_no_bracket bracket t.front.now ≡ true) × (has_no_bracket bracket (take x.start t.near.now) ≡ true))
+    ⊎ (has_no_bracket bracket (drop y.stop t.behind.now) ≡ true)
+
+-- an edit of which all between these two is of one way, theirs, or of any where there are no brackets on one side of both
+abbrev pub IsCutOffEdit : (ℕ → Class) → (ℕ → Option (Side × ℕ)) → TextEdit → Strong → Strong → Type 0
+IsCutOffEdit class bracket t x y = IsBareEdit class bracket (way_between x.class y.class) t (drop x.stop t.near.now) (take y.start t.behind.now)
+    ⊎ (IsBareEdit class bracket Either t (drop x.stop t.near.now) (take y.start t.behind.now) × IsOpenEdit bracket t x y)
+
+-- the edit's characters
+abbrev pub edit_of : TextEdit → Edit
+edit_of t = record {
+  before = chars t.front.now ++ chars t.near.now;
   removed = chars t.removed.now;
   inserted = chars t.inserted.now;
   behind = chars t.behind.now;
 }
 
--- an edit that turns a body into another, where `front` stands before what is near it
+-- an edit that turns a body into another
 pub record IsEditOf (old new : List ℕ) (t : TextEdit) : Type 0 where
-  pub front : List ℕ
-  pub front_is : IsUtf8 front
+  pub front_is : IsUtf8 t.front.now
   pub near_is : IsUtf8 t.near.now
   pub removed_is : IsUtf8 t.removed.now
   pub inserted_is : IsUtf8 t.inserted.now
-  pub ahead_is : t.ahead ≡ length (chars front)
-  pub before : old ≡ front ++ (t.near.now ++ (t.removed.now ++ t.behind.now))
-  pub after : new ≡ front ++ (t.near.now ++ (t.inserted.now ++ t.behind.now))
+  pub ahead_is : t.ahead ≡ length (chars t.front.now)
+  pub before : old ≡ t.front.now ++ (t.near.now ++ (t.removed.now ++ t.behind.now))
+  pub after : new ≡ t.front.now ++ (t.near.now ++ (t.inserted.now ++ t.behind.now))
 
 -- the characters before a row are counted
 abbrev pub IsCounted : List ℕ → RowStart → Type 0
@@ -88,5 +101,5 @@ pub record AreAsBefore (was now : Levels) : Type 0 where
 
 -- from the levels of the text before an edit come those of the text behind it
 abbrev pub FollowsEdit : (ℕ → Class) → (ℕ → Option (Side × ℕ)) → TextEdit → Levels → Levels → Type 0
-FollowsEdit class bracket t was now = (base : Base) (front : List ℕ) → length front ≡ t.ahead → HasNoFormatting class (old_text (edit_of front t))
-    → AreLevelsOf class bracket base (old_text (edit_of front t)) was → AreLevelsOf class bracket base (new_text (edit_of front t)) now
+FollowsEdit class bracket t was now = (base : Base) → HasNoFormatting class (old_text (edit_of t)) → AreLevelsOf class bracket base (old_text (edit_of t)) was
+    → AreLevelsOf class bracket base (new_text (edit_of t)) now

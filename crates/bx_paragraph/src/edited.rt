@@ -38,6 +38,7 @@ fn text_edit<'t>(
     let from = starts[starts_up_to(starts, start).saturating_sub(2)];
     if from.offset <= start && body.is_char_boundary(from.offset) {
         return TextEdit {
+            front: &body[..from.offset],
             ahead: from.chars,
             near: &body[from.offset..start],
             removed,
@@ -46,6 +47,7 @@ fn text_edit<'t>(
         };
     }
     TextEdit {
+        front: "",
         ahead: 0,
         near: &body[..start],
         removed,

@@ -4,6 +4,7 @@
 #![tactic(auto)]
 
 mod cursor;
+mod cut_off;
 mod edited;
 mod edited_rows;
 mod laws;

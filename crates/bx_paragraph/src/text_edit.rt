@@ -1,19 +1,21 @@
 //! An edit of a text, and the levels that follow it.
 ghost use Rattle.std.specs.Prelude.{◌≡◌, ◌≤◌, ◌+◌, ◌++◌, IfOk, OnErr, OnOk, chars, length, string_bytes, false, true};
 ghost use Rattle.bx_resolve.specs.Edited.{HasNoFormatting};
-ghost use Rattle.bx_paragraph.specs.Cuts.{AreAsBefore, are_bare, FollowsEdit, IsBareEdit, IsStrongIn};
+ghost use Rattle.bx_paragraph.specs.Cuts.{AreAsBefore, FollowsEdit, IsStrongIn};
 
+use crate::cut_off::{is_bare_edit, is_cut_off};
 use crate::strong::{Strong, first_strong, last_strong};
-use crate::way::{Way, are_bare, way_between};
+use crate::way::Way;
 use bx_resolve::{Levels, Span, follow_between, follow_to_end};
 use bx_terms::OutOfMemory;
 use bx_ucd::BidiData;
 use std::alloc::{AllocError, Global};
 
-/// An edit of a text. Before what stands near it are `ahead` more characters; what it removes gives way to what it inserts, and
-/// the rest stands behind.
+/// An edit of a text. Before what stands near it is the front, which has `ahead` characters; what it removes gives way to what
+/// it inserts, and the rest stands behind.
 #[derive(Clone, Copy)]
 pub(crate) struct TextEdit<'t> {
+    pub(crate) front: &'t str,
     pub(crate) ahead: usize,
     pub(crate) near: &'t str,
     pub(crate) removed: &'t str,
@@ -55,26 +57,6 @@ fn char_count(text: &str) -> usize
     text.chars().count()
 }
 
-/// Whether the edit and what stands on either side of it, up to the strong characters that cut it off, are of one way and have
-/// no bracket.
-fn is_bare_edit<D: BidiData>(
-    edit: &TextEdit<'_>,
-    left: &str,
-    right: &str,
-    way: Way,
-    tables: &D,
-) -> bool
-    ensures { result ≡ true → IsBareEdit (D.class_of tables.now) (D.bracket_of tables.now) way edit.now left.now right.now }
-{
-    if !are_bare(left, way, tables) || !are_bare(right, way, tables) {
-        return false;
-    }
-    if !are_bare(edit.removed, way, tables) {
-        return false;
-    }
-    are_bare(edit.inserted, way, tables)
-}
-
 /// Has levels follow an edit between two strong characters; tells whether nothing between them keeps it from that.
 fn follow_within<D: BidiData>(
     levels: &mut Levels,
@@ -86,6 +68,7 @@ fn follow_within<D: BidiData>(
     requires low { levels.old.paragraph ≤ 1 }
     requires before { IsStrongIn (D.class_of tables.now) edit.now.near.now before }
     requires behind { IsStrongIn (D.class_of tables.now) edit.now.behind.now behind }
+    requires ahead { edit.now.ahead ≡ length (chars edit.now.front.now) }
     requires whole { length levels.old.each.items ≡ edit.now.ahead
         + (length (chars edit.now.near.now) + (length (chars edit.now.removed.now) + length (chars edit.now.behind.now))) }
     ensures follows { IfOk result (λ b. b ≡ true → FollowsEdit (D.class_of tables.now) (D.bracket_of tables.now) edit.now levels.old levels.new) }
@@ -93,10 +76,7 @@ fn follow_within<D: BidiData>(
     ensures none { IfOk result (λ b. b ≡ false → AreAsBefore levels.old levels.new) }
     ensures err { OnErr result (AreAsBefore levels.old levels.new) }
 {
-    let left = &edit.near[before.stop..];
-    let right = &edit.behind[..behind.start];
-    let way = way_between(before.class, behind.class);
-    if !is_bare_edit(edit, left, right, way, tables) {
+    if !is_cut_off(edit, before, behind, tables) {
         return Ok(false);
     }
     let alloc = *levels.each.allocator();
@@ -117,6 +97,7 @@ fn follow_behind<D: BidiData>(
 ) -> Result<bool, OutOfMemory>
     requires low { levels.old.paragraph ≤ 1 }
     requires before { IsStrongIn (D.class_of tables.now) edit.now.near.now before }
+    requires ahead { edit.now.ahead ≡ length (chars edit.now.front.now) }
     requires whole { length levels.old.each.items ≡ edit.now.ahead
         + (length (chars edit.now.near.now) + (length (chars edit.now.removed.now) + length (chars edit.now.behind.now))) }
     ensures follows { IfOk result (λ b. b ≡ true → FollowsEdit (D.class_of tables.now) (D.bracket_of tables.now) edit.now levels.old levels.new) }
@@ -143,6 +124,7 @@ pub(crate) fn follow<D: BidiData>(
     tables: &D,
     edit: &TextEdit<'_>,
 ) -> Result<bool, OutOfMemory>
+    requires ahead { edit.now.ahead ≡ length (chars edit.now.front.now) }
     requires whole { length levels.old.each.items ≡ edit.now.ahead
         + (length (chars edit.now.near.now) + (length (chars edit.now.removed.now) + length (chars edit.now.behind.now))) }
     ensures follows { IfOk result (λ b. b ≡ true → FollowsEdit (D.class_of tables.now) (D.bracket_of tables.now) edit.now levels.old levels.new) }

@@ -1,6 +1,7 @@
 //! What may stand between two strong characters that cut off an edit.
-ghost use Rattle.std.specs.Prelude.{◌≡◌, chars};
-ghost use Rattle.bx_paragraph.specs.Cuts.{are_bare, are_unformatted, is_bare, is_of_way, way_between};
+ghost use Rattle.std.specs.Prelude.{◌≡◌, chars, not};
+ghost use Rattle.bx_resolve.specs.Edited.{is_listed};
+ghost use Rattle.bx_paragraph.specs.Cuts.{are_bare, are_unformatted, has_no_bracket, is_bare, is_of_way, way_between};
 ghost use Rattle.bx_paragraph.specs.declared.way.Way.TheVariants.{Either};
 
 use bx_ucd::{BidiData, Class};
@@ -55,6 +56,20 @@ pub(crate) fn are_bare<D: BidiData>(text: &str, way: Way, tables: &D) -> bool
     ensures { result ≡ are_bare (D.class_of tables.now) (D.bracket_of tables.now) way text.now }
 {
     text.chars().all(|c| is_bare(c, way, tables))
+}
+
+/// Whether a character is no bracket.
+fn is_no_bracket<D: BidiData>(c: char, tables: &D) -> bool
+    ensures { result ≡ not (is_listed (D.bracket_of tables.now) c) }
+{
+    tables.bracket(c).is_none()
+}
+
+/// Whether a text has no brackets.
+pub(crate) fn has_no_bracket<D: BidiData>(text: &str, tables: &D) -> bool
+    ensures { result ≡ has_no_bracket (D.bracket_of tables.now) text.now }
+{
+    text.chars().all(|c| is_no_bracket(c, tables))
 }
 
 /// Whether a character is no formatting character.

@@ -2,13 +2,11 @@ use Rattle.std.proofs.Common.{◌≡◌, ◌∙◌, true, chars, sym, rules}
 use Rattle.bx_paragraph.proofs.Edits.{levels-follow, plain-if, stays-plain, whole-count}
 use Rattle.bx_paragraph.proofs.edited.edit_levels.Goals as goal
 
-pub follow-requires : goal.follow-requires
-follow-requires g c =
+pub follow-requires-clause-whole : goal.follow-requires-clause-whole
+follow-requires-clause-whole g c =
     let known = c.has_none.ensures (search rules) in
-    record {
-      whole = whole-count c.args.body.now c.args.changed.now c.args.edit.now c.requires.edit (g.D.BidiData.class_of c.args.tables.now)
-          (g.D.BidiData.bracket_of c.args.tables.now) c.args.base c.args.levels.now.each.items known c.requires.levels.each_is;
-    }
+    whole-count c.args.body.now c.args.changed.now c.args.edit.now c.requires.edit (g.D.BidiData.class_of c.args.tables.now)
+    (g.D.BidiData.bracket_of c.args.tables.now) c.args.base c.args.levels.now.each.items known c.requires.levels.each_is
 
 pub returns-then-branch-clause-levels : goal.returns-then-branch-clause-levels
 returns-then-branch-clause-levels g c =

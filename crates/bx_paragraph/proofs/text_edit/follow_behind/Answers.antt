@@ -1,4 +1,4 @@
-use Rattle.std.proofs.Common.{◌≡◌, ◌+◌, ◌++◌, ◌∙◌, true, chars, ap, sym, refl, rules}
+use Rattle.std.proofs.Common.{◌≡◌, ◌+◌, ◌++◌, ◌∙◌, true, chars, ap, refl, rules}
 use Rattle.std.specs.Str.{IsUtf8}
 use Rattle.bx_paragraph.specs.declared.way.Way.TheVariants.{Either}
 use Rattle.bx_paragraph.proofs.Bare.{bare-unformatted}
@@ -6,7 +6,7 @@ use Rattle.bx_paragraph.proofs.CutEdits.{bare-same, follows-behind}
 use Rattle.bx_paragraph.proofs.text_edit.follow_behind.Goals as goal
 
 pub returns-clause-follows : goal.returns-clause-follows
-returns-clause-follows g c = λ e base front size old levels.
+returns-clause-follows g c = λ e.
     let class = g.D.BidiData.class_of c.args.tables.now in
     let bracket = g.D.BidiData.bracket_of c.args.tables.now in
     let t = c.args.edit.now in
@@ -16,8 +16,8 @@ returns-clause-follows g c = λ e base front size old levels.
     let passed : c.is_bare_edit.result ≡ true = search rules in
     let bare = bare-same class bracket _ _ t _ _ _ _ refl c.range_from-left.ensures.value refl (c.is_bare_edit.ensures passed) in
     let joined = c.as_str.ensures.value ∙ c.in_ok-piece.ensures ∙ ap (λ a. a ++ (t.inserted.now ++ t.behind.now)) c.range_from-from.ensures.value in
-    follows-behind class bracket t x c.requires.before (t.ahead + x.index) front (ap (λ n. n + x.index) (sym size)) bare
-    c.args.levels.now c.follow_to_end.new.levels c.as_str.result.now near_is inserted_is joined c.in_ok-follow_to_end.ensures.law base old levels
+    follows-behind class bracket t x c.requires.before (t.ahead + x.index) (ap (λ n. n + x.index) c.requires.ahead) bare
+    c.args.levels.now c.follow_to_end.new.levels c.as_str.result.now near_is inserted_is joined c.in_ok-follow_to_end.ensures.law
 
 pub returns-clause-unformatted : goal.returns-clause-unformatted
 returns-clause-unformatted g c = λ e.

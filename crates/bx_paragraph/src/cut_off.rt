@@ -1,0 +1,79 @@
+//! Whether strong characters (UAX #9, table 4: L, R and AL) on either side cut off an edit.
+ghost use Rattle.std.specs.Prelude.{◌≡◌, true, take};
+ghost use Rattle.bx_paragraph.specs.Cuts.{are_bare, has_no_bracket, IsBareEdit, IsCutOffEdit, IsOpenEdit, IsStrongIn};
+
+use crate::strong::Strong;
+use crate::text_edit::TextEdit;
+use crate::way::{Way, are_bare, has_no_bracket, way_between};
+use bx_ucd::BidiData;
+
+/// Whether the edit and what stands on either side of it, up to the strong characters that cut it off, are of one way and have
+/// no bracket.
+pub(crate) fn is_bare_edit<D: BidiData>(
+    edit: &TextEdit<'_>,
+    left: &str,
+    right: &str,
+    way: Way,
+    tables: &D,
+) -> bool
+    ensures { result ≡ true → IsBareEdit (D.class_of tables.now) (D.bracket_of tables.now) way edit.now left.now right.now }
+{
+    if !are_bare(left, way, tables) || !are_bare(right, way, tables) {
+        return false;
+    }
+    if !are_bare(edit.removed, way, tables) {
+        return false;
+    }
+    are_bare(edit.inserted, way, tables)
+}
+
+/// Whether no bracket stands before the strong character that is before an edit.
+fn is_open_before<D: BidiData>(edit: &TextEdit<'_>, before: Strong, tables: &D) -> bool
+    requires { IsStrongIn (D.class_of tables.now) edit.now.near.now before }
+    ensures { result ≡ true → (has_no_bracket (D.bracket_of tables.now) edit.now.front.now ≡ true)
+        × (has_no_bracket (D.bracket_of tables.now) (take before.start edit.now.near.now) ≡ true) }
+{
+    if !has_no_bracket(&edit.near[..before.start], tables) {
+        return false;
+    }
+    has_no_bracket(edit.front, tables)
+}
+
+/// Whether no bracket stands before the one strong character, or none behind the other. The shorter side is looked at first.
+fn is_open<D: BidiData>(edit: &TextEdit<'_>, before: Strong, behind: Strong, tables: &D) -> bool
+    requires before { IsStrongIn (D.class_of tables.now) edit.now.near.now before }
+    requires behind { IsStrongIn (D.class_of tables.now) edit.now.behind.now behind }
+    ensures { result ≡ true → IsOpenEdit (D.bracket_of tables.now) edit.now before behind }
+{
+    if edit.front.len() < edit.behind.len() && is_open_before(edit, before, tables) {
+        return true;
+    }
+    if has_no_bracket(&edit.behind[behind.stop..], tables) {
+        return true;
+    }
+    is_open_before(edit, before, tables)
+}
+
+/// Whether an edit is cut off by the strong characters on its sides: all between them is of their way, or of any where no pair
+/// of brackets can stand around both.
+pub(crate) fn is_cut_off<D: BidiData>(
+    edit: &TextEdit<'_>,
+    before: Strong,
+    behind: Strong,
+    tables: &D,
+) -> bool
+    requires before { IsStrongIn (D.class_of tables.now) edit.now.near.now before }
+    requires behind { IsStrongIn (D.class_of tables.now) edit.now.behind.now behind }
+    ensures { result ≡ true → IsCutOffEdit (D.class_of tables.now) (D.bracket_of tables.now) edit.now before behind }
+{
+    let left = &edit.near[before.stop..];
+    let right = &edit.behind[..behind.start];
+    let way = way_between(before.class, behind.class);
+    if is_bare_edit(edit, left, right, way, tables) {
+        return true;
+    }
+    if !is_bare_edit(edit, left, right, Way::Either, tables) {
+        return false;
+    }
+    is_open(edit, before, behind, tables)
+}
