@@ -67,6 +67,14 @@ fn has_none<D: BidiData>(is_unformatted: bool, body: &str, tables: &D) -> bool
     are_unformatted(body, tables)
 }
 
+/// A body and what an edit turns it into.
+#[derive(Clone, Copy)]
+struct ChangedBody<'t> {
+    before: &'t str,
+    changed: &'t str,
+    edit: TextEdit<'t>,
+}
+
 /// Turns the levels of a body into those of what an edit turns it into; tells whether that is known to have no formatting
 /// characters. Strong characters that cut off the edit spare all levels but those between them.
 ///
@@ -74,25 +82,23 @@ fn has_none<D: BidiData>(is_unformatted: bool, body: &str, tables: &D) -> bool
 fn edit_levels<D: BidiData>(
     levels: &mut Levels,
     is_unformatted: bool,
-    body: &str,
-    changed: &str,
-    edit: &TextEdit<'_>,
+    body: &ChangedBody<'_>,
     tables: &D,
     base: Base,
 ) -> Result<bool, OutOfMemory>
-    requires edit { IsEditOf body.now changed.now edit.now }
-    requires levels { AreLevelsOf (D.class_of tables.now) (D.bracket_of tables.now) base (chars body.now) levels.old }
-    requires unformatted { is_unformatted ≡ true → HasNoFormatting (D.class_of tables.now) (chars body.now) }
-    ensures levels { OnOk result (AreLevelsOf (D.class_of tables.now) (D.bracket_of tables.now) base (chars changed.now) levels.new) }
-    ensures unformatted { IfOk result (λ b. b ≡ true → HasNoFormatting (D.class_of tables.now) (chars changed.now)) }
+    requires edit { IsEditOf body.now.before.now body.now.changed.now body.now.edit }
+    requires levels { AreLevelsOf (D.class_of tables.now) (D.bracket_of tables.now) base (chars body.now.before.now) levels.old }
+    requires unformatted { is_unformatted ≡ true → HasNoFormatting (D.class_of tables.now) (chars body.now.before.now) }
+    ensures levels { OnOk result (AreLevelsOf (D.class_of tables.now) (D.bracket_of tables.now) base (chars body.now.changed.now) levels.new) }
+    ensures unformatted { IfOk result (λ b. b ≡ true → HasNoFormatting (D.class_of tables.now) (chars body.now.changed.now)) }
     ensures err { OnErr result (AreAsBefore levels.old levels.new) }
 {
-    if has_none(is_unformatted, body, tables) && follow(levels, tables, edit)? {
+    if has_none(is_unformatted, body.before, tables) && follow(levels, tables, &body.edit)? {
         return Ok(true);
     }
     let alloc = *levels.each.allocator();
-    *levels = bx_resolve::levels(alloc, changed, tables, base)?;
-    Ok(are_unformatted(changed, tables))
+    *levels = bx_resolve::levels(alloc, body.changed, tables, base)?;
+    Ok(are_unformatted(body.changed, tables))
 }
 
 impl ParagraphLayout {
@@ -135,12 +141,15 @@ impl ParagraphLayout {
         let last = start + inserted.len();
         edited_starts(&mut self.spare.starts, &old, changed, start, last, tables)?;
         let edit = text_edit(body, &self.starts, start, stop, inserted);
+        let changed_body = ChangedBody {
+            before: body,
+            changed,
+            edit,
+        };
         self.is_unformatted = edit_levels(
             &mut self.levels,
             self.is_unformatted,
-            body,
-            changed,
-            &edit,
+            &changed_body,
             tables,
             self.base,
         )?;
