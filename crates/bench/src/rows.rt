@@ -57,17 +57,6 @@ fn slots<D: BidiData>(layout: &ParagraphLayout, tables: &D) -> Result<usize>
     Ok(count)
 }
 
-/// How many units the rows have.
-fn parts<D: BidiData>(layout: &ParagraphLayout, tables: &D) -> Result<usize>
-    requires { IsLayoutBy (D.class_of tables.now) (D.bracket_of tables.now) layout.now }
-{
-    let mut count: usize = 0;
-    for row in 0..layout.row_count() {
-        count = count.wrapping_add(layout.units_before(row, usize::MAX, tables)?);
-    }
-    Ok(count)
-}
-
 /// Does a task once, and tells of its answer.
 fn once<D: BidiData>(
     alloc: Global,
@@ -81,8 +70,6 @@ fn once<D: BidiData>(
         page(layout, tables)
     } else if task == "slots" {
         slots(layout, tables)
-    } else if task == "parts" {
-        parts(layout, tables)
     } else {
         let body = layout.body().to_owned(alloc)?;
         let again = ParagraphLayout::of(alloc, body, tables, 80, layout.base())?;

@@ -9,3 +9,4 @@ pub mod WindowTold
 pub mod PlaceBehind
 pub mod PlacesKept
 pub mod PlacesMoved
+pub mod ShownTop

@@ -1,9 +1,7 @@
 -- Rows by the offsets at which they begin: which one an offset falls in, and which begin at it or before it.
-use Rattle.std.proofs.Common.{◌≡◌, ℕ, ◌+◌, ◌-◌, ◌<◌, ◌≤◌, nat_le, Bool, true, false, List, length, map, min, get_or, Option, IsUtf8}
+use Rattle.std.proofs.Common.{◌≡◌, ℕ, ◌+◌, ◌-◌, ◌<◌, ◌≤◌, List, length, map, get_or, Option, IsUtf8}
 use Rattle.std.proofs.Common.{refl, ap, ◌∙◌, ⊎_elim, arith}
-use Rattle.std.specs.Prelude.{if◌then◌else◌}
 use Rattle.std.proofs.lemmas.Bool.{cases_lt}
-use Rattle.std.proofs.lemmas.Bool.Decides.{nat_tests}
 use Rattle.std.proofs.lemmas.List.{get_or-map, length-map}
 use Rattle.bx_ucd.specs.declared.class.Class.{Class}
 use Rattle.bx_ucd.specs.declared.data.Side.{Side}
@@ -35,20 +33,6 @@ module _ (rows : List TextRow) (high : ℕ) (rise : Rises 0 (map first rows) hig
 
   few : (offset : ℕ) → rank offset os ≤ length rows
   few offset = let some = rank-few offset os in omega (arith, some, length-map rows first)
-
-  -- a row that begins at the offset or before it is that of the offset or before it
-  pub no-later : (offset m : ℕ) → m < length rows → begins m ≤ offset → 0 < m → m ≤ row_of rows offset
-  no-later offset m h b some = ⊎_elim
-      (λ less. omega (arith, less))
-      (λ not.
-      let past = rank-not-here offset 0 0 os high m rise (omega (arith, not)) (omega (arith, h, length-map rows first)) in
-      absurd (omega (arith, past, b, begins-at m h))) (cases_lt m (rank offset os))
-
-  pub later : (offset m : ℕ) → m < length rows → offset < begins m → 0 < m → row_of rows offset < m
-  later offset m h b some = ⊎_elim
-      (λ less.
-      let here = rank-here offset 0 0 os high m rise less in absurd (omega (arith, here, b, begins-at m h)))
-      (λ not. omega (arith, not, some)) (cases_lt m (rank offset os))
 
   -- the offset at which a row begins falls in that row
   pub falls-own : (k : ℕ) → k < length rows → row_of rows (begins k) ≡ k
@@ -82,25 +66,6 @@ module _ (rows : List TextRow) (high : ℕ) (rise : Rises 0 (map first rows) hig
       let own : row_of rows o ≡ k = ap (row_of rows) e ∙ falls-own k (omega (arith, low, within)) in
       record { above = omega (arith, own, low); below = omega (arith, own, near) }
 
-  -- ---- how many of some rows, from one on, begin at the offset or before it
-
-  above-by : (offset k n above m : ℕ) (b : Bool) → nat_le (begins (k + (n + 1))) offset ≡ b → k + (n + 1) < length rows
-      → m ≡ (if b then n + 1 else above) → k ≤ row_of rows offset → above ≡ min n (row_of rows offset - k)
-      → m ≡ min (n + 1) (row_of rows offset - k)
-  above-by offset k n above m true t h e low is =
-      let here : begins (k + (n + 1)) ≤ offset = grind (arith, nat_tests) in
-      omega (arith, e, no-later offset (k + (n + 1)) h here (omega arith))
-  above-by offset k n above m false t h e low is =
-      let past : offset < begins (k + (n + 1)) = grind (arith, nat_tests) in
-      omega (arith, e, is, later offset (k + (n + 1)) h past (omega arith))
-
-  pub above-next : (offset k n above m begin : ℕ) → k + (n + 1) < length rows → begin ≡ begins (k + (n + 1))
-      → m ≡ (if nat_le begin offset then n + 1 else above) → k ≤ row_of rows offset → above ≡ min n (row_of rows offset - k)
-      → m ≡ min (n + 1) (row_of rows offset - k)
-  above-next offset k n above m begin h f e low is =
-      above-by offset k n above m (nat_le (begins (k + (n + 1))) offset) refl h
-      (e ∙ ap (λ x. if nat_le x offset then n + 1 else above) f) low is
-
 -- ---- the rows of a text
 
 pub rows-rise : (class : ℕ → Class) (bracket : ℕ → Option (Side × ℕ)) (base : Base) (w : ℕ) (text : List ℕ) → 1 ≤ w → IsUtf8 text
@@ -123,21 +88,3 @@ pub text-among : (class : ℕ → Class) (bracket : ℕ → Option (Side × ℕ)
 text-among class bracket base w text top place t o some utf8 more e =
     follow-among (text_rows class bracket base w text) _ (rows-rise class bracket base w text some utf8) top place t o more
     (rows-some class bracket base w text some utf8) e
-
--- ---- how many of those from row `k` on stand above the row of a place
-
-module _ (class : ℕ → Class) (bracket : ℕ → Option (Side × ℕ)) (base : Base) (w : ℕ) (text : List ℕ) (some : 1 ≤ w) (utf8 : IsUtf8 text)
-    (place k n above : ℕ) where
-  abbrev all : List TextRow
-  all = text_rows class bracket base w text
-
-  pub next-above : (m begin : ℕ) → k + (n + 1) < length all → begin ≡ first (row_at all (k + (n + 1)))
-      → m ≡ (if nat_le begin place then n + 1 else above) → k ≤ row_of all place → above ≡ min n (row_of all place - k)
-      → m ≡ min (n + 1) (row_of all place - k)
-  next-above m begin h f e low is =
-      above-next all _ (rows-rise class bracket base w text some utf8) place k n above m begin h f e low is
-
-  pub last-above : k + n + 1 ≡ length all → k ≤ row_of all place → above ≡ min n (row_of all place - k) → above ≡ row_of all place - k
-  last-above e low is =
-      let within = falls-within all _ (rows-rise class bracket base w text some utf8) place (rows-some class bracket base w text some utf8) in
-      omega (arith, e, low, is, within)

@@ -21,7 +21,7 @@ use Rattle.bx_view.specs.TextRows.{text_rows}
 use Rattle.bx_view.proofs.Begins.{begin_at, drop_parts, no_chars, some_chars, take_parts}
 use Rattle.bx_view.proofs.Cutting.{parts_ahead, parts_behind}
 use Rattle.bx_view.proofs.LeastPlace.{place_before_back, place_behind_front}
-use Rattle.bx_view.proofs.Numbers.{behind, falls-at, holds-of, lengths-count, some-paragraph}
+use Rattle.bx_view.proofs.Numbers.{falls-at, holds-of, lengths-count, some-paragraph}
 use Rattle.bx_document.specs.Window.{window, window_start, window_stop}
 
 module _ (class : ℕ → Class) (text : List ℕ) (utf8 : IsUtf8 text) where

@@ -80,26 +80,17 @@ fn draw_row<D: BidiData>(
     Ok(())
 }
 
-/// The number of a row that begins at `first`, if that is at a place or before it, else the number of one before.
-fn nearest_row(before: u16, row: u16, first: usize, place: usize) -> u16
-    ensures { result ≡ (if nat_le first place then row else before) }
-{
-    if first <= place { row } else { before }
-}
-
-/// Draws so many rows of the text into the first rows of a blank grid, from one on, and answers how many rows from that
-/// one on stand above the row of a place.
+/// Draws so many rows of the text into the first rows of a blank grid, from one on.
 ///
 /// Errors: `OutOfMemory`.
 pub(crate) fn draw_rows<D: BidiData>(
     layout: &mut Layout,
     source: &Source<'_, D>,
     at: RowAt,
-    place: usize,
     grid: &mut Grid,
     count: u16,
     cache: &mut RowCache,
-) -> Result<u16, DocumentError>
+) -> Result<(), DocumentError>
     requires data { IsViewBy source.now layout.old }
     requires row { Stands source.now layout.old at }
     requires some { 0 < count }
@@ -114,10 +105,6 @@ pub(crate) fn draw_rows<D: BidiData>(
               (take count (drop k (rows source.now layout.old)))
               ++ replicate ((grid.old.height - count) * grid.old.width) blank;
         }) }
-    ensures row { (k : ℕ) → StandsOn source.now layout.old at k
-        → k ≤ row_of (rows source.now layout.old) place
-        → row_of (rows source.now layout.old) place < k + count
-        → IfOk result (λ n. n ≡ row_of (rows source.now layout.old) place - k) }
     ensures cache { AreDrawnBy (⟦<D as Answers>⟧.data source.now.tables.now) cache.new }
     ensures memory { OnErr result (IsErrOf result DocumentError.OutOfMemory) }
 {
@@ -126,15 +113,13 @@ pub(crate) fn draw_rows<D: BidiData>(
     draw_row(layout, source, at, grid, 0, count, cache)?;
     let mut here = at;
     let mut row = 0;
-    let mut above = 0;
     while row + 1 < count {
         let Some(next) = layout.next_row(source, here)? else {
-            return Ok(above);
+            return Ok(());
         };
         here = next;
         row += 1;
-        above = nearest_row(above, row, layout.first_in(source, here), place);
         draw_row(layout, source, here, grid, row, count, cache)?;
     }
-    Ok(above)
+    Ok(())
 }

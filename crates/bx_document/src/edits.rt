@@ -3,7 +3,7 @@ ghost use Rattle.std.specs.Prelude.{◌≡◌, ℕ, List, [], Some, true, false,
 ghost use Rattle.bx_paras.specs.Paragraphs.{lengths};
 ghost use Rattle.bx_text.specs.Edits.{IsRange, Leads, fits, next_redo, next_undo, redone, splice, undone};
 ghost use Rattle.bx_view.specs.Places.{IsTextPlace};
-ghost use Rattle.bx_view.specs.Source.{IsViewBy, Keeps};
+ghost use Rattle.bx_view.specs.Holding.{IsViewBy, Keeps};
 ghost use Rattle.bx_document.specs.Document.{after_insertion, after_removal, place_behind};
 
 use crate::answers::Answers;
@@ -14,7 +14,7 @@ use bx_paras::Index;
 use bx_terms::LARGEST_TEXT;
 use bx_text::{Change, Text};
 use bx_ucd::BidiData;
-use bx_view::{Layout, Source};
+use bx_view::{HeldRange, Layout, Source};
 
 /// Follows an edit, where room was made for as many separators as it adds bytes. No memory.
 fn follow<D: BidiData>(index: &mut Index, text: &Text, tables: &D, change: &Change)
@@ -30,24 +30,38 @@ fn follow<D: BidiData>(index: &mut Index, text: &Text, tables: &D, change: &Chan
     index.edited(text, tables, change);
 }
 
-/// Lays out what is held of a paragraph as a change will leave it that only removes. After one that adds, the paragraph is laid out
-/// anew when it is looked for.
-///
-/// Errors: `OutOfMemory`.
-fn follow_removal<D: BidiData>(
+/// Where a change that is to be made of the text stands in what is held of its paragraph, if it does. No memory.
+fn held_change<D: BidiData>(
     layout: &mut Layout,
     source: &Source<'_, D>,
     change: &Change,
-) -> Result<(), DocumentError>
-    requires data { IsViewBy source.now layout.old }
-    ensures keeps { Keeps source.now layout.old layout.new }
-    ensures memory { OnErr result (IsErrOf result DocumentError.OutOfMemory) }
+) -> Option<HeldRange>
+    ensures { layout.new ≡ layout.old }
 {
-    if change.added == 0 {
-        let stop = change.start.saturating_add(change.removed);
-        let _place = layout.edit(source, change.start, stop, "")?;
-    }
-    Ok(())
+    let stop = change.start.saturating_add(change.removed);
+    layout.held_range(source, change.start, stop)
+}
+
+/// Has what is held of a paragraph follow a change that was made of the text. What is held serves without it too, and the
+/// paragraph is laid out anew then: so it is left where memory runs out.
+fn follow_in_layout<D: BidiData>(
+    layout: &mut Layout,
+    held: Option<HeldRange>,
+    text: &Text,
+    tables: &D,
+    change: &Change,
+)
+    requires data { IsViewBy (D.class_of tables.now) (D.bracket_of tables.now) layout.old }
+    ensures keeps { Keeps (D.class_of tables.now) (D.bracket_of tables.now) layout.old layout.new }
+{
+    let Some(range) = held else {
+        return;
+    };
+    let stop = change.start.saturating_add(change.added);
+    let Ok(new) = text.copy_range(change.start, stop) else {
+        return;
+    };
+    let _followed = layout.follow_edit(range, new.as_str(), tables);
 }
 
 impl<D: BidiData + Drop> Document<D> {
@@ -156,12 +170,13 @@ impl<D: BidiData + Drop> Document<D> {
             index: &self.index,
             tables: &self.tables,
         };
-        follow_removal(&mut self.layout, &source, &next)?;
+        let held = held_change(&mut self.layout, &source, &next);
         self.index.ready(next.added)?;
         let Ok(Some(change)) = self.text.undo() else {
             return Err(DocumentError::OutOfMemory);
         };
         follow(&mut self.index, &self.text, &self.tables, &change);
+        follow_in_layout(&mut self.layout, held, &self.text, &self.tables, &change);
         Ok(Some(change.place))
     }
 
@@ -185,12 +200,13 @@ impl<D: BidiData + Drop> Document<D> {
             index: &self.index,
             tables: &self.tables,
         };
-        follow_removal(&mut self.layout, &source, &next)?;
+        let held = held_change(&mut self.layout, &source, &next);
         self.index.ready(next.added)?;
         let Ok(Some(change)) = self.text.redo() else {
             return Err(DocumentError::OutOfMemory);
         };
         follow(&mut self.index, &self.text, &self.tables, &change);
+        follow_in_layout(&mut self.layout, held, &self.text, &self.tables, &change);
         Ok(Some(change.place))
     }
 }

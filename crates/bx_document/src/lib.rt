@@ -17,3 +17,4 @@ pub use answers::Answers;
 pub use document::Document;
 pub use drawing::put_row;
 pub use error::DocumentError;
+pub use shown::Shown;

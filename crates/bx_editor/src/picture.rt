@@ -1,8 +1,9 @@
 //! The picture of an editor.
 ghost use Rattle.std.specs.Prelude.{◌≡◌, ◌*◌, ◌≤◌, ◌++◌, false, true, IfOk, OnOk, take};
 ghost use Rattle.bx_terms.specs.Sizes.{is_side};
+ghost use Rattle.bx_view.specs.Position.{IsPosition};
 ghost use Rattle.bx_document.specs.Drawing.{IsBlankFrom};
-ghost use Rattle.bx_editor.specs.Editor.{text_height};
+ghost use Rattle.bx_editor.specs.Editor.{rows, text_height};
 ghost use Rattle.bx_editor.specs.Picture.{StandsOnItsCell, next_top, picture};
 ghost use Rattle.bx_editor.specs.Status.{status_columns};
 
@@ -12,6 +13,7 @@ use crate::status::{cut, put_text, status_line};
 use bx_document::Answers;
 use bx_grid::{Cell, Grid, Picture};
 use bx_ucd::BidiData;
+use bx_view::Position;
 use std::alloc::Global;
 
 /// How many rows of text a window shows: its last row is for the status, unless it is the only one.
@@ -25,25 +27,35 @@ pub(crate) fn text_height(height: u16) -> u16
 }
 
 impl<D: BidiData + Drop> Editor<D> {
-    /// Puts the status row into a grid that is blank behind the rows of text, where the window has a row for it.
+    /// Puts the status row into a grid that is blank behind the rows of text, where the window has a row for it, by where the
+    /// cursor stands.
     ///
     /// Errors: `OutOfMemory`.
-    fn put_status(&mut self, alloc: Global, grid: &mut Grid) -> Result<(), EditorError>
-        requires height { grid.old.height ≡ self.old.editor.height }
-        requires width { grid.old.width ≡ self.old.editor.width }
-        requires blank { IsBlankFrom grid.old (text_height self.old.editor.height) }
-        ensures same { self.new ≡ self.old }
+    fn put_status(
+        &self,
+        alloc: Global,
+        grid: &mut Grid,
+        position: Position,
+    ) -> Result<(), EditorError>
+        requires height { grid.old.height ≡ self.now.editor.height }
+        requires width { grid.old.width ≡ self.now.editor.width }
+        requires blank { IsBlankFrom grid.old (text_height self.now.editor.height) }
+        requires position { IsPosition (D.class_of self.now.tables) self.now.editor.width self.now.editor.content.text
+            (rows (⟦<D as Answers>⟧.data self.now.tables) self.now.editor) self.now.editor.place position }
         ensures status { OnOk result (grid.new ≡ record grid.old {
-          columns = take (text_height self.old.editor.height * self.old.editor.width) grid.old.columns
-              ++ status_columns (⟦<D as Answers>⟧.data self.old.tables) self.old.editor;
+          columns = take (text_height self.now.editor.height * self.now.editor.width) grid.old.columns
+              ++ status_columns (⟦<D as Answers>⟧.data self.now.tables) self.now.editor;
         }) }
     {
         let _columns = grid.columns();
         if self.height < 2 {
             return Ok(());
         }
-        let paragraph = self.document.paragraph_number(self.place);
-        let unit = self.document.unit_number(self.place)?;
+        let Position {
+            paragraph,
+            unit,
+            ..
+        } = position;
         let line = status_line(alloc, self.changed, paragraph, unit, self.message)?;
         let width = usize::from(self.document.width());
         put_text(grid, self.height - 1, cut(line.as_str(), width))?;
@@ -69,15 +81,13 @@ impl<D: BidiData + Drop> Editor<D> {
         // tells the proof that the text is UTF-8
         let _utf8 = self.document.len();
         let count = text_height(self.height);
-        let top = self.document.follow(top, self.place, usize::from(count))?;
-        let row = self.document.draw(&mut grid, top, self.place, count)?;
+        let shown = self.document.show(&mut grid, top, self.place, count)?;
         let _columns = grid.columns();
-        let column = self.document.cell_of(self.place)?;
-        self.put_status(alloc, &mut grid)?;
+        self.put_status(alloc, &mut grid, shown.position)?;
         let cursor = Cell {
-            line: row + 1,
-            column,
+            line: shown.row + 1,
+            column: shown.position.column,
         };
-        Ok((top, Picture::new(grid, cursor)))
+        Ok((shown.top, Picture::new(grid, cursor)))
     }
 }

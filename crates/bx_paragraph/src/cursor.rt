@@ -2,12 +2,12 @@
 ghost use Rattle.std.specs.Prelude.{◌≡◌, ◌<◌, ◌++◌, ◌∷◌, [], true, false, IfOk, length, map};
 ghost use Rattle.bx_paragraph.specs.BodyRows.{last_of, offsets_of};
 ghost use Rattle.bx_paragraph.specs.Layout.{IsLayoutBy, row_by};
-ghost use Rattle.bx_paragraph.specs.Slots.{beside, column_of, covering, entry, opposite, or_else};
+ghost use Rattle.bx_paragraph.specs.Slots.{beside, covering, entry, opposite, or_else};
 ghost use Rattle.bx_paragraph.specs.Slots.{reading_end, reading_side, reading_start, slot_offsets, toward};
 
 use crate::layout::ParagraphLayout;
 use crate::moves::Visual;
-use crate::reading::{column_in, covering_in, first_in, last_offset, next_in, offsets_toward};
+use crate::reading::{covering_in, first_in, last_offset, next_in, offsets_toward};
 use crate::row_parts::RowParts;
 use bx_cells::Unit;
 use bx_terms::OutOfMemory;
@@ -148,23 +148,6 @@ impl ParagraphLayout {
         let side = opposite(reading_side(self.level()));
         let offsets = self.toward(row, side, tables)?;
         Ok(first_in(&offsets))
-    }
-
-    /// The column, from 1, of the slot at an offset in a row; 1 where none stands there.
-    ///
-    /// Errors: `OutOfMemory`.
-    pub fn column_of<D: BidiData>(
-        &self,
-        row: usize,
-        offset: usize,
-        tables: &D,
-    ) -> Result<u16, OutOfMemory>
-        requires data { IsLayoutBy (D.class_of tables.now) (D.bracket_of tables.now) self.now }
-        requires row { row < length self.now.starts }
-        ensures { IfOk result (λ c. c ≡ column_of self.now.w (row_by (D.class_of tables.now) (D.bracket_of tables.now) self.now row) offset) }
-    {
-        let slots = self.slots(row, tables)?;
-        Ok(column_in(&slots, offset))
     }
 
     /// The offset at which a row is entered in a column, from 1: that of the unit that covers it, else the row's reading end.

@@ -10,7 +10,6 @@ mod edited_rows;
 mod laws;
 mod layout;
 mod moves;
-mod numbers;
 mod reading;
 mod row_edit;
 mod row_parts;

@@ -4,8 +4,8 @@ ghost use Rattle.bx_paragraph.specs.Layout.{IsLayoutBy, row_by};
 ghost use Rattle.bx_paragraph.specs.Slots.{column_of};
 
 use crate::layout::ParagraphLayout;
-use crate::numbers::count_before;
 use crate::reading::column_in;
+use bx_cells::Unit;
 use bx_terms::OutOfMemory;
 use bx_ucd::BidiData;
 
@@ -16,6 +16,13 @@ pub struct Standing {
     pub column: u16,
     /// How many units of the row begin before it.
     pub units_before: usize,
+}
+
+/// How many of some units begin before an offset.
+fn count_before(units: &[Unit], offset: usize) -> usize
+    ensures { result ≡ count_by (λ u. nat_lt u.start offset) units.now }
+{
+    units.iter().filter(|u| u.start < offset).count()
 }
 
 impl ParagraphLayout {

@@ -1,6 +1,6 @@
 -- A row is entered, in whatever column, at one of its places.
-use Rattle.std.proofs.Common.{◌≡◌, ℕ, zero, suc, ◌+◌, ◌<◌, ◌≤◌, ◌==◌, Bool, true, false, List, [], ◌∷◌, ◌++◌, map, length, reverse, get_or, find, cond}
-use Rattle.std.proofs.Common.{Option, Some, None, option_map, IsUtf8, refl, sym, ap, subst, ◌∙◌, arith}
+use Rattle.std.proofs.Common.{ℕ, zero, suc, ◌+◌, ◌<◌, ◌≤◌, Bool, true, false, List, [], ◌∷◌, map, length, reverse, get_or, find, cond}
+use Rattle.std.proofs.Common.{Option, Some, None, option_map, IsUtf8, ap, arith}
 use Rattle.std.specs.Prelude.{Contains, MatchOption}
 use Rattle.std.proofs.lemmas.List.{length-map, length-reverse}
 use Rattle.std.proofs.lemmas.List.Elements.{Contains-get_or}
@@ -16,7 +16,7 @@ use Rattle.bx_paragraph.specs.Slots.{reading_side, row_slots, slot_offsets, towa
 use Rattle.bx_paragraph.proofs.OnceEach.{once-each}
 use Rattle.bx_view.specs.Cells.{IsEntered, times}
 use Rattle.bx_view.specs.Moves.{place_in}
-use Rattle.bx_view.specs.TextRows.{TextRow, first, no_text_row, places_of, row_at, text_rows}
+use Rattle.bx_view.specs.TextRows.{TextRow, no_text_row, places_of, row_at, text_rows}
 use Rattle.bx_view.proofs.KeptPlaces.{HasLevels, contains-counted, contains-moved, counted-contains, one-at, reordered-contains, rows-leveled, within-of}
 use Rattle.bx_view.proofs.PlacesRise.{AllHeads, IsHead, rows-headed-in}
 use Rattle.bx_view.proofs.Within.{Lies, Within, within-reverse}

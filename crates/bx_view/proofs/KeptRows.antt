@@ -39,6 +39,15 @@ module _ (class : ℕ → Class) (bracket : ℕ → Option (Side × ℕ)) (old v
       → o ≡ first (row_at rows (row_of rows place))
   own-told o e = e ∙ ap (λ rs. first (row_at rs (row_of rs place))) (rows-kept class bracket old v text keeps)
 
+  -- where the row of the place begins, by a later state
+  pub begins-kept : (later : ViewState) → Keeps class bracket old later → (o : ℕ)
+      → o ≡ first (row_at (rows_by class bracket v text) (row_of (rows_by class bracket v text) place))
+      → (row_of rows place < length (rows_by class bracket later text)) × (o ≡ first (row_at (rows_by class bracket later text) (row_of rows place)))
+  begins-kept later further o e =
+      let same = rows-kept class bracket old later text further in
+      let within = own-within in
+      (omega (arith, within, ap length same), own-told o e ∙ ap (λ rs. first (row_at rs (row_of rows place))) (sym same))
+
   -- of a row that is found later
   pub far-told : {A : Type 0} (later : ViewState) → Keeps class bracket old later → (F : TextRow → A) (number : List TextRow → ℕ)
       → F (row_at (rows_by class bracket later text) (number (rows_by class bracket v text))) ≡ F (row_at rows (number rows))

@@ -6,6 +6,7 @@ ghost use Rattle.bx_paras.specs.Paragraphs.{is_separator};
 ghost use Rattle.bx_text.specs.Edits.{splice};
 ghost use Rattle.bx_view.specs.BodyPlaces.{place_in_body};
 ghost use Rattle.bx_view.specs.Cursor.{rows_by};
+ghost use Rattle.bx_view.specs.Holding as holding;
 ghost use Rattle.bx_view.specs.Moves.{place_from};
 ghost use Rattle.bx_view.specs.Source.{IsViewBy, Keeps, bytes};
 
@@ -17,6 +18,15 @@ use crate::source::Source;
 use crate::span::paragraph_under;
 use bx_paragraph::ParagraphLayout;
 use bx_ucd::{BidiData, Class};
+
+/// A range of bytes in the body of a paragraph that is held.
+#[derive(Clone, Copy)]
+pub struct HeldRange {
+    // which of those that are held it is
+    held: usize,
+    start: usize,
+    stop: usize,
+}
 
 /// Whether a character separates paragraphs.
 fn separates<D: BidiData>(c: char, tables: &D) -> bool
@@ -105,5 +115,48 @@ impl Layout {
         let offset = start - first + new.len();
         let place = place_in_body(&self.held[i], offset, source.tables)?;
         Ok(Some(first + place))
+    }
+    /// The range of a text as one of a paragraph that is held; none where the paragraph is not held, or the range goes beyond it.
+    /// No memory.
+    pub fn held_range<D: BidiData>(
+        &mut self,
+        source: &Source<'_, D>,
+        start: usize,
+        stop: usize,
+    ) -> Option<HeldRange>
+        ensures { self.new ≡ self.old }
+    {
+        let (_, first, last) = paragraph_under(source, start);
+        if stop < start || last < stop {
+            return None;
+        }
+        let held = position(&self.held, self.recent, source.text, first, last)?;
+        self.recent = held;
+        Some(HeldRange {
+            held,
+            start: start - first,
+            stop: stop - first,
+        })
+    }
+
+    /// Lays a paragraph that is held out as an edit leaves it that puts characters in the place of a range, unless one of them
+    /// separates paragraphs.
+    ///
+    /// Errors: `OutOfMemory`.
+    pub fn follow_edit<D: BidiData>(
+        &mut self,
+        range: HeldRange,
+        new: &str,
+        tables: &D,
+    ) -> Result<(), ViewError>
+        requires data { holding.IsViewBy (D.class_of tables.now) (D.bracket_of tables.now) self.old }
+        ensures keeps { holding.Keeps (D.class_of tables.now) (D.bracket_of tables.now) self.old self.new }
+    {
+        let HeldRange { held, start, stop } = range;
+        if held >= self.held.len() || stop < start || has_separator(new, tables) {
+            return Ok(());
+        }
+        let _followed = edit_in(&mut self.held, held, start..stop, new, tables, self.base)?;
+        Ok(())
     }
 }

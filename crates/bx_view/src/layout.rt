@@ -2,6 +2,8 @@
 ghost use Rattle.std.specs.Prelude.{◌≡◌, ℕ, ◌<◌, ◌≤◌, [], true, length, slice_range, IfOk};
 ghost use Rattle.std.specs.Str.{IsCharBoundary};
 ghost use Rattle.bx_terms.specs.Sizes.{is_side};
+ghost use Rattle.bx_paras.specs.Paragraphs.{lengths};
+ghost use Rattle.bx_paras.specs.Positions.{paragraph_of};
 ghost use Rattle.bx_text.specs.Edits.{IsRange, largest_text};
 ghost use Rattle.bx_view.specs.Cursor.{IsSameAtEnd};
 ghost use Rattle.bx_view.specs.Holding.{HoldsBody};
@@ -147,6 +149,7 @@ impl Layout {
         requires data { IsViewBy source.now self.old }
         ensures keeps { Keeps source.now self.old self.new }
         ensures row { IfOk result (λ at. StandsOn source.now self.new at (row_of (rows source.now self.new) offset)) }
+        ensures paragraph { IfOk result (λ at. at.paragraph ≡ paragraph_of (lengths (D.class_of source.now.tables.now) (bytes source.now)) offset) }
         ensures order { IfOk result (λ at. at.start ≤ offset) }
     {
         let (number, start, stop) = paragraph_under(source, offset);
@@ -236,6 +239,37 @@ impl Layout {
         }))
     }
 
+    /// The row that an offset of the text falls in, where another row is found: in the paragraph of that one nothing is looked
+    /// for.
+    ///
+    /// Errors: `OutOfMemory`.
+    pub(crate) fn row_near<D: BidiData>(
+        &mut self,
+        source: &Source<'_, D>,
+        at: RowAt,
+        offset: usize,
+    ) -> Result<RowAt, ViewError>
+        requires data { IsViewBy source.now self.old }
+        requires row { Stands source.now self.old at }
+        ensures keeps { Keeps source.now self.old self.new }
+        ensures row { IfOk result (λ at. StandsOn source.now self.new at (row_of (rows source.now self.new) offset)) }
+        ensures paragraph { IfOk result (λ at. at.paragraph ≡ paragraph_of (lengths (D.class_of source.now.tables.now) (bytes source.now)) offset) }
+        ensures order { IfOk result (λ at. at.start ≤ offset) }
+    {
+        let (number, start, _) = paragraph_under(source, offset);
+        if number == at.paragraph {
+            let paragraph = self.paragraph(source, number, at.held);
+            return Ok(RowAt {
+                paragraph: number,
+                start,
+                row: paragraph.row_of(offset - start),
+                held: at.held,
+            });
+        }
+        let there = self.row_at(source, offset)?;
+        Ok(there)
+    }
+
     /// The column, from 1, of the cell of a place.
     ///
     /// Errors: `OutOfMemory`.
@@ -249,9 +283,8 @@ impl Layout {
         ensures cell { IfOk result (λ column. column ≡ cell_of self.old.w (rows source.now self.old) place) }
     {
         let at = self.row_at(source, place)?;
-        let paragraph = self.paragraph(source, at.paragraph, at.held);
-        let column = paragraph.column_of(at.row, place - at.start, source.tables)?;
-        Ok(column)
+        let position = self.position(source, at, place)?;
+        Ok(position.column)
     }
 
     /// The first offset of the row that a place falls in.

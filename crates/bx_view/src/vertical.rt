@@ -101,15 +101,15 @@ impl Layout {
         ensures place { IfOk result (λ o. o ≡ rows_away self.old.w (rows source.now self.old) way count place) }
         ensures boundary { IsCharBoundary (bytes source.now) place → IfOk result (λ o. IsCharBoundary (bytes source.now) o) }
     {
-        let column = self.cell_of(source, place)?;
         let at = self.row_at(source, place)?;
+        let position = self.position(source, at, place)?;
         let own = self.first_in(source, at);
         let there = self.row_away(source, way, count, at)?;
         let first = self.first_in(source, there);
         if first == own {
             return Ok(place);
         }
-        let entry = self.entry(source, there, column)?;
+        let entry = self.entry(source, there, position.column)?;
         Ok(entry.unwrap_or(place))
     }
 }

@@ -67,7 +67,7 @@ fn add_steps<D: BidiData>(
     let left = layout
         .beside(row, Visual::Left, first, source)?
         .unwrap_or(99);
-    let column = layout.column_of(row, first, source)?;
+    let column = layout.standing(row, first, source)?.column;
     let entry = layout.entry(row, 2, source)?.unwrap_or(99);
     line.push_str(format!(in alloc; "; {left} {right} {column} {entry}|")?.as_str())?;
     Ok(())

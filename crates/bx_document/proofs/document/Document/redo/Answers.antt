@@ -7,7 +7,7 @@ pub invariant_of-self-2 : goal.invariant_of-self-2
 invariant_of-self-2 g c =
     let class = g.D.BidiData.class_of c.self.inside.tables in
     let keeps = keeps_redone class c.self.inside.text.edited c.redo.new.self.edited c.in-Ok-Some.ensures.ok c.self.invariant.2 in
-    (c.follow.ensures, c.follow_removal.ensures.keeps.held, keeps, c.self.invariant.3)
+    (c.follow.ensures, c.follow_in_layout.ensures.keeps.held, keeps, c.self.invariant.3)
 
 pub returns-clause-text_place : goal.returns-clause-text_place
 returns-clause-text_place g c =

@@ -1,7 +1,7 @@
-use Rattle.std.proofs.Common.{◌≡◌, ◌+◌, ◌-◌, ◌*◌, ◌≤◌, ◌∙◌, ◌++◌, List, IsUtf8, ap, ap₂, arith, replicate, subst, sym, take}
+use Rattle.std.proofs.Common.{◌≡◌, ◌+◌, ◌-◌, ◌*◌, ◌≤◌, ◌∙◌, ◌++◌, List, IsUtf8, ap, ap₂, arith, subst, sym, take}
 use Rattle.std.specs.Prelude.{if◌then◌else◌}
-use Rattle.bx_grid.specs.Columns.{blank}
 use Rattle.bx_view.specs.Places.{IsTextPlace}
+use Rattle.bx_view.specs.Position.{IsPosition}
 use Rattle.bx_view.specs.TextRows.{TextRow, cell_of, row_of}
 use Rattle.bx_view.specs.Top.{follow, shown_rows}
 use Rattle.bx_view.proofs.Told.{side-some}
@@ -20,9 +20,28 @@ put_status-requires-clause-blank g c =
     let i = c.self.inside in
     let n = c.text_height-count.result in
     let high = ap (λ x. x.height) c.in_ok-grid.ensures.ok in
-    subst (λ t. IsBlankFrom c.draw.new.grid t) c.text_height-count.ensures.rows
-    (drawn-blank c.in_ok-grid.grid c.draw.new.grid _ n (omega (arith, high, c.text_height-count.ensures.inside))
-    c.columns-columns.ensures.grid.sized.each c.in_ok-row.ensures.drawn)
+    subst (λ t. IsBlankFrom c.show.new.grid t) c.text_height-count.ensures.rows
+    (drawn-blank c.in_ok-grid.grid c.show.new.grid _ n (omega (arith, high, c.text_height-count.ensures.inside))
+    c.columns-columns.ensures.grid.sized.each c.in_ok-shown.ensures.drawn)
+
+pub put_status-requires-clause-position : goal.put_status-requires-clause-position
+put_status-requires-clause-position g c =
+    let i = c.self.inside in
+    subst (λ doc. IsPosition (g.D.BidiData.class_of doc.tables) doc.document.w doc.document.content.text (rows (record {
+      class = g.D.BidiData.class_of doc.tables;
+      bracket = g.D.BidiData.bracket_of doc.tables;
+      mirror = g.D.BidiData.mirror_of doc.tables;
+    }) (record {
+      content = doc.document.content;
+      place = i.place;
+      changed = i.changed;
+      message = i.message;
+      quit_before = i.quit_before;
+      ended = i.ended;
+      base = doc.document.base;
+      height = i.height;
+      width = doc.document.w;
+    })) i.place c.in_ok-shown.shown.position) (sym c.show.ensures.same) c.in_ok-shown.ensures.position
 
 pub returns-clause-top : goal.returns-clause-top
 returns-clause-top g c =
@@ -43,13 +62,13 @@ returns-clause-top g c =
       height = i.height;
       width = i.document.document.w;
     }) in
-    let count = c.from.ensures ∙ c.text_height-count.ensures.rows in
-    subst (λ s. c.in_ok-top.top ≡ next_top (record {
+    let count = c.text_height-count.ensures.rows in
+    subst (λ s. c.in_ok-shown.shown.top ≡ next_top (record {
       class = g.D.BidiData.class_of s.tables;
       bracket = g.D.BidiData.bracket_of s.tables;
       mirror = g.D.BidiData.mirror_of s.tables;
     }) s.editor c.args.top) c.self.view_is
-    (c.in_ok-top.ensures.top ∙ ap (follow (rows d e) c.args.top i.place) count
+    (c.in_ok-shown.ensures.top ∙ ap (follow (rows d e) c.args.top i.place) count
     ∙ sym (ap (λ b. if b then c.args.top else follow (rows d e) c.args.top i.place (text_height i.height)) c.if-self.false))
 
 pub returns-clause-picture : goal.returns-clause-picture
@@ -72,37 +91,14 @@ returns-clause-picture g c =
       width = i.document.document.w;
     }) in
     let all : List TextRow = rows d e in
-    let top = c.in_ok-top.top in
+    let top = c.in_ok-shown.shown.top in
     let n = c.text_height-count.result in
     let was = c.in_ok-grid.grid in
-    let mid = c.draw.new.grid in
+    let mid = c.show.new.grid in
     let new = c.put_status.new.grid in
-    let same1 = c.follow.ensures.same in
-    let same2 = c.draw.ensures.same ∙ same1 in
-    let same3 = c.cell_of.ensures.same ∙ same2 in
-    let drawn = subst (λ doc. mid ≡ record was {
-      columns = shown_columns (record {
-        class = g.D.BidiData.class_of doc.tables;
-        bracket = g.D.BidiData.bracket_of doc.tables;
-        mirror = g.D.BidiData.mirror_of doc.tables;
-      }) doc.document top n ++ replicate ((was.height - n) * was.width) blank;
-    }) same1 c.in_ok-row.ensures.drawn in
-    let row = subst (λ doc. c.in_ok-row.row ≡ row_of (document_rows (record {
-      class = g.D.BidiData.class_of doc.tables;
-      bracket = g.D.BidiData.bracket_of doc.tables;
-      mirror = g.D.BidiData.mirror_of doc.tables;
-    }) doc.document) i.place
-    - row_of (document_rows (record {
-      class = g.D.BidiData.class_of doc.tables;
-      bracket = g.D.BidiData.bracket_of doc.tables;
-      mirror = g.D.BidiData.mirror_of doc.tables;
-    }) doc.document) top) same1 c.in_ok-row.ensures.row in
-    let cell = subst (λ doc. c.in_ok-column.column ≡ cell_of doc.document.w (document_rows (record {
-      class = g.D.BidiData.class_of doc.tables;
-      bracket = g.D.BidiData.bracket_of doc.tables;
-      mirror = g.D.BidiData.mirror_of doc.tables;
-    }) doc.document) i.place) same2
-    c.in_ok-column.ensures.cell in
+    let drawn = c.in_ok-shown.ensures.drawn in
+    let row = c.in_ok-shown.ensures.row in
+    let cell = c.in_ok-shown.ensures.position.column in
     let status = subst (λ doc. new ≡ record mid {
       columns = take (text_height i.height * doc.document.w) mid.columns ++ status_columns (record {
         class = g.D.BidiData.class_of doc.tables;
@@ -119,7 +115,7 @@ returns-clause-picture g c =
         height = i.height;
         width = doc.document.w;
       });
-    }) same3 c.in_ok-put_status.ensures.status in
+    }) c.show.ensures.same c.in_ok-put_status.ensures.status in
     let high = ap (λ x. x.height) c.in_ok-grid.ensures.ok in
     let wide = ap (λ x. x.width) drawn ∙ ap (λ x. x.width) c.in_ok-grid.ensures.ok ∙ c.width.ensures.width in
     let front = drawn-front was mid (shown_columns d i.document.document top n) n (omega (arith, high, c.text_height-count.ensures.inside))
@@ -134,7 +130,7 @@ returns-clause-picture g c =
       mirror = g.D.BidiData.mirror_of s.tables;
     }) s.editor top) c.self.view_is
     (picture-is new (rows_columns d e.width (text_height e.height) (shown_rows all top (text_height e.height)) ++ status_columns d e) e.height e.width
-    (row_of all e.place - row_of all top) (cell_of e.width all e.place) (c.in_ok-row.row + 1) c.in_ok-column.column c.new-2.result c.new-2.ensures
+    (row_of all e.place - row_of all top) (cell_of e.width all e.place) (c.in_ok-shown.shown.row + 1) c.in_ok-shown.shown.position.column c.new-2.result c.new-2.ensures
     (ap (λ x. x.height) status ∙ ap (λ x. x.height) drawn ∙ high) (ap (λ x. x.width) status ∙ wide)
     (ap (λ x. x.columns) status ∙ ap (λ cs. cs ++ status_columns d e) shown) (ap (λ k. k + 1) row) cell
     ∙ sym (ap (λ b. if b then blank_picture e.height e.width else text_picture d e top all) c.if-self.false))
@@ -143,8 +139,8 @@ pub returns-clause-cursor : goal.returns-clause-cursor
 returns-clause-cursor g c = λ live.
     let i = c.self.inside in
     let same = c.self.view_is in
-    let top = c.in_ok-top.top in
-    let count = c.from.ensures ∙ c.text_height-count.ensures.rows in
+    let top = c.in_ok-shown.shown.top in
+    let count = c.text_height-count.ensures.rows in
     let some = subst (λ s. 1 ≤ s.editor.width) same (side-some i.document.document.w c.width.ensures.side) in
     let utf8 = subst (λ s. IsUtf8 s.editor.content.text) same c.len-utf8.ensures.utf8 in
     let place = subst (λ s. IsTextPlace (g.D.BidiData.class_of s.tables) s.editor.content.text s.editor.place) same c.self.invariant.0 in
@@ -157,7 +153,7 @@ returns-clause-cursor g c = λ live.
       class = g.D.BidiData.class_of i.document.tables;
       bracket = g.D.BidiData.bracket_of i.document.tables;
       mirror = g.D.BidiData.mirror_of i.document.tables;
-    }) i.document.document) top i.place n) count c.in_ok-top.ensures.among) in
+    }) i.document.document) top i.place n) count c.in_ok-shown.ensures.among) in
     let now = c.args.self.now in
     let e : Editor = now.editor in
     let d : Data = (record {

@@ -1,14 +1,14 @@
-use Rattle.std.proofs.Common.{◌≡◌, false, ◌-◌, ◌*◌, ◌∙◌, ◌++◌, ap, ap₂, arith, refl, subst, sym, take}
+use Rattle.std.proofs.Common.{◌≡◌, false, ◌+◌, ◌-◌, ◌*◌, ◌∙◌, ◌++◌, ap, ap₂, arith, refl, subst, sym, take}
 use Rattle.bx_grid.specs.Columns.{plain_columns}
 use Rattle.bx_document.specs.Drawing.{with_row}
 use Rattle.bx_editor.specs.Data.{Data}
 use Rattle.bx_editor.specs.Editor.{Editor, text_height}
-use Rattle.bx_editor.specs.Status.{status_columns, status_line}
+use Rattle.bx_editor.specs.Status.{paragraph_number, status_columns, status_line, unit_number}
 use Rattle.bx_editor.proofs.Shown.{some-status}
 use Rattle.bx_editor.proofs.editor.Editor.put_status.Goals as goal
 
-pub returns-clause-status : goal.returns-clause-status
-returns-clause-status g c =
+pub returns : goal.returns
+returns g c =
     let i = c.self.inside in
     let tables = i.document.tables in
     let was = c.args.grid.now in
@@ -24,18 +24,24 @@ returns-clause-status g c =
       height = i.height;
       width = i.document.document.w;
     } in
+    let paragraph = subst (λ s. c.args.position.paragraph ≡ paragraph_number (g.D.BidiData.class_of s.tables) s.editor.content.text s.editor.place + 1)
+    (sym c.self.view_is) c.requires.position.paragraph in
+    let unit = subst (λ s. c.args.position.unit ≡ unit_number (g.D.BidiData.class_of s.tables) s.editor.width s.editor.content.text s.editor.place)
+    (sym c.self.view_is) c.requires.position.unit in
     let text = c.as_str.ensures.value ∙ c.in_ok-line.ensures.line
-    ∙ ap₂ (λ p u. status_line i.changed p u i.message) c.paragraph_number-paragraph.ensures c.in_ok-unit.ensures.number in
-    let width = c.from-width.ensures ∙ c.width.ensures.width ∙ ap (λ x. x.document.w) c.unit_number.ensures.same in
+    ∙ ap₂ (λ p u. status_line i.changed p u i.message) paragraph unit in
+    let width = c.from-width.ensures ∙ c.width.ensures.width in
     let step = c.in_ok-put_text.ensures.ok ∙ ap (λ t. with_row was (i.height - 1) (plain_columns false t)) (c.cut.ensures.cut ∙ ap₂ take width text) in
-    subst (λ s. c.put_text.new.grid ≡ record was {
-      columns = take (text_height s.editor.height * s.editor.width) was.columns
-          ++ status_columns (record {
-            class = g.D.BidiData.class_of s.tables;
-            bracket = g.D.BidiData.bracket_of s.tables;
-            mirror = g.D.BidiData.mirror_of s.tables;
-          }) s.editor;
-    }) c.self.view_is
-    (some-status d e was (c.requires.height ∙ sym (ap (λ s. s.editor.height) c.self.view_is))
-    (c.requires.width ∙ sym (ap (λ s. s.editor.width) c.self.view_is)) c.columns-columns.ensures.grid.sized.each (i.height - 1) c.put_text.new.grid
-    (omega (arith, c.if-self-lt2.false)) refl step)
+    record {
+      status = subst (λ s. c.put_text.new.grid ≡ record was {
+        columns = take (text_height s.editor.height * s.editor.width) was.columns
+            ++ status_columns (record {
+              class = g.D.BidiData.class_of s.tables;
+              bracket = g.D.BidiData.bracket_of s.tables;
+              mirror = g.D.BidiData.mirror_of s.tables;
+            }) s.editor;
+      }) c.self.view_is
+          (some-status d e was (c.requires.height ∙ sym (ap (λ s. s.editor.height) c.self.view_is))
+          (c.requires.width ∙ sym (ap (λ s. s.editor.width) c.self.view_is)) c.columns-columns.ensures.grid.sized.each (i.height - 1) c.put_text.new.grid
+          (omega (arith, c.if-self-lt2.false)) refl step);
+    }

@@ -1,0 +1,63 @@
+-- A place among the rows that are shown, as a layout locates it.
+use Rattle.std.proofs.Common.{◌≡◌, ℕ, ◌+◌, ◌-◌, ◌*◌, ◌<◌, List, ◌++◌, length, take, drop, replicate, Option, IsUtf8, sym, ap, ◌∙◌, arith}
+use Rattle.bx_ucd.specs.declared.class.Class.{Class}
+use Rattle.bx_ucd.specs.declared.data.Side.{Side}
+use Rattle.bx_grid.specs.Columns.{blank}
+use Rattle.bx_grid.specs.Picture.{GridState}
+use Rattle.bx_view.specs.declared.cursor.RowAt.{RowAt}
+use Rattle.bx_view.specs.Cursor.{StandsOn, rows_by}
+use Rattle.bx_view.specs.Holding.{Keeps, ViewState}
+use Rattle.bx_view.specs.TextRows.{TextRow, first, row_at, row_of}
+use Rattle.bx_view.specs.Top.{nearest_top, shown_rows}
+use Rattle.bx_view.proofs.Told.{rows-kept, side-some}
+use Rattle.bx_view.proofs.Walking.{row-within}
+use Rattle.bx_document.specs.Data.{Data}
+use Rattle.bx_document.specs.Drawing.{IsAmong, rows_columns}
+use Rattle.bx_document.proofs.ShownRows.{falls-own, rows-rise}
+
+module _ (class : ℕ → Class) (bracket : ℕ → Option (Side × ℕ)) (old v : ViewState) (text : List ℕ) (utf8 : IsUtf8 text)
+    (keeps : Keeps class bracket old v) (at : RowAt) (top place t begin above : ℕ)
+    (on : StandsOn class bracket v text at (nearest_top (row_of (rows_by class bracket old text) top) (row_of (rows_by class bracket old text) place) t))
+    (begins : begin ≡ first (row_at (rows_by class bracket v text)
+    (nearest_top (row_of (rows_by class bracket old text) top) (row_of (rows_by class bracket old text) place) t)))
+    (sum : nearest_top (row_of (rows_by class bracket old text) top) (row_of (rows_by class bracket old text) place) t + above
+    ≡ row_of (rows_by class bracket old text) place) where
+  abbrev all : List TextRow
+  all = rows_by class bracket old text
+
+  abbrev k : ℕ
+  k = nearest_top (row_of all top) (row_of all place) t
+
+  same : rows_by class bracket v text ≡ all
+  same = rows-kept class bracket old v text keeps
+
+  within : k < length (rows_by class bracket v text)
+  within = row-within class bracket v.base v.w (side-some v.w on.side) text utf8 at.paragraph at.row k on.is
+
+  -- the offset at which the top row begins falls in it
+  own : row_of all begin ≡ k
+  own =
+      let now = rows_by class bracket v text in
+      let rise = rows-rise class bracket v.base v.w text (side-some v.w on.side) utf8 in
+      ap (λ rs. row_of rs begin) (sym same) ∙ ap (row_of now) begins ∙ falls-own now _ rise k within
+
+  pub above-is : above ≡ row_of all place - row_of all begin
+  above-is = omega (arith, sum, own)
+
+  pub among : above < t → IsAmong all begin place t
+  among few = record { above = omega (arith, sum, own); below = omega (arith, sum, own, few) }
+
+  pub drawn-told : (d : Data) (was grid : GridState) (count : ℕ)
+      → grid ≡ record was {
+        columns = rows_columns d v.w count (take count (drop k (rows_by class bracket v text)))
+            ++ replicate ((was.height - count) * was.width) blank;
+      }
+      → grid ≡ record was {
+        columns = rows_columns d old.w count (shown_rows all begin count) ++ replicate ((was.height - count) * was.width) blank;
+      }
+  drawn-told d was grid count e =
+      let rest = replicate ((was.height - count) * was.width) blank in
+      e
+      ∙ ap (λ w. record was { columns = rows_columns d w count (take count (drop k (rows_by class bracket v text))) ++ rest }) keeps.w
+      ∙ ap (λ rs. record was { columns = rows_columns d old.w count (take count (drop k rs)) ++ rest }) same
+      ∙ ap (λ m. record was { columns = rows_columns d old.w count (take count (drop m all)) ++ rest }) (sym own)

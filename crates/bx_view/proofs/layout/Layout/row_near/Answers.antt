@@ -1,0 +1,15 @@
+use Rattle.std.proofs.Common.{subst, sym}
+use Rattle.bx_view.specs.Holding.{HoldsBody}
+use Rattle.bx_view.specs.Standing.{body_at}
+use Rattle.bx_view.proofs.Told.{stands}
+use Rattle.bx_view.proofs.layout.Layout.row_near.Goals as goal
+
+pub returns-then-number-at-clause-row : goal.returns-then-number-at-clause-row
+returns-then-number-at-clause-row g c =
+    let class = g.D.BidiData.class_of c.args.source.now.tables.now in
+    let bracket = g.D.BidiData.bracket_of c.args.source.now.tables.now in
+    let text = c.args.source.now.text.now.edited.text in
+    let v = c.args.self.now in
+    let held = subst (λ k. HoldsBody (body_at class text k) v.w v.held c.args.at.held) (sym c.if-number-at.true) c.requires.row.1.held_is in
+    stands class bracket v text c.args.offset _ c.paragraph-paragraph.result.now c.args.source.now.utf8 c.paragraph_under-number.ensures.number
+    c.paragraph_under-number.ensures.start held c.paragraph-paragraph.ensures (c.row_of.ensures.row class bracket c.paragraph-paragraph.ensures.by)

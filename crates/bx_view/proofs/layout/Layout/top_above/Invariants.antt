@@ -1,0 +1,17 @@
+-- The row stands as far above as turns were made, and none below it is the one that begins where the rows did.
+use Rattle.std.proofs.Common.{ℕ, ◌-◌, ◌<◌, ◌≤◌}
+use Rattle.bx_view.specs.Source.{BeginsAt, Keeps, Stands, StandsOn}
+use Rattle.bx_view.proofs.layout.Layout.top_above.Given as goal
+
+abbrev pub invariant-loop-above : goal.invariant-loop-above
+invariant-loop-above g l = record {
+  keeps : Keeps l.source l.initial.self l.self;
+  few : l.above < l.t;
+  row : Stands l.source l.self l.here;
+  within : (n : ℕ) → StandsOn l.source l.initial.self l.fn.at n → l.above ≤ n;
+  stands : (n : ℕ) → StandsOn l.source l.initial.self l.fn.at n → StandsOn l.source l.self l.here (n - l.above);
+  behind : (n k : ℕ) → StandsOn l.source l.initial.self l.fn.at n → BeginsAt l.source l.initial.self k l.fn.old → 0 < l.above → k ≤ n - l.above;
+}
+
+abbrev pub decreases-loop-above : goal.decreases-loop-above
+decreases-loop-above g l = l.t - l.above

@@ -1,0 +1,52 @@
+//! Where a place stands, in its row and in its paragraph.
+ghost use Rattle.std.specs.Prelude.{◌≡◌, ◌≤◌, IfOk};
+ghost use Rattle.bx_paras.specs.Paragraphs.{lengths};
+ghost use Rattle.bx_paras.specs.Positions.{paragraph_of};
+ghost use Rattle.bx_view.specs.Position.{IsPosition};
+ghost use Rattle.bx_view.specs.Source.{IsViewBy, Stands, bytes, rows};
+
+use crate::cursor::RowAt;
+use crate::error::ViewError;
+use crate::layout::Layout;
+use crate::source::Source;
+use bx_ucd::BidiData;
+
+/// Where a place stands, each counted from 1.
+#[derive(Clone, Copy, PartialEq, Eq, Debug)]
+pub struct Position {
+    /// The column of its cell.
+    pub column: u16,
+    /// The number of its paragraph.
+    pub paragraph: usize,
+    /// Its number among the units of its paragraph.
+    pub unit: usize,
+}
+
+impl Layout {
+    /// Where a place stands that falls in the paragraph of a row.
+    ///
+    /// Errors: `OutOfMemory`.
+    pub(crate) fn position<D: BidiData>(
+        &self,
+        source: &Source<'_, D>,
+        at: RowAt,
+        place: usize,
+    ) -> Result<Position, ViewError>
+        requires data { IsViewBy source.now self.now }
+        requires row { Stands source.now self.now at }
+        requires paragraph { at.paragraph ≡ paragraph_of (lengths (D.class_of source.now.tables.now) (bytes source.now)) place }
+        requires order { at.start ≤ place }
+        ensures { IfOk result (IsPosition (D.class_of source.now.tables.now) self.now.w (bytes source.now) (rows source.now self.now) place) }
+    {
+        // tells the proof that paragraphs are not too many to be counted from 1
+        let _count = source.index.count();
+        let paragraph = self.paragraph(source, at.paragraph, at.held);
+        let row = paragraph.row_of(place - at.start);
+        let standing = paragraph.standing(row, place - at.start, source.tables)?;
+        Ok(Position {
+            column: standing.column,
+            paragraph: at.paragraph + 1,
+            unit: paragraph.units_ahead(row) + standing.units_before + 1,
+        })
+    }
+}
