@@ -1,6 +1,6 @@
 //! The rows of a paragraph in a window of 80 columns: TASK TEXT LETTERS TIMES, where TASK is `resolved` (a paragraph is laid
-//! out), `page` (each row of one that is laid out already is drawn), `slots` (the slots of each row are told) or `parts`
-//! (each row's units are counted before its end), and TEXT is `ascii`, `hebrew` or `mixed`.
+//! out), `page` (each row of one that is laid out already is drawn) or `slots` (the slots of each row are told), and TEXT is
+//! `ascii`, `hebrew` or `mixed`.
 
 ghost use Rattle.bx_paragraph.specs.Layout.{IsLayoutBy};
 
