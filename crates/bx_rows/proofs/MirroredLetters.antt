@@ -1,6 +1,6 @@
 -- Texts of one character, and their mirror images.
 use Rattle.std.proofs.Common.{◌≡◌, ℕ, true, false, List, [], ◌∷◌, ◌++◌, map, length, refl, sym, ap, ◌∙◌, append-nil, encode_utf8, chars, IsUtf8}
-use Rattle.std.specs.Prelude.{None, Option, encode_utf8_all, unwrap_or}
+use Rattle.std.specs.Prelude.{Option, encode_utf8_all, is_some, unwrap_or}
 use Rattle.std.proofs.lemmas.Str.{chars-nil, chars_past_char, encodes-chars}
 use Rattle.std.proofs.lemmas.List.{nil_from_length}
 use Rattle.bx_ucd.specs.declared.class.Class.{Class}
@@ -9,8 +9,9 @@ use Rattle.bx_cells.specs.Faces.{face, face_of}
 use Rattle.bx_cells.specs.Simple.{begins}
 use Rattle.bx_cells.specs.SimpleFace.{simple_face}
 use Rattle.bx_cells.proofs.OpenCluster.{face-simple}
-use Rattle.bx_rows.specs.RowPicture.{mirror_image, mirror_image_within}
-use Rattle.bx_rows.proofs.Unmirrored.{shown_if_same}
+use Rattle.bx_rows.specs.RowPicture.{mirror_image}
+use Rattle.bx_rows.proofs.GlyphTexts.{mirror_or}
+use Rattle.bx_rows.proofs.Unmirrored.{own_if_none}
 
 -- a text whose first character has nothing behind it
 pub single : (text behind : List ℕ) (c : ℕ) → IsUtf8 text → text ≡ encode_utf8 c ++ behind → length behind ≡ 0 → chars text ≡ c ∷ []
@@ -23,12 +24,9 @@ pub single-face : (class : ℕ → Class) (w : ℕ) (text : List ℕ) (c : ℕ) 
 single-face class w text c u e b f =
     ap (face_of class w) (single text [] c u (e ∙ sym (append-nil (encode_utf8 c))) refl) ∙ face-simple class w c [] b refl ∙ f
 
--- a text of one character that has no mirror stays
-pub single-same : (class : ℕ → Class) (mirror : ℕ → Option ℕ) (w n : ℕ) (text : List ℕ) (c : ℕ) (m : Option ℕ) → IsUtf8 text → chars text ≡ c ∷ []
-    → m ≡ mirror c → m ≡ None → mirror_image_within class mirror w n text ≡ text
-single-same class mirror w n text c m u one asked none =
-    let f : ℕ → ℕ = λ x. unwrap_or (mirror x) x in
-    let own : f c ≡ c = ap (λ o. unwrap_or o c) (sym asked ∙ none) in
-    let image : mirror_image mirror text ≡ text =
-    ap (λ cs. encode_utf8_all (map f cs)) one ∙ ap (λ x. encode_utf8_all (x ∷ [])) own ∙ ap encode_utf8_all (sym one) ∙ encodes-chars text u in
-    sym (shown_if_same class mirror w n text image)
+-- a character that has no mirror is its own mirror image
+pub single-same : (mirror : ℕ → Option ℕ) (text : List ℕ) (c : ℕ) (m : Option ℕ) → IsUtf8 text → chars text ≡ c ∷ [] → m ≡ mirror c → is_some m ≡ false
+    → mirror_image mirror text ≡ text
+single-same mirror text c m u one asked none =
+    let own : unwrap_or (mirror c) c ≡ c = ap (λ o. unwrap_or o c) (sym asked) ∙ own_if_none m c none in
+    ap (λ cs. encode_utf8_all (map (mirror_or mirror) cs)) one ∙ ap (λ x. encode_utf8_all (x ∷ [])) own ∙ ap encode_utf8_all (sym one) ∙ encodes-chars text u

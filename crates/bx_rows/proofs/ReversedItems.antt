@@ -1,6 +1,7 @@
 -- Items that stand for units, whose runs are reversed in place level by level.
-use Rattle.std.proofs.Common.{◌≡◌, ℕ, suc, ◌+◌, ◌-◌, ◌<◌, ◌≤◌, min, List, [], ◌∷◌, ◌++◌, length, get_or, take, drop, map, reverse, Some, None}
+use Rattle.std.proofs.Common.{◌≡◌, ℕ, suc, ◌+◌, ◌-◌, ◌<◌, ◌≤◌, min, List, [], ◌∷◌, ◌++◌, length, get_or, take, drop, map, reverse, Option, Some, None, ◌%◌}
 use Rattle.std.proofs.Common.{refl, sym, ap, ap₂, ◌∙◌, arith, append_assoc}
+use Rattle.std.specs.Prelude.{unwrap_or}
 use Rattle.std.specs.List.{between, enumerate_from}
 use Rattle.std.proofs.Math.Seq.{drop-append_seam, drop-length, take-append_seam}
 use Rattle.std.proofs.lemmas.List.{append-nil, at_drop_more, drop-drop, drop-map, length-append, length-reverse, map-append, reverse-append, take-map}
@@ -8,6 +9,7 @@ use Rattle.std.proofs.lemmas.List.Edits.{between_none, length-between}
 use Rattle.std.proofs.lemmas.Simd.{map-map}
 use Rattle.bx_rows.specs.ReversedRuns.{AgreeUpTo, turned}
 use Rattle.bx_rows.specs.VisualOrder.{highest, lowest_odd, reverse_down, reverse_runs, reversals_from, visual}
+use Rattle.bx_rows.proofs.LevelBounds.{highest_even}
 use Rattle.bx_rows.proofs.Reversals.{agree-lower, agree-reversed, count_of, level_at, run_below, run_more, run_to}
 
 -- ---- a run turned round
@@ -129,13 +131,24 @@ numbered-from xs d n (l ∷ ls) e =
 numbered : {X : Type 0} (xs : List X) (d : X) (ls : List ℕ) → length xs ≡ length ls → xs ≡ map (λ u. get_or xs u.0 d) (enumerate_from 0 ls)
 numbered xs d ls e = numbered-from xs d 0 ls (omega (arith, e))
 
-pub highest_level : {X : Type 0} (items : List X) (d : X) (ls : List ℕ) (low level : ℕ) → length items ≡ length ls → level ≡ highest ls
-    → IsAtLevel (λ u. get_or items u.0 d) items ls low level (reversals_from (Some low) (highest ls) (enumerate_from 0 ls))
-highest_level items d ls low level e h = record {
+-- from the highest level on
+from_highest : (o : Option ℕ) (low high level : ℕ) (us : List (ℕ × ℕ)) → low ≡ unwrap_or o 255 → level ≡ high → (o ≡ None → high < 255)
+    → reverse_down low (level + 1 - low) us ≡ reversals_from o high us
+from_highest None low high level us e h k =
+    let below = k refl in
+    let none : level + 1 - low ≡ 0 = omega (arith, e, h, below) in
+    ap (λ n. reverse_down low n us) none
+from_highest (Some a) low high level us e h k = ap₂ (λ l n. reverse_down l (n + 1 - l) us) e h
+
+pub highest_level : {X : Type 0} (items : List X) (d : X) (ls : List ℕ) (low level : ℕ) → length items ≡ length ls → low ≡ unwrap_or (lowest_odd ls) 255
+    → level ≡ highest ls → level ≤ 255
+    → IsAtLevel (λ u. get_or items u.0 d) items ls low level (reversals_from (lowest_odd ls) (highest ls) (enumerate_from 0 ls))
+highest_level items d ls low level e f h k = record {
   units = enumerate_from 0 ls;
   shown = numbered items d ls e;
   agree = levels-of level 0 ls;
-  rest = ap (λ k. reverse_down low (k + 1 - low) (enumerate_from 0 ls)) h;
+  rest = from_highest (lowest_odd ls) low (highest ls) level (enumerate_from 0 ls) f h
+      (λ none. let even : highest ls % 2 ≡ 0 = highest_even ls none in omega (arith, even, h, k));
 }
 
 down : (low level : ℕ) (us : List (ℕ × ℕ)) → low ≤ level → 0 < low
@@ -155,22 +168,9 @@ next_level f items new ls low level all h k runs w = record {
   rest = down low level w.units h k ∙ w.rest;
 }
 
--- the numbers of units, and what stands for each
-by_numbers : {X : Type 0} (f : ℕ → X) (items : List X) (us : List (ℕ × ℕ)) → items ≡ map (λ u. f u.0) us → items ≡ map f (map (λ u. u.0) us)
-by_numbers f items us e = e ∙ sym (map-map f (λ (u : ℕ × ℕ). u.0) us)
-
-pub lowest_level : {X : Type 0} (f : ℕ → X) (items : List X) (ls : List ℕ) (low level : ℕ) → lowest_odd ls ≡ Some low → level < low
-    → IsAtLevel (λ u. f u.0) items ls low level (reversals_from (Some low) (highest ls) (enumerate_from 0 ls)) → items ≡ map f (visual ls)
-lowest_level f items ls low level e h w =
+pub lowest_level : {X : Type 0} (f : ℕ → X) (items : List X) (ls : List ℕ) (low level : ℕ) → level < low
+    → IsAtLevel (λ u. f u.0) items ls low level (reversals_from (lowest_odd ls) (highest ls) (enumerate_from 0 ls)) → items ≡ map f (visual ls)
+lowest_level f items ls low level h w =
     let none : level + 1 - low ≡ 0 = omega (arith, h) in
-    let us = enumerate_from 0 ls in
-    by_numbers f items (reversals_from (lowest_odd ls) (highest ls) us)
-    (w.shown ∙ ap (map (λ u. f u.0)) (ap (λ k. reverse_down low k w.units) (sym none) ∙ w.rest ∙ ap (λ o. reversals_from o (highest ls) us) (sym e)))
-
--- no level is odd
-pub no_level : {X : Type 0} (items : List X) (d : X) (ls : List ℕ) → length items ≡ length ls → lowest_odd ls ≡ None
-    → items ≡ map (λ k. get_or items k d) (visual ls)
-no_level items d ls e none =
-    let us = enumerate_from 0 ls in
-    by_numbers (λ k. get_or items k d) items (reversals_from (lowest_odd ls) (highest ls) us)
-    (numbered items d ls e ∙ ap (λ o. map (λ u. get_or items u.0 d) (reversals_from o (highest ls) us)) (sym none))
+    let all = reversals_from (lowest_odd ls) (highest ls) (enumerate_from 0 ls) in
+    w.shown ∙ ap (map (λ u. f u.0)) (ap (λ k. reverse_down low k w.units) (sym none) ∙ w.rest) ∙ sym (map-map f (λ (u : ℕ × ℕ). u.0) all)

@@ -1,20 +1,18 @@
 -- A text of characters that have no mirrors is its own mirror image.
-use Rattle.std.proofs.Common.{◌≡◌, ℕ, ◌+◌, ◌<◌, ◌≤◌, ◌∷◌, ◌++◌, [], List, Bool, true, false, map, length, get_or, take, chars}
+use Rattle.std.proofs.Common.{◌≡◌, ℕ, ◌+◌, ◌<◌, ◌≤◌, ◌∷◌, ◌++◌, [], List, false, map, length, get_or, take, chars}
 use Rattle.std.proofs.Common.{refl, sym, ap, ap₂, ◌∙◌, take_all}
 use Rattle.std.proofs.Common.{IsUtf8}
 use Rattle.std.specs.Prelude.{encode_utf8_all, is_some, None, Option, Some, unwrap_or}
 use Rattle.std.proofs.lemmas.List.{map-append, take_more}
 use Rattle.std.proofs.lemmas.Str.{encodes-chars}
-use Rattle.bx_ucd.specs.declared.class.Class.{Class}
-use Rattle.bx_cells.specs.Faces.{face}
-use Rattle.bx_rows.specs.RowPicture.{is_own, mirror_image, mirror_image_within}
+use Rattle.bx_rows.specs.RowPicture.{mirror_image}
 use Rattle.bx_rows.proofs.GlyphTexts.{mirror_or}
 
 -- the first `k` characters are the mirrored ones
 abbrev pub AreSame : (ℕ → Option ℕ) → List ℕ → ℕ → Type 0
 AreSame mirror cs k = map (mirror_or mirror) (take k cs) ≡ take k cs
 
-own_if_none : (m : Option ℕ) (c : ℕ) → is_some m ≡ false → unwrap_or m c ≡ c
+pub own_if_none : (m : Option ℕ) (c : ℕ) → is_some m ≡ false → unwrap_or m c ≡ c
 own_if_none None c h = refl
 own_if_none (Some d) c h = absurd (cc h)
 
@@ -34,13 +32,3 @@ same_all mirror text k utf8 same all =
     let cs = chars text in
     ap (λ ys. encode_utf8_all (map (mirror_or mirror) ys)) (sym (take_all k cs all)) ∙ ap encode_utf8_all same
     ∙ ap encode_utf8_all (take_all k cs all) ∙ encodes-chars text utf8
-
-either : (b : Bool) (text : List ℕ) → elim b [ true ↦ text | false ↦ text ] ≡ text
-either true text = refl
-either false text = refl
-
--- such a text is shown as it is
-pub shown_if_same : (class : ℕ → Class) (mirror : ℕ → Option ℕ) (w n : ℕ) (text : List ℕ) → mirror_image mirror text ≡ text
-    → text ≡ mirror_image_within class mirror w n text
-shown_if_same class mirror w n text same =
-    sym (ap (λ other. elim (is_own n (face class w other)) [ true ↦ other | false ↦ text ]) same ∙ either (is_own n (face class w text)) text)

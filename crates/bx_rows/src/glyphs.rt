@@ -7,7 +7,7 @@ ghost use Rattle.bx_rows.specs.RowPicture.{blank, face_glyphs, glyph, is_own, sh
 ghost use Rattle.bx_rows.specs.Shown.{HasLetter, glyph_of};
 
 use crate::drawn::Drawn;
-use crate::mirrors::mirrored;
+use crate::mirrors::{has_mirror, mirrored};
 use bx_cells::Face;
 use bx_terms::are_ascii_printable;
 use bx_ucd::BidiData;
@@ -132,6 +132,9 @@ fn shown_text<'a, D: BidiData>(
     ensures { IfOk result (λ t. cow_str_bytes t ≡ shown_text (D.class_of tables.now) (D.mirror_of tables.now) w columns level text.entry.now) }
 {
     if level % 2 == 0 {
+        return Ok(CowStr::Borrowed(text));
+    }
+    if !has_mirror(text, tables) {
         return Ok(CowStr::Borrowed(text));
     }
     match mirrored(alloc, text, columns, tables, w)? {

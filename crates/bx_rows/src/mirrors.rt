@@ -15,8 +15,20 @@ use bx_ucd::BidiData;
 use std::alloc::{AllocError, Global};
 use std::borrow::CowStr;
 
-/// Whether a character of a text has a mirror.
-fn has_mirror<D: BidiData>(text: &str, tables: &D) -> bool
+/// The character of a text, if it has just one.
+#[inline(always)]
+fn single_char(text: &str) -> Option<char>
+    ensures { IfSome result (λ c. chars text.now ≡ c ∷ []) }
+{
+    let (c, behind) = first_char(text)?;
+    if !behind.is_empty() {
+        return None;
+    }
+    Some(c)
+}
+
+/// Whether a character of a text of any length has a mirror.
+fn any_mirror<D: BidiData>(text: &str, tables: &D) -> bool
     ensures { result ≡ false → mirror_image (D.mirror_of tables.now) text.now ≡ text.now }
 {
     for c in text.chars() {
@@ -25,6 +37,17 @@ fn has_mirror<D: BidiData>(text: &str, tables: &D) -> bool
         }
     }
     false
+}
+
+/// Whether a character of a text has a mirror.
+#[inline(always)]
+pub(crate) fn has_mirror<D: BidiData>(text: &str, tables: &D) -> bool
+    ensures { result ≡ false → mirror_image (D.mirror_of tables.now) text.now ≡ text.now }
+{
+    match single_char(text) {
+        Some(c) => tables.mirror(c).is_some(),
+        None => any_mirror(text, tables),
+    }
 }
 
 /// A text with each character mirrored that has a mirror.
@@ -36,18 +59,6 @@ fn mirror_image<D: BidiData>(alloc: Global, text: &str, tables: &D) -> Result<St
         other.push(tables.mirror(c).unwrap_or(c))?;
     }
     Ok(other)
-}
-
-/// The character of a text, if it has just one.
-#[inline(always)]
-fn single_char(text: &str) -> Option<char>
-    ensures { IfSome result (λ c. chars text.now ≡ c ∷ []) }
-{
-    let (c, behind) = first_char(text)?;
-    if !behind.is_empty() {
-        return None;
-    }
-    Some(c)
 }
 
 /// The fixed text of a character, if that is one from SPACE to TILDE and is shown as itself in one column.
@@ -64,32 +75,16 @@ fn fixed_text<'a, D: BidiData>(c: char, tables: &D, w: u16) -> Option<&'a str>
     Some(letter(c as u8))
 }
 
-/// The mirror image of a text of any number of characters, where that is shown as itself in so many columns; none where the
-/// text stays.
-fn mirrored_text<'a, D: BidiData>(
-    alloc: Global,
-    text: &str,
-    columns: u16,
-    tables: &D,
-    w: u16,
-) -> Result<Option<CowStr<'a, Global>>, AllocError>
-    ensures { IfOk result (λ o. MatchOption o (mirror_image_within (D.class_of tables.now) (D.mirror_of tables.now) w columns text.now ≡ text.now)
-        (λ t. cow_str_bytes t ≡ mirror_image_within (D.class_of tables.now) (D.mirror_of tables.now) w columns text.now)) }
+/// The fixed text that a text of one character is mirrored to, if that is printable ASCII, and so takes no memory.
+fn fixed_mirror<'a, D: BidiData>(text: &str, tables: &D, w: u16) -> Option<&'a str>
+    ensures { IfSome result (λ t. t.now ≡ mirror_image_within (D.class_of tables.now) (D.mirror_of tables.now) w 1 text.now) }
 {
-    if !has_mirror(text, tables) {
-        return Ok(None);
-    }
-    let other = mirror_image(alloc, text, tables)?;
-    let found = face(other.as_str(), tables, w);
-    if !is_own(found, columns) {
-        return Ok(None);
-    }
-    Ok(Some(CowStr::Owned(other)))
+    let c = single_char(text)?;
+    let mirror = tables.mirror(c)?;
+    fixed_text(mirror, tables, w)
 }
 
-/// The mirror image of a text, where that is shown as itself in so many columns; none where the text stays. A single
-/// character that has no mirror is asked for it once, and one that mirrors to printable ASCII takes no memory.
-#[inline(always)]
+/// The mirror image of a text, where that is shown as itself in so many columns; none where the text stays.
 pub(crate) fn mirrored<'a, D: BidiData>(
     alloc: Global,
     text: &str,
@@ -100,22 +95,40 @@ pub(crate) fn mirrored<'a, D: BidiData>(
     ensures { IfOk result (λ o. MatchOption o (mirror_image_within (D.class_of tables.now) (D.mirror_of tables.now) w columns text.now ≡ text.now)
         (λ t. cow_str_bytes t ≡ mirror_image_within (D.class_of tables.now) (D.mirror_of tables.now) w columns text.now)) }
 {
-    if columns != 1 {
-        return mirrored_text(alloc, text, columns, tables, w);
+    if columns == 1 {
+        if let Some(other) = fixed_mirror(text, tables, w) {
+            return Ok(Some(CowStr::Borrowed(other)));
+        }
     }
-    let Some(c) = single_char(text) else {
-        return mirrored_text(alloc, text, columns, tables, w);
-    };
-    let Some(mirror) = tables.mirror(c) else {
+    let other = mirror_image(alloc, text, tables)?;
+    let found = face(other.as_str(), tables, w);
+    if !is_own(found, columns) {
         return Ok(None);
-    };
-    if let Some(other) = fixed_text(mirror, tables, w) {
-        return Ok(Some(CowStr::Borrowed(other)));
     }
-    mirrored_text(alloc, text, columns, tables, w)
+    Ok(Some(CowStr::Owned(other)))
 }
 
-/// Shows a glyph at a level: mirrored at an odd one, where one of its characters has a mirror.
+/// Shows the mirror image of a glyph's text, where that is shown as itself in one column.
+#[inline(never)]
+fn mirror_text<D: BidiData>(
+    drawn: &mut Drawn<'_>,
+    alloc: Global,
+    tables: &D,
+    w: u16,
+) -> Result<(), AllocError>
+    ensures { OnOk result (glyph_of drawn.new
+        ≡ glyph (mirror_image_within (D.class_of tables.now) (D.mirror_of tables.now) w 1 (cow_str_bytes drawn.old.text))
+        drawn.old.columns drawn.old.negative) }
+{
+    let Some(other) = mirrored(alloc, drawn.text.as_str(), 1, tables, w)? else {
+        return Ok(());
+    };
+    drawn.text = other;
+    Ok(())
+}
+
+/// Shows a glyph at a level: mirrored at an odd one, where one of its characters has a mirror. What few glyphs need stands in
+/// a function of its own, since a function pays for its locals on each call.
 #[inline(always)]
 fn mirror_at<D: BidiData>(
     drawn: &mut Drawn<'_>,
@@ -131,11 +144,10 @@ fn mirror_at<D: BidiData>(
     if level % 2 == 0 {
         return Ok(());
     }
-    let Some(other) = mirrored(alloc, drawn.text.as_str(), 1, tables, w)? else {
+    if !has_mirror(drawn.text.as_str(), tables) {
         return Ok(());
-    };
-    drawn.text = other;
-    Ok(())
+    }
+    mirror_text(drawn, alloc, tables, w)
 }
 
 /// Mirrors the glyphs of single characters of one column that stand at an odd level, where the mirror takes one column too.

@@ -1,5 +1,5 @@
 //! Visual order, L2: runs are reversed where they stand, from the highest level down to the lowest odd one.
-ghost use Rattle.std.specs.Prelude.{◌≡◌, ◌≤◌, ◌<◌, ℕ, All, IfOk, List, [], length, map, slice_index_or};
+ghost use Rattle.std.specs.Prelude.{◌≡◌, ◌≤◌, ◌<◌, ℕ, All, IfOk, List, [], length, map, slice_index_or, unwrap_or, None};
 ghost use Rattle.std.specs.List.{range_with_len};
 ghost use Rattle.bx_rows.specs.ReversedRuns.{AgreeUpTo, turned};
 ghost use Rattle.bx_rows.specs.VisualOrder.{highest, lower_odd, lowest_odd, reverse_runs, visual};
@@ -20,28 +20,26 @@ fn highest(levels: &[u8]) -> u8
     top
 }
 
-/// The lowest odd of a level and of one that may be there.
-fn lower_odd(level: u8, lowest: Option<u8>) -> Option<u8>
-    ensures { result ≡ lower_odd level lowest }
+/// A level that is odd, else 255.
+#[inline(always)]
+fn odd_or_last(level: u8) -> u8
+    ensures { result ≡ unwrap_or (lower_odd level None) 255 }
 {
     if level % 2 == 0 {
-        return lowest;
+        return u8::MAX;
     }
-    match lowest {
-        None => Some(level),
-        Some(other) => Some(level.min(other)),
-    }
+    level
 }
 
-/// The lowest odd one of some levels, if there is one.
-fn lowest_odd(levels: &[u8]) -> Option<u8>
-    ensures { result ≡ lowest_odd levels.now }
+/// The level down to which runs are reversed: the lowest odd one; 255 if there is none, since all are below that then.
+fn lowest_odd(levels: &[u8]) -> u8
+    ensures { result ≡ unwrap_or (lowest_odd levels.now) 255 }
 {
-    let mut lowest = None;
+    let mut lowest = u8::MAX;
     let mut i = levels.len();
     while i > 0 {
         i -= 1;
-        lowest = lower_odd(levels[i], lowest);
+        lowest = odd_or_last(levels[i]).min(lowest);
     }
     lowest
 }
@@ -54,6 +52,9 @@ fn turn_round<T>(items: &mut [T], start: usize, stop: usize)
     ensures count { length items.new ≡ length items.old }
     ensures turned { items.new ≡ turned start stop items.old }
 {
+    if start == stop {
+        return;
+    }
     items[start..stop].reverse();
 }
 
@@ -82,14 +83,8 @@ pub(crate) fn reorder<T>(items: &mut [T], levels: &[u8])
     ensures count { length items.new ≡ length items.old }
     ensures order { (d : T) → items.new ≡ map (λ k. slice_index_or items.old k d) (visual levels.now) }
 {
+    let low = lowest_odd(levels);
     let mut level = highest(levels);
-    if level == 0 {
-        // Most rows end here, with no look for an odd level.
-        return;
-    }
-    let Some(low) = lowest_odd(levels) else {
-        return;
-    };
     while level >= low {
         reverse_runs(items, levels, level);
         level -= 1;

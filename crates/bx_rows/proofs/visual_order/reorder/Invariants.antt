@@ -1,6 +1,6 @@
-use Rattle.std.proofs.Common.{◌≡◌, ◌<◌, Some, get_or, length}
+use Rattle.std.proofs.Common.{◌≡◌, ◌<◌, get_or, length}
 use Rattle.std.specs.List.{enumerate_from}
-use Rattle.bx_rows.specs.VisualOrder.{highest, reversals_from}
+use Rattle.bx_rows.specs.VisualOrder.{highest, lowest_odd, reversals_from}
 use Rattle.bx_rows.proofs.ReversedItems.{IsAtLevel}
 use Rattle.bx_rows.proofs.visual_order.reorder.Given as goal
 
@@ -9,7 +9,7 @@ invariant-loop-level g l = record {
   some : 0 < l.low;
   count : length l.items ≡ length l.initial.items;
   order : (d : g.row.T.Denot) → IsAtLevel (λ u. get_or l.initial.items u.0 d) l.items l.levels l.low l.level
-      (reversals_from (Some l.low) (highest l.levels) (enumerate_from 0 l.levels));
+      (reversals_from (lowest_odd l.levels) (highest l.levels) (enumerate_from 0 l.levels));
 }
 
 abbrev pub decreases-loop-level : goal.decreases-loop-level
