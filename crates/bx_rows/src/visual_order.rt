@@ -45,8 +45,18 @@ fn lowest_odd(levels: &[u8]) -> u8
 }
 
 /// Turns round the items from one index to another.
-#[inline(always)]
 fn turn_round<T>(items: &mut [T], start: usize, stop: usize)
+    requires order { start ≤ stop }
+    requires within { stop ≤ length items.old }
+    ensures count { length items.new ≡ length items.old }
+    ensures turned { items.new ≡ turned start stop items.old }
+{
+    items[start..stop].reverse();
+}
+
+/// Turns round a run, if it has items: most units below a level end none.
+#[inline(always)]
+fn turn_run<T>(items: &mut [T], start: usize, stop: usize)
     requires order { start ≤ stop }
     requires within { stop ≤ length items.old }
     ensures count { length items.new ≡ length items.old }
@@ -55,7 +65,7 @@ fn turn_round<T>(items: &mut [T], start: usize, stop: usize)
     if start == stop {
         return;
     }
-    items[start..stop].reverse();
+    turn_round(items, start, stop);
 }
 
 /// Reverses each maximal run of items at a level or higher. The levels stay where they are: no level of a run is lower, so at
@@ -71,10 +81,10 @@ fn reverse_runs<T>(items: &mut [T], levels: &[u8], level: u8)
         if levels[i] >= level {
             continue;
         }
-        turn_round(items, start, i);
+        turn_run(items, start, i);
         start = i + 1;
     }
-    turn_round(items, start, levels.len());
+    turn_run(items, start, levels.len());
 }
 
 /// Puts the items of a row's units, which stand in the order of the text, into visual order by the units' levels.

@@ -14,13 +14,13 @@ loop-i-preserved-then-levels-i g c = record {
 pub loop-i-preserved : goal.loop-i-preserved
 loop-i-preserved g c = record {
   order = omega arith;
-  count = c.turn_round.ensures.count ∙ c.loop-i.invariant.count;
+  count = c.turn_run.ensures.count ∙ c.loop-i.invariant.count;
   runs = λ f us agree e.
       run_ends (λ u. f u.0) c.loop-i.items _ c.args.levels.now c.args.level c.loop-i.start c.loop-i.i us agree c.loop-i.invariant.order c.loop-i-test.true
-      (omega (arith, c.if-levels-i.false)) c.turn_round.ensures.turned (c.loop-i.invariant.runs f us agree e);
+      (omega (arith, c.if-levels-i.false)) c.turn_run.ensures.turned (c.loop-i.invariant.runs f us agree e);
 }
 
 pub returns-clause-runs : goal.returns-clause-runs
 returns-clause-runs g c = λ f us agree e.
     all_runs (λ u. f u.0) c.loop-i.items _ c.args.levels.now c.args.level c.loop-i.start c.loop-i.i us agree c.loop-i.invariant.order
-    (omega (arith, c.loop-i-test.false, c.loop-i.auto.i-end)) c.turn_round-2.ensures.turned (c.loop-i.invariant.runs f us agree e)
+    (omega (arith, c.loop-i-test.false, c.loop-i.auto.i-end)) c.turn_run-2.ensures.turned (c.loop-i.invariant.runs f us agree e)
