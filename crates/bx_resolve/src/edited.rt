@@ -48,7 +48,7 @@ fn resolve_span<D: BidiData>(
 {
     let alloc = *levels.each.allocator();
     let found = piece_levels(alloc, piece, tables, levels.paragraph)?;
-    replace_span(&mut levels.each, span, &found)?;
+    replace_span(&mut levels.each, span, found)?;
     Ok(())
 }
 
