@@ -103,7 +103,7 @@ def check(count):
 
 
 # What is called at each edit that a layout follows and once more where strong characters cut it off, and what in the second case alone.
-FUNCTIONS = ["bx_paragraph::text_edit::joined", "bx_resolve::edited::resolve_span"]
+FUNCTIONS = ["bx_paragraph::text_edit::join", "bx_resolve::edited::resolve_span"]
 
 
 def count_ways(count, kinds):
