@@ -5,7 +5,7 @@ use crate::outcome::{Outcome, number};
 use crate::texts::text;
 use anyhow::{Result, bail};
 use bx_explicit::Base;
-use bx_resolve::levels;
+use bx_resolve::{Level, levels};
 use bx_ucd::Tables;
 use bx_ucd::sample::{BRACKETS, CLASSES, MIRRORING};
 use std::alloc::Global;
@@ -24,10 +24,10 @@ fn tables(alloc: Global) -> Result<Tables> {
 }
 
 /// The sum of all levels, which depends on each of them.
-fn sum_of(each: &[Option<u8>]) -> u64 {
+fn sum_of(each: &[Level]) -> u64 {
     let mut sum: u64 = 0;
     for level in each {
-        sum = sum.wrapping_add(u64::from(level.unwrap_or(0)));
+        sum = sum.wrapping_add(u64::from(level.get().unwrap_or(0)));
     }
     sum
 }

@@ -150,7 +150,7 @@ below_or_at level h = elim (nat_lt level 125) as (λ b. nat_lt level 125 ≡ b �
   | false ↦ λ e. let l : 125 ≤ level = ltb-false level 125 e in inr (omega arith)
 ] refl
 
-implicit_low : (level : ℕ) (t : Class) → level ≤ max_depth → implicit_at level t ≤ max_level
+pub implicit_low : (level : ℕ) (t : Class) → level ≤ max_depth → implicit_at level t ≤ max_level
 implicit_low level t h =
     elim (level % 2) as (λ n. level % 2 ≡ n → elim n as (λ x. ℕ) [ zero ↦ level + rise_even t | suc n ↦ level + rise_odd t ] ≤ max_level) [
       | zero ↦ λ e. elim (below_or_at level h) [
@@ -166,6 +166,9 @@ IsLowLevel l = IfSome l (λ n. n ≤ max_level)
 all_low : (level : ℕ) (ts : List Class) → level ≤ max_depth → All (λ n. n ≤ max_level) (implicit level ts)
 all_low level [] h = All-nil (λ n. n ≤ max_level)
 all_low level (t ∷ ts) h = All-cons (λ n. n ≤ max_level) (implicit_at level t) (implicit level ts) (implicit_low level t h) (all_low level ts h)
+
+pub all_low_of : (level : ℕ) (ts : List Class) (ls : List ℕ) → level ≤ max_depth → ls ≡ implicit level ts → All (λ n. n ≤ max_level) ls
+all_low_of level ts ls h e = subst (All (λ n. n ≤ max_level)) (sym e) (all_low level ts h)
 
 with_low : (ps ls : List ℕ) (each : List (Option ℕ)) → All (λ n. n ≤ max_level) ls → All IsLowLevel each → All IsLowLevel (with_levels ps ls each)
 with_low [] ls each a b = b

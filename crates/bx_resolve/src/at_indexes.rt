@@ -1,7 +1,8 @@
 //! What stands at the indexes of a sequence.
-ghost use Rattle.std.specs.Prelude.{◌≡◌, ◌<◌, IfOk, All, None, length, slice_index_or};
-ghost use Rattle.bx_resolve.specs.Levels.{type_of, chars_at, types_at, with_levels};
+ghost use Rattle.std.specs.Prelude.{◌≡◌, ◌<◌, ◌≤◌, IfOk, All, None, length, slice_index_or};
+ghost use Rattle.bx_resolve.specs.Levels.{type_of, chars_at, max_level, types_at, with_levels};
 
+use crate::paragraph::Level;
 use bx_explicit::Kept;
 use bx_ucd::Class;
 use std::alloc::{AllocError, Global};
@@ -46,12 +47,13 @@ pub fn types_at(
 }
 
 /// Writes levels at their indexes.
-pub fn write_levels(each: &mut Vec<Option<u8>>, indexes: &[usize], levels: &[u8])
-    requires { All (λ p. p < length each.old.items) indexes.now }
+pub fn write_levels(each: &mut Vec<Level>, indexes: &[usize], levels: &[u8])
+    requires inside { All (λ p. p < length each.old.items) indexes.now }
+    requires low { All (λ n. n ≤ max_level) levels.now }
     ensures { each.new.items ≡ with_levels indexes.now levels.now each.old.items }
 {
     let count = indexes.len().min(levels.len());
     for i in 0..count {
-        each[indexes[i]] = Some(levels[i]);
+        each[indexes[i]] = Level::of(levels[i]);
     }
 }

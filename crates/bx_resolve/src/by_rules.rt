@@ -1,13 +1,13 @@
 //! The levels of a paragraph, by the rules one after another.
 ghost use Rattle.std.specs.Prelude.{◌≡◌, ◌≤◌, ◌<◌, IfOk, All, chars, length};
 ghost use Rattle.bx_explicit.specs.Stack.{max_depth};
-ghost use Rattle.bx_resolve.specs.Levels.{levels_in, paragraph_level_under, levels_under};
+ghost use Rattle.bx_resolve.specs.Levels.{levels_in, max_level, paragraph_level_under, levels_under};
 
 use crate::at_indexes::{chars_at, types_at, write_levels};
 use crate::body::{chars_of, classes_of};
 use crate::error::ResolveError;
 use crate::neutral::{implicit, n1, n2};
-use crate::paragraph::Levels;
+use crate::paragraph::{Level, Levels};
 use crate::weak::{marks, w1, w2, w3, w4, w5, w6, w7};
 use bx_brackets::{pairs, resolve_pairs};
 use bx_explicit::{Base, Kept, Sequence, base_level, explicit, sequences};
@@ -16,6 +16,7 @@ use bx_ucd::class::direction;
 use std::alloc::Global;
 
 /// The levels of a sequence's characters: W1 to W7, N0 to N2, I1 and I2.
+#[tactic(auto, using(crate::proofs::KeptLevels::all_low_of))]
 fn levels_in<D: BidiData>(
     alloc: Global,
     tables: &D,
@@ -26,7 +27,8 @@ fn levels_in<D: BidiData>(
     requires low { sequence.now.level ≤ max_depth }
     requires within { All (λ p. p < length kept.now) sequence.now.indexes }
     requires as_long { length chars.now ≡ length kept.now }
-    ensures { IfOk result (λ v. v.items ≡ levels_in (D.bracket_of tables.now) chars.now kept.now sequence.now) }
+    ensures levels { IfOk result (λ v. v.items ≡ levels_in (D.bracket_of tables.now) chars.now kept.now sequence.now) }
+    ensures low { IfOk result (λ v. All (λ n. n ≤ max_level) v.items) }
 {
     let (level, sos, eos) = (sequence.level(), sequence.sos(), sequence.eos());
     let chars = chars_at(alloc, chars, sequence.indexes())?;
@@ -61,7 +63,7 @@ pub fn levels_by_rules<D: BidiData>(
     let paragraph = base_level(&classes, base);
     let explicit = explicit(alloc, &classes, paragraph)?;
     let found = sequences(alloc, &explicit)?;
-    let mut each = vec![in alloc; None; chars.len()]?;
+    let mut each = vec![in alloc; Level::none(); chars.len()]?;
     for sequence in &found {
         let levels = levels_in(alloc, tables, &chars, &explicit.kept, sequence)?;
         write_levels(&mut each, sequence.indexes(), &levels);

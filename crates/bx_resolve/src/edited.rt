@@ -6,7 +6,7 @@ ghost use Rattle.bx_resolve.specs.Levels.{paragraph_levels};
 ghost use Rattle.bx_resolve.specs.Edited.{FollowsBetween, FollowsFromStart, FollowsToEnd};
 
 use crate::error::ResolveError;
-use crate::paragraph::Levels;
+use crate::paragraph::{Level, Levels};
 use crate::resolve::levels;
 use crate::splice::{Span, replace_span};
 use bx_explicit::Base;
@@ -19,7 +19,7 @@ fn piece_levels<D: BidiData>(
     piece: &str,
     tables: &D,
     paragraph: u8,
-) -> Result<Vec<Option<u8>>, ResolveError>
+) -> Result<Vec<Level>, ResolveError>
     requires { paragraph ≤ 1 }
     ensures { IfOk result (λ v. v.items ≡ paragraph_levels (D.class_of tables.now) (D.bracket_of tables.now) paragraph (chars piece.now)) }
 {

@@ -10,8 +10,8 @@ ghost use Rattle.bx_resolve.specs.Levels.{WritesRun};
 use crate::body::Body;
 use crate::brackets::resolve_brackets_in;
 use crate::error::ResolveError;
-use crate::neutral::implicit_at;
-use crate::paragraph::Levels;
+use crate::neutral::found_level;
+use crate::paragraph::{Level, Levels};
 use crate::scratch::{Ends, Scratch, resolve_neutral};
 use bx_explicit::{Explicit, Kept, SequenceWalk, explicit};
 use bx_ucd::{BidiData, Class};
@@ -71,7 +71,7 @@ fn sequence_types(
 /// Writes the levels of a run's resolved types, from its first index on, where so many types are written already. It
 /// says how many are written then.
 fn write_run(
-    each: &mut Vec<Option<u8>>,
+    each: &mut Vec<Level>,
     kept: &[Option<Kept>],
     level: u8,
     first: usize,
@@ -91,7 +91,7 @@ fn write_run(
             if c.level != level {
                 return written;
             }
-            each[k] = Some(implicit_at(level, types[written]));
+            each[k] = found_level(level, types[written]);
             written += 1;
         }
         k += 1;
@@ -101,7 +101,7 @@ fn write_run(
 
 /// Writes the levels of resolved types at the indexes of runs that begin at some indexes.
 fn write_levels(
-    each: &mut Vec<Option<u8>>,
+    each: &mut Vec<Level>,
     kept: &[Option<Kept>],
     firsts: &[usize],
     level: u8,
@@ -119,7 +119,7 @@ fn write_levels(
 
 /// Writes the levels of the lent sequence's characters, of these types, at their indexes.
 fn write_sequence<D: BidiData>(
-    each: &mut Vec<Option<u8>>,
+    each: &mut Vec<Level>,
     scratch: &mut Scratch,
     body: &mut Body<'_>,
     tables: &D,
@@ -160,7 +160,7 @@ struct Room<'t> {
 
 /// Writes the levels of the sequence that a walk lends.
 fn write_lent<D: BidiData>(
-    each: &mut Vec<Option<u8>>,
+    each: &mut Vec<Level>,
     room: &mut Room<'_>,
     tables: &D,
     walk: &SequenceWalk<'_>,
@@ -194,13 +194,13 @@ fn each_level<D: BidiData>(
     body: &str,
     tables: &D,
     explicit: &Explicit,
-) -> Result<Vec<Option<u8>>, ResolveError>
+) -> Result<Vec<Level>, ResolveError>
     requires small { length body.now < 2 ^ 32 }
     requires as_long { length (chars body.now) ≡ length explicit.now.classes.items }
     ensures { IfOk result (λ v. v.items ≡ with_sequences (D.bracket_of tables.now) (chars body.now) explicit.now.kept.items
         (sequences explicit.now.level explicit.now.classes.items explicit.now.kept.items) (replicate (length (chars body.now)) None)) }
 {
-    let mut each = vec![in alloc; None; explicit.kept.len()]?;
+    let mut each = vec![in alloc; Level::none(); explicit.kept.len()]?;
     let mut room = Room {
         body: Body::new(alloc, body),
         types: Vec::new(alloc),

@@ -1,8 +1,10 @@
 //! The rules for neutral types and the implicit levels.
-ghost use Rattle.std.specs.Prelude.{◌≡◌, ◌≤◌, ◌+◌, IfOk};
+ghost use Rattle.std.specs.Prelude.{◌≡◌, ◌≤◌, ◌+◌, All, IfOk, Some};
 ghost use Rattle.bx_explicit.specs.Stack.{max_depth};
+ghost use Rattle.bx_resolve.specs.Levels.{max_level};
 ghost use Rattle.bx_resolve.specs.Neutral.{side_of, side, agreed, n1, n2, n2_at, is_en_or_an, rise_even, rise_odd, implicit_at, implicit};
 
+use crate::paragraph::Level;
 use bx_ucd::Class;
 use bx_ucd::class::is_neutral;
 use std::alloc::{AllocError, Global};
@@ -148,6 +150,16 @@ pub fn implicit_at(level: u8, t: Class) -> u8
     } else {
         level + rise_odd(t)
     }
+}
+
+/// The same as a level that is kept.
+#[inline(always)]
+#[tactic(auto, using(crate::proofs::KeptLevels::implicit_low))]
+pub fn found_level(level: u8, t: Class) -> Level
+    requires { level ≤ max_depth }
+    ensures { result ≡ Some (implicit_at level t) }
+{
+    Level::of(implicit_at(level, t))
 }
 
 /// I1 and I2: the levels of resolved types in a sequence of a level.

@@ -11,8 +11,8 @@ use crate::brackets::resolve_brackets_of;
 use crate::by_rules::levels_by_rules;
 use crate::error::ResolveError;
 use crate::formatted::formatted_levels;
-use crate::neutral::implicit_at;
-use crate::paragraph::Levels;
+use crate::neutral::found_level;
+use crate::paragraph::{Level, Levels};
 use crate::plain::{are_from_right, are_plain, are_plain_right, are_unformatted};
 use crate::scratch::{Ends, Scratch, resolve_neutral};
 use crate::weak::weak_in_one_pass;
@@ -23,29 +23,29 @@ use std::alloc::{AllocError, Global};
 
 /// Writes the levels of resolved types in a sequence of a level.
 #[tactic(auto, using(crate::proofs::Mapped::mapped_more, crate::proofs::Mapped::mapped_all))]
-fn write_found(each: &mut [Option<u8>], types: &[Class], level: u8)
+fn write_found(each: &mut [Level], types: &[Class], level: u8)
     requires level { level ≤ max_depth }
     requires count { length each.old ≡ length types.now }
     ensures { each.new ≡ map (λ t. Some (implicit_at level t)) types.now }
 {
     for i in 0..types.len() {
-        each[i] = Some(implicit_at(level, types[i]));
+        each[i] = found_level(level, types[i]);
     }
 }
 
 /// The levels of resolved types in a sequence of a level, each found.
-fn found_levels(alloc: Global, types: &[Class], level: u8) -> Result<Vec<Option<u8>>, AllocError>
+fn found_levels(alloc: Global, types: &[Class], level: u8) -> Result<Vec<Level>, AllocError>
     requires { level ≤ max_depth }
     ensures { IfOk result (λ v. v.items ≡ map (λ t. Some (implicit_at level t)) types.now) }
 {
-    let mut each = vec![in alloc; Some(level); types.len()]?;
+    let mut each = vec![in alloc; Level::of(level); types.len()]?;
     write_found(each.as_mut_slice(), types, level);
     Ok(each)
 }
 
 /// The levels of a text from right to left without L: I2 asks for the types after W7 alone, since numbers count as R in N0
 /// and N1.
-fn levels_from_right(alloc: Global, classes: &mut [Class]) -> Result<Vec<Option<u8>>, AllocError>
+fn levels_from_right(alloc: Global, classes: &mut [Class]) -> Result<Vec<Level>, AllocError>
     ensures { IfOk result (λ v. v.items ≡ map (λ t. Some (implicit_at 1 t)) (weak Class.R classes.old)) }
 {
     weak_in_one_pass(classes, Class::R);
@@ -101,11 +101,11 @@ fn resolved_levels<D: BidiData>(
     let mut classes = classes_of(alloc, body, tables)?;
     let paragraph = base_level(&classes, base);
     if paragraph == 0 && are_plain(&classes) {
-        let each = vec![in alloc; Some(0); classes.len()]?;
+        let each = vec![in alloc; Level::of(0); classes.len()]?;
         return Ok(Levels { paragraph, each });
     }
     if paragraph == 1 && are_plain_right(&classes) {
-        let each = vec![in alloc; Some(1); classes.len()]?;
+        let each = vec![in alloc; Level::of(1); classes.len()]?;
         return Ok(Levels { paragraph, each });
     }
     if paragraph == 1 && are_from_right(&classes) {

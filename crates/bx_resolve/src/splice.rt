@@ -2,6 +2,7 @@
 ghost use Rattle.std.specs.Prelude.{◌≡◌, ◌≤◌, OnErr, OnOk, length};
 ghost use Rattle.std.specs.List.{splice};
 
+use crate::paragraph::Level;
 use std::alloc::AllocError;
 
 /// Which levels give way to others: those from an index up to another.
@@ -13,7 +14,7 @@ pub struct Span {
 }
 
 /// Makes room for more levels. It grows by an eighth at least, so that a row of edits moves few of them.
-fn make_room(levels: &mut Vec<Option<u8>>, more: usize) -> Result<(), AllocError>
+fn make_room(levels: &mut Vec<Level>, more: usize) -> Result<(), AllocError>
     ensures { levels.new.items ≡ levels.old.items }
 {
     let count = levels.len();
@@ -25,9 +26,9 @@ fn make_room(levels: &mut Vec<Option<u8>>, more: usize) -> Result<(), AllocError
 
 /// Puts levels in the place of those of a span. What has no room changes nothing.
 pub fn replace_span(
-    levels: &mut Vec<Option<u8>>,
+    levels: &mut Vec<Level>,
     span: Span,
-    found: Vec<Option<u8>>,
+    found: Vec<Level>,
 ) -> Result<(), AllocError>
     requires ordered { span.first ≤ span.last }
     requires inside { span.last ≤ length levels.old.items }

@@ -8,6 +8,7 @@ ghost use Rattle.bx_rows.specs.RowLevels.{is_segment_separator, is_trailing};
 ghost use Rattle.bx_rows.specs.LevelReads.{Reads, ReadsChar, level_before, levels_from, settled, settled_if};
 
 use bx_cells::first_char;
+use bx_resolve::Level;
 use bx_ucd::{BidiData, Class};
 use std::alloc::AllocError;
 
@@ -155,14 +156,14 @@ fn push_before(found: &mut Vec<u8>, waiting: usize, paragraph: u8) -> Result<usi
 
 /// The first level, and those behind it; none where no level is left.
 #[inline(always)]
-pub(crate) fn first_level(levels: &[Option<u8>]) -> (Option<u8>, &[Option<u8>])
+pub(crate) fn first_level(levels: &[Level]) -> (Option<u8>, &[Level])
     ensures first { result.0 ≡ get_or levels.now 0 None }
     ensures behind { result.1.now ≡ drop 1 levels.now }
 {
     if levels.is_empty() {
         return (None, levels);
     }
-    (levels[0], &levels[1..])
+    (levels[0].get(), &levels[1..])
 }
 
 /// Reads a unit; gives the number of the first unit that waits then, and the levels behind the unit's characters.
@@ -171,10 +172,10 @@ pub(crate) fn read_unit<'a, D: BidiData>(
     found: &mut Vec<u8>,
     waiting: usize,
     text: &str,
-    levels: &'a [Option<u8>],
+    levels: &'a [Level],
     paragraph: u8,
     tables: &D,
-) -> Result<(usize, &'a [Option<u8>]), AllocError>
+) -> Result<(usize, &'a [Level]), AllocError>
     requires { waiting ≤ length found.old.items }
     ensures within { IfOk result (λ r. r.0 ≤ length found.new.items) }
     ensures levels { IfOk result (λ r. (more counts : List ℕ)

@@ -4,7 +4,7 @@ mod vectors;
 
 use crate::words::{field_of, spelled_out, text_of, two_of};
 use bx_explicit::Base;
-use bx_resolve::{levels, levels_by_rules};
+use bx_resolve::{Level, levels, levels_by_rules};
 use bx_ucd::{Tables, sample_tables};
 use rows::ROWS;
 use std::alloc::Global;
@@ -24,10 +24,10 @@ fn add_level(text: &mut String, alloc: Global, level: Option<u8>) -> Result<(), 
 }
 
 /// The levels as a line shows them.
-fn shown(alloc: Global, each: &[Option<u8>]) -> Result<String, Fail> {
+fn shown(alloc: Global, each: &[Level]) -> Result<String, Fail> {
     let mut text = String::new(alloc);
     for level in each {
-        add_level(&mut text, alloc, *level)?;
+        add_level(&mut text, alloc, level.get())?;
     }
     if text.is_empty() {
         text.push('-')?;

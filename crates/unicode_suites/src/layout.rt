@@ -5,7 +5,7 @@ ghost use Rattle.bx_cells.specs.Units.{StandsIn};
 use anyhow::{Result, bail};
 use bx_cells::{Face, Unit};
 use bx_explicit::Base;
-use bx_resolve::{Levels, levels};
+use bx_resolve::{Level, Levels, levels};
 use bx_rows::{Row, row_levels, visual};
 use bx_ucd::{BidiData, Class, Tables};
 use std::alloc::Global;
@@ -117,7 +117,7 @@ pub fn find_layout(alloc: Global, text: &str, tables: &Tables, base: Base) -> Re
     let (found, each) = levels_in_row(alloc, text, tables, base)?;
     let mut levels = Vec::new(alloc);
     for (i, level) in each.iter().enumerate() {
-        let is_removed = found.each.get(i) == Some(&None);
+        let is_removed = found.each.get(i) == Some(&Level::none());
         levels.push(if is_removed { None } else { Some(*level) })?;
     }
     let mut order = Vec::new(alloc);

@@ -15,7 +15,7 @@ loop-sequence-preserved g c =
     let i : ℕ = c.loop-sequence.sequence-index in
     let s : RunSequence = c.sequence-item.result in
     let each : List (Option ℕ) = c.loop-sequence.each.items in
-    let levels : c.deref-in-loop-sequence-3.result.now ≡ levels_in bracket chars kept s = c.deref-in-loop-sequence-3.ensures.value ∙ c.in_ok-levels.ensures
+    let levels : c.deref-in-loop-sequence-3.result.now ≡ levels_in bracket chars kept s = c.deref-in-loop-sequence-3.ensures.value ∙ c.in_ok-levels.ensures.levels
     ∙ ap (λ cs. levels_in bracket cs c.deref-in-loop-sequence-2.result.now s) c.deref-in-loop-sequence.ensures.value
     ∙ ap (λ k. levels_in bracket chars k s) c.deref-in-loop-sequence-2.ensures.value in
     let new : c.write_levels.new.each.items ≡ with_levels s.indexes (levels_in bracket chars kept s) each = c.write_levels.ensures

@@ -1,0 +1,30 @@
+-- The byte that keeps a character's level, or that there is none.
+use Rattle.std.specs.Prelude.{◌≡◌, ◌==◌, ℕ, true, false, Option, Some, None}
+use Rattle.std.proofs.Common.{refl, sym, ap, eqb-true}
+use Rattle.bx_resolve.specs.declared.paragraph.Level.TheInside.{Inside}
+
+-- 255, which is no level, stands for none
+abbrev kept_in : ℕ → Option ℕ
+kept_in byte = elim (byte == 255) [ true ↦ None | false ↦ Some byte ]
+
+abbrev pub level_of : Inside → Option ℕ
+level_of l = kept_in l.byte
+
+abbrev byte_of : Option ℕ → ℕ
+byte_of None = 255
+byte_of (Some level) = level
+
+abbrev made : ℕ → Inside
+made byte = record { byte = byte }
+
+abbrev pub inside_of : Option ℕ → Inside
+inside_of level = made (byte_of level)
+
+byte_back : (byte : ℕ) → byte_of (kept_in byte) ≡ byte
+byte_back byte = elim (byte == 255) as (λ b. (byte == 255) ≡ b → byte_of (elim b [ true ↦ None | false ↦ Some byte ]) ≡ byte) [
+  | true ↦ λ e. sym (eqb-true byte 255 e)
+  | false ↦ λ e. refl
+] refl
+
+pub inside_of-level : (l : Inside) → inside_of (level_of l) ≡ l
+inside_of-level l = ap made (byte_back l.byte)
