@@ -1,13 +1,12 @@
 -- The rows of a body that begins and ends as an old one.
 use Rattle.std.proofs.Common.{◌≡◌, ℕ, zero, suc, ◌+◌, ◌-◌, ◌^◌, ◌<◌, ◌≤◌, ◌∙◌, List, [], ◌∷◌, ◌++◌, map, length, take, drop, get_or, Some, refl, sym, ap, ap₂}
-use Rattle.std.proofs.Common.{All, subst, arith, drop-drop, length-append, length-drop, length-take-le, take-append-drop, take_all}
+use Rattle.std.proofs.Common.{All, subst, arith, drop-drop, length-append, length-drop, take-append-drop, take_all}
 use Rattle.std.specs.Prelude.{slice_get}
 use Rattle.std.specs.Str.{IsCharBoundary, IsUtf8}
 use Rattle.std.proofs.lemmas.List.{get_or_append_left, get_or-append-add, get_or-map, length-map, map-append}
 use Rattle.std.proofs.lemmas.List.Elements.{All-drop}
 use Rattle.std.proofs.lemmas.Option.{slice_get-get_or}
-use Rattle.std.proofs.lemmas.Str.{IsCharBoundary-end, IsCharBoundary-from_take, IsUtf8-take}
-use Rattle.std.proofs.Math.Seq.{drop-append-add, drop-append_seam, take-append_seam}
+use Rattle.std.proofs.lemmas.Str.{IsCharBoundary-end}
 use Rattle.bx_ucd.specs.declared.class.Class.{Class}
 use Rattle.bx_rows.specs.declared.start_search.RowStart.{RowStart}
 use Rattle.bx_rows.specs.Laws.{behind, moved}
@@ -188,25 +187,3 @@ behind-origin [] = refl
 behind-origin (s ∷ ss) =
     ap₂ (λ x xs. x ∷ xs) (ap₂ (λ n m. start_from n m (0 + s.chars)) (none-more s.offset) (none-more s.units) ∙ ap (start_from s.offset s.units) (none-more s.chars))
     (behind-origin ss)
-
--- ---- a body with a text in the place of another
-
-pub record IsSpliced (body changed : List ℕ) (start stop last : ℕ) : Type 0 where
-  pub front : take start body ≡ take start changed
-  pub back : drop stop body ≡ drop last changed
-  pub at : IsCharBoundary changed start
-
-pub spliced : (body inserted changed : List ℕ) (start stop last : ℕ) → IsUtf8 body → IsUtf8 changed → IsCharBoundary body start
-    → changed ≡ take start body ++ (inserted ++ drop stop body) → last ≡ start + length inserted → IsSpliced body changed start stop last
-spliced body inserted changed start stop last u v b e n =
-    let front = take start body in
-    let rest = inserted ++ drop stop body in
-    let size : length front ≡ start = length-take-le start body b.0 in
-    let same : take start changed ≡ front = ap₂ (λ k xs. take k xs) (sym size) e ∙ take-append_seam front rest in
-    let m : last ≡ length front + length inserted = omega (arith, n, size) in
-    let whole = ap length e ∙ length-append front rest in
-    record {
-      front = sym same;
-      back = sym (ap₂ (λ k xs. drop k xs) m e ∙ drop-append-add front rest (length inserted) ∙ drop-append_seam inserted (drop stop body));
-      at = IsCharBoundary-from_take changed start v (omega (arith, whole, size)) (subst IsUtf8 (sym same) (IsUtf8-take body start u b));
-    }

@@ -5,3 +5,4 @@ pub mod RowParts
 pub mod Cuts
 pub mod Laws
 pub mod RowEdits
+pub mod BodyEdits

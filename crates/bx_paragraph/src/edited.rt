@@ -3,12 +3,15 @@ ghost use Rattle.std.specs.Prelude.{◌≡◌, ◌≤◌, ◌<◌, All, IfOk, On
 ghost use Rattle.std.specs.List.{splice};
 ghost use Rattle.std.specs.Str.{IsCharBoundary};
 ghost use Rattle.bx_resolve.specs.Edited.{AreLevelsOf, HasNoFormatting};
+ghost use Rattle.bx_paragraph.specs.BodyEdits.{IsEdit, changed};
 ghost use Rattle.bx_paragraph.specs.Cuts.{AreAsBefore, IsCounted, IsEditOf};
 ghost use Rattle.bx_paragraph.specs.Layout.{IsLayoutBy};
 
-use crate::edited_rows::{OldRows, edited_starts};
+use crate::body_edit::{BodyEdit, changed_from};
+use crate::edited_rows::edited_starts;
+use crate::in_place::{make_room, replace};
 use crate::layout::{ParagraphLayout, starts_up_to};
-use crate::text_edit::{TextEdit, follow, join};
+use crate::text_edit::{TextEdit, follow};
 use crate::way::are_unformatted;
 use bx_explicit::Base;
 use bx_resolve::Levels;
@@ -67,14 +70,6 @@ fn has_none<D: BidiData>(is_unformatted: bool, body: &str, tables: &D) -> bool
     are_unformatted(body, tables)
 }
 
-/// A body and what an edit turns it into.
-#[derive(Clone, Copy)]
-struct ChangedBody<'t> {
-    before: &'t str,
-    changed: &'t str,
-    edit: TextEdit<'t>,
-}
-
 /// Turns the levels of a body into those of what an edit turns it into; tells whether that is known to have no formatting
 /// characters. Strong characters that cut off the edit spare all levels but those between them.
 ///
@@ -82,29 +77,35 @@ struct ChangedBody<'t> {
 fn edit_levels<D: BidiData>(
     levels: &mut Levels,
     is_unformatted: bool,
-    body: &ChangedBody<'_>,
+    edit: &BodyEdit<'_>,
     tables: &D,
     base: Base,
 ) -> Result<bool, OutOfMemory>
-    requires edit { IsEditOf body.now.before.now body.now.changed.now body.now.edit }
-    requires levels { AreLevelsOf (D.class_of tables.now) (D.bracket_of tables.now) base (chars body.now.before.now) levels.old }
-    requires unformatted { is_unformatted ≡ true → HasNoFormatting (D.class_of tables.now) (chars body.now.before.now) }
-    ensures levels { OnOk result (AreLevelsOf (D.class_of tables.now) (D.bracket_of tables.now) base (chars body.now.changed.now) levels.new) }
-    ensures unformatted { IfOk result (λ b. b ≡ true → HasNoFormatting (D.class_of tables.now) (chars body.now.changed.now)) }
+    requires edit { IsEdit edit.now }
+    requires some { 0 < length edit.now.starts.now }
+    requires counted { All (IsCounted edit.now.body.now) edit.now.starts.now }
+    requires levels { AreLevelsOf (D.class_of tables.now) (D.bracket_of tables.now) base (chars edit.now.body.now) levels.old }
+    requires unformatted { is_unformatted ≡ true → HasNoFormatting (D.class_of tables.now) (chars edit.now.body.now) }
+    ensures levels { OnOk result (AreLevelsOf (D.class_of tables.now) (D.bracket_of tables.now) base (chars (changed edit.now)) levels.new) }
+    ensures unformatted { IfOk result (λ b. b ≡ true → HasNoFormatting (D.class_of tables.now) (chars (changed edit.now))) }
     ensures err { OnErr result (AreAsBefore levels.old levels.new) }
 {
-    if has_none(is_unformatted, body.before, tables) && follow(levels, tables, &body.edit)? {
+    let text = text_edit(edit.body, edit.starts, edit.start, edit.stop, edit.inserted);
+    if has_none(is_unformatted, edit.body, tables) && follow(levels, tables, &text)? {
         return Ok(true);
     }
     let alloc = *levels.each.allocator();
-    *levels = bx_resolve::levels(alloc, body.changed, tables, base)?;
-    Ok(are_unformatted(body.changed, tables))
+    let changed = changed_from(alloc, edit, 0)?;
+    let body = changed.as_str();
+    *levels = bx_resolve::levels(alloc, body, tables, base)?;
+    Ok(are_unformatted(body, tables))
 }
 
 impl ParagraphLayout {
     /// Puts a text in the place of the body's from an offset up to another, in bytes. Where strong characters cut off the edit
     /// (UAX #9), all levels but those between them are kept; else the whole body is resolved again. The rows are found from one
-    /// well before the edit until they meet the old ones.
+    /// well before the edit until they meet the old ones. The body itself is changed last, in its own memory, which has room for
+    /// it by then.
     ///
     /// Errors: `OutOfMemory`, and nothing has changed.
     pub fn edit<D: BidiData>(
@@ -124,37 +125,25 @@ impl ParagraphLayout {
         ensures rows { IsLayoutBy (D.class_of tables.now) (D.bracket_of tables.now) self.new }
         ensures err { OnErr result (self.new ≡ self.old) }
     {
-        let body = self.body.as_str();
-        join(
-            &mut self.spare.body,
-            &body[..start],
-            inserted,
-            &body[stop..],
-        )?;
-        let changed = self.spare.body.as_str();
-        let old = OldRows {
-            body,
+        make_room(&mut self.body, inserted.len())?;
+        let edit = BodyEdit {
+            body: self.body.as_str(),
             starts: &self.starts,
-            stop,
             w: self.w,
+            start,
+            stop,
+            inserted,
         };
-        let last = start + inserted.len();
-        edited_starts(&mut self.spare.starts, &old, changed, start, last, tables)?;
-        let edit = text_edit(body, &self.starts, start, stop, inserted);
-        let changed_body = ChangedBody {
-            before: body,
-            changed,
-            edit,
-        };
+        edited_starts(&mut self.spare, &edit, tables)?;
         self.is_unformatted = edit_levels(
             &mut self.levels,
             self.is_unformatted,
-            &changed_body,
+            &edit,
             tables,
             self.base,
         )?;
-        mem::swap(&mut self.body, &mut self.spare.body);
-        mem::swap(&mut self.starts, &mut self.spare.starts);
+        replace(&mut self.body, start, stop, inserted);
+        mem::swap(&mut self.starts, &mut self.spare);
         Ok(())
     }
 }

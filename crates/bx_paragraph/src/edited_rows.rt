@@ -1,41 +1,35 @@
 //! Where the rows begin of a body that an edit changes: they are found from a row well before it until they meet the old ones.
-ghost use Rattle.std.specs.Prelude.{◌≡◌, ◌≤◌, ◌++◌, All, IfSome, OnOk, drop, length, map, take, true};
-ghost use Rattle.std.specs.Str.{IsCharBoundary, IsUtf8};
+ghost use Rattle.std.specs.Prelude.{◌≡◌, ◌≤◌, ◌<◌, ◌+◌, ◌^◌, ◌++◌, All, IfSome, OnOk, drop, length, map, take, true};
+ghost use Rattle.std.specs.Str.{IsCharBoundary};
 ghost use Rattle.bx_terms.specs.Sizes.{is_side};
 ghost use Rattle.bx_rows.specs.Laws.{behind};
 ghost use Rattle.bx_rows.specs.RowStarts.{row_starts};
+ghost use Rattle.bx_paragraph.specs.BodyEdits.{IsEdit, changed};
 ghost use Rattle.bx_paragraph.specs.RowEdits.{DoMeetNear, HasRoom};
 
+use crate::body_edit::{BodyEdit, changed_from};
 use crate::row_edit::{behind, meeting, push_behind, push_moved, well_before};
+use crate::text_edit::joined;
 use bx_rows::{RowStart, row_starts};
 use bx_terms::OutOfMemory;
 use bx_ucd::BidiData;
 
-/// The rows of a body before an edit, in a window of so many columns, and the offset at which what the edit removes ends.
-#[derive(Clone, Copy)]
-pub(crate) struct OldRows<'t> {
-    pub(crate) body: &'t str,
-    pub(crate) starts: &'t [RowStart],
-    pub(crate) stop: usize,
-    pub(crate) w: u16,
-}
-
-/// So many bytes behind an edit does a first search go, for each column of the window.
+/// So many bytes behind an edit does a first search go, for each column of a window.
 const REACH: usize = 16;
 
-/// The beginning of a text up to a little behind an offset.
-fn near_text(rest: &str, shift: usize, w: u16) -> &str
-    ensures near { result.now ≡ take (length result.now) rest.now }
-    ensures boundary { IsCharBoundary rest.now (length result.now) }
+/// The beginning of a text: so many bytes for each column of a window, and on to where a character ends.
+fn near_text(text: &str, w: u16) -> &str
+    ensures near { result.now ≡ take (length result.now) text.now }
+    ensures boundary { IsCharBoundary text.now (length result.now) }
 {
-    let mut at = shift.saturating_add(REACH * usize::from(w));
-    while at < rest.len() && !rest.is_char_boundary(at) {
+    let mut at = REACH * usize::from(w);
+    while at < text.len() && !text.is_char_boundary(at) {
         at += 1;
     }
-    if !rest.is_char_boundary(at) {
-        return rest;
+    if !text.is_char_boundary(at) {
+        return text;
     }
-    &rest[..at]
+    &text[..at]
 }
 
 /// The numbers of a row of the beginning of a text and of an old row that begin in the same place behind an edit, which ends
@@ -44,75 +38,74 @@ fn meeting_near(
     found: &[RowStart],
     len: usize,
     shift: usize,
-    old: &OldRows<'_>,
+    edit: &BodyEdit<'_>,
 ) -> Option<(usize, usize)>
-    ensures { IfSome result (λ r. DoMeetNear old.now.w len shift old.now.stop found.now old.now.starts.now r.0 r.1) }
+    ensures { IfSome result (λ r. DoMeetNear edit.now.w len shift edit.now.stop found.now edit.now.starts.now r.0 r.1) }
 {
-    let last = well_before(found, len, old.w)?;
-    meeting(found, old.starts, last, shift, old.stop)
+    let last = well_before(found, len, edit.w)?;
+    meeting(found, edit.starts, last, shift, edit.stop)
 }
 
-/// Adds the rows of what is left of a body from a row's start on. The edit ends at the offset `shift` of what is left.
+/// Adds the rows of what is left of the body that an edit makes, from the start of a row before the edit on.
 fn push_rest<D: BidiData>(
     starts: &mut Vec<RowStart>,
     first: RowStart,
-    old: &OldRows<'_>,
-    rest: &str,
-    shift: usize,
+    edit: &BodyEdit<'_>,
     tables: &D,
 ) -> Result<(), OutOfMemory>
-    requires side { is_side old.now.w ≡ true }
-    requires starts { old.now.starts.now ≡ row_starts (D.class_of tables.now) old.now.w old.now.body.now }
-    requires same { drop old.now.stop old.now.body.now ≡ drop shift rest.now }
-    requires room { All (λ s. HasRoom (behind first s)) (row_starts (D.class_of tables.now) old.now.w rest.now) }
-    ensures { OnOk result (starts.new.items ≡ starts.old.items ++ map (behind first) (row_starts (D.class_of tables.now) old.now.w rest.now)) }
+    requires side { is_side edit.now.w ≡ true }
+    requires starts { edit.now.starts.now ≡ row_starts (D.class_of tables.now) edit.now.w edit.now.body.now }
+    requires edit { IsEdit edit.now }
+    requires first { IsCharBoundary edit.now.body.now first.offset }
+    requires before { first.offset ≤ edit.now.start }
+    requires room { All (λ s. HasRoom (behind first s)) (row_starts (D.class_of tables.now) edit.now.w (drop first.offset (changed edit.now))) }
+    ensures { OnOk result (starts.new.items ≡ starts.old.items
+        ++ map (behind first) (row_starts (D.class_of tables.now) edit.now.w (drop first.offset (changed edit.now)))) }
 {
     let alloc = *starts.allocator();
-    let near = near_text(rest, shift, old.w);
+    let before = &edit.body[first.offset..edit.start];
+    let rest = &edit.body[edit.stop..];
+    let near = near_text(rest, edit.w);
     if near.len() < rest.len() {
-        let found = row_starts(alloc, near, tables, old.w)?;
-        if let Some((i, k)) = meeting_near(&found, near.len(), shift, old) {
+        let piece = joined(alloc, before, edit.inserted, near)?;
+        let text = piece.as_str();
+        let found = row_starts(alloc, text, tables, edit.w)?;
+        let shift = text.len() - near.len();
+        if let Some((i, k)) = meeting_near(&found, text.len(), shift, edit) {
             push_behind(starts, first, &found[..i])?;
             push_moved(
                 starts,
-                old.starts[k],
+                edit.starts[k],
                 behind(first, found[i]),
-                &old.starts[k..],
+                &edit.starts[k..],
             )?;
             return Ok(());
         }
     }
-    let found = row_starts(alloc, rest, tables, old.w)?;
+    let changed = changed_from(alloc, edit, first.offset)?;
+    let found = row_starts(alloc, changed.as_str(), tables, edit.w)?;
     push_behind(starts, first, &found)?;
     Ok(())
 }
 
-/// Finds where the rows begin of a body that begins and ends as an old one: up to the offset `start`, and from `stop` on.
+/// Finds where the rows begin of the body that an edit makes.
 pub(crate) fn edited_starts<D: BidiData>(
     starts: &mut Vec<RowStart>,
-    old: &OldRows<'_>,
-    changed: &str,
-    start: usize,
-    stop: usize,
+    edit: &BodyEdit<'_>,
     tables: &D,
 ) -> Result<(), OutOfMemory>
-    requires side { is_side old.now.w ≡ true }
-    requires text { IsUtf8 old.now.body.now }
-    requires starts { old.now.starts.now ≡ row_starts (D.class_of tables.now) old.now.w old.now.body.now }
-    requires old_start { IsCharBoundary old.now.body.now start }
-    requires new_start { IsCharBoundary changed.now start }
-    requires order { start ≤ stop }
-    requires front { take start old.now.body.now ≡ take start changed.now }
-    requires back { drop old.now.stop old.now.body.now ≡ drop stop changed.now }
-    ensures { OnOk result (starts.new.items ≡ row_starts (D.class_of tables.now) old.now.w changed.now) }
+    requires side { is_side edit.now.w ≡ true }
+    requires starts { edit.now.starts.now ≡ row_starts (D.class_of tables.now) edit.now.w edit.now.body.now }
+    requires edit { IsEdit edit.now }
+    requires short { length edit.now.body.now + length edit.now.inserted.now < 2 ^ 64 }
+    ensures { OnOk result (starts.new.items ≡ row_starts (D.class_of tables.now) edit.now.w (changed edit.now)) }
 {
     starts.clear();
-    if let Some(row) = well_before(old.starts, start, old.w) {
-        let first = old.starts[row];
-        if first.offset <= stop && changed.is_char_boundary(first.offset) {
-            let rest = &changed[first.offset..];
-            starts.extend_from_slice(&old.starts[..row])?;
-            push_rest(starts, first, old, rest, stop - first.offset, tables)?;
+    if let Some(row) = well_before(edit.starts, edit.start, edit.w) {
+        let first = edit.starts[row];
+        if first.offset <= edit.start && edit.body.is_char_boundary(first.offset) {
+            starts.extend_from_slice(&edit.starts[..row])?;
+            push_rest(starts, first, edit, tables)?;
             return Ok(());
         }
     }
@@ -121,6 +114,6 @@ pub(crate) fn edited_starts<D: BidiData>(
         units: 0,
         chars: 0,
     };
-    push_rest(starts, first, old, changed, stop, tables)?;
+    push_rest(starts, first, edit, tables)?;
     Ok(())
 }

@@ -15,7 +15,6 @@ ghost use Rattle.bx_paragraph.specs.Slots.{AreReordered, row_slots};
 use crate::row_parts::RowParts;
 use crate::slot::Slot;
 use crate::slots::row_slots;
-use crate::spare::Spare;
 use bx_explicit::Base;
 use bx_resolve::{Levels, levels};
 use bx_rows::{RowPicture, RowStart, row_levels_behind, row_picture, row_starts, units_of_row};
@@ -35,7 +34,8 @@ pub struct ParagraphLayout {
     pub(crate) starts: Vec<RowStart>,
     /// Whether the body is known to have no formatting characters.
     pub(crate) is_unformatted: bool,
-    pub(crate) spare: Spare,
+    /// The list that the next edit writes its row starts into.
+    pub(crate) spare: Vec<RowStart>,
 }
 
 impl Model for ParagraphLayout {
@@ -85,7 +85,7 @@ impl ParagraphLayout {
             levels,
             starts,
             is_unformatted: false,
-            spare: Spare::new(alloc),
+            spare: Vec::new(alloc),
         })
     }
 

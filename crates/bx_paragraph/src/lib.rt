@@ -3,10 +3,12 @@
 //! Only the functions that answer a `Result` take memory.
 #![tactic(auto)]
 
+mod body_edit;
 mod cursor;
 mod cut_off;
 mod edited;
 mod edited_rows;
+mod in_place;
 mod laws;
 mod layout;
 mod moves;
@@ -15,7 +17,6 @@ mod row_edit;
 mod row_parts;
 mod slot;
 mod slots;
-mod spare;
 mod standing;
 mod strong;
 mod text_edit;

@@ -1,5 +1,5 @@
 //! An edit of a text, and the levels that follow it.
-ghost use Rattle.std.specs.Prelude.{◌≡◌, ◌≤◌, ◌+◌, ◌++◌, IfOk, OnErr, OnOk, chars, length, string_bytes, false, true};
+ghost use Rattle.std.specs.Prelude.{◌≡◌, ◌≤◌, ◌+◌, ◌++◌, IfOk, OnErr, chars, length, string_bytes, false, true};
 ghost use Rattle.bx_resolve.specs.Edited.{HasNoFormatting};
 ghost use Rattle.bx_paragraph.specs.Cuts.{AreAsBefore, FollowsEdit, IsStrongIn};
 
@@ -23,34 +23,20 @@ pub(crate) struct TextEdit<'t> {
     pub(crate) behind: &'t str,
 }
 
-/// Writes three texts into one, in the place of what it held. Its memory grows by an eighth at least, so that few of a row of
-/// edits ask for more.
-pub(crate) fn join(
-    text: &mut String,
+/// Three texts joined.
+pub(crate) fn joined(
+    alloc: Global,
     first: &str,
     middle: &str,
     last: &str,
-) -> Result<(), AllocError>
-    ensures { OnOk result (string_bytes text.new ≡ first.now ++ (middle.now ++ last.now)) }
+) -> Result<String, AllocError>
+    ensures { IfOk result (λ s. string_bytes s ≡ first.now ++ (middle.now ++ last.now)) }
 {
     let room = first.len().saturating_add(middle.len());
-    let room = room.saturating_add(last.len());
-    text.clear();
-    if text.capacity() < room {
-        text.reserve_exact(room.saturating_add(room / 8))?;
-    }
+    let mut text = String::with_capacity(alloc, room.saturating_add(last.len()))?;
     text.push_str(first)?;
     text.push_str(middle)?;
     text.push_str(last)?;
-    Ok(())
-}
-
-/// Three texts joined.
-fn joined(alloc: Global, first: &str, middle: &str, last: &str) -> Result<String, AllocError>
-    ensures { IfOk result (λ s. string_bytes s ≡ first.now ++ (middle.now ++ last.now)) }
-{
-    let mut text = String::new(alloc);
-    join(&mut text, first, middle, last)?;
     Ok(text)
 }
 

@@ -1,0 +1,36 @@
+//! An edit of a body, and the text that it makes.
+ghost use Rattle.std.specs.Prelude.{◌≡◌, ◌≤◌, IfOk, drop, string_bytes};
+ghost use Rattle.std.specs.Str.{IsCharBoundary};
+ghost use Rattle.bx_paragraph.specs.BodyEdits.{IsEdit, changed};
+
+use crate::text_edit::joined;
+use bx_rows::RowStart;
+use std::alloc::{AllocError, Global};
+
+/// An edit that puts a text in the place of a body's from an offset up to another. The body's rows begin at the starts, in a
+/// window of so many columns.
+#[derive(Clone, Copy)]
+pub(crate) struct BodyEdit<'t> {
+    pub(crate) body: &'t str,
+    pub(crate) starts: &'t [RowStart],
+    pub(crate) w: u16,
+    pub(crate) start: usize,
+    pub(crate) stop: usize,
+    pub(crate) inserted: &'t str,
+}
+
+/// The body that an edit makes, from an offset before the edit on.
+pub(crate) fn changed_from(
+    alloc: Global,
+    edit: &BodyEdit<'_>,
+    from: usize,
+) -> Result<String, AllocError>
+    requires edit { IsEdit edit.now }
+    requires from { IsCharBoundary edit.now.body.now from }
+    requires before { from ≤ edit.now.start }
+    ensures { IfOk result (λ s. string_bytes s ≡ drop from (changed edit.now)) }
+{
+    let before = &edit.body[from..edit.start];
+    let text = joined(alloc, before, edit.inserted, &edit.body[edit.stop..])?;
+    Ok(text)
+}

@@ -1,0 +1,32 @@
+//! A text that is changed in its own memory.
+ghost use Rattle.std.specs.Prelude.{◌≡◌, ◌≤◌, ◌<◌, ◌+◌, ◌^◌, OnOk, length, string_bytes, string_capacity, string_len};
+ghost use Rattle.std.specs.List.{splice};
+ghost use Rattle.std.specs.Str.{IsCharBoundary};
+
+use std::alloc::AllocError;
+
+/// Makes room in a text for so many more bytes. It grows by an eighth at least, so that few of a row of edits ask for memory.
+pub(crate) fn make_room(text: &mut String, more: usize) -> Result<(), AllocError>
+    ensures bytes { string_bytes text.new ≡ string_bytes text.old }
+    ensures room { OnOk result (string_len text.new + more ≤ string_capacity text.new) }
+    ensures short { OnOk result (length (string_bytes text.new) + more < 2 ^ 64) }
+{
+    let len = text.len();
+    if text.capacity() - len >= more {
+        return Ok(());
+    }
+    text.reserve_exact(more.max(len / 8))?;
+    Ok(())
+}
+
+/// Puts a text in the place of another's from an offset up to another, where that one has room for it.
+pub(crate) fn replace(text: &mut String, start: usize, stop: usize, inserted: &str)
+    requires start { IsCharBoundary (string_bytes text.old) start }
+    requires stop { IsCharBoundary (string_bytes text.old) stop }
+    requires order { start ≤ stop }
+    requires room { string_len text.old + length inserted.now ≤ string_capacity text.old }
+    ensures { string_bytes text.new ≡ splice (string_bytes text.old) start stop inserted.now }
+{
+    // With room for it this cannot fail.
+    let _done = text.replace_range(start..stop, inserted);
+}
