@@ -17,7 +17,8 @@ use crate::logical::first_from;
 use crate::source::Source;
 use crate::span::paragraph_under;
 use bx_paragraph::ParagraphLayout;
-use bx_ucd::{BidiData, Class};
+use bx_paras::separates;
+use bx_ucd::BidiData;
 
 /// A range of bytes in the body of a paragraph that is held.
 #[derive(Clone, Copy)]
@@ -28,18 +29,11 @@ pub struct HeldRange {
     stop: usize,
 }
 
-/// Whether a character separates paragraphs.
-fn separates<D: BidiData>(c: char, tables: &D) -> bool
-    ensures { result ≡ is_separator (D.class_of tables.now c) }
-{
-    matches!(tables.class(c), Class::B)
-}
-
 /// Whether a text has a character that separates paragraphs.
 fn has_separator<D: BidiData>(new: &str, tables: &D) -> bool
     ensures { result ≡ list_any (λ c. is_separator (D.class_of tables.now c)) (chars new.now) }
 {
-    new.chars().any(|c| separates(c, tables))
+    new.chars().any(|c| separates(tables, c))
 }
 
 /// Whether a byte of the paragraph that begins at `first` stands before an offset, or none of the text does.
@@ -116,6 +110,7 @@ impl Layout {
         let place = place_in_body(&self.held[i], offset, source.tables)?;
         Ok(Some(first + place))
     }
+
     /// The range of a text as one of a paragraph that is held; none where the paragraph is not held, or the range goes beyond it.
     /// No memory.
     pub fn held_range<D: BidiData>(
