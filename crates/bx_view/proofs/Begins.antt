@@ -1,23 +1,19 @@
 -- Where a paragraph begins, a text is cut into what stands before it and what has the paragraphs from there on.
 use Rattle.std.proofs.Common.{◌≡◌, ℕ, ◌+◌, ◌-◌, ◌<◌, ◌≤◌, true, List, [], ◌∷◌, ◌++◌, map, length, take, drop, chars, encode_utf8_all, IsUtf8}
 use Rattle.std.proofs.Common.{IsCharBoundary, refl, sym, ap, subst, ◌∙◌, arith, length-append}
-use Rattle.std.proofs.lemmas.Bool.Decides.{nat_tests}
 use Rattle.std.proofs.lemmas.List.{append_cancel_right, drop-drop, drop-take, drop_at, map-append, take-append-drop, take-take}
 use Rattle.std.proofs.lemmas.Str.{chars-append, chars-encodes, encodes-append, encodes-chars, scalars-chars, IsUtf8-take, IsCharBoundary-from_drop}
 use lib.Utf8.{scalars}
 use Rattle.bx_ucd.specs.declared.class.Class.{Class}
 use Rattle.bx_paras.specs.declared.lengths.Lengths.{Lengths}
 use Rattle.bx_paras.specs.Paragraphs.{lengths_of}
+use Rattle.bx_paras.proofs.Changes.{scalars_back}
 use Rattle.bx_paras.proofs.Cuts.{lens, parts, widths}
+use Rattle.bx_paras.proofs.Seams.{seam}
 use Rattle.bx_view.specs.Standing.{count, start_at}
-use Rattle.bx_view.proofs.Cutting.{seam}
 use Rattle.bx_view.proofs.Numbers.{ahead, behind, here, parts-at, start-is}
 
 -- ---- bytes
-
-pub scalars_back : (x m : List ℕ) → scalars (x ++ m) ≡ true → scalars m ≡ true
-scalars_back [] m e = e
-scalars_back (c ∷ x) m e = scalars_back x m (grind (arith, nat_tests))
 
 pub take_parts : (i j : ℕ) (xs : List ℕ) → i ≤ j → take j xs ≡ take i xs ++ take (j - i) (drop i xs)
 take_parts i j xs h =

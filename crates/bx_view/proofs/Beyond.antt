@@ -1,5 +1,6 @@
 -- Moves from a row to the one behind it or before it.
 use Rattle.std.proofs.Common.{◌≡◌, ℕ, suc, ◌+◌, ◌-◌, ◌<◌, List, length, Option, Some, None, IsUtf8, sym, ap, ap₂, ◌∙◌, arith}
+use Rattle.std.proofs.lemmas.Option.{slice_get-get_or, slice_get_past}
 use Rattle.bx_ucd.specs.declared.class.Class.{Class}
 use Rattle.bx_ucd.specs.declared.data.Side.{Side}
 use Rattle.bx_paragraph.specs.declared.moves.Visual.{Visual}
@@ -12,7 +13,7 @@ use Rattle.bx_view.specs.Holding.{Keeps, ViewState}
 use Rattle.bx_view.specs.Moves.{end_of, place_in, row_after, row_before, start_of}
 use Rattle.bx_view.specs.TextRows.{TextRow, no_text_row, row_at, text_rows}
 use Rattle.bx_view.proofs.Told.{side-some}
-use Rattle.bx_view.proofs.Walking.{row-within, slice-at, slice-past}
+use Rattle.bx_view.proofs.Walking.{row-within}
 
 -- whether a side is the one that a row is read on depends on its paragraph's level alone
 pub reads-same : (side : Visual) (r s : BodyRow) → r.paragraph ≡ s.paragraph → reads_on side r ≡ reads_on side s
@@ -20,7 +21,7 @@ reads-same Right r s e = ap (λ p. reads_on Right (record r { paragraph = p })) 
 reads-same Left r s e = ap (λ p. reads_on Left (record r { paragraph = p })) e
 
 before-at : (rows : List TextRow) (n m : ℕ) → n ≡ suc m → m < length rows → row_before rows n ≡ Some (row_at rows m)
-before-at rows n m e h = ap (row_before rows) e ∙ slice-at rows m no_text_row h
+before-at rows n m e h = ap (row_before rows) e ∙ slice_get-get_or rows m no_text_row h
 
 -- one change after another
 pub keeps-then : (class : ℕ → Class) (bracket : ℕ → Option (Side × ℕ)) (old mid v : ViewState) → Keeps class bracket old mid → Keeps class bracket mid v
@@ -37,13 +38,13 @@ module _ (class : ℕ → Class) (bracket : ℕ → Option (Side × ℕ)) (old v
 
   module _ (n : ℕ) where
     pub no-start : n + 1 ≡ length (of v) → None ≡ start_of old.w (row_after (of old) n)
-    no-start e = sym (ap (start_of v.w) (slice-past (of v) (n + 1) (omega (arith, e)))) ∙ kept (λ w rs. start_of w (row_after rs n))
+    no-start e = sym (ap (start_of v.w) (slice_get_past (of v) (n + 1) (omega (arith, e)))) ∙ kept (λ w rs. start_of w (row_after rs n))
 
     pub some-start : (b : RowAt) (o : Option ℕ) → IsUtf8 text → StandsOn class bracket v text b (n + 1)
         → o ≡ place_in (row_at (of v) (n + 1)) (reading_start v.w (row_at (of v) (n + 1)).row) → o ≡ start_of old.w (row_after (of old) n)
     some-start b o utf8 on e =
         let within = row-within class bracket v.base v.w (side-some v.w on.side) text utf8 b.paragraph b.row (n + 1) on.is in
-        e ∙ sym (ap (start_of v.w) (slice-at (of v) (n + 1) no_text_row within)) ∙ kept (λ w rs. start_of w (row_after rs n))
+        e ∙ sym (ap (start_of v.w) (slice_get-get_or (of v) (n + 1) no_text_row within)) ∙ kept (λ w rs. start_of w (row_after rs n))
 
     pub no-end : n ≡ 0 → None ≡ end_of old.w (row_before (of old) n)
     no-end e = sym (ap (λ k. end_of old.w (row_before (of old) k)) e)

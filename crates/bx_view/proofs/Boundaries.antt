@@ -1,5 +1,5 @@
 -- Places of a text are boundaries of its characters, and so is each place that a call answers.
-use Rattle.std.proofs.Common.{◌≡◌, ℕ, zero, suc, ◌+◌, ◌-◌, ◌<◌, ◌≤◌, ◌==◌, nat_le, nat_lt, Bool, true, false, List, [], ◌∷◌, ◌++◌, map, length, drop}
+use Rattle.std.proofs.Common.{◌≡◌, ℕ, zero, suc, ◌+◌, ◌-◌, ◌<◌, ◌≤◌, nat_le, nat_lt, Bool, true, false, List, [], ◌∷◌, ◌++◌, map, length, drop}
 use Rattle.std.proofs.Common.{find, get_or, reverse, slice_get, Option, Some, None, unwrap_or, IsUtf8, IsCharBoundary, refl, sym, ap, subst, ◌∙◌}
 use Rattle.std.proofs.Common.{arith, append_assoc, length-append}
 use Rattle.std.proofs.lemmas.List.{drop_at, drop-append-le, length-map}
@@ -13,24 +13,21 @@ use Rattle.bx_rows.specs.RowStarts.{first_offset}
 use Rattle.bx_paras.specs.Paragraphs.{Paragraph, lengths_of, paragraphs}
 use Rattle.bx_paras.specs.Positions.{bytes_of}
 use Rattle.bx_paragraph.specs.BodyRows.{BodyRow, last_offset, no_row, offsets_of}
-use Rattle.bx_paragraph.specs.Slots.{beside, entry, or_else, reading_end, reading_start, reads_on}
+use Rattle.bx_paragraph.specs.Slots.{beside, entry, reading_end, reading_start, reads_on}
 use Rattle.bx_paragraph.specs.declared.moves.Visual.{Visual}
 use Rattle.bx_view.specs.declared.moves.Logical.{Logical}
 use Rattle.bx_view.specs.declared.moves.Logical.TheVariants.{Back, Forward}
-use Rattle.bx_view.specs.declared.moves.Vertical.{Vertical}
-use Rattle.bx_view.specs.Moves.{end_of, entry_in, past, place_from, place_in, row_after, row_away}
-use Rattle.bx_view.specs.Moves.{row_before, row_end, row_home, rows_away, start_of, step_logical, step_visual}
-use Rattle.bx_view.specs.TextRows.{TextRow, cell_of, first, places, places_of, row_at, row_of, text_row, text_rows}
+use Rattle.bx_view.specs.Moves.{end_of, entry_in, past, place_from, place_in, row_after, row_before, row_home, start_of, step_logical}
+use Rattle.bx_view.specs.TextRows.{TextRow, first, places, places_of, row_at, row_of, text_row, text_rows}
 use Rattle.bx_view.specs.Top.{follow, nearest_top}
 use Rattle.bx_view.proofs.Around.{from, own}
-use Rattle.bx_view.proofs.KeptRows.{away-within}
 use Rattle.bx_view.proofs.Nearest.{falls-within}
 use Rattle.bx_view.proofs.Numbers.{bytes-utf8}
 use Rattle.bx_view.proofs.Parts.{AreUtf8, bytes, text-bytes, text-parts}
 use Rattle.bx_view.proofs.Rising.{rank-few}
 use Rattle.bx_view.proofs.Walking.{text-rank}
-use Rattle.bx_view.proofs.Within.{Lies, LiesIn, Within, beside-fits, body-row-lies, either-lies, end-fits}
-use Rattle.bx_view.proofs.Within.{entry-fits, find-lies, last-fits, last-lies, start-fits, within-append, within-reverse}
+use Rattle.bx_view.proofs.Within.{Lies, LiesIn, Within, beside-fits, body-row-lies, end-fits}
+use Rattle.bx_view.proofs.Within.{entry-fits, find-lies, last-lies, start-fits, within-append, within-reverse}
 
 -- ---- rows that are all such
 
@@ -202,31 +199,8 @@ module _ (class : ℕ → Class) (bracket : ℕ → Option (Side × ℕ)) (base 
         let r = row_at rows k in
         in-row-bound r (entry w r.row column) (entry-fits (λ o. Bound (r.start + o)) w r.row (row-bound k within) column)
 
-    pub boundary-step_visual : (side : Visual) (place : ℕ) → Bound place → Bound (step_visual w rows side place)
-    boundary-step_visual side place b =
-        let k = row_of rows place in
-        let r = row_at rows k in
-        let next = place_in r (beside w r.row side (place - r.start)) in
-        else-bound (or_else next (past w rows side k)) place
-        (either-lies Bound next (past w rows side k) (beside-bound side k place (own-row place)) (past-bound side k)) b
-
-    to-row-at : (same : Bool) (place k : ℕ) → k < length rows → Bound place
-        → Bound (elim same [ true ↦ place | false ↦ unwrap_or (entry_in w (row_at rows k) (cell_of w rows place)) place ])
-    to-row-at true place k within b = b
-    to-row-at false place k within b =
-        let column = cell_of w rows place in else-bound (entry_in w (row_at rows k) column) place (entry-bound k column within) b
-
-    pub boundary-rows_away : (way : Vertical) (n place : ℕ) → Bound place → Bound (rows_away w rows way n place)
-    boundary-rows_away way n place b =
-        let k = row_away (length rows) way n (row_of rows place) in
-        to-row-at (k == row_of rows place) place k (away-within (length rows) way n (row_of rows place) (own-row place)) b
-
     pub boundary-row_home : (place : ℕ) → Bound (row_home rows place)
     boundary-row_home place = first-bound (row_of rows place) (own-row place)
-
-    pub boundary-row_end : (place : ℕ) → Bound (row_end rows place)
-    boundary-row_end place =
-        let r = row_at rows (row_of rows place) in last-fits (λ o. Bound (r.start + o)) w r.row (row-bound (row_of rows place) (own-row place))
 
     pub boundary-follow : (top place t : ℕ) → 0 < t → Bound (follow rows top place t)
     boundary-follow top place t shown =

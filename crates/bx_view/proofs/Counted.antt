@@ -4,6 +4,7 @@ use Rattle.std.proofs.Common.{map, length, take, drop, get_or, slice_get, Option
 use Rattle.std.proofs.Common.{sym, ap, ◌∙◌, arith, length-append}
 use Rattle.std.proofs.lemmas.Bool.Decides.{nat_tests}
 use Rattle.std.proofs.lemmas.List.{get_or-map, length-map, take_all, take-append-drop}
+use Rattle.std.proofs.lemmas.Option.{slice_get-get_or, slice_get_past}
 use Rattle.bx_ucd.specs.declared.class.Class.{Class}
 use Rattle.bx_ucd.specs.declared.data.Side.{Side}
 use Rattle.bx_explicit.specs.declared.base.Base.{Base}
@@ -18,7 +19,7 @@ use Rattle.bx_view.specs.TextRows.{TextRow, first, no_text_row, text_rows}
 use Rattle.bx_view.proofs.Around.{from, from-append}
 use Rattle.bx_view.proofs.PlacesRise.{firsts-rise-in}
 use Rattle.bx_view.proofs.Rising.{rises-few}
-use Rattle.bx_view.proofs.Walking.{ahead-next, first-short, row-is, row-within, slice-at, slice-past}
+use Rattle.bx_view.proofs.Walking.{ahead-next, first-short, row-is, row-within}
 
 -- a walk that goes on
 pub walked-on : (b : Bool) (number new done all : ℕ) → b ≡ nat_lt (number + 1) all → new ≡ (if b then number + 1 else number) → number ≡ done
@@ -88,7 +89,7 @@ module _ (class : ℕ → Class) (bracket : ℕ → Option (Side × ℕ)) (base 
         let here : start + (get_or starts k d).offset ≡ start_at class text number + first_of (get_or (rows_in class bracket base w text number) k no_row) =
         omega (arith, s, offset-is d) in
         ap Some (here ∙ sym (ap first (row-is class bracket base w some text utf8 number k n row-there)))
-        ∙ sym (ap (option_map first) (slice-at rows n no_text_row (row-within class bracket base w some text utf8 number k n row-there)))
+        ∙ sym (ap (option_map first) (slice_get-get_or rows n no_text_row (row-within class bracket base w some text utf8 number k n row-there)))
 
   pub none-told : (number k n : ℕ) → count class text ≤ number → k + ahead number ≡ n → None ≡ option_map first (slice_get rows n)
-  none-told number k n past is = sym (ap (option_map first) (slice-past rows n (omega (arith, is, ahead-all number past))))
+  none-told number k n past is = sym (ap (option_map first) (slice_get_past rows n (omega (arith, is, ahead-all number past))))

@@ -1,52 +1,15 @@
 -- Characters that are cut where a paragraph begins: each part has its own paragraphs.
-use Rattle.std.proofs.Common.{◌≡◌, ◌<◌, ◌∙◌, inl, inr, ℕ, Bool, true, false, List, [], ◌∷◌, ◌++◌, length, encode_utf8, encode_utf8_all, refl, ap, sym, arith, append_assoc}
-use Rattle.std.proofs.Common.{append-nil, length-append}
+use Rattle.std.proofs.Common.{◌≡◌, ◌<◌, ◌∙◌, ℕ, Bool, true, false, List, [], ◌∷◌, ◌++◌, length, encode_utf8, encode_utf8_all, refl, ap, sym, arith}
 use Rattle.std.specs.List.{list_any}
 use Rattle.std.proofs.lemmas.Bool.Decides.{nat_tests}
 use Rattle.bx_ucd.specs.declared.class.Class.{Class}
-use Rattle.bx_paras.specs.declared.lengths.Lengths.{Lengths}
 use Rattle.bx_paras.specs.Paragraphs.{Paragraph, after_character, after_cr, bare, cut, is_separator}
-use Rattle.bx_paras.specs.Positions.{bytes_of, total}
 use Rattle.bx_paras.specs.Scan.{HasNone}
-use Rattle.bx_paras.proofs.Cuts.{Beginning, beginning, ends, is_paired, lens, parts, parts_append, parts_same, widths, widths_append}
+use Rattle.bx_paras.proofs.Bodies.{cut_ended, cut_paired, cut_plain}
+use Rattle.bx_paras.proofs.Cuts.{ends, is_paired, parts, parts_append, parts_same}
 
 module _ (class : ℕ → Class) where
   -- ---- where a paragraph begins
-
-  pub record IsSeam (cs x m : List ℕ) (front back : List Lengths) : Type 0 where
-    pub whole : cs ≡ x ++ m
-    pub bytes : widths x ≡ total front
-    pub rest : lens class m ≡ back
-    pub parts : parts class x m ≡ true
-
-  later : (w x m : List ℕ) → parts class w (x ++ m) ≡ true → parts class x m ≡ true → parts class (w ++ x) m ≡ true
-  later w [] m p q = ap (λ v. parts class v m) (append-nil w) ∙ p
-  later w (c ∷ x) m p q = parts_append class w c x m ∙ q
-
-  after_first : (cs : List ℕ) (k : Lengths) (front : List Lengths) (l : Lengths) (back : List Lengths) → lens class cs ≡ k ∷ (front ++ l ∷ back)
-      → Beginning class cs
-      → ((z : List ℕ) → lens class z ≡ front ++ l ∷ back → (x : List ℕ) × (m : List ℕ) × IsSeam z x m front (l ∷ back))
-      → (x : List ℕ) × (m : List ℕ) × IsSeam cs x m (k ∷ front) (l ∷ back)
-  after_first cs k front l back e (inl one) more = absurd (omega (arith, ap length (sym one ∙ e), length-append front (l ∷ back)))
-  after_first cs k front l back e (inr (f, w, z, h)) more =
-      let both : f ∷ lens class z ≡ k ∷ (front ++ l ∷ back) = sym h.first ∙ e in
-      let same : f ≡ k = cc in
-      let rest : lens class z ≡ front ++ l ∷ back = cc in
-      let (x, m, s) = more z rest in (
-        w ++ x,
-        m,
-        record {
-          whole = h.whole ∙ ap (λ v. w ++ v) s.whole ∙ sym (append_assoc w x m);
-          bytes = omega (arith, widths_append w x, h.bytes, s.bytes, ap bytes_of same);
-          rest = s.rest;
-          parts = later w x m (ap (parts class w) (sym s.whole) ∙ h.parts) s.parts;
-        },
-      )
-
-  pub seam : (cs : List ℕ) (front : List Lengths) (l : Lengths) (back : List Lengths) → lens class cs ≡ front ++ l ∷ back
-      → (x : List ℕ) × (m : List ℕ) × IsSeam cs x m front (l ∷ back)
-  seam cs [] l back e = ([], cs, record { whole = refl; bytes = refl; rest = e; parts = refl })
-  seam cs (k ∷ front) l back e = after_first cs k front l back e (beginning class cs) (λ z f. seam z front l back f)
 
   -- characters part as before where the same ones stand behind
   pub parts_ahead : (x h r s : List ℕ) → 0 < length h → parts class x (h ++ r) ≡ true → parts class x (h ++ s) ≡ true
@@ -60,15 +23,6 @@ module _ (class : ℕ → Class) where
 
   -- ---- the paragraphs on both sides
 
-  cut_plain : (c : ℕ) (cs : List ℕ) → ends class c ≡ false → cut class (c ∷ cs) ≡ after_character c (cut class cs)
-  cut_plain c cs e = rw (e, cut) refl
-
-  cut_paired : (c : ℕ) (cs : List ℕ) → ends class c ≡ true → is_paired class c cs ≡ true → cut class (c ∷ cs) ≡ after_cr (cut class cs)
-  cut_paired c cs e p = rw (e, p, cut) refl
-
-  cut_ended : (c : ℕ) (cs : List ℕ) → ends class c ≡ true → is_paired class c cs ≡ false → cut class (c ∷ cs) ≡ bare (encode_utf8 c) ∷ cut class cs
-  cut_ended c cs e p = rw (e, p, cut) refl
-
   record JoinsAt (c : ℕ) (w z : List ℕ) : Type 0 where
     first : Paragraph
     others : List Paragraph
@@ -79,20 +33,20 @@ module _ (class : ℕ → Class) where
   joins_at c d w z false paired e p j = record {
     first = record j.first { body = encode_utf8 c ++ j.first.body };
     others = j.others;
-    alone = cut_plain c (d ∷ w) e ∙ ap (after_character c) j.alone;
-    together = cut_plain c (d ∷ w ++ z) e ∙ ap (after_character c) j.together;
+    alone = cut_plain class c (d ∷ w) e ∙ ap (after_character c) j.alone;
+    together = cut_plain class c (d ∷ w ++ z) e ∙ ap (after_character c) j.together;
   }
   joins_at c d w z true true e p j = record {
     first = record j.first { separator = encode_utf8 13 ++ j.first.separator };
     others = j.others;
-    alone = cut_paired c (d ∷ w) e p ∙ ap after_cr j.alone;
-    together = cut_paired c (d ∷ w ++ z) e p ∙ ap after_cr j.together;
+    alone = cut_paired class c (d ∷ w) e p ∙ ap after_cr j.alone;
+    together = cut_paired class c (d ∷ w ++ z) e p ∙ ap after_cr j.together;
   }
   joins_at c d w z true false e p j = record {
     first = bare (encode_utf8 c);
     others = j.first ∷ j.others;
-    alone = cut_ended c (d ∷ w) e p ∙ ap (λ ps. bare (encode_utf8 c) ∷ ps) j.alone;
-    together = cut_ended c (d ∷ w ++ z) e p ∙ ap (λ ps. bare (encode_utf8 c) ∷ ps) j.together;
+    alone = cut_ended class c (d ∷ w) e p ∙ ap (λ ps. bare (encode_utf8 c) ∷ ps) j.alone;
+    together = cut_ended class c (d ∷ w ++ z) e p ∙ ap (λ ps. bare (encode_utf8 c) ∷ ps) j.together;
   }
 
   joins_from : (c : ℕ) (w z : List ℕ) → parts class (c ∷ w) z ≡ true → JoinsAt c w z
@@ -100,7 +54,7 @@ module _ (class : ℕ → Class) where
       let e : ends class c ≡ true = grind (arith, nat_tests) in
       let single : is_paired class c z ≡ false = grind (arith, nat_tests) in
       let alone : is_paired class c [] ≡ false = grind (arith, nat_tests) in
-      record { first = bare (encode_utf8 c); others = []; alone = cut_ended c [] e alone; together = cut_ended c z e single }
+      record { first = bare (encode_utf8 c); others = []; alone = cut_ended class c [] e alone; together = cut_ended class c z e single }
   joins_from c (d ∷ w) z p = joins_at c d w z (ends class c) (is_paired class c (d ∷ w)) refl refl (joins_from d w z p)
 
   -- what characters before a seam have for paragraphs: those that end, and one of no bytes
@@ -118,19 +72,19 @@ module _ (class : ℕ → Class) where
   -- a separator in front is a paragraph of no body
   ended_by : (c : ℕ) (cs : List ℕ) (paired : Bool) → ends class c ≡ true → is_paired class c cs ≡ paired
       → (q : List ℕ) × (others : List Paragraph) × (cut class (c ∷ cs) ≡ bare q ∷ others)
-  ended_by c cs false e p = (encode_utf8 c, cut class cs, cut_ended c cs e p)
+  ended_by c cs false e p = (encode_utf8 c, cut class cs, cut_ended class c cs e p)
   ended_by c [] true e p = absurd (grind (arith, nat_tests))
   ended_by c (d ∷ cs) true e p =
       let lf : d ≡ 10 = grind (arith, nat_tests) in
       let f : ends class d ≡ true = grind (arith, nat_tests) in
       let single : is_paired class d cs ≡ false = grind (arith, nat_tests) in
-      (encode_utf8 13 ++ encode_utf8 d, cut class cs, cut_paired c (d ∷ cs) e p ∙ ap after_cr (cut_ended d cs f single))
+      (encode_utf8 13 ++ encode_utf8 d, cut class cs, cut_paired class c (d ∷ cs) e p ∙ ap after_cr (cut_ended class d cs f single))
 
   -- characters without a separator stand in the body of the first paragraph
   pub quiet_cut : (cs ds q : List ℕ) (others : List Paragraph) → HasNone class cs → cut class ds ≡ bare q ∷ others
       → cut class (cs ++ ds) ≡ record { body = encode_utf8_all cs; separator = q } ∷ others
   quiet_cut [] ds q others none e = e
-  quiet_cut (c ∷ cs) ds q others none e = cut_plain c (cs ++ ds) none.0 ∙ ap (after_character c) (quiet_cut cs ds q others none.1 e)
+  quiet_cut (c ∷ cs) ds q others none e = cut_plain class c (cs ++ ds) none.0 ∙ ap (after_character c) (quiet_cut cs ds q others none.1 e)
 
   -- the characters of the first body, and what stands behind it
   pub record Opens (cs : List ℕ) : Type 0 where

@@ -17,6 +17,7 @@ use Rattle.bx_paras.specs.declared.lengths.Lengths.{Lengths}
 use Rattle.bx_paras.specs.Paragraphs.{Paragraph, bare, cut, lengths_of, paragraphs}
 use Rattle.bx_paras.specs.Positions.{bytes_of}
 use Rattle.bx_paras.specs.Scan.{HasNone}
+use Rattle.bx_paras.proofs.Changes.{scalars_back}
 use Rattle.bx_paras.proofs.Cuts.{parts}
 use Rattle.bx_paragraph.specs.BodyRows.{body_rows}
 use Rattle.bx_paragraph.specs.Layout.{LayoutState, rows_by}
@@ -25,7 +26,7 @@ use Rattle.bx_view.specs.Holding.{HoldsBody, IsHeld, ViewState}
 use Rattle.bx_view.specs.Moves.{place_from}
 use Rattle.bx_view.specs.Standing.{body_at, count, start_at}
 use Rattle.bx_view.specs.TextRows.{places, rows_from, text_rows}
-use Rattle.bx_view.proofs.Begins.{IsBegin, begin_at, no_chars, scalars_back, some_chars, take_parts}
+use Rattle.bx_view.proofs.Begins.{IsBegin, begin_at, no_chars, some_chars, take_parts}
 use Rattle.bx_view.proofs.BodyFirsts.{starts_of}
 use Rattle.bx_view.proofs.Cutting.{Opens, none_back, none_front, none_joined, opens, parts_ahead, quiet_cut}
 use Rattle.bx_view.proofs.InBody.{not-moved}

@@ -1,25 +1,25 @@
 -- A row is entered, in whatever column, at one of its places.
-use Rattle.std.proofs.Common.{ℕ, zero, suc, ◌+◌, ◌<◌, ◌≤◌, Bool, true, false, List, [], ◌∷◌, map, length, reverse, get_or, find, cond}
-use Rattle.std.proofs.Common.{Option, Some, None, option_map, IsUtf8, ap, arith}
+use Rattle.std.proofs.Common.{ℕ, ◌+◌, ◌<◌, ◌≤◌, List, [], ◌∷◌, length, reverse, get_or}
+use Rattle.std.proofs.Common.{Option, Some, None, IsUtf8, arith}
 use Rattle.std.specs.Prelude.{Contains, MatchOption}
-use Rattle.std.proofs.lemmas.List.{length-map, length-reverse}
+use Rattle.std.proofs.lemmas.List.{length-reverse}
 use Rattle.std.proofs.lemmas.List.Elements.{Contains-get_or}
 use Rattle.bx_ucd.specs.declared.class.Class.{Class}
 use Rattle.bx_ucd.specs.declared.data.Side.{Side}
 use Rattle.bx_explicit.specs.declared.base.Base.{Base}
 use Rattle.bx_paragraph.specs.declared.moves.Visual.{Visual}
 use Rattle.bx_paragraph.specs.declared.moves.Visual.TheVariants.{Left, Right}
-use Rattle.bx_paragraph.specs.declared.slot.Slot.{Slot}
 use Rattle.bx_paragraph.specs.BodyRows.{offsets_of}
-use Rattle.bx_paragraph.specs.Slots.{covering, covering_in, covers, entry, first_in, opposite, or_else, reading_end}
+use Rattle.bx_paragraph.specs.Slots.{covering, entry, first_in, opposite, or_else, reading_end}
 use Rattle.bx_paragraph.specs.Slots.{reading_side, row_slots, slot_offsets, toward}
 use Rattle.bx_paragraph.proofs.OnceEach.{once-each}
 use Rattle.bx_view.specs.Cells.{IsEntered, times}
 use Rattle.bx_view.specs.Moves.{place_in}
 use Rattle.bx_view.specs.TextRows.{TextRow, no_text_row, places_of, row_at, text_rows}
+use Rattle.bx_view.proofs.FindPlaces.{head-some, heads-at}
 use Rattle.bx_view.proofs.KeptPlaces.{HasLevels, contains-counted, contains-moved, counted-contains, one-at, reordered-contains, rows-leveled, within-of}
-use Rattle.bx_view.proofs.PlacesRise.{AllHeads, IsHead, rows-headed-in}
-use Rattle.bx_view.proofs.Within.{Lies, Within, within-reverse}
+use Rattle.bx_view.proofs.PlacesRise.{rows-headed-in}
+use Rattle.bx_view.proofs.Within.{Lies, Within, covering-lies, within-reverse}
 
 -- there is an offset, and it passes
 abbrev Is : (ℕ → Type 0) → Option ℕ → Type 0
@@ -36,15 +36,6 @@ toward-is P Left os h a = first-is P (reverse os) (omega (arith, h, length-rever
 either-is : (P : ℕ → Type 0) (one other : Option ℕ) → Lies P one → Is P other → Is P (or_else one other)
 either-is P None other a b = b
 either-is P (Some o) other a b = a
-
-found-lies : (P : ℕ → Type 0) (s : Slot) (o : Option Slot) (b : Bool) → P s.offset → Lies P (option_map (λ (t : Slot). t.offset) o)
-    → Lies P (option_map (λ (t : Slot). t.offset) (cond b (Some s) o))
-found-lies P s o true e a = e
-found-lies P s o false e a = a
-
-covering-lies : (P : ℕ → Type 0) (column : ℕ) (ss : List Slot) → Within P (map (λ s. s.offset) ss) → Lies P (covering_in ss column)
-covering-lies P column [] a = tt
-covering-lies P column (s ∷ ss) a = found-lies P s (find (covers column) ss) (covers column s) a.0 (covering-lies P column ss a.1)
 
 in-row-is : (P : ℕ → Type 0) (r : TextRow) (o : Option ℕ) → Is (λ k. P (r.start + k)) o → Is P (place_in r o)
 in-row-is P r None a = a
@@ -73,14 +64,6 @@ some-slot w r levels some =
     omega (arith, counted-contains (offsets_of r.row) o there, once-each w r.row levels (one-at o)) in
     some-of (slot_offsets w r.row) o (contains-counted (slot_offsets w r.row) o counted)
 
-head-at : (rows : List TextRow) (n : ℕ) → AllHeads rows → n < length rows → IsHead (row_at rows n)
-head-at [] n a h = absurd (omega (arith, h))
-head-at (r ∷ rs) zero a h = a.0
-head-at (r ∷ rs) (suc n) a h = head-at rs n a.1 (omega (arith, h))
-
-head-some : (r : TextRow) → IsHead r → 0 < length (offsets_of r.row)
-head-some r head = omega (arith, ap length head.1, length-map (offsets_of r.row) (λ o. r.start + o))
-
 module _ (class : ℕ → Class) (bracket : ℕ → Option (Side × ℕ)) (base : Base) (w : ℕ) (some : 1 ≤ w) (text : List ℕ) (utf8 : IsUtf8 text) where
   abbrev rows : List TextRow
   rows = text_rows class bracket base w text
@@ -89,5 +72,5 @@ module _ (class : ℕ → Class) (bracket : ℕ → Option (Side × ℕ)) (base 
   row-entered k within =
       let r = row_at rows k in
       let levels = rows-leveled class bracket base w text k no_text_row within in
-      let head = head-at rows k (rows-headed-in class bracket base w some text utf8) within in
+      let head = heads-at rows k (rows-headed-in class bracket base w some text utf8) within in
       entered-at w r levels (some-slot w r levels (head-some r head))

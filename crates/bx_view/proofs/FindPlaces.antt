@@ -111,7 +111,7 @@ module _ (start offset : ℕ) (order : start ≤ offset) (os : List ℕ) (o : Op
 
 -- ---- a row, the rows before it and those behind it
 
-head-some : (r : TextRow) → IsHead r → 0 < length (offsets_of r.row)
+pub head-some : (r : TextRow) → IsHead r → 0 < length (offsets_of r.row)
 head-some r head = omega (arith, ap length head.1, length-map (offsets_of r.row) (λ o. r.start + o))
 
 last-place : (r : TextRow) → IsHead r → last_offset (places_of r) ≡ r.start + last_of r.row
@@ -212,7 +212,7 @@ module _ (before : List TextRow) (r : TextRow) (after : List TextRow) (high : �
 
 -- ---- the row that an offset falls in
 
-heads-at : (rows : List TextRow) (n : ℕ) → AllHeads rows → n < length rows → IsHead (row_at rows n)
+pub heads-at : (rows : List TextRow) (n : ℕ) → AllHeads rows → n < length rows → IsHead (row_at rows n)
 heads-at [] n a h = absurd (omega (arith, h))
 heads-at (r ∷ rs) zero a h = a.0
 heads-at (r ∷ rs) (suc n) a h = heads-at rs n a.1 (omega (arith, h))

@@ -6,17 +6,12 @@ use Rattle.std.proofs.lemmas.List.{get_or-map, length-map}
 use Rattle.bx_ucd.specs.declared.class.Class.{Class}
 use Rattle.bx_ucd.specs.declared.data.Side.{Side}
 use Rattle.bx_explicit.specs.declared.base.Base.{Base}
-use Rattle.bx_paras.specs.Paragraphs.{lengths_of, paragraphs}
-use Rattle.bx_paras.specs.Positions.{total}
 use Rattle.bx_view.specs.Laws.{IsShownFrom, MovesLeast}
 use Rattle.bx_view.specs.TextRows.{TextRow, first, no_text_row, row_at, row_of, text_rows}
 use Rattle.bx_view.specs.Top.{follow, nearest_top}
-use Rattle.bx_view.proofs.Around.{all-rise}
-use Rattle.bx_view.proofs.BodyFirsts.{body-firsts}
 use Rattle.bx_view.proofs.Nearest.{falls-within}
-use Rattle.bx_view.proofs.Parts.{text-parts}
 use Rattle.bx_view.proofs.Rising.{Rises, rank, rank-few, rank-here, rank-not-here, rises-apart}
-use Rattle.bx_view.proofs.Walking.{text-rank}
+use Rattle.bx_view.proofs.Walking.{rows-rise, text-rank}
 
 -- ---- rows by their numbers: `a` is the old top's, `c` the place's
 
@@ -34,7 +29,7 @@ nearest-stays a c t some = omega (arith, some)
 
 -- ---- rows that rise
 
-module _ (rows : List TextRow) (high : ℕ) (rise : Rises 0 (map first rows) high) (any : 0 < length rows) where
+module _ (rows : List TextRow) (high : ℕ) (rise : Rises 0 (map first rows) high) where
   abbrev os : List ℕ
   os = map first rows
 
@@ -58,6 +53,7 @@ module _ (rows : List TextRow) (high : ℕ) (rise : Rises 0 (map first rows) hig
       let past = rank-not-here offset 0 0 os high k rise (omega (arith, not)) (omega (arith, h, count)) in
       absurd (omega (arith, past, begins-at k h))) (cases_lt k (rank offset os))
 
+module _ (rows : List TextRow) (high : ℕ) (rise : Rises 0 (map first rows) high) (any : 0 < length rows) where
   module _ (top place t : ℕ) (some : 0 < t) where
     abbrev above : ℕ
     above = row_of rows top
@@ -67,7 +63,7 @@ module _ (rows : List TextRow) (high : ℕ) (rise : Rises 0 (map first rows) hig
 
     -- the row of the new top
     own : row_of rows (follow rows top place t) ≡ nearest_top above cursor t
-    own = let low = shown-low above cursor t some in let within = falls-within rows place any in falls-own _ (omega (arith, low, within))
+    own = let low = shown-low above cursor t some in let within = falls-within rows place any in falls-own rows high rise _ (omega (arith, low, within))
 
     shows : IsShownFrom rows place t (row_of rows (follow rows top place t))
     shows =
@@ -92,9 +88,6 @@ pub text-moves-least : (class : ℕ → Class) (bracket : ℕ → Option (Side �
     → MovesLeast (text_rows class bracket base w text)
 text-moves-least class bracket base w text some utf8 =
     let rows = text_rows class bracket base w text in
-    let parts = text-parts class text utf8 in
-    let rise : Rises 0 (map first rows) (0 + total (map lengths_of (paragraphs class text)) + 1) =
-    all-rise class bracket base w (body-firsts class bracket base w some) 0 (paragraphs class text) parts.utf8 parts.ended in
     let few = rank-few 0 (map first rows) in
     let one = text-rank class bracket base w some text utf8 0 in
-    moves-least rows _ rise (omega (arith, few, one, length-map rows first))
+    moves-least rows _ (rows-rise class bracket base w some text utf8) (omega (arith, few, one, length-map rows first))

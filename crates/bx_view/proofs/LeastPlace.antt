@@ -22,8 +22,8 @@ use Rattle.bx_view.specs.TextRows.{TextRow, places, places_of, rows_from, text_r
 use Rattle.bx_view.proofs.Around.{from-append, own}
 use Rattle.bx_view.proofs.BodyFirsts.{body-firsts}
 use Rattle.bx_view.proofs.Parts.{AreUtf8, text-parts}
-use Rattle.bx_view.proofs.PlacesRise.{AllHeaded, body-headed, places-rise}
-use Rattle.bx_view.proofs.Rising.{Rises, rises-within}
+use Rattle.bx_view.proofs.PlacesRise.{AllHeaded, body-headed, places-moved, places-rise}
+use Rattle.bx_view.proofs.Rising.{Rises, rises-ahead, rises-within}
 use Rattle.bx_view.proofs.Cutting.{joins}
 
 -- ---- the least of some offsets
@@ -88,21 +88,11 @@ least_below offset low (o ∷ p ∷ os) high r some = ⊎_elim
     (λ past. omega (arith, least_past offset o (p ∷ os) past (omega arith), least_below offset (o + 1) (p ∷ os) high r.1 (omega arith)))
     (λ here. omega (arith, least_here offset o (p ∷ os) here, rises-within (o + 1) (p ∷ os) high r.1)) (cases_lt o offset)
 
-rises_ahead : (low : ℕ) (os : List ℕ) (p : ℕ) (ps : List ℕ) (high : ℕ) → Rises low (os ++ p ∷ ps) high → Rises low os p
-rises_ahead low [] p ps high r = r.0
-rises_ahead low (o ∷ os) p ps high r = (r.0, rises_ahead (o + 1) os p ps high r.1)
-
 twice_moved : (a b : ℕ) (os : List ℕ) → map (λ o. a + b + o) os ≡ map (λ o. a + o) (map (λ o. b + o) os)
 twice_moved a b [] = refl
 twice_moved a b (o ∷ os) =
     let same : a + b + o ≡ a + (b + o) = omega arith in
     ap (λ n. n ∷ map (λ q. a + b + q) os) same ∙ ap (λ ns. (a + (b + o)) ∷ ns) (twice_moved a b os)
-
-rows_moved : (start : ℕ) (rs : List BodyRow) → places (map (text_row start) rs) ≡ map (λ o. start + o) (flat_map offsets_of rs)
-rows_moved start [] = refl
-rows_moved start (r ∷ rs) =
-    flat_map-cons places_of (text_row start r) (map (text_row start) rs) ∙ ap (λ os. places_of (text_row start r) ++ os) (rows_moved start rs)
-    ∙ sym (map-append (λ o. start + o) (offsets_of r) (flat_map offsets_of rs)) ∙ ap (map (λ o. start + o)) (sym (flat_map-cons offsets_of r rs))
 
 -- the first place of rows that begin at 0
 first_place : (rs : List BodyRow) (others : List ℕ) → AllHeaded rs → map first_of rs ≡ 0 ∷ others → (os : List ℕ) × (flat_map offsets_of rs ≡ 0 ∷ os)
@@ -133,7 +123,7 @@ module _ (class : ℕ → Class) (bracket : ℕ → Option (Side × ℕ)) (base 
   spots_more start p ps =
       let mine = own class bracket base w p in
       let rest = rows_from class bracket base w (start + bytes_of (lengths_of p)) ps in
-      flat_map-append places_of (map (text_row start) mine) rest ∙ ap (λ os. os ++ places rest) (rows_moved start mine)
+      flat_map-append places_of (map (text_row start) mine) rest ∙ ap (λ os. os ++ places rest) (places-moved start mine)
 
   spots_moved : (a start : ℕ) (ps : List Paragraph) → spots (a + start) ps ≡ map (λ o. a + o) (spots start ps)
   spots_moved a start [] = refl
@@ -192,7 +182,7 @@ module _ (class : ℕ → Class) (bracket : ℕ → Option (Side × ℕ)) (base 
       let some : 0 < length (places (rows v)) = omega (arith, ap length first) in
       let whole : places (rows (x ++ v)) ≡ before ++ (a + 0) ∷ map (λ o. a + o) os = is ∙ ap (λ ns. before ++ map (λ o. a + o) ns) first in
       let rise : Rises 0 before (a + 0) =
-      rises_ahead 0 before (a + 0) (map (λ o. a + o) os) (length (x ++ v) + 1)
+      rises-ahead 0 before (a + 0) (map (λ o. a + o) os) (length (x ++ v) + 1)
       (subst (λ ns. Rises 0 ns (length (x ++ v) + 1)) whole (places-rise class bracket base w h (x ++ v) (IsUtf8-append x v ux uv))) in
       ap (least offset) is
       ∙ least_behind offset 0 (a + 0) before (map (λ o. a + o) (places (rows v))) rise (omega (arith, order))

@@ -15,13 +15,9 @@ use Rattle.bx_view.specs.Cells.{HasOneSlot, times}
 use Rattle.bx_view.specs.TextRows.{IsPlace, TextRow, first, no_text_row, places, places_of, row_at, row_of, slots, text_rows}
 use Rattle.bx_view.proofs.KeptPlaces.{HasLevels, one-at, contains-counted, counted-contains, rows-leveled}
 use Rattle.bx_view.proofs.PlacesRise.{AllHeads, firsts-of, places-rise, rows-headed-in}
-use Rattle.bx_view.proofs.Rising.{Rises, none-rank, rank, rank-first, rises-behind, rises-within}
+use Rattle.bx_view.proofs.Rising.{Rises, none-rank, rank, rank-first, rises-behind}
 
 -- ---- offsets that rise
-
-rises-front : (low : ℕ) (os ps : List ℕ) (high : ℕ) → Rises low (os ++ ps) high → Rises low os high
-rises-front low [] ps high r = rises-within low ps high r
-rises-front low (o ∷ os) ps high r = (r.0, rises-front (o + 1) os ps high r.1)
 
 none-times : (low : ℕ) (os : List ℕ) (high p : ℕ) → Rises low os high → p < low → times p os ≡ 0
 none-times low [] high p r h = refl

@@ -83,7 +83,7 @@ after-pair separator cs ps u h = record {
 
 module _ (class : ℕ → Class) where
   -- the paragraph that begins with an LF is that LF
-  cut-lf : (c : ℕ) (cs : List ℕ) → (c == 10) ≡ true → is_separator (class c) ≡ true → cut class (c ∷ cs) ≡ bare (encode_utf8 c) ∷ cut class cs
+  pub cut-lf : (c : ℕ) (cs : List ℕ) → (c == 10) ≡ true → is_separator (class c) ≡ true → cut class (c ∷ cs) ≡ bare (encode_utf8 c) ∷ cut class cs
   cut-lf c cs lf e =
       let other : (c == 13) ≡ false = grind (arith, nat_tests) in
       ap (λ b. elim b [

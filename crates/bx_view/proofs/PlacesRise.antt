@@ -180,7 +180,7 @@ module _ (class : ℕ → Class) (bracket : ℕ → Option (Side × ℕ)) (base 
       (subst (λ s. Rises s (map (λ o. start + o) os) (start + length p.body + 1)) low
       (subst (Rises (start + 0) (map (λ o. start + o) os)) same (rises-moved start 0 os (length p.body + 1) (body-rise class bracket base w h p.body u))))
 
-  places-from : (start : ℕ) (p : Paragraph) (ps : List Paragraph)
+  pub places-from : (start : ℕ) (p : Paragraph) (ps : List Paragraph)
       → places (rest start (p ∷ ps)) ≡ places (mine start p) ++ places (rest (start + bytes_of (lengths_of p)) ps)
   places-from start p ps = flat_map-append places_of (mine start p) (rest (start + bytes_of (lengths_of p)) ps)
 

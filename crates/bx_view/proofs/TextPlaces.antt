@@ -5,7 +5,6 @@ use Rattle.std.specs.Prelude.{flat_map, All, Contains}
 use Rattle.std.specs.List.{concat}
 use Rattle.std.specs.List.Sorted.{IsStrictlyIncreasing}
 use Rattle.std.proofs.lemmas.Bool.Decides.{nat_tests}
-use Rattle.std.proofs.lemmas.Grind.{flat_map-append}
 use Rattle.std.proofs.lemmas.List.{map-append}
 use Rattle.std.proofs.lemmas.List.Concat.{flat_map-cons}
 use Rattle.std.proofs.lemmas.List.Elements.{All-append, All-cons, All-contains, All-map, All-nil, Contains-append_right}
@@ -20,15 +19,14 @@ use Rattle.bx_cells.specs.Units.{unit_at, units}
 use Rattle.bx_paras.specs.Paragraphs.{Paragraph, after_character, after_cr, bare, begins_with_lf, cut, is_separator, lengths_of, paragraphs}
 use Rattle.bx_paras.specs.Positions.{bytes_of}
 use Rattle.bx_paras.proofs.Cuts.{width_is_some}
-use Rattle.bx_paragraph.specs.BodyRows.{BodyRow, offsets_of}
 use Rattle.bx_view.specs.Laws.{SpansText}
 use Rattle.bx_view.specs.Places.{IsTextPlace, boundaries, one_piece, pieces, pieces_of, text_places}
-use Rattle.bx_view.specs.TextRows.{IsPlace, TextRow, places, places_of, text_row, text_rows}
+use Rattle.bx_view.specs.TextRows.{IsPlace, TextRow, places, text_row, text_rows}
 use Rattle.bx_view.proofs.Around.{from, own}
 use Rattle.bx_view.proofs.BodyFirsts.{starts_of}
 use Rattle.bx_view.proofs.Boundaries.{places-bound}
-use Rattle.bx_view.proofs.Parts.{AreEnded, AreUtf8, bytes, text-bytes, text-parts}
-use Rattle.bx_view.proofs.PlacesRise.{body-places, places-rise}
+use Rattle.bx_view.proofs.Parts.{AreEnded, AreUtf8, bytes, cut-lf, text-bytes, text-parts}
+use Rattle.bx_view.proofs.PlacesRise.{body-places, places-from, places-moved, places-rise}
 use Rattle.bx_view.proofs.Rising.{Rises, rises-apart}
 use Rattle.bx_view.proofs.Within.{Within}
 
@@ -53,21 +51,12 @@ pair-bare c [] h = absurd (omega (arith, width_is_some c, ap length h))
 pair-bare c (p ∷ ps) h = h
 
 module _ (class : ℕ → Class) where
-  cut-lf : (c : ℕ) (cs : List ℕ) → (c == 10) ≡ true → is_separator (class c) ≡ true → cut class (c ∷ cs) ≡ bare (encode_utf8 c) ∷ cut class cs
-  cut-lf c cs lf e =
-      let other : (c == 13) ≡ false = grind (arith, nat_tests) in
-      ap (λ b. elim b [
-        | false ↦ after_character c (cut class cs)
-        | true ↦ elim ((c == 13) && begins_with_lf class cs) [ true ↦ after_cr (cut class cs) | false ↦ bare (encode_utf8 c) ∷ cut class cs ]
-      ]) e
-      ∙ ap (λ b. elim (b && begins_with_lf class cs) [ true ↦ after_cr (cut class cs) | false ↦ bare (encode_utf8 c) ∷ cut class cs ]) other
-
   lf-bare : (cs : List ℕ) → begins_with_lf class cs ≡ true → LastIsBare (cut class cs) → LastIsBare (after_cr (cut class cs))
   lf-bare [] b h = absurd (grind (arith, nat_tests))
   lf-bare (c ∷ cs) b h =
       let lf : (c == 10) ≡ true = grind (arith, nat_tests) in
       let ends : is_separator (class c) ≡ true = grind (arith, nat_tests) in
-      let e = cut-lf c cs lf ends in subst (λ ps. LastIsBare (after_cr ps)) (sym e) (pair-bare c (cut class cs) (subst LastIsBare e h))
+      let e = cut-lf class c cs lf ends in subst (λ ps. LastIsBare (after_cr ps)) (sym e) (pair-bare c (cut class cs) (subst LastIsBare e h))
 
   bare-at : (c : ℕ) (cs : List ℕ) (ends cr lf : Bool) → (lf ≡ true → LastIsBare (after_cr (cut class cs))) → LastIsBare (cut class cs)
       → LastIsBare (elim ends [
@@ -147,12 +136,6 @@ cluster-bounds class w at start (g ∷ gs) rest =
     ap (λ os. (start + at) ∷ os)
     (ap (λ n. boundaries n (gs ++ rest)) next ∙ cluster-bounds class w (at + length g) start gs rest ∙ ap (λ n. starts ++ boundaries n rest) size)
 
-places-moved : (start : ℕ) (rs : List BodyRow) → places (map (text_row start) rs) ≡ map (λ o. start + o) (flat_map offsets_of rs)
-places-moved start [] = refl
-places-moved start (r ∷ rs) =
-    flat_map-cons places_of (text_row start r) (map (text_row start) rs) ∙ ap (λ os. places_of (text_row start r) ++ os) (places-moved start rs)
-    ∙ sym (map-append (λ o. start + o) (offsets_of r) (flat_map offsets_of rs)) ∙ ap (map (λ o. start + o)) (sym (flat_map-cons offsets_of r rs))
-
 module _ (class : ℕ → Class) (bracket : ℕ → Option (Side × ℕ)) (base : Base) (w : ℕ) (h : 1 ≤ w) where
   abbrev starts : ℕ → List ℕ → List ℕ
   starts start body = map (λ o. start + o) (starts_of (units class w body))
@@ -177,10 +160,6 @@ module _ (class : ℕ → Class) (bracket : ℕ → Option (Side × ℕ)) (base 
       places-moved start (own class bracket base w p) ∙ ap (map (λ o. start + o)) (body-places class bracket base w h p.body)
       ∙ map-append (λ o. start + o) (starts_of (units class w p.body)) (length p.body ∷ [])
 
-  places-from : (start : ℕ) (p : Paragraph) (ps : List Paragraph)
-      → places (rest start (p ∷ ps)) ≡ places (mine start p) ++ places (rest (start + bytes_of (lengths_of p)) ps)
-  places-from start p ps = flat_map-append places_of (mine start p) (rest (start + bytes_of (lengths_of p)) ps)
-
   last-bounds : (start : ℕ) (p : Paragraph) → IsUtf8 p.body → p.separator ≡ []
       → boundaries start (flat_map pieces_of (p ∷ [])) ≡ starts start p.body ++ (start + length p.body) ∷ []
   last-bounds start p utf8 none =
@@ -203,10 +182,10 @@ module _ (class : ℕ → Class) (bracket : ℕ → Option (Side × ℕ)) (base 
       → places (rest start ps) ≡ boundaries start (flat_map pieces_of ps)
   from-bounds start [] u e l = absurd l
   from-bounds start (p ∷ []) u e l =
-      places-from start p [] ∙ append-nil (places (mine start p)) ∙ own-places start p ∙ sym (last-bounds start p u.0.body l)
+      places-from class bracket base w h start p [] ∙ append-nil (places (mine start p)) ∙ own-places start p ∙ sym (last-bounds start p u.0.body l)
   from-bounds start (p ∷ q ∷ ps) u e l =
       let next = start + bytes_of (lengths_of p) in
-      places-from start p (q ∷ ps) ∙ ap (λ os. os ++ places (rest next (q ∷ ps))) (own-places start p)
+      places-from class bracket base w h start p (q ∷ ps) ∙ ap (λ os. os ++ places (rest next (q ∷ ps))) (own-places start p)
       ∙ append_assoc (starts start p.body) ((start + length p.body) ∷ []) (places (rest next (q ∷ ps)))
       ∙ ap (λ os. starts start p.body ++ (start + length p.body) ∷ os) (from-bounds next (q ∷ ps) u.1 e.1 l)
       ∙ sym (ended-bounds start p (q ∷ ps) u.0.body e.0)
@@ -237,7 +216,7 @@ module _ (class : ℕ → Class) (bracket : ℕ → Option (Side × ℕ)) (base 
       let behind = places (rest next (q ∷ ps)) in
       All-append (λ (r : TextRow). Contains all r.start) (mine start p) (rest next (q ∷ ps))
       (first-starts all front start p (q ∷ ps) e (from-bounds start (p ∷ q ∷ ps) u d l))
-      (starts-in all (front ++ os) next (q ∷ ps) (e ∙ ap (λ xs. front ++ xs) (places-from start p (q ∷ ps)) ∙ sym (append_assoc front os behind)) u.1 d.1 l)
+      (starts-in all (front ++ os) next (q ∷ ps) (e ∙ ap (λ xs. front ++ xs) (places-from class bracket base w h start p (q ∷ ps)) ∙ sym (append_assoc front os behind)) u.1 d.1 l)
 
   pub starts-are-places : (text : List ℕ) → IsUtf8 text
       → All (λ r. Contains (places (text_rows class bracket base w text)) r.start) (text_rows class bracket base w text)
@@ -252,10 +231,7 @@ module _ (class : ℕ → Class) (bracket : ℕ → Option (Side × ℕ)) (base 
 -- ---- windows
 
 module _ (class : ℕ → Class) (bracket : ℕ → Option (Side × ℕ)) (base : Base) (w : ℕ) (h : 1 ≤ w) (text : List ℕ) (utf8 : IsUtf8 text) (p : ℕ) where
-  -- a place in a window is a place of the text, and so a place in any window
-  pub place-of-text : IsPlace (text_rows class bracket base w text) p → IsTextPlace class text p
-  place-of-text c = subst (λ os. Contains os p) (places-are class bracket base w h text utf8) c
-
+  -- a place of the text is a place in any window
   pub place-in-window : IsTextPlace class text p → IsPlace (text_rows class bracket base w text) p
   place-in-window c = subst (λ os. Contains os p) (sym (places-are class bracket base w h text utf8)) c
 

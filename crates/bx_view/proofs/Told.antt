@@ -1,7 +1,7 @@
 -- What the rows of a paragraph that is held tell of the rows of the text.
 use Rattle.std.proofs.Common.{◌≡◌, ℕ, ◌+◌, ◌-◌, ◌<◌, ◌≤◌, Bool, true, List, length}
 use Rattle.std.proofs.Common.{reverse, find, get_or, nat_le, Option, Some, None, option_map, IsUtf8, IsCharBoundary}
-use Rattle.std.proofs.Common.{refl, sym, ap, ap₂, subst, ◌∙◌, arith, leb-true}
+use Rattle.std.proofs.Common.{sym, ap, ap₂, subst, ◌∙◌, arith, leb-true}
 use Rattle.std.specs.Prelude.{All, IfSome, map}
 use Rattle.std.proofs.lemmas.Bool.{and_parts}
 use Rattle.bx_terms.specs.Sizes.{is_side, largest_side}
@@ -20,13 +20,13 @@ use Rattle.bx_paragraph.proofs.Starts.{row_count}
 use Rattle.bx_view.specs.declared.cursor.RowAt.{RowAt}
 use Rattle.bx_view.specs.Cursor.{StandsOn}
 use Rattle.bx_view.specs.Holding.{HoldsBody, IsHeld, IsOfText, IsViewBy, Keeps, ViewState}
-use Rattle.bx_view.specs.Moves.{row_end, row_home}
-use Rattle.bx_view.specs.Standing.{IsRow, body_at, count, rows_ahead, rows_in, start_at}
+use Rattle.bx_view.specs.Moves.{row_home}
+use Rattle.bx_view.specs.Standing.{IsRow, body_at, count, rows_in, start_at}
 use Rattle.bx_view.specs.TextRows.{TextRow, cell_of, first, row_at, row_of, text_row, text_rows}
 use Rattle.bx_view.proofs.Numbers.{body-range, body-utf8}
 use Rattle.bx_view.proofs.Within.{Lies, LiesIn, Within, slots-fit, beside-fits, body-row-lies}
 use Rattle.bx_view.proofs.Within.{end-fits, entry-fits, find-lies, last-fits, start-fits, within-reverse}
-use Rattle.bx_view.proofs.Walking.{before-over, before-some, first-short, next-in, next-none, next-over, row-is, row-under}
+use Rattle.bx_view.proofs.Walking.{before-over, before-some, first-short, next-none, next-over, row-is, row-under}
 
 pub side-some : (w : ℕ) → is_side w ≡ true → 1 ≤ w
 side-some w e = leb-true 1 w (and_parts (nat_le 1 w) (nat_le w largest_side) e).0
@@ -181,11 +181,6 @@ module _ (class : ℕ → Class) (bracket : ℕ → Option (Side × ℕ)) where
     home-told o e =
         ap (λ k. at.start + k) e ∙ sym (ap first here) ∙ ap₂ (λ b w. row_home (text_rows class bracket b w text) place) keeps.base keeps.w
 
-    pub end-told : (o : ℕ) → o ≡ last_of (row_by class bracket l at.row) → at.start + o ≡ row_end (of old text) place
-    end-told o e =
-        ap (λ k. at.start + k) e ∙ sym (ap (λ (r : TextRow). r.start + last_of r.row) here)
-        ∙ ap₂ (λ b w. row_end (text_rows class bracket b w text) place) keeps.base keeps.w
-
   -- ---- the next row
 
   -- of another state under the same base direction and in the same columns
@@ -196,14 +191,6 @@ module _ (class : ℕ → Class) (bracket : ℕ → Option (Side × ℕ)) where
 
   module _ (v : ViewState) (text : List ℕ) (at : RowAt) (n : ℕ) (l : LayoutState) (utf8 : IsUtf8 text) (on : StandsOn class bracket v text at n)
       (is : IsOfText class bracket v text at.paragraph l) where
-    pub next-here : at.row + 1 < length l.starts → StandsOn class bracket v text (record at { row = at.row + 1 }) (n + 1)
-    next-here more = record {
-      side = is.side;
-      start_is = on.start_is;
-      is = next-in class bracket v.base v.w (side-some v.w is.side) text utf8 at.paragraph at.row n on.is (omega (arith, more, is.count_is));
-      held_is = on.held_is;
-    }
-
     last-here : length l.starts ≤ at.row + 1 → at.row + 1 ≡ length (rows_in class bracket v.base v.w text at.paragraph)
     last-here last = let within = on.is.row in omega (arith, last, within, is.count_is)
 
@@ -224,29 +211,6 @@ module _ (class : ℕ → Class) (bracket : ℕ → Option (Side × ℕ)) where
         next-none class bracket v.base v.w (side-some v.w is.side) text utf8 at.paragraph at.row n on.is (last-here last) (omega (arith, none, within))
 
   -- ---- the row before
-
-  pub before-here : (v : ViewState) (text : List ℕ) (at : RowAt) (n : ℕ) → StandsOn class bracket v text at n → 0 < at.row
-      → (0 < n) × StandsOn class bracket v text (record at { row = at.row - 1 }) (n - 1)
-  before-here v text at n on some =
-      let is = on.is in
-      let within = is.row in
-      let number = is.is in (
-        omega (arith, number, some),
-        record {
-          side = on.side;
-          start_is = on.start_is;
-          is = record { paragraph = is.paragraph; row = omega (arith, within, some); is = omega (arith, number, some) };
-          held_is = on.held_is;
-        },
-      )
-
-  pub before-nowhere : (v : ViewState) (text : List ℕ) (at : RowAt) (n : ℕ) → StandsOn class bracket v text at n → at.row ≡ 0 → at.paragraph ≡ 0 → n ≡ 0
-  before-nowhere v text at n on none first =
-      let none-ahead : rows_ahead class bracket v.base v.w text at.paragraph ≡ rows_ahead class bracket v.base v.w text 0 =
-      ap (rows_ahead class bracket v.base v.w text) first in
-      let zero-ahead : rows_ahead class bracket v.base v.w text 0 ≡ 0 = refl in
-      let number = on.is.is in
-      omega (arith, number, none-ahead, zero-ahead, none)
 
   pub before-there : (old v : ViewState) (text : List ℕ) (at : RowAt) (n number start held rows : ℕ) (l : LayoutState) → IsUtf8 text
       → StandsOn class bracket old text at n → Keeps class bracket old v → at.row ≡ 0 → at.paragraph ≡ number + 1 → IsOfText class bracket v text number l

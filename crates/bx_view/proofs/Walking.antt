@@ -1,5 +1,5 @@
 -- Rows of the text by the number of their paragraph and their number in it, and from row to row.
-use Rattle.std.proofs.Common.{◌≡◌, ℕ, zero, suc, ◌+◌, ◌-◌, ◌<◌, ◌≤◌, List, [], ◌∷◌, ◌++◌, map, length, take, drop, get_or, slice_get, Option, Some, None}
+use Rattle.std.proofs.Common.{◌≡◌, ℕ, zero, suc, ◌+◌, ◌-◌, ◌<◌, ◌≤◌, List, [], ◌∷◌, ◌++◌, map, length, take, drop, Option}
 use Rattle.std.proofs.Common.{IsUtf8, IsCharBoundary, refl, sym, ap, subst, ◌∙◌, arith, length-append}
 use Rattle.std.proofs.lemmas.List.{get_or-map, length-map, take_more, take_all}
 use Rattle.bx_ucd.specs.declared.class.Class.{Class}
@@ -8,10 +8,9 @@ use Rattle.bx_explicit.specs.declared.base.Base.{Base}
 use Rattle.bx_text.specs.Edits.{IsRange}
 use Rattle.bx_paras.specs.Paragraphs.{Paragraph, bare, lengths, lengths_of, paragraphs}
 use Rattle.bx_paras.specs.Positions.{bytes_of, paragraph_of, total}
-use Rattle.bx_paragraph.specs.BodyRows.{BodyRow, body_rows, last_of, no_row}
+use Rattle.bx_paragraph.specs.BodyRows.{BodyRow, body_rows, no_row}
 use Rattle.bx_paragraph.specs.BodyRows.{row_at as row_at_body, row_of as row_of_body, first_of as first_of_body}
 use Rattle.bx_paragraph.specs.Slots.{column_of}
-use Rattle.bx_view.specs.Moves.{row_after, row_before, row_end, row_home}
 use Rattle.bx_view.specs.Standing.{IsRow, body_at, count, paragraph_at, rows_ahead, rows_in, start_at}
 use Rattle.bx_view.specs.TextRows.{TextRow, cell_of, first, no_text_row, row_at, row_of, text_row, text_rows}
 use Rattle.bx_view.proofs.Around.{BodyFirsts, all-rise, rank-around, count-around, from, from-append, own, own-rank, own-some, own-within, row-falls}
@@ -20,16 +19,6 @@ use Rattle.bx_view.proofs.BodyFirsts.{body-firsts}
 use Rattle.bx_view.proofs.Numbers.{ahead, among, behind, body-range, body-utf8, falls-at, here, parts-at}
 use Rattle.bx_view.proofs.Parts.{AreEnded, AreUtf8, text-parts}
 use Rattle.bx_view.proofs.Rising.{Rises, rank, rises-apart, rises-below}
-
-pub slice-at : {X : Type 0} (xs : List X) (n : ℕ) (d : X) → n < length xs → slice_get xs n ≡ Some (get_or xs n d)
-slice-at [] n d h = absurd (omega (arith, h))
-slice-at (x ∷ xs) zero d h = refl
-slice-at (x ∷ xs) (suc n) d h = slice-at xs n d (omega (arith, h))
-
-pub slice-past : {X : Type 0} (xs : List X) (n : ℕ) → length xs ≤ n → slice_get xs n ≡ None
-slice-past [] n h = refl
-slice-past (x ∷ xs) zero h = absurd (omega (arith, h))
-slice-past (x ∷ xs) (suc n) h = slice-past xs n (omega (arith, h))
 
 module _ (class : ℕ → Class) (bracket : ℕ → Option (Side × ℕ)) (base : Base) (w : ℕ) (some : 1 ≤ w) (text : List ℕ) (utf8 : IsUtf8 text) where
   abbrev pub rows : List TextRow
@@ -144,9 +133,6 @@ module _ (class : ℕ → Class) (bracket : ℕ → Option (Side × ℕ)) (base 
         length-map (own class bracket base w p) (text_row start),
       )
 
-  pub next-in : (number k n : ℕ) → Row number k n → k + 1 < length (mine number) → Row number (k + 1) (n + 1)
-  next-in number k n is more = record { paragraph = is.paragraph; row = more; is = omega (arith, is.is) }
-
   pub next-over : (number k n : ℕ) → Row number k n → k + 1 ≡ length (mine number) → number + 1 < count class text → Row (number + 1) 0 (n + 1)
   next-over number k n is last more = record {
     paragraph = more;
@@ -159,9 +145,6 @@ module _ (class : ℕ → Class) (bracket : ℕ → Option (Side × ℕ)) (base 
       let whole : take (number + 1) all ≡ all = take_all (number + 1) all (omega (arith, none)) in
       let same : before (number + 1) ≡ length rows = ap (λ ps. length (from class bracket base w 0 ps)) whole in
       omega (arith, is.is, last, ahead-next number is.paragraph, same)
-
-  pub before-in : (number k n : ℕ) → Row number (suc k) n → Row number k (n - 1)
-  before-in number k n is = record { paragraph = is.paragraph; row = omega (arith, is.row); is = omega (arith, is.is) }
 
   pub before-over : (number k n : ℕ) → Row (number + 1) 0 n → k + 1 ≡ length (mine number) → Row number k (n - 1)
   before-over number k n is last =
@@ -176,20 +159,6 @@ module _ (class : ℕ → Class) (bracket : ℕ → Option (Side × ℕ)) (base 
       let same : before (number + 1) ≡ before (suc number) = ap before next in
       omega (arith, is.is, ahead-next number within, some-row number within, same)
 
-  pub before-none : (n : ℕ) → Row 0 0 n → n ≡ 0
-  before-none n is = omega (arith, is.is)
-
-  -- ---- as the moves ask for them
-
-  pub after-some : (number k n : ℕ) → Row number k (n + 1) → row_after rows n ≡ Some (text_row (begins number) (row_at_body (mine number) k))
-  after-some number k n is = slice-at rows (n + 1) no_text_row (row-within number k (n + 1) is) ∙ ap Some (row-is number k (n + 1) is)
-
-  pub after-none : (n : ℕ) → n + 1 ≡ length rows → row_after rows n ≡ None
-  after-none n e = slice-past rows (n + 1) (omega (arith, e))
-
-  pub ahead-some : (number k n : ℕ) → Row number k n → row_before rows (suc n) ≡ Some (text_row (begins number) (row_at_body (mine number) k))
-  ahead-some number k n is = slice-at rows n no_text_row (row-within number k n is) ∙ ap Some (row-is number k n is)
-
   -- ---- what the rows of an offset tell
 
   module _ (offset number k : ℕ) (e : number ≡ paragraph_of (lengths class text) offset) (f : k ≡ row_of_body (mine number) (offset - begins number)) where
@@ -199,20 +168,15 @@ module _ (class : ℕ → Class) (bracket : ℕ → Option (Side × ℕ)) (base 
     pub cell-is : cell_of w rows offset ≡ column_of w (row_at_body (mine number) k) (offset - begins number)
     cell-is = ap (λ r. column_of w r.row (offset - r.start)) row-there-is
 
-    pub home-is : row_home rows offset ≡ begins number + first_of_body (row_at_body (mine number) k)
-    home-is = ap first row-there-is
-
-    pub end-is : row_end rows offset ≡ begins number + last_of (row_at_body (mine number) k)
-    end-is = ap (λ r. r.start + last_of r.row) row-there-is
-
   -- ---- where rows begin tells which is before which
+
+  pub rows-rise : Rises 0 (map first rows) (0 + total (map lengths_of all) + 1)
+  rows-rise = let parts = text-parts class text utf8 in all-rise class bracket base w bodies 0 all parts.utf8 parts.ended
 
   pub firsts-rise : (n m : ℕ) → n < m → m < length rows → first (row_at rows n) < first (row_at rows m)
   firsts-rise n m h within =
-      let parts = text-parts class text utf8 in
-      let rise = all-rise class bracket base w bodies 0 all parts.utf8 parts.ended in
       let count = length-map rows first in
-      let apart = rises-apart 0 (map first rows) (0 + total (map lengths_of all) + 1) n m 0 rise h (omega (arith, within, count)) in
+      let apart = rises-apart 0 (map first rows) (0 + total (map lengths_of all) + 1) n m 0 rows-rise h (omega (arith, within, count)) in
       let left = get_or-map first rows n no_text_row 0 (omega (arith, h, within)) in
       let right = get_or-map first rows m no_text_row 0 within in
       omega (arith, apart, left, right)

@@ -104,7 +104,7 @@ found-lies : (P : ℕ → Type 0) (column : ℕ) (s : Slot) (ss : List Slot) (b 
 found-lies P column s ss true e a = e
 found-lies P column s ss false e a = a
 
-covering-lies : (P : ℕ → Type 0) (column : ℕ) (ss : List Slot) → Within P (map (λ s. s.offset) ss) → Lies P (covering_in ss column)
+pub covering-lies : (P : ℕ → Type 0) (column : ℕ) (ss : List Slot) → Within P (map (λ s. s.offset) ss) → Lies P (covering_in ss column)
 covering-lies P column [] a = tt
 covering-lies P column (s ∷ ss) a = found-lies P column s ss (covers column s) a.0 (covering-lies P column ss a.1)
 
@@ -158,7 +158,7 @@ rows-all P us [] k a = λ i d h. absurd (omega (arith, h))
 rows-all P us (r ∷ rs) zero a = faces-row (λ u. P u.start) us r a
 rows-all P us (r ∷ rs) (suc k) a = rows-all P us rs k a
 
-length-with-last : (row : Bool → List Unit → BodyRow) (xs : List (List Unit)) → length (with_last row xs) ≡ length xs
+pub length-with-last : (row : Bool → List Unit → BodyRow) (xs : List (List Unit)) → length (with_last row xs) ≡ length xs
 length-with-last row [] = refl
 length-with-last row (us ∷ []) = refl
 length-with-last row (us ∷ vs ∷ rest) = ap suc (length-with-last row (vs ∷ rest))
