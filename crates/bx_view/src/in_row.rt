@@ -1,11 +1,10 @@
 //! Places of a row of the text.
 ghost use Rattle.std.specs.Prelude.{◌≡◌, ℕ, ◌+◌, ◌-◌, ◌≤◌, IfOk, IfSome, option_map};
-ghost use Rattle.std.specs.Str.{IsCharBoundary};
 ghost use Rattle.bx_text.specs.Edits.{largest_text};
 ghost use Rattle.bx_paragraph.specs.BodyRows.{last_of};
 ghost use Rattle.bx_paragraph.specs.Slots.{beside, reading_end, reading_start};
 ghost use Rattle.bx_view.specs.Moves.{entry_in, place_in, row_end};
-ghost use Rattle.bx_view.specs.Source.{IsViewBy, Keeps, OfRow, Stands, bytes, rows};
+ghost use Rattle.bx_view.specs.Source.{IsViewBy, Keeps, OfRow, Stands, rows};
 ghost use Rattle.bx_view.specs.TextRows.{first};
 
 use crate::cursor::RowAt;
@@ -129,7 +128,6 @@ impl Layout {
         requires data { IsViewBy source.now self.old }
         ensures keeps { Keeps source.now self.old self.new }
         ensures end { IfOk result (λ o. o ≡ row_end (rows source.now self.old) place) }
-        ensures boundary { IfOk result (λ o. IsCharBoundary (bytes source.now) o) }
     {
         let at = self.row_at(source, place)?;
         let end = self.last_in(source, at)?;

@@ -1,6 +1,5 @@
 //! The layout of a text.
 ghost use Rattle.std.specs.Prelude.{◌≡◌, ℕ, ◌<◌, ◌≤◌, [], true, length, slice_range, IfOk};
-ghost use Rattle.std.specs.Str.{IsCharBoundary};
 ghost use Rattle.bx_terms.specs.Sizes.{is_side};
 ghost use Rattle.bx_paras.specs.Paragraphs.{lengths};
 ghost use Rattle.bx_paras.specs.Positions.{paragraph_of};
@@ -298,7 +297,6 @@ impl Layout {
         requires data { IsViewBy source.now self.old }
         ensures keeps { Keeps source.now self.old self.new }
         ensures home { IfOk result (λ home. home ≡ row_home (rows source.now self.old) place) }
-        ensures boundary { IfOk result (λ o. IsCharBoundary (bytes source.now) o) }
     {
         let at = self.row_at(source, place)?;
         let paragraph = self.paragraph(source, at.paragraph, at.held);

@@ -122,7 +122,6 @@ impl Layout {
         requires data { IsViewBy source.now self.old }
         ensures keeps { Keeps source.now self.old self.new }
         ensures place { IfOk result (λ o. o ≡ unwrap_or (find (nat_lt place) (places (rows source.now self.old))) place) }
-        ensures boundary { IsCharBoundary (bytes source.now) place → IfOk result (λ o. IsCharBoundary (bytes source.now) o) }
     {
         let at = self.row_at(source, place)?;
         if let Some(behind) = self.behind_in_row(source, at, place)? {
@@ -144,7 +143,6 @@ impl Layout {
         ensures keeps { Keeps source.now self.old self.new }
         ensures place { IfOk result (λ o. o ≡ unwrap_or (find (λ p. nat_lt p place)
             (reverse (places (rows source.now self.old)))) place) }
-        ensures boundary { IsCharBoundary (bytes source.now) place → IfOk result (λ o. IsCharBoundary (bytes source.now) o) }
     {
         let at = self.row_at(source, place)?;
         if let Some(before) = self.before_in_row(source, at, place)? {
@@ -169,7 +167,6 @@ impl Layout {
         requires data { IsViewBy source.now self.old }
         ensures keeps { Keeps source.now self.old self.new }
         ensures step { IfOk result (λ o. o ≡ step_logical (rows source.now self.old) way place) }
-        ensures boundary { IsCharBoundary (bytes source.now) place → IfOk result (λ o. IsCharBoundary (bytes source.now) o) }
     {
         match way {
             Logical::Forward => {

@@ -26,6 +26,8 @@ impl Layout {
         ensures boundary { IsCharBoundary (bytes source.now) place → IfOk result (λ o. IsCharBoundary (bytes source.now) o) }
         ensures row_boundary { is_to_row_end m ≡ true → IfOk result (λ o. IsCharBoundary (bytes source.now) o) }
     {
+        // tells the proof what sides a window may have
+        let _side = self.width();
         match m {
             Move::Logical(way) => {
                 let place = self.step_logical(source, way, place)?;

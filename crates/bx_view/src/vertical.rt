@@ -1,8 +1,7 @@
 //! The moves from row to row.
 ghost use Rattle.std.specs.Prelude.{◌≡◌, ℕ, ◌+◌, ◌-◌, IfOk, length, min};
-ghost use Rattle.std.specs.Str.{IsCharBoundary};
 ghost use Rattle.bx_view.specs.Moves.{row_away, rows_away};
-ghost use Rattle.bx_view.specs.Source.{IsViewBy, Keeps, Stands, StandsOn, bytes, rows};
+ghost use Rattle.bx_view.specs.Source.{IsViewBy, Keeps, Stands, StandsOn, rows};
 
 use crate::cursor::RowAt;
 use crate::error::ViewError;
@@ -99,7 +98,6 @@ impl Layout {
         requires data { IsViewBy source.now self.old }
         ensures keeps { Keeps source.now self.old self.new }
         ensures place { IfOk result (λ o. o ≡ rows_away self.old.w (rows source.now self.old) way count place) }
-        ensures boundary { IsCharBoundary (bytes source.now) place → IfOk result (λ o. IsCharBoundary (bytes source.now) o) }
     {
         let at = self.row_at(source, place)?;
         let position = self.position(source, at, place)?;

@@ -1,9 +1,8 @@
 //! The moves to the left and to the right.
 ghost use Rattle.std.specs.Prelude.{◌≡◌, ℕ, [], true, IfOk};
-ghost use Rattle.std.specs.Str.{IsCharBoundary};
 ghost use Rattle.bx_paragraph.specs.Slots.{reads_on};
 ghost use Rattle.bx_view.specs.Moves.{end_of, past, row_after, row_before, start_of, step_visual};
-ghost use Rattle.bx_view.specs.Source.{IsViewBy, Keeps, OfRow, Stands, StandsOn, bytes, rows};
+ghost use Rattle.bx_view.specs.Source.{IsViewBy, Keeps, OfRow, Stands, StandsOn, rows};
 
 use crate::cursor::RowAt;
 use crate::error::ViewError;
@@ -105,7 +104,6 @@ impl Layout {
         requires data { IsViewBy source.now self.old }
         ensures keeps { Keeps source.now self.old self.new }
         ensures step { IfOk result (λ o. o ≡ step_visual self.old.w (rows source.now self.old) side place) }
-        ensures boundary { IsCharBoundary (bytes source.now) place → IfOk result (λ o. IsCharBoundary (bytes source.now) o) }
     {
         let at = self.row_at(source, place)?;
         if let Some(next) = self.beside(source, at, side, place)? {

@@ -1,9 +1,7 @@
-use Rattle.std.proofs.Common.{◌≡◌, ◌+◌, ◌≤◌, length, arith, IsCharBoundary, subst, sym}
+use Rattle.std.proofs.Common.{◌≡◌, ◌+◌, ◌≤◌, length, arith}
 use Rattle.bx_paragraph.specs.BodyRows.{first_of}
 use Rattle.bx_paragraph.specs.Layout.{row_by}
 use Rattle.bx_view.proofs.Told.{first-fits, home-told}
-use Rattle.bx_view.proofs.Boundaries.{boundary-row_home}
-use Rattle.bx_view.proofs.KeptRows.{side-kept}
 use Rattle.bx_view.proofs.layout.Layout.row_home.Goals as goal
 
 pub overflow_add-result : goal.overflow_add-result
@@ -25,13 +23,3 @@ returns-clause-home g c =
     home-told class bracket c.args.self.now c.row_at.new.self c.args.source.now.text.now.edited.text c.args.place c.in_ok-at.at c.paragraph-paragraph.result.now
     c.row_at.ensures.keeps c.args.source.now.utf8 c.in_ok-at.ensures.row c.paragraph-paragraph.ensures c.first.result
     (c.first.ensures class bracket c.paragraph-paragraph.ensures.by)
-
-pub returns-clause-boundary : goal.returns-clause-boundary
-returns-clause-boundary g c =
-    let class = g.D.BidiData.class_of c.args.source.now.tables.now in
-    let bracket = g.D.BidiData.bracket_of c.args.source.now.tables.now in
-    let text = c.args.source.now.text.now.edited.text in
-    let old = c.args.self.now in
-    let utf8 = c.args.source.now.utf8 in
-    let some = side-kept class bracket old c.row_at.new.self text c.args.place c.in_ok-at.at utf8 c.row_at.ensures.keeps c.in_ok-at.ensures.row in
-    subst (IsCharBoundary text) (sym (returns-clause-home g c)) (boundary-row_home class bracket old.base old.w some text utf8 c.args.place)

@@ -1,0 +1,159 @@
+-- Each move leads from an offset that passes to one that does, where the places of all rows pass.
+use Rattle.std.proofs.Common.{ℕ, zero, suc, ◌+◌, ◌-◌, ◌<◌, ◌==◌, nat_le, nat_lt, Bool, true, false, List, [], ◌∷◌, map, length, find}
+use Rattle.std.proofs.Common.{reverse, slice_get, Option, Some, None, unwrap_or}
+use Rattle.std.proofs.Common.{arith}
+use Rattle.std.specs.Prelude.{All, IfSome}
+use Rattle.std.proofs.lemmas.List.Elements.{All-head, All-tail}
+use Rattle.bx_cells.specs.declared.unit.Unit.{Unit}
+use Rattle.bx_rows.specs.RowStarts.{first_offset}
+use Rattle.bx_paragraph.specs.declared.moves.Visual.{Visual}
+use Rattle.bx_paragraph.specs.BodyRows.{last_offset}
+use Rattle.bx_paragraph.specs.Slots.{beside, entry, or_else, reading_end, reading_start, reads_on}
+use Rattle.bx_view.specs.declared.moves.Logical.{Logical}
+use Rattle.bx_view.specs.declared.moves.Logical.TheVariants.{Back, Forward}
+use Rattle.bx_view.specs.declared.moves.Move.{Move}
+use Rattle.bx_view.specs.declared.moves.Move.TheVariants as moves
+use Rattle.bx_view.specs.declared.moves.Vertical.{Vertical}
+use Rattle.bx_view.specs.Moves.{end_of, entry_in, moved, past, place_from, place_in, row_after, row_away}
+use Rattle.bx_view.specs.Moves.{row_before, row_end, row_home, rows_away, start_of, step_logical, step_visual}
+use Rattle.bx_view.specs.Laws.{MovesKeep}
+use Rattle.bx_view.specs.TextRows.{TextRow, cell_of, first, no_text_row, places, row_at, row_of}
+use Rattle.bx_view.specs.Top.{follow, nearest_top}
+use Rattle.bx_view.proofs.KeptRows.{away-within}
+use Rattle.bx_view.proofs.Nearest.{falls-within}
+use Rattle.bx_view.proofs.Within.{Lies, LiesIn, Within, beside-fits, either-lies, end-fits, entry-fits, find-lies, last-fits, last-lies, start-fits}
+use Rattle.bx_view.proofs.Within.{within-reverse}
+
+-- a row passes, if there is one
+abbrev IfRow : (TextRow → Type 0) → Option TextRow → Type 0
+IfRow Q None = Prim.Unit {0}
+IfRow Q (Some r) = Q r
+
+each-get : (Q : TextRow → Type 0) (rs : List TextRow) (n : ℕ) → All Q rs → IfRow Q (slice_get rs n)
+each-get Q [] n a = tt
+each-get Q (r ∷ rs) zero a = All-head Q r rs a
+each-get Q (r ∷ rs) (suc n) a = each-get Q rs n (All-tail Q r rs a)
+
+first-lies-at : (P : ℕ → Type 0) (us : List Unit) → P 0 → Within P (map (λ u. u.start) us) → P (first_offset us)
+first-lies-at P [] start a = start
+first-lies-at P (u ∷ us) start a = a.0
+
+module _ (w : ℕ) (rows : List TextRow) (P : ℕ → Type 0) (each : All (λ r. LiesIn (λ o. P (r.start + o)) w r.row) rows) (all : Within P (places rows))
+    (some : 0 < length rows) (begin : P 0) where
+  abbrev Row : TextRow → Type 0
+  Row r = LiesIn (λ o. P (r.start + o)) w r.row
+
+  own-row : (offset : ℕ) → row_of rows offset < length rows
+  own-row offset = falls-within rows offset some
+
+  row-lies : (k : ℕ) → k < length rows → Row (row_at rows k)
+  row-lies k within = each k no_text_row within
+
+  else-lies : (o : Option ℕ) (place : ℕ) → Lies P o → P place → P (unwrap_or o place)
+  else-lies None place a b = b
+  else-lies (Some o) place a b = a
+
+  in-row-lies : (r : TextRow) (o : Option ℕ) → Lies (λ k. P (r.start + k)) o → Lies P (place_in r o)
+  in-row-lies r None a = tt
+  in-row-lies r (Some o) a = a
+
+  kept-place_from : (offset : ℕ) → P (place_from rows offset)
+  kept-place_from offset =
+      else-lies (find (nat_le offset) (places rows)) (last_offset (places rows)) (find-lies P (nat_le offset) (places rows) all)
+      (last-lies P begin (places rows) all)
+
+  kept-step_logical : (way : Logical) (place : ℕ) → P place → P (step_logical rows way place)
+  kept-step_logical Forward place b = else-lies (find (nat_lt place) (places rows)) place (find-lies P (nat_lt place) (places rows) all) b
+  kept-step_logical Back place b =
+      else-lies (find (λ p. nat_lt p place) (reverse (places rows))) place
+      (find-lies P (λ p. nat_lt p place) (reverse (places rows)) (within-reverse P (places rows) all)) b
+
+  start-lies : (o : Option TextRow) → IfRow Row o → Lies P (start_of w o)
+  start-lies None a = tt
+  start-lies (Some r) a = in-row-lies r (reading_start w r.row) (start-fits (λ k. P (r.start + k)) w r.row a)
+
+  end-lies : (o : Option TextRow) → IfRow Row o → Lies P (end_of w o)
+  end-lies None a = tt
+  end-lies (Some r) a = in-row-lies r (reading_end w r.row) (end-fits (λ k. P (r.start + k)) w r.row a)
+
+  before-lies : (k : ℕ) → IfRow Row (row_before rows k)
+  before-lies zero = tt
+  before-lies (suc k) = each-get Row rows k each
+
+  past-at : (on : Bool) (k : ℕ) → Lies P (elim on [ true ↦ start_of w (row_after rows k) | false ↦ end_of w (row_before rows k) ])
+  past-at true k = start-lies (row_after rows k) (each-get Row rows (k + 1) each)
+  past-at false k = end-lies (row_before rows k) (before-lies k)
+
+  past-lies : (side : Visual) (k : ℕ) → Lies P (past w rows side k)
+  past-lies side k = past-at (reads_on side (row_at rows k).row) k
+
+  kept-step_visual : (side : Visual) (place : ℕ) → P place → P (step_visual w rows side place)
+  kept-step_visual side place b =
+      let k = row_of rows place in
+      let r = row_at rows k in
+      let next = place_in r (beside w r.row side (place - r.start)) in
+      let near : Lies P next =
+      in-row-lies r (beside w r.row side (place - r.start))
+      (beside-fits (λ o. P (r.start + o)) w r.row (row-lies k (own-row place)) side (place - r.start)) in
+      else-lies (or_else next (past w rows side k)) place (either-lies P next (past w rows side k) near (past-lies side k)) b
+
+  kept-entry : (k column : ℕ) → k < length rows → Lies P (entry_in w (row_at rows k) column)
+  kept-entry k column within =
+      let r = row_at rows k in
+      in-row-lies r (entry w r.row column) (entry-fits (λ o. P (r.start + o)) w r.row (row-lies k within) column)
+
+  to-row-at : (same : Bool) (place k : ℕ) → k < length rows → P place
+      → P (elim same [ true ↦ place | false ↦ unwrap_or (entry_in w (row_at rows k) (cell_of w rows place)) place ])
+  to-row-at true place k within b = b
+  to-row-at false place k within b =
+      let column = cell_of w rows place in else-lies (entry_in w (row_at rows k) column) place (kept-entry k column within) b
+
+  kept-rows_away : (way : Vertical) (n place : ℕ) → P place → P (rows_away w rows way n place)
+  kept-rows_away way n place b =
+      let k = row_away (length rows) way n (row_of rows place) in
+      to-row-at (k == row_of rows place) place k (away-within (length rows) way n (row_of rows place) (own-row place)) b
+
+  entered : (o : Option ℕ) → Lies P o → IfSome o P
+  entered None a = tt
+  entered (Some o) a = a
+
+  first-kept : (k : ℕ) → k < length rows → P (first (row_at rows k))
+  first-kept k within =
+      let r = row_at rows k in
+      let lies = row-lies k within in
+      first-lies-at (λ o. P (r.start + o)) r.row.units lies.start lies.units
+
+  kept-row_home : (offset : ℕ) → P (row_home rows offset)
+  kept-row_home offset = first-kept (row_of rows offset) (own-row offset)
+
+  kept-row_end : (offset : ℕ) → P (row_end rows offset)
+  kept-row_end offset =
+      let r = row_at rows (row_of rows offset) in last-fits (λ o. P (r.start + o)) w r.row (row-lies (row_of rows offset) (own-row offset))
+
+  kept-moved : (m : Move) (place : ℕ) → P place → P (moved w rows m place)
+  kept-moved (moves.Logical way) place b = kept-step_logical way place b
+  kept-moved (moves.Visual side) place b = kept-step_visual side place b
+  kept-moved (moves.Rows way n) place b = kept-rows_away way n place b
+  kept-moved moves.RowHome place b = kept-row_home place
+  kept-moved moves.RowEnd place b = kept-row_end place
+
+  kept-follow : (top place t : ℕ) → 0 < t → P (follow rows top place t)
+  kept-follow top place t shown =
+      let above = own-row top in
+      let below = own-row place in
+      first-kept (nearest_top (row_of rows top) (row_of rows place) t) (omega (arith, above, below, shown))
+
+  -- each move
+  pub moves-keep : MovesKeep w rows P
+  moves-keep = record {
+    from = kept-place_from;
+    moved = kept-moved;
+    logical = kept-step_logical;
+    visual = kept-step_visual;
+    vertical = λ way place b. kept-rows_away way 1 place b;
+    page = kept-rows_away;
+    entry = λ k column within. entered (entry_in w (row_at rows k) column) (kept-entry k column within);
+    home = kept-row_home;
+    end = kept-row_end;
+    top = kept-follow;
+  }
