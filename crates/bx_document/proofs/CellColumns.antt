@@ -6,7 +6,6 @@ use Rattle.std.proofs.Common.{cond, chars, IsUtf8, refl, sym, ap, subst, ◌∙�
 use Rattle.std.specs.Prelude.{⊤, All}
 use Rattle.std.proofs.lemmas.Bool.{and_parts}
 use Rattle.std.proofs.lemmas.Bool.Decides.{nat_tests}
-use Rattle.std.proofs.lemmas.List.{drop-drop}
 use Rattle.std.proofs.lemmas.List.Sums.{sum_by-cons}
 use Rattle.bx_ucd.specs.declared.class.Class.{Class}
 use Rattle.bx_ucd.specs.declared.data.Side.{Side}
@@ -26,9 +25,9 @@ use Rattle.bx_rows.proofs.FaceGlyphs.{Tells, tells-face}
 use Rattle.bx_rows.proofs.NumbersBelow.{below_if_visual}
 use Rattle.bx_rows.proofs.PictureSums.{columns-length}
 use Rattle.bx_rows.proofs.Resets.{one_each}
-use Rattle.bx_rows.proofs.RowsFit.{fit_if_wrapped, row-within}
+use Rattle.bx_rows.proofs.RowsFit.{fit_if_wrapped, rest-of, row-within}
 use Rattle.bx_paragraph.specs.declared.slot.Slot.{Slot}
-use Rattle.bx_paragraph.specs.BodyRows.{BodyRow, body_rows, row_with, rows_units, with_last}
+use Rattle.bx_paragraph.specs.BodyRows.{BodyRow, body_rows, row_with, rows_units}
 use Rattle.bx_paragraph.specs.BodyRows.{row_at as row_at_body, row_of as row_of_body}
 use Rattle.bx_paragraph.specs.Slots.{column_in, columns_of, end_slot, extent_of, left_column, row_slots, side_by_side, unit_slots}
 use Rattle.bx_paragraph.proofs.LayoutRows.{last-at}
@@ -39,6 +38,7 @@ use Rattle.bx_view.specs.Standing.{body_at, start_at}
 use Rattle.bx_view.specs.TextRows.{cell_of, text_rows}
 use Rattle.bx_view.proofs.Numbers.{body-utf8}
 use Rattle.bx_view.proofs.Walking.{cell-is, row-under}
+use Rattle.bx_view.proofs.Within.{length-with-last}
 
 -- ---- each unit of a row has a column
 
@@ -65,11 +65,6 @@ all-have class w body (u ∷ us) h = (
   have-of (chars (unit_text body u)) u.face (tells-face class w (unit_text body u) u.face (h 0 u (omega arith))),
   all-have class w body us (λ i d inside. h (suc i) d (omega (arith, inside))),
 )
-
-have-drop : (n : ℕ) (us : List Unit) → AllHave us → AllHave (drop n us)
-have-drop zero us h = h
-have-drop (suc n) [] h = h
-have-drop (suc n) (u ∷ us) h = have-drop n us h.1
 
 one-column : (w c : ℕ) (f : Face) → c < w → HasColumn f → 1 ≤ columns_at w c f
 one-column w c Tab h k = omega arith
@@ -105,14 +100,11 @@ row-some p w i us all h e =
     let units : row_units all (record { start = i; stop = i + n }) ≡ take n us = ap (λ k. take k (drop i all)) whole ∙ ap (take n) (sym e) in
     subst (λ vs. AllSome (unit_columns w 0 vs)) (sym units) (some-columns w 0 n us h (row-within p w us))
 
-next : (i : ℕ) (u : Unit) (us all : List Unit) → u ∷ us ≡ drop i all → us ≡ drop (suc i) all
-next i u us all e = let one : i + 1 ≡ suc i = omega arith in ap (drop 1) e ∙ drop-drop 1 i all ∙ ap (λ k. drop k all) one
-
 rows-some : (p : Unit → Bool) (w i k : ℕ) (us all : List Unit) → AllHave us → us ≡ drop i all → EachSome w (map (row_units all) (rows_from p w i k us))
 rows-some p w i k [] all h e = tt
-rows-some p w i (suc k) (u ∷ us) all h e = rows-some p w (suc i) k us all h.1 (next i u us all e)
+rows-some p w i (suc k) (u ∷ us) all h e = rows-some p w (suc i) k us all h.1 (rest-of i u us all e)
 rows-some p w i zero (u ∷ us) all h e =
-    (row-some p w i (u ∷ us) all h e, rows-some p w (suc i) (row_len p w (u ∷ us) - 1) us all h.1 (next i u us all e))
+    (row-some p w i (u ∷ us) all h e, rows-some p w (suc i) (row_len p w (u ∷ us) - 1) us all h.1 (rest-of i u us all e))
 
 wrapped-some : (p : Unit → Bool) (w : ℕ) (us : List Unit) → AllHave us → EachSome w (map (row_units us) (rows_of p w us))
 wrapped-some p w [] h = (tt, tt)
@@ -260,11 +252,6 @@ module _ (class : ℕ → Class) (bracket : ℕ → Option (Side × ℕ)) (base 
       (some-at w xs k (wrapped-some (is_break class body) w (units class w body) (all-have class w body (units class w body) (faces-units class w body utf8))))
       (fits-at k) (one_each class body level each us _ refl))
 
-as-many : (row : Bool → List Unit → BodyRow) (vs : List (List Unit)) → length (with_last row vs) ≡ length vs
-as-many row [] = refl
-as-many row (us ∷ []) = refl
-as-many row (us ∷ vs ∷ rest) = ap suc (as-many row (vs ∷ rest))
-
 -- the column of the cell of a place
 pub cell-inside : (class : ℕ → Class) (bracket : ℕ → Option (Side × ℕ)) (base : Base) (w : ℕ) (text : List ℕ) (place : ℕ) → 1 ≤ w → IsUtf8 text
     → (1 ≤ cell_of w (text_rows class bracket base w text) place) × (cell_of w (text_rows class bracket base w text) place ≤ w)
@@ -275,7 +262,7 @@ cell-inside class bracket base w text place some utf8 =
     let is = row-under class bracket base w some text utf8 place number k refl refl in
     let valid = body-utf8 class text number is.paragraph utf8 in
     let within = is.row in
-    let count = as-many (row_with class body (paragraph_level_under class base (chars body)) (levels_under class bracket base (chars body)))
+    let count = length-with-last (row_with class body (paragraph_level_under class base (chars body)) (levels_under class bracket base (chars body)))
     (rows_units class w body) in
     let r = row_at_body (body_rows class bracket base w body) k in
     let column = column-in w (row_slots w r) (place - start_at class text number) some

@@ -2,7 +2,6 @@ pub mod PutOn
 pub mod CopiedRows
 pub mod RowGlyphs
 pub mod RowsDrawn
-pub mod ShownRows
 pub mod CellColumns
 pub mod WindowPlace
 pub mod WindowTold

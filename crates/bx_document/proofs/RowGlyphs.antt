@@ -8,6 +8,7 @@ use Rattle.std.proofs.lemmas.Grind.{flat_map-append}
 use Rattle.std.proofs.lemmas.List.{map_more, append-nil}
 use Rattle.std.proofs.lemmas.List.Concat.{flat_map-cons}
 use Rattle.std.proofs.lemmas.List.Sums.{sum_by-cons, sum_by_more, sum_by_more_le}
+use borrow.Author.Tests.{not-true}
 use Rattle.unicode_width.specs.Width.{str_width}
 use Rattle.bx_terms.specs.Characters.{are_ascii_printable, are_printable, is_ascii_glyph}
 use Rattle.bx_terms.specs.Glyphs.{is_one_glyph, run_width}
@@ -21,20 +22,16 @@ use Rattle.bx_rows.specs.RowPicture.{Glyph}
 use Rattle.bx_rows.specs.Shown.{glyph_of}
 use Rattle.bx_document.specs.Drawing.{with_row}
 use Rattle.bx_document.specs.Drawing.{side_by_side}
-use Rattle.bx_document.proofs.PutOn.{IsRoomy, put_next, put_none, room_next, within_next}
+use Rattle.bx_document.proofs.PutOn.{IsRoomy, put_next, room_next, within_next}
 
 -- ---- one glyph
-
-not_false : (b : Bool) → not b ≡ true → b ≡ false
-not_false true h = sym h
-not_false false h = refl
 
 other_run : (text : List ℕ) (one : Bool) → is_ascii_glyph text ≡ one → one ≡ false → is_one_glyph text ≡ true → are_ascii_printable text ≡ false
 other_run text one e f h =
     let all : (is_ascii_glyph text || ((are_printable text && not (are_ascii_printable text)) && nat_le 1 (str_width false (chars text)))) ≡ true = h in
     let rest : ((are_printable text && not (are_ascii_printable text)) && nat_le 1 (str_width false (chars text))) ≡ true =
     sym (ap (λ b. b || ((are_printable text && not (are_ascii_printable text)) && nat_le 1 (str_width false (chars text)))) (e ∙ f)) ∙ all in
-    not_false (are_ascii_printable text)
+    not-true (are_ascii_printable text)
     (and_right (are_printable text) (not (are_ascii_printable text))
     (and_left (are_printable text && not (are_ascii_printable text)) (nat_le 1 (str_width false (chars text))) rest))
 
@@ -97,9 +94,6 @@ glyphs-more ds i d inside =
 pub record IsPut (old : GridState) (row : ℕ) (ds : List Drawn) (i : ℕ) (new : GridState) (column : ℕ) : Type 0 where
   pub at : column ≡ columns_in (take i ds) + 1
   pub grid : new ≡ with_row old row (glyphs_columns (take i ds))
-
-pub none_put : (old : GridState) (row : ℕ) (ds : List Drawn) → IsRoomy old row → IsPut old row ds 0 old 1
-none_put old row ds h = record { at = refl; grid = put_none old row h }
 
 -- glyph number `i` comes next, and has room
 pub record IsNext (old : GridState) (row : ℕ) (ds : List Drawn) (i : ℕ) (d : Drawn) : Type 0 where

@@ -9,11 +9,11 @@ use Rattle.bx_view.specs.Cursor.{StandsOn, rows_by}
 use Rattle.bx_view.specs.Holding.{Keeps, ViewState}
 use Rattle.bx_view.specs.TextRows.{TextRow, first, row_at, row_of}
 use Rattle.bx_view.specs.Top.{nearest_top, shown_rows}
+use Rattle.bx_view.proofs.LeastMove.{falls-own}
 use Rattle.bx_view.proofs.Told.{rows-kept, side-some}
-use Rattle.bx_view.proofs.Walking.{row-within}
+use Rattle.bx_view.proofs.Walking.{row-within, rows-rise}
 use Rattle.bx_document.specs.Data.{Data}
 use Rattle.bx_document.specs.Drawing.{IsAmong, rows_columns}
-use Rattle.bx_document.proofs.ShownRows.{falls-own, rows-rise}
 
 module _ (class : ℕ → Class) (bracket : ℕ → Option (Side × ℕ)) (old v : ViewState) (text : List ℕ) (utf8 : IsUtf8 text)
     (keeps : Keeps class bracket old v) (at : RowAt) (top place t begin above : ℕ)
@@ -38,7 +38,7 @@ module _ (class : ℕ → Class) (bracket : ℕ → Option (Side × ℕ)) (old v
   own : row_of all begin ≡ k
   own =
       let now = rows_by class bracket v text in
-      let rise = rows-rise class bracket v.base v.w text (side-some v.w on.side) utf8 in
+      let rise = rows-rise class bracket v.base v.w (side-some v.w on.side) text utf8 in
       ap (λ rs. row_of rs begin) (sym same) ∙ ap (row_of now) begins ∙ falls-own now _ rise k within
 
   pub above-is : above ≡ row_of all place - row_of all begin
