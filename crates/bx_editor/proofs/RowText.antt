@@ -1,16 +1,16 @@
 -- Characters from SPACE to TILDE, put one after another into a row of a grid.
 use Rattle.std.proofs.Common.{◌≡◌, ℕ, zero, suc, ◌+◌, ◌-◌, ◌*◌, ◌<◌, ◌≤◌, true, false, List, [], ◌∷◌, length, take, get_or, ap, sym, subst, ◌∙◌, arith}
 use Rattle.std.specs.Prelude.{encode_utf8}
-use Rattle.std.proofs.lemmas.Bool.Decides.{nat_tests}
 use Rattle.std.proofs.lemmas.Str.{encode_ascii}
 use Rattle.std.proofs.lemmas.List.{map_more, length-map, length-take-le}
 use Rattle.bx_terms.specs.Characters.{is_ascii_printable, are_ascii_printable}
+use Rattle.bx_cells.proofs.Printable.{ascii_byte}
 use Rattle.bx_grid.specs.Columns.{Glyph, paste, plain_columns, run_columns, run_width}
-use Rattle.bx_grid.specs.Picture.{GridState, HasRoom, IsWithin}
+use Rattle.bx_grid.specs.Picture.{GridState, HasRoom}
 use Rattle.bx_grid.proofs.Laid.{plain_is_one, plain_run_width, plain_text}
 use Rattle.bx_grid.proofs.Reading.{and_left, and_right}
 use Rattle.bx_document.specs.Drawing.{with_row}
-use Rattle.bx_document.proofs.PutOn.{IsRoomy, put_next, room_next, within_next}
+use Rattle.bx_document.proofs.PutOn.{IsRoomy, put_next, room_next}
 
 pub printable_at : (text : List ℕ) (i : ℕ) → are_ascii_printable text ≡ true → i < length text → is_ascii_printable (get_or text i 0) ≡ true
 printable_at [] i h inside = absurd (omega arith)
@@ -23,12 +23,6 @@ IsWritten old row text i new = new ≡ with_row old row (plain_columns false (ta
 
 length-plain : (text : List ℕ) (i : ℕ) → i ≤ length text → length (plain_columns false (take i text)) ≡ i
 length-plain text i inside = length-map (take i text) (λ b. Glyph (b ∷ []) 1 0 false) ∙ length-take-le i text inside
-
-pub within : (old : GridState) (row : ℕ) (text : List ℕ) (i : ℕ) (new : GridState) → row < old.height → i < length text → length text ≤ old.width
-    → IsWritten old row text i new → IsWithin new.height new.width (row + 1) (i + 1)
-within old row text i new low inside fits e =
-    let len = length-plain text i (omega arith) in
-    within_next old row (plain_columns false (take i text)) new (i + 1) low e (omega (arith, len)) (omega (arith, len))
 
 pub room : (old : GridState) (row : ℕ) (text : List ℕ) (i count : ℕ) (new : GridState) → IsRoomy old row → i < length text → length text ≤ old.width
     → count ≡ 1 → IsWritten old row text i new → HasRoom new (row + 1) (i + 1) count
@@ -46,9 +40,6 @@ next old row text bytes i new later h inside fits spelled printed e step =
     put_next old row (plain_columns false (take i text)) (Glyph (b ∷ []) 1 0 false ∷ []) (run_columns false bytes) new later (i + 1) h e (omega (arith, len))
     (omega (arith, len)) (plain_is_one false bytes b spelled printed) step
     ∙ ap (with_row old row) (sym (map_more (λ c. Glyph (c ∷ []) 1 0 false) text i 0 inside))
-
-ascii_byte : (b : ℕ) → is_ascii_printable b ≡ true → b < 128
-ascii_byte b h = grind (arith, nat_tests)
 
 -- character number `i`, encoded
 pub spelled : (text items bytes : List ℕ) (i : ℕ) → items ≡ text → i < length items → are_ascii_printable text ≡ true

@@ -1,10 +1,9 @@
 -- A picture's grid: the rows of text that were drawn, and the status row behind them.
-use Rattle.std.proofs.Common.{◌≡◌, ℕ, ◌+◌, ◌-◌, ◌*◌, ◌<◌, ◌≤◌, true, false, nat_le, List, [], ◌++◌, length, take, drop, replicate, sym, ap}
-use Rattle.std.proofs.Common.{ap₂, ◌∙◌, arith, length-append, take_all}
+use Rattle.std.proofs.Common.{◌≡◌, ℕ, ◌+◌, ◌-◌, ◌*◌, ◌≤◌, true, false, nat_le, List, [], ◌++◌, length, take, drop, replicate, sym, ap}
+use Rattle.std.proofs.Common.{ap₂, ◌∙◌, arith, length-append}
 use Rattle.std.specs.Prelude.{if◌then◌else◌}
-use Rattle.std.proofs.Math.Nat.{mul-le-mul_right}
 use Rattle.std.proofs.lemmas.Bool.Decides.{nat_tests}
-use Rattle.std.proofs.lemmas.List.{append-nil, drop_at, length-replicate, take_at}
+use Rattle.std.proofs.lemmas.List.{drop_at, length-replicate, take_at}
 use Rattle.bx_grid.specs.Columns.{Col, blank, plain_columns}
 use Rattle.bx_grid.specs.Picture.{GridState, PictureState}
 use Rattle.bx_document.specs.Drawing.{IsBlankFrom, with_row}
@@ -58,18 +57,6 @@ module _ (d : Data) (e : Editor) (g : GridState) (height : g.height ≡ e.height
     (size : length g.columns ≡ g.height * g.width) where
   abbrev With : GridState → Type 0
   With new = new ≡ record g { columns = take (text_height e.height * e.width) g.columns ++ status_columns d e }
-
-  -- a window of one row has none
-  pub no-status : e.height < 2 → With g
-  no-status low =
-      let one : nat_le 2 e.height ≡ false = grind (arith, nat_tests) in
-      let few : g.height * g.width ≤ 1 * g.width = mul-le-mul_right g.width (omega (arith, low, height)) in
-      let all : take (1 * e.width) g.columns ≡ g.columns =
-      ap (λ w. take (1 * w) g.columns) (sym width) ∙ take_all (1 * g.width) g.columns (omega (arith, size, few)) in
-      let rows : text_height e.height ≡ 1 = ap (λ b. if b then e.height - 1 else 1) one in
-      let none : status_columns d e ≡ [] = ap (λ b. if b then text_columns e.width (status_text d e) else []) one in
-      ap (λ cs. record g { columns = cs })
-      (sym (ap₂ (λ n cs. take (n * e.width) g.columns ++ cs) rows none ∙ append-nil (take (1 * e.width) g.columns) ∙ all))
 
   pub some-status : (row : ℕ) (new : GridState) → 2 ≤ e.height → row ≡ e.height - 1
       → new ≡ with_row g row (plain_columns false (take e.width (status_text d e))) → With new

@@ -1,13 +1,11 @@
 -- The text of the status row: its characters, and the columns that it takes of a row.
 use Rattle.std.proofs.Common.{◌≡◌, ℕ, zero, suc, ◌+◌, ◌-◌, ◌*◌, ◌%◌, ◌^◌, ◌<◌, ◌≤◌, Bool, true, false, nat_le, ◌&&◌, List, [], ◌∷◌, ◌++◌, length, map, take}
-use Rattle.std.proofs.Common.{replicate, decimal, Option, Some, None, refl, sym, ap, ap₂, ◌∙◌, arith, IsCharBoundary}
+use Rattle.std.proofs.Common.{replicate, decimal, Option, Some, None, refl, sym, ap, ap₂, ◌∙◌, arith}
 use Rattle.std.specs.Prelude.{codes, if◌then◌else◌}
-use Rattle.std.specs.Str.{IsAscii}
 use Rattle.std.proofs.lemmas.Bool.Decides.{nat_tests}
 use Rattle.std.proofs.lemmas.Fmt.{decimal_by_steps}
 use Rattle.std.proofs.lemmas.List.{length-map, take-replicate}
 use Rattle.std.proofs.lemmas.List.Folds.{list_all-append}
-use Rattle.std.proofs.lemmas.Str.{IsCharBoundary-from_ascii}
 use Rattle.bx_terms.specs.Characters.{are_ascii_printable, is_ascii_printable}
 use Rattle.bx_explicit.specs.declared.base.Base.TheVariants.{Auto, Ltr, Rtl}
 use Rattle.bx_grid.specs.Columns.{Glyph, blank, plain_columns}
@@ -61,29 +59,12 @@ status-printable changed paragraph unit message h k =
     (printable-append (codes ":") behind refl
     (printable-append (decimal unit) (message_part message) (decimal-printable unit k) (part-printable message))))
 
--- ---- it is cut between characters
-
-below : (b : ℕ) → is_ascii_printable b ≡ true → b < 128
-below b h = grind (arith, nat_tests)
-
-pub ascii-text : (text : List ℕ) → are_ascii_printable text ≡ true → IsAscii text
-ascii-text [] h i = omega arith
-ascii-text (b ∷ bs) h zero = below b (and_left (is_ascii_printable b) (are_ascii_printable bs) h)
-ascii-text (b ∷ bs) h (suc i) = ascii-text bs (and_right (is_ascii_printable b) (are_ascii_printable bs) h) i
-
-pub cut-bounds : (text : List ℕ) (i : ℕ) → are_ascii_printable text ≡ true → i ≤ length text → IsCharBoundary text i
-cut-bounds text i h inside = IsCharBoundary-from_ascii text i (ascii-text text h) inside
-
+-- also where it is cut
 pub cut-printable : (text : List ℕ) (n : ℕ) → are_ascii_printable text ≡ true → are_ascii_printable (take n text) ≡ true
 cut-printable text zero h = refl
 cut-printable [] (suc n) h = refl
 cut-printable (b ∷ bs) (suc n) h = ap₂ (λ a c. a && c) (and_left (is_ascii_printable b) (are_ascii_printable bs) h)
     (cut-printable bs n (and_right (is_ascii_printable b) (are_ascii_printable bs) h))
-
-pub take-few : (text : List ℕ) (n : ℕ) → length (take n text) ≤ n
-take-few text zero = omega arith
-take-few [] (suc n) = omega arith
-take-few (b ∷ bs) (suc n) = omega (arith, take-few bs n)
 
 -- ---- its columns
 

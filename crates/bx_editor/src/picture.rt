@@ -47,6 +47,7 @@ impl<D: BidiData + Drop> Editor<D> {
               ++ status_columns (⟦<D as Answers>⟧.data self.now.tables) self.now.editor;
         }) }
     {
+        // tells the proof how many columns the grid has
         let _columns = grid.columns();
         if self.height < 2 {
             return Ok(());
@@ -82,6 +83,7 @@ impl<D: BidiData + Drop> Editor<D> {
         let _utf8 = self.document.len();
         let count = text_height(self.height);
         let shown = self.document.show(&mut grid, top, self.place, count)?;
+        // tells the proof how many columns the grid has
         let _columns = grid.columns();
         self.put_status(alloc, &mut grid, shown.position)?;
         let cursor = Cell {

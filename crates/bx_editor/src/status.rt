@@ -72,6 +72,7 @@ pub fn put_text(grid: &mut Grid, row: u16, text: &str) -> Result<(), GridError>
     ensures ok { OnOk result (grid.new ≡ with_row grid.old row (plain_columns false text.now)) }
     ensures memory { OnErr result (result ≡ Err GridError.OutOfMemory) }
 {
+    // tell the proof how wide a grid may be and how many columns the grid has
     let _width = grid.width();
     let _columns = grid.columns();
     for (i, byte) in text.as_bytes().iter().enumerate() {
