@@ -76,7 +76,7 @@ same_pending : (ended : Bool) (s : Session) (rest : List ℕ) → (if ended then
 same_pending true s rest = refl
 same_pending false s rest = refl
 
-same_pending_after : (d : Data) (saved : Bool) (s : Session) (key : Option Key) → (session_after_any d saved s key).pending ≡ s.pending
+pub same_pending_after : (d : Data) (saved : Bool) (s : Session) (key : Option Key) → (session_after_any d saved s key).pending ≡ s.pending
 same_pending_after d saved s None = refl
 same_pending_after d saved s (Some key) = refl
 

@@ -1,5 +1,5 @@
 -- What a journal keeps of the bytes that are handed to it.
-use Rattle.std.proofs.Common.{◌≡◌, ℕ, Bool, true, false, List, [], ◌++◌, Option, Result, Ok, Err, drop, take, refl, sym, ap, ◌∙◌, append_assoc}
+use Rattle.std.proofs.Common.{◌≡◌, ℕ, false, List, [], ◌++◌, Option, Result, Ok, Err, drop, take, refl, sym, ap, ◌∙◌, append_assoc}
 use Rattle.std.specs.Prelude.{OnOk, is_err}
 use Rattle.std.specs.Io.KnownBytes.{Appends}
 use Rattle.std.proofs.lemmas.List.{append-nil, take-append-drop}

@@ -12,7 +12,7 @@ use Rattle.bx_text.specs.Edits.{Edit}
 use Rattle.bx_editor.specs.Data.{Data}
 use Rattle.bx_editor.specs.Editor.{Editor, after_undo, after_redo, without_message}
 use Rattle.bx_editor.specs.Keys.{after_key, after_keys}
-use Rattle.bx_session.specs.Laws.{keys_from, after_replaying, ReplaysKeys}
+use Rattle.bx_session.specs.Laws.{keys_from, ReplaysKeys}
 use Rattle.bx_session.specs.Session.{Session, after_replay, after_replayed_key, is_replayed, with_painting_owed}
 
 -- ---- a key that is replayed does not end the editor

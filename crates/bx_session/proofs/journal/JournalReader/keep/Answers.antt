@@ -1,4 +1,3 @@
-use Rattle.std.proofs.Common.{false}
 use Rattle.bx_session.proofs.Kept.{kept_by}
 use Rattle.bx_session.proofs.journal.JournalReader.keep.Goals as goal
 
