@@ -46,13 +46,13 @@ abbrev HasFirst : List Paragraph → Type 0
 HasFirst ps = 0 < length ps
 
 module _ (class : ℕ → Class) where
-  cut_plain : (c : ℕ) (cs : List ℕ) → ends class c ≡ false → cut class (c ∷ cs) ≡ after_character c (cut class cs)
+  pub cut_plain : (c : ℕ) (cs : List ℕ) → ends class c ≡ false → cut class (c ∷ cs) ≡ after_character c (cut class cs)
   cut_plain c cs e = rw (e, cut) refl
 
-  cut_paired : (c : ℕ) (cs : List ℕ) → ends class c ≡ true → is_paired class c cs ≡ true → cut class (c ∷ cs) ≡ after_cr (cut class cs)
+  pub cut_paired : (c : ℕ) (cs : List ℕ) → ends class c ≡ true → is_paired class c cs ≡ true → cut class (c ∷ cs) ≡ after_cr (cut class cs)
   cut_paired c cs e p = rw (e, p, cut) refl
 
-  cut_ended : (c : ℕ) (cs : List ℕ) → ends class c ≡ true → is_paired class c cs ≡ false → cut class (c ∷ cs) ≡ bare (encode_utf8 c) ∷ cut class cs
+  pub cut_ended : (c : ℕ) (cs : List ℕ) → ends class c ≡ true → is_paired class c cs ≡ false → cut class (c ∷ cs) ≡ bare (encode_utf8 c) ∷ cut class cs
   cut_ended c cs e p = rw (e, p, cut) refl
 
   -- CR and LF that are one separator

@@ -5,10 +5,10 @@ pub mod Spliced
 mod Examples
 pub mod Cuts
 pub mod Bodies
-mod Seams
+pub mod Seams
 mod Counts
 mod Edits
-mod Changes
+pub mod Changes
 mod Rewritten
 pub mod LeadBytes
 pub mod Scans

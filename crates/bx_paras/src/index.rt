@@ -64,6 +64,7 @@ fn touched<D: BidiData>(
         × IsTouched (D.class_of tables.now) old change.now text.now.edited.text (flat front.now.blocks)
         (record { body = last; separator = 0 }) result.0 result.1 }
 {
+    // tells the proof that the text is UTF-8; the contract alone speaks of the tables
     let _utf8 = text.len();
     let _ = tables;
     let first = front.find(change.start.saturating_sub(1));
@@ -111,6 +112,7 @@ fn window_of<D: BidiData>(
     requires short { total (closed front.now.blocks last) ≤ largest_text }
     ensures { IsWindow (D.class_of tables.now) text.now.edited.text reached.0.start result }
 {
+    // the contract alone speaks of them
     let _ = front;
     let _ = tables;
     let _last = last;

@@ -19,4 +19,5 @@ mod window;
 
 pub use index::Index;
 pub use laws::{bodies_stand_at_spans, paragraphs_join_to_text};
+pub use scan::separates;
 pub use walk::ParagraphWalk;

@@ -14,7 +14,7 @@ use crate::window::Window;
 use bx_text::Text;
 use bx_ucd::{BidiData, Class};
 
-/// Whether a character is a paragraph separator.
+/// Whether a character separates paragraphs. No memory.
 pub fn separates<D: BidiData>(tables: &D, c: char) -> bool
     ensures { result ≡ is_separator (D.class_of tables.now c) }
 {
