@@ -5,7 +5,7 @@ ghost use Rattle.bx_terms.specs.Sizes.{is_side};
 ghost use Rattle.bx_ucd.specs.Reading.{refusal};
 
 use crate::fault::ProgramFault;
-use crate::line::start_of_line;
+use bx_command::start_of_line;
 use bx_explicit::Base;
 use bx_session::Session;
 use bx_ucd::Tables;

@@ -9,27 +9,21 @@ mod beginning;
 mod edit;
 mod exit;
 mod fault;
-mod files;
-mod journal;
-mod line;
 mod recover;
 mod replaying;
-mod words;
 
 use beginning::Beginning;
+use bx_command::{Files, JournalFile, Options, command_line, empty_journal};
 use bx_session::JournalReader;
 use bx_store::{FileStore, Store};
 use bx_words::{refuse, refuse_words, text_of};
 use edit::{Changes, edit};
 use exit::{finish, tell_lost_journal};
 use fault::ProgramFault;
-use files::Files;
-use journal::JournalFile;
 use recover::recover;
 use std::env;
 use std::io::{self, Read, Write};
 use std::process::ExitCode;
-use words::{Options, command_line};
 
 /// The program's name, in front of each line that it tells.
 const NAME: &str = "bidi_edit";
@@ -57,7 +51,7 @@ fn edit_file<'a, R: Read + Drop, W: Write, S: Store>(
         tell_lost_journal(rt);
     }
     match (changes?, options.journal) {
-        (Changes::Saved, Some(path)) => journal::empty(rt, path),
+        (Changes::Saved, Some(path)) => empty_journal(rt, path),
         (Changes::Saved, None) | (Changes::Dropped, _) => {}
     }
     Ok(())

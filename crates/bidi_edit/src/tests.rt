@@ -1,4 +1,4 @@
-//! What no clause says: the command line, the fault lines, the exit statuses, and whole runs.
+//! What no clause says: the fault lines, the exit statuses, and whole runs. Tests of the command line are in `text_tests`.
 
 mod editing;
 mod ending;
@@ -6,7 +6,6 @@ mod files;
 mod recovering;
 mod saving;
 mod sessions;
-mod words;
 
 use bx_ucd::sample::{BRACKETS, CLASSES, MIRRORING};
 use bx_words::UnicodeFiles;

@@ -1,7 +1,10 @@
-//! Tests of the public calls of the text, its pieces, paragraphs and stores, and of well-formed UTF-8, a module a crate: worked rows,
-//! and each call once with ample memory. They stand in a crate of their own since the tests of a crate prove all of it once more.
+//! Tests of the public calls of the text, its pieces, paragraphs and stores, of well-formed UTF-8, and of the editor's command line,
+//! a module a crate: worked rows, and each call once with ample memory. They stand in a crate of their own since the tests of a
+//! crate prove all of it once more.
 #![tactic(auto)]
 
+#[cfg(test)]
+mod command;
 #[cfg(test)]
 mod counting;
 #[cfg(test)]

@@ -1,14 +1,10 @@
 //! The lines and the exit statuses of faults.
 
-use crate::NAME;
 use crate::exit::finish;
 use crate::fault::ProgramFault;
-use crate::words::command_line;
 use bx_session::{OpenError, Refused, RunFault};
 use bx_store::StoreFault;
-use bx_words::{FileFault, refuse, refuse_words};
-use std::alloc::AllocError;
-use std::io::ErrorKind;
+use bx_words::FileFault;
 use std::process::ExitCode;
 use std::test::Fail;
 
@@ -56,17 +52,4 @@ fn faults_by_their_lines(rt: HostRuntime) -> Result<(), Fail> {
 fn statuses(rt: HostRuntime) {
     assert!(rt; finish(&rt, Ok(())) == ExitCode::from(0));
     assert!(rt; finish(&rt, Err(ProgramFault::Unsaved)) == ExitCode::from(1));
-    let no_memory = clap::Error::from(AllocError);
-    assert!(rt; refuse(&rt, NAME, &no_memory) == ExitCode::from(1));
-    assert!(rt; refuse_words(&rt, NAME, ErrorKind::OutOfMemory) == ExitCode::from(1));
-    assert!(rt; refuse_words(&rt, NAME, ErrorKind::InvalidData) == ExitCode::from(2));
-}
-
-#[test]
-fn words_that_are_refused_end_with_status_2(rt: HostRuntime) {
-    let none: [&str; 0] = [];
-    match command_line(rt.alloc(), &none) {
-        Ok(_) => assert!(rt; false),
-        Err(error) => assert!(rt; refuse(&rt, NAME, &error) == ExitCode::from(2)),
-    }
 }

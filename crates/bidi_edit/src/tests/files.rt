@@ -2,7 +2,7 @@
 
 use crate::fault::ProgramFault;
 use crate::program;
-use crate::words::Options;
+use bx_command::Options;
 use bx_explicit::Base;
 use bx_session::OpenError;
 use bx_words::{FileFault, text_of};

@@ -3,7 +3,6 @@
 use crate::beginning::Beginning;
 use crate::edit::{Changes, edit};
 use crate::fault::ProgramFault;
-use crate::line::start_of_line;
 use crate::recover::recover;
 use crate::replaying::{Held, Replayed};
 use crate::tests::small_files;
@@ -78,14 +77,6 @@ fn typing_goes_on_behind_what_is_replayed(rt: HostRuntime) -> Result<(), Fail> {
     assert!(rt; resumed(rt.alloc(), &mut store, b"x\x13\x11\x11")?);
     assert_eq!(rt; store.contents(), b"xyab".as_slice());
     Ok(())
-}
-
-#[test]
-fn lines_begin_behind_line_feeds(rt: HostRuntime) {
-    for (line, start) in [(1, 0), (2, 2), (3, 3), (4, 6), (5, 6), (9, 6)] {
-        assert_eq!(rt; start_of_line(b"a\n\nbc\nd", line), start);
-    }
-    assert_eq!(rt; start_of_line(b"", 2), 0);
 }
 
 /// A journal that has room for so many bytes, and takes two at once.

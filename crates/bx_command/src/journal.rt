@@ -41,7 +41,7 @@ fn open_at_end(rt: &HostRuntime, path: &str) -> io::Result<File> {
 }
 
 impl JournalFile {
-    /// The file of a path, if there is one. Where it cannot be opened the first write fails.
+    /// The file of a path; without a path what is written goes nowhere. Where it cannot be opened the first write fails.
     pub fn open(rt: HostRuntime, path: Option<&str>) -> JournalFile {
         let place = match path {
             None => Place::Nowhere,
@@ -94,7 +94,7 @@ impl Write for JournalFile {
     }
 }
 
-/// Leaves nothing in a journal that is not needed any more. Where that fails it only tells of keys that nobody needs.
-pub fn empty(rt: &HostRuntime, path: &str) {
+/// Leaves nothing in the journal of a path that is not needed any more. Where that fails it only tells of keys that nobody needs.
+pub fn empty_journal(rt: &HostRuntime, path: &str) {
     let _ = OpenOptions::new().write(true).truncate(true).open(rt, path);
 }

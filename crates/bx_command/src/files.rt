@@ -6,12 +6,15 @@ use bx_words::{FileFault, UnicodeFiles, bytes_of, text_of};
 /// The files that a session begins with.
 #[derive(Drop)]
 pub struct Files {
+    /// The bytes of DerivedBidiClass.txt.
     pub classes: Vec<u8>,
+    /// The bytes of BidiBrackets.txt.
     pub brackets: Vec<u8>,
+    /// The bytes of BidiMirroring.txt.
     pub mirroring: Vec<u8>,
-    /// The text that is opened; none where no file is there.
+    /// The bytes of the text that is opened; none where no file is there.
     pub text: Option<Vec<u8>>,
-    /// The keys that are replayed.
+    /// The bytes of the keys that are replayed; empty where no journal is named.
     pub keys: Vec<u8>,
 }
 

@@ -1,4 +1,4 @@
-//! The program's words.
+//! The words of the editor's command line.
 
 ghost use Rattle.std.specs.Prelude.{◌≡◌, true};
 ghost use Rattle.bx_terms.specs.Sizes.{is_side};
@@ -10,7 +10,7 @@ use clap::{Arg, ArgMatches, Command, value_parser};
 use std::alloc::{AllocError, Global};
 use std::convert::AsStr;
 
-/// What the program is asked to do.
+/// What the editor's program is asked to do.
 #[derive(Drop)]
 pub struct Options<'a> {
     /// The window's rows, from 1 to 500.
@@ -37,8 +37,8 @@ pub struct Options<'a> {
     pub line: Option<u64>,
     /// How the direction of each paragraph is chosen at first.
     pub direction: Base,
-    ghost has_rows: { is_side rows ≡ true },
-    ghost has_cols: { is_side cols ≡ true },
+    pub ghost has_rows: { is_side rows ≡ true },
+    pub ghost has_cols: { is_side cols ≡ true },
 }
 
 /// An option that names another file.

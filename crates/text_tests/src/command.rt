@@ -1,10 +1,16 @@
-//! What the words of the command line ask for, and which are refused.
+//! What the words of the editor's command line ask for, which are refused, and where a line begins.
 
-use crate::words::command_line;
+use bx_command::{command_line, start_of_line};
 use bx_explicit::Base;
+use bx_words::{refuse, refuse_words};
 use clap::error::ErrorKind;
-use std::alloc::Global;
+use std::alloc::{AllocError, Global};
+use std::io;
+use std::process::ExitCode;
 use std::test::Fail;
+
+/// The program's name.
+const NAME: &str = "bidi_edit";
 
 /// The three tables and FILE.
 const WORDS: [&str; 7] = ["--classes", "c", "--brackets", "b", "--mirroring", "m", "f"];
@@ -163,4 +169,29 @@ fn text_of_a_refusal(rt: HostRuntime) -> Result<(), Fail> {
         "error: invalid value '501' for '--rows <N>': 501 is not in 1..=500\n"
     );
     Ok(())
+}
+
+#[test]
+fn statuses(rt: HostRuntime) {
+    let no_memory = clap::Error::from(AllocError);
+    assert!(rt; refuse(&rt, NAME, &no_memory) == ExitCode::from(1));
+    assert!(rt; refuse_words(&rt, NAME, io::ErrorKind::OutOfMemory) == ExitCode::from(1));
+    assert!(rt; refuse_words(&rt, NAME, io::ErrorKind::InvalidData) == ExitCode::from(2));
+}
+
+#[test]
+fn words_that_are_refused_end_with_status_2(rt: HostRuntime) {
+    let none: [&str; 0] = [];
+    match command_line(rt.alloc(), &none) {
+        Ok(_) => assert!(rt; false),
+        Err(error) => assert!(rt; refuse(&rt, NAME, &error) == ExitCode::from(2)),
+    }
+}
+
+#[test]
+fn lines_begin_behind_line_feeds(rt: HostRuntime) {
+    for (line, start) in [(1, 0), (2, 2), (3, 3), (4, 6), (5, 6), (9, 6)] {
+        assert_eq!(rt; start_of_line(b"a\n\nbc\nd", line), start);
+    }
+    assert_eq!(rt; start_of_line(b"", 2), 0);
 }
