@@ -42,7 +42,7 @@ fn multiple(turn: usize) -> u64 {
 }
 
 /// The offset of a turn's multiple of the golden ratio, as a part of a text of so many bytes.
-fn turning(turn: usize, len: usize) -> usize {
+pub(crate) fn turning(turn: usize, len: usize) -> usize {
     (multiple(turn).wrapping_mul((len as u64).wrapping_add(1)) >> 32) as usize
 }
 

@@ -5,6 +5,8 @@
 //!     bench [--time] levels PATTERN CHARACTERS TIMES
 //!     bench [--time] painting TASK TEXT TIMES
 //!     bench [--time] units TASK TEXT BYTES TIMES
+//!     bench [--time] row PART TEXT BYTES TIMES
+//!     bench [--time] visual HIGHEST UNITS TIMES
 //!     bench [--time] rows TASK TEXT LETTERS TIMES
 //!     bench each
 //!
@@ -19,9 +21,11 @@ mod levels;
 mod outcome;
 mod painting;
 mod paragraphs;
+mod row;
 mod rows;
 mod texts;
 mod units;
+mod visual;
 
 use anyhow::{Result, bail};
 use outcome::Outcome;
@@ -37,18 +41,24 @@ fn measured<R: CpuClock + AllocGlobal>(rt: &R, words: &[String]) -> Result<Outco
         [layer, rest @ ..] if layer.as_str() == "levels" => levels::run(rt, rest),
         [layer, rest @ ..] if layer.as_str() == "painting" => painting::run(rt, rest),
         [layer, rest @ ..] if layer.as_str() == "units" => units::run(rt, rest),
+        [layer, rest @ ..] if layer.as_str() == "row" => row::run(rt, rest),
+        [layer, rest @ ..] if layer.as_str() == "visual" => visual::run(rt, rest),
         [layer, rest @ ..] if layer.as_str() == "rows" => rows::run(rt, rest),
-        _ => bail!("usage: bench [--time] text|paragraphs|levels|painting|units|rows WORDS"),
+        _ => bail!(
+            "usage: bench [--time] text|paragraphs|levels|painting|units|row|visual|rows WORDS"
+        ),
     }
 }
 
 /// One run of each layer.
-const EACH: [&str; 6] = [
+const EACH: [&str; 8] = [
     "text scattered 100000 2000",
     "paragraphs edit 10000 50 20",
     "levels mixed 80 1",
     "painting changes ascii 1",
     "units row_starts mixed 1000 1",
+    "row draw mixed 1000 1",
+    "visual 5 50 1",
     "rows page mixed 76 1",
 ];
 

@@ -85,6 +85,12 @@ fn text(alloc: Global, words: &str, least: usize, bytes: usize) -> Result<String
     Ok(text)
 }
 
+/// A text of a name in lines, of at least so many bytes.
+pub(crate) fn text_of(alloc: Global, name: &str, bytes: usize) -> Result<String> {
+    let (words, least) = words_of(name).context("no such text")?;
+    Ok(text(alloc, words, least, bytes)?)
+}
+
 /// What is done with each line.
 #[derive(Clone, Copy)]
 enum Task {
@@ -175,9 +181,8 @@ pub(crate) fn run<R: CpuClock + AllocGlobal>(rt: &R, words: &[String]) -> Result
         bail!("usage: bench units TASK TEXT BYTES TIMES");
     };
     let task = Task::named(task.as_str()).context("no such task")?;
-    let (words, least) = words_of(text_name.as_str()).context("no such text")?;
     let times = number(times)?;
-    let text = text(rt.alloc(), words, least, number(bytes)?)?;
+    let text = text_of(rt.alloc(), text_name.as_str(), number(bytes)?)?;
     let tables = sample_tables(rt.alloc())?;
     outcome_of(rt, task, text.as_str(), &tables, times)
 }

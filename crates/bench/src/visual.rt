@@ -1,0 +1,50 @@
+//! The visual order of a row of scattered levels: HIGHEST UNITS TIMES. The levels, from 0 to the highest, which is 255 at
+//! most, follow the multiples of the golden ratio.
+
+use crate::edits::turning;
+use crate::outcome::{Outcome, number};
+use anyhow::{Result, bail};
+use bx_rows::visual;
+use std::alloc::{AllocError, Global};
+use std::time::CpuClock;
+
+/// The number of the unit that stands leftmost, by the levels of a row's units.
+pub(crate) fn leftmost(alloc: Global, levels: &[u8]) -> Result<usize> {
+    let order = visual(alloc, levels)?;
+    Ok(order.first().copied().unwrap_or(0))
+}
+
+/// The levels of so many units.
+fn scattered_levels(alloc: Global, highest: usize, count: usize) -> Result<Vec<u8>, AllocError> {
+    let mut levels = Vec::with_capacity(alloc, count)?;
+    for unit in 0..count {
+        levels.push((turning(unit.wrapping_add(1), highest) % 256) as u8)?;
+    }
+    Ok(levels)
+}
+
+/// Finds the order some times: the sum of the numbers that stand leftmost.
+fn sum(alloc: Global, levels: &[u8], times: usize) -> Result<u64> {
+    let mut sum: u64 = 0;
+    for _ in 0..times {
+        sum = sum.wrapping_add(leftmost(alloc, levels)? as u64);
+    }
+    Ok(sum)
+}
+
+/// What the words ask for.
+pub(crate) fn run<R: CpuClock + AllocGlobal>(rt: &R, words: &[String]) -> Result<Outcome> {
+    let [highest, count, times] = words else {
+        bail!("usage: bench visual HIGHEST UNITS TIMES");
+    };
+    let times = number(times)?;
+    let levels = scattered_levels(rt.alloc(), number(highest)?, number(count)?)?;
+    let start = rt.thread_cpu_time()?;
+    let sum = sum(rt.alloc(), &levels, times)?;
+    let end = rt.thread_cpu_time()?;
+    let line = format!(in rt.alloc(); "{sum}")?;
+    Ok(Outcome {
+        line,
+        time: end.saturating_sub(start),
+    })
+}
