@@ -1,0 +1,119 @@
+#!/bin/sh
+# time-keys.sh [TEXT [BYTES]]: what a key costs in one paragraph of so many bytes, 1,000,000 unless named, of TEXT: hebrew, arabic,
+# ascii or mixed; all four where none is named. The built program takes its keys from a file, in a window of 24x80: those that lead
+# to a place, what the key erases or undoes, and then 200 of the key or none; five runs are made of each, in turn. A figure is the
+# least user and system time with the keys less the least without them, by 200, in milliseconds. Letters make words, and stand inside
+# a word of the text, but at its end; End and Home alternate. Then comes the most memory of the program, in MB, where so many letters
+# are typed at the paragraph's beginning. It stands beside the gate. The status is 1 where a run ends otherwise than by Quit, and 77
+# where the program is not built or there is no python3.
+set -eu
+
+top=$(cd "$(dirname "$0")/.." && pwd)
+editor=$top/crates/bidi_edit/out/bidi_edit
+if ! [ -x "$editor" ]; then
+    echo 'skipped: the program is not built (rt run in crates/bidi_edit builds it)'
+    exit 77
+fi
+if ! command -v python3 >/dev/null 2>&1; then
+    echo 'skipped: there is no python3'
+    exit 77
+fi
+folder=$(mktemp -d)
+trap 'rm -rf "$folder"' EXIT
+trap 'exit 1' HUP INT TERM
+cd "$folder"
+
+cat >keys.py <<'END'
+import argparse, math, os, re, subprocess, sys
+
+# What a paragraph repeats. Its first five characters are typed.
+TEXTS = {
+    "hebrew": "שלום לכל הקוראים (ובהם גם the readers), והנה עוד 12 ספרים [books] אשר נקראו היום בבוקר, ועוד 7 אתמול בערב, ",
+    "arabic": "كتاب آخر من الكتب (for the readers)، وهذا 12 من الكتب [books] التي قرأناها اليوم صباحا، و 7 أخرى أمس مساء، ",
+    "ascii": "When the old man, who had 12 books (and no more), went to the sea, he came back [as he always did] after 3 days, ",
+    "mixed": "שלום לכל the readers of this, והנה עוד 12 ספרים (books) אשר with a word נקראו היום, and then 7 others [not read], ",
+}
+COUNT, RUNS, LETTERS = 200, 5, (0, 1, 200, 1000)
+DOWN, PAGE, HOME, END, FORWARD = b"\x1b[B", b"\x1b[6~", b"\x1b[H", b"\x1b[F", b"\x06"
+ERASE, UNDO, REPAINT, QUIT = b"\x7f", b"\x1a", b"\x0c", b"\x11\x11"
+WHOLE = b"\x1b[0m\x1b[2J"  # what a whole painting begins with
+FILES = {"classes": "DerivedBidiClass", "brackets": "BidiBrackets", "mirroring": "BidiMirroring"}
+
+
+def seconds(keys):
+    """The processor time of a run with some keys."""
+    with open("keys", "wb") as file:
+        file.write(keys + QUIT)
+    actions = [(os.POSIX_SPAWN_OPEN, 0, "keys", os.O_RDONLY, 0), (os.POSIX_SPAWN_OPEN, 1, os.devnull, os.O_WRONLY, 0)]
+    _, status, used = os.wait4(os.posix_spawn(command[0], command, os.environ, file_actions=actions), 0)
+    if status:
+        sys.exit(f"FAILS a run ended with {os.waitstatus_to_exitcode(status)}")
+    return used.ru_utime + used.ru_stime
+
+
+def megabytes(keys):
+    """The most memory of a run once some keys are obeyed. What is told of one that has ended counts its parent's as well."""
+    with subprocess.Popen(command, stdin=subprocess.PIPE, stdout=subprocess.PIPE, bufsize=0) as run:
+        run.stdin.write(keys + REPAINT)
+        seen = b""
+        while seen.count(WHOLE) < 2:  # the first is the opening's
+            seen += run.stdout.read(65536) or sys.exit("FAILS a run ended before Quit")
+        with open(f"/proc/{run.pid}/status") as file:
+            peak = next(int(line.split()[1]) for line in file if line.startswith("VmHWM:"))
+        run.communicate(QUIT)
+    return peak * 1024 / 1e6
+
+
+def into_word(lead, period):
+    """Goes on behind the second letter of what is repeated: where a bracket is near, the whole paragraph is resolved at each letter."""
+    shown = subprocess.run(command, input=lead + REPAINT + QUIT, capture_output=True).stdout
+    letter = int(re.findall(rb"1:(\d+)", shown)[-1])  # as the last row tells it
+    return lead + FORWARD * ((3 - letter) % period)
+
+
+def leads(length, period):
+    """The keys that lead to each place of a paragraph of so many characters: rows have nearly 80, and a page has 23 rows."""
+    return [into_word(DOWN * 3, period), into_word(PAGE * (length // (2 * 23 * 77)), period), PAGE * (length // 1500 + 2) + END]
+
+
+def series(lead, word):
+    """Of each key those before it, and so many of it."""
+    letters = word.encode() * (COUNT // len(word))
+    return {
+        "a letter": (lead, letters),
+        "its erasure": (lead + letters, ERASE * COUNT),
+        "its undo": (lead + letters, UNDO * COUNT),
+        "the undo of its erasure": (lead + letters + ERASE * COUNT, UNDO * COUNT),
+        "End, Home": (lead, (END + HOME) * (COUNT // 2)),
+    }
+
+
+def print_times(name, places):
+    """The row of each key, with its figure at each place."""
+    least = {run: math.inf for place in places for before, keys in place.values() for run in (before, before + keys)}
+    for _ in range(RUNS):
+        for run in least:
+            least[run] = min(least[run], seconds(run))
+    for key in places[0]:
+        times = [least[before + keys] - least[before] for before, keys in (place[key] for place in places)]
+        print(f"| {key} | {name} | " + " | ".join(f"{1000 * time / COUNT:.2f}" for time in times) + " |", flush=True)
+
+
+parser = argparse.ArgumentParser(prog="time-keys.sh")
+parser.add_argument("text", nargs="?", choices=list(TEXTS))
+parser.add_argument("bytes", nargs="?", type=int, default=1_000_000)
+words = parser.parse_args(sys.argv[3:])
+command = [sys.argv[1], "--rows=24", "--cols=80", *(f"--{word}={sys.argv[2]}/{file}.txt" for word, file in FILES.items()), "text"]
+memory = []
+print("| Key, ms | Text | first rows | middle | end |\n|---|---|---|---|---|")
+for name in [words.text] if words.text else TEXTS:
+    text = TEXTS[name] * (words.bytes // len(TEXTS[name].encode()) + 1)
+    with open("text", "w", encoding="utf-8") as file:
+        file.write(text)
+    print_times(name, [series(lead, text[:5]) for lead in leads(len(text), len(TEXTS[name]))])
+    memory.append((name, [megabytes((text[:5] * count)[:count].encode()) for count in LETTERS]))
+print("\n| Most memory, MB, after letters: | " + " | ".join(map(str, LETTERS)) + " |\n|---|" + "---|" * len(LETTERS))
+for name, peaks in memory:
+    print(f"| {name} | " + " | ".join(f"{peak:.1f}" for peak in peaks) + " |")
+END
+python3 keys.py "$editor" "$top/data" "$@"
