@@ -102,8 +102,8 @@ def check(count):
     return ""
 
 
-# What is called at each edit that a layout follows and once more where strong characters cut it off, and what in the second case alone.
-FUNCTIONS = ["bx_paragraph::text_edit::join", "bx_resolve::edited::resolve_span"]
+# What is called once at each edit that a layout follows, and what where strong characters cut it off.
+FUNCTIONS = ["bx_paragraph::edited_rows::push_rest", "bx_resolve::edited::resolve_span"]
 
 
 def count_ways(count, kinds):
@@ -124,7 +124,7 @@ def count_ways(count, kinds):
         file.write("\n".join(commands) + "\n")
     run = subprocess.run(["gdb", "-nx", "-q", "-batch", "-x", "commands", editor], stdin=subprocess.DEVNULL, capture_output=True, text=True)
     hits = [int(n) for n in re.findall(r"breakpoint already hit (\d+) times?", run.stdout)]
-    return (hits[0] - hits[1], hits[1]) if len(hits) == 2 else (0, 0)
+    return (hits[0], hits[1]) if len(hits) == 2 else (0, 0)
 
 
 done = failed = 0
