@@ -1,4 +1,4 @@
--- The glyphs of a row's picture, put one after another into a row of a grid.
+-- The glyphs of a row's picture, put one after another into a row of blanks.
 use Rattle.std.proofs.Common.{◌≡◌, ℕ, ◌+◌, ◌-◌, ◌*◌, ◌<◌, ◌≤◌, Bool, true, false, not, ◌&&◌, ◌||◌, nat_le, List, [], ◌∷◌, ◌++◌, length, map, take}
 use Rattle.std.proofs.Common.{get_or, chars, refl, ap, sym, subst, ◌∙◌, length-append, sum_by, arith}
 use Rattle.std.specs.Prelude.{All, flat_map}
@@ -20,9 +20,8 @@ use Rattle.bx_grid.proofs.Reading.{and_left, and_right}
 use Rattle.bx_rows.specs.declared.drawn.Drawn.{Drawn}
 use Rattle.bx_rows.specs.RowPicture.{Glyph}
 use Rattle.bx_rows.specs.Shown.{glyph_of}
-use Rattle.bx_document.specs.Drawing.{with_row}
 use Rattle.bx_document.specs.Drawing.{side_by_side}
-use Rattle.bx_document.proofs.PutOn.{IsRoomy, put_next, room_next, within_next}
+use Rattle.bx_document.proofs.PutOn.{one_row, put_next, room_next, within_next}
 
 -- ---- one glyph
 
@@ -91,14 +90,13 @@ glyphs-more ds i d inside =
 -- ---- what the loop keeps
 
 -- the first `i` glyphs of a row's picture are put, and the next one begins in this column, from 1
-pub record IsPut (old : GridState) (row : ℕ) (ds : List Drawn) (i : ℕ) (new : GridState) (column : ℕ) : Type 0 where
+pub record IsPut (w : ℕ) (ds : List Drawn) (i : ℕ) (new : GridState) (column : ℕ) : Type 0 where
   pub at : column ≡ columns_in (take i ds) + 1
-  pub grid : new ≡ with_row old row (glyphs_columns (take i ds))
+  pub grid : new ≡ one_row w (glyphs_columns (take i ds))
 
 -- glyph number `i` comes next, and has room
-pub record IsNext (old : GridState) (row : ℕ) (ds : List Drawn) (i : ℕ) (d : Drawn) : Type 0 where
-  pub roomy : IsRoomy old row
-  pub fills : columns_in ds ≡ old.width
+pub record IsNext (w : ℕ) (ds : List Drawn) (i : ℕ) (d : Drawn) : Type 0 where
+  pub fills : columns_in ds ≡ w
   pub inside : i < length ds
   pub is : get_or ds i d ≡ d
   pub one : is_one_glyph (cow_str_bytes d.text) ≡ true
@@ -113,51 +111,48 @@ fit-columns ds i d inside is =
     let one : (get_or ds i d).columns ≡ d.columns = ap (λ (x : Drawn). x.columns) is in
     omega (arith, le, one)
 
-pub within : (old : GridState) (row : ℕ) (ds : List Drawn) (i : ℕ) (new : GridState) (column : ℕ) (d : Drawn) → row < old.height
-    → IsNext old row ds i d → IsPut old row ds i new column → IsWithin new.height new.width (row + 1) column
-within old row ds i new column d low n p =
-    let len = length-glyphs (take i ds) in
-    let fit = fit-columns ds i d n.inside n.is in
-    let some = glyph_some (cow_str_bytes d.text) n.one in
-    within_next old row (glyphs_columns (take i ds)) new column low p.grid (omega (arith, p.at, len)) (omega (arith, len, fit, some, n.width, n.fills))
+module _ (w : ℕ) (ds : List Drawn) (i : ℕ) (new : GridState) (column : ℕ) (d : Drawn) (n : IsNext w ds i d) (p : IsPut w ds i new column) where
+  abbrev done : List Col
+  done = glyphs_columns (take i ds)
 
-pub room : (old : GridState) (row : ℕ) (ds : List Drawn) (i : ℕ) (new : GridState) (column : ℕ) (d : Drawn)
-    → IsNext old row ds i d → IsPut old row ds i new column → HasRoom new (row + 1) column (run_width (cow_str_bytes d.text))
-room old row ds i new column d n p =
-    let len = length-glyphs (take i ds) in
-    let fit = fit-columns ds i d n.inside n.is in
-    room_next old row (glyphs_columns (take i ds)) new column (run_width (cow_str_bytes d.text)) n.roomy p.grid (omega (arith, p.at, len))
-    (omega (arith, len, fit, n.width, n.fills))
+  len : length done ≡ columns_in (take i ds)
+  len = length-glyphs (take i ds)
 
-pub next_put : (old : GridState) (row : ℕ) (ds : List Drawn) (i : ℕ) (new later : GridState) (column : ℕ) (d : Drawn)
-    → IsNext old row ds i d → IsPut old row ds i new column
-    → later ≡ record new { columns = paste new.columns ((row + 1 - 1) * new.width + (column - 1)) (run_columns d.negative (cow_str_bytes d.text)) }
-    → IsPut old row ds (i + 1) later (column + d.columns)
-next_put old row ds i new later column d n p e =
-    let done = glyphs_columns (take i ds) in
-    let text = cow_str_bytes d.text in
-    let one = glyph_columns text d.columns d.negative in
-    let len = length-glyphs (take i ds) in
-    let wide : length one ≡ d.columns = length-glyph text d.columns 0 d.columns d.negative in
-    let fit = fit-columns ds i d n.inside n.is in
-    let run : run_columns d.negative text ≡ one = glyph_run text d.negative n.one ∙ ap (λ k. glyph_columns text k d.negative) n.width in
-    let next : glyphs_columns (take (i + 1) ds) ≡ done ++ one =
-    glyphs-more ds i d n.inside ∙ ap (λ (x : Drawn). done ++ glyph_columns (cow_str_bytes x.text) x.columns x.negative) n.is in
-    record {
-      at = omega (arith, p.at, more-columns ds i d n.inside n.is);
-      grid = put_next old row done one (run_columns d.negative text) new later column n.roomy p.grid (omega (arith, p.at, len))
-          (omega (arith, len, wide, fit, n.fills)) run e
-          ∙ ap (with_row old row) (sym next);
-    }
+  fit : columns_in (take i ds) + d.columns ≤ w
+  fit = let le = fit-columns ds i d n.inside n.is in omega (arith, le, n.fills)
 
-pub is_next : (old : GridState) (row : ℕ) (ds items : List Drawn) (i : ℕ) (d : Drawn) → IsRoomy old row → columns_in ds ≡ old.width
+  at : column ≡ length done + 1
+  at = omega (arith, p.at, len)
+
+  pub within : IsWithin new.height new.width 1 column
+  within = let some = glyph_some (cow_str_bytes d.text) n.one in within_next w done new column p.grid at (omega (arith, len, fit, some, n.width))
+
+  pub room : HasRoom new 1 column (run_width (cow_str_bytes d.text))
+  room = room_next w done new column p.grid at (run_width (cow_str_bytes d.text)) (omega (arith, len, fit, n.width))
+
+  pub next_put : (later : GridState)
+      → later ≡ record new { columns = paste new.columns ((1 - 1) * new.width + (column - 1)) (run_columns d.negative (cow_str_bytes d.text)) }
+      → IsPut w ds (i + 1) later (column + d.columns)
+  next_put later step =
+      let text = cow_str_bytes d.text in
+      let one = glyph_columns text d.columns d.negative in
+      let wide : length one ≡ d.columns = length-glyph text d.columns 0 d.columns d.negative in
+      let run : run_columns d.negative text ≡ one = glyph_run text d.negative n.one ∙ ap (λ k. glyph_columns text k d.negative) n.width in
+      let next : glyphs_columns (take (i + 1) ds) ≡ done ++ one =
+      glyphs-more ds i d n.inside ∙ ap (λ (x : Drawn). done ++ glyph_columns (cow_str_bytes x.text) x.columns x.negative) n.is in
+      record {
+        at = omega (arith, p.at, more-columns ds i d n.inside n.is);
+        grid = put_next w done new column p.grid at one (run_columns d.negative text) later (omega (arith, len, wide, fit)) run step
+            ∙ ap (one_row w) (sym next);
+      }
+
+pub is_next : (w : ℕ) (ds items : List Drawn) (i : ℕ) (d : Drawn) → columns_in ds ≡ w
     → items ≡ ds → i < length items → d ≡ get_or items i d → All (λ x. is_one_glyph (cow_str_bytes x.text) ≡ true) ds
-    → All (λ x. run_width (cow_str_bytes x.text) ≡ x.columns) ds → IsNext old row ds i d
-is_next old row ds items i d roomy fills e inside is ones widths =
+    → All (λ x. run_width (cow_str_bytes x.text) ≡ x.columns) ds → IsNext w ds i d
+is_next w ds items i d fills e inside is ones widths =
     let inside : i < length ds = subst (λ (xs : List Drawn). i < length xs) e inside in
     let is : get_or ds i d ≡ d = subst (λ (xs : List Drawn). get_or xs i d ≡ d) e (sym is) in
     record {
-      roomy = roomy;
       fills = fills;
       inside = inside;
       is = is;

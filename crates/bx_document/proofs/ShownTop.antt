@@ -1,8 +1,7 @@
 -- A place among the rows that are shown, as a layout locates it.
-use Rattle.std.proofs.Common.{◌≡◌, ℕ, ◌+◌, ◌-◌, ◌*◌, ◌<◌, List, ◌++◌, length, take, drop, replicate, Option, IsUtf8, sym, ap, ◌∙◌, arith}
+use Rattle.std.proofs.Common.{◌≡◌, ℕ, ◌+◌, ◌-◌, ◌*◌, ◌<◌, List, ◌++◌, length, take, drop, Option, IsUtf8, sym, ap, ◌∙◌, arith}
 use Rattle.bx_ucd.specs.declared.class.Class.{Class}
 use Rattle.bx_ucd.specs.declared.data.Side.{Side}
-use Rattle.bx_grid.specs.Columns.{blank}
 use Rattle.bx_grid.specs.Picture.{GridState}
 use Rattle.bx_view.specs.declared.cursor.RowAt.{RowAt}
 use Rattle.bx_view.specs.Cursor.{StandsOn, rows_by}
@@ -49,14 +48,11 @@ module _ (class : ℕ → Class) (bracket : ℕ → Option (Side × ℕ)) (old v
 
   pub drawn-told : (d : Data) (was grid : GridState) (count : ℕ)
       → grid ≡ record was {
-        columns = rows_columns d v.w count (take count (drop k (rows_by class bracket v text)))
-            ++ replicate ((was.height - count) * was.width) blank;
+        columns = rows_columns d v.w count (take count (drop k (rows_by class bracket v text))) ++ drop (count * was.width) was.columns;
       }
-      → grid ≡ record was {
-        columns = rows_columns d old.w count (shown_rows all begin count) ++ replicate ((was.height - count) * was.width) blank;
-      }
+      → grid ≡ record was { columns = rows_columns d old.w count (shown_rows all begin count) ++ drop (count * was.width) was.columns }
   drawn-told d was grid count e =
-      let rest = replicate ((was.height - count) * was.width) blank in
+      let rest = drop (count * was.width) was.columns in
       e
       ∙ ap (λ w. record was { columns = rows_columns d w count (take count (drop k (rows_by class bracket v text))) ++ rest }) keeps.w
       ∙ ap (λ rs. record was { columns = rows_columns d old.w count (take count (drop k rs)) ++ rest }) same

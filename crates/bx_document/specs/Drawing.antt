@@ -1,6 +1,6 @@
--- Rows of a document that are put into a grid, one below another.
-use Rattle.std.specs.Prelude.{◌≡◌, ℕ, ◌+◌, ◌-◌, ◌*◌, ◌≤◌, ◌<◌, List, ◌++◌, flat_map, length, take, drop, replicate}
-use Rattle.bx_grid.specs.Columns.{Col, blank, glyph_columns}
+-- Rows of a document, and a grid that they are put into, one below another.
+use Rattle.std.specs.Prelude.{ℕ, ◌+◌, ◌-◌, ◌*◌, ◌≤◌, ◌<◌, List, ◌++◌, flat_map, length, replicate}
+use Rattle.bx_grid.specs.Columns.{Col, blank, glyph_columns, paste}
 use Rattle.bx_grid.specs.Picture.{GridState}
 use Rattle.bx_paragraph.specs.BodyRows.{BodyRow, row_glyphs}
 use Rattle.bx_rows.specs.RowPicture.{Glyph}
@@ -38,12 +38,6 @@ pub record IsAmong (rows : List TextRow) (top place count : ℕ) : Type 0 where
 abbrev pub rows_above : Data → Document → ℕ → ℕ → ℕ
 rows_above d t top place = row_of (rows d t) place - row_of (rows d t) top
 
--- from row number `row` on, counted from 0, all is blank
-abbrev pub IsBlankFrom : GridState → ℕ → Type 0
-IsBlankFrom g row = drop (row * g.width) g.columns ≡ replicate (length g.columns - row * g.width) blank
-
--- the grid with these columns instead of the first ones of row number `row`, and blanks behind them
-abbrev pub with_row : GridState → ℕ → List Col → GridState
-with_row g row columns = record g {
-  columns = take (row * g.width) g.columns ++ (columns ++ replicate (length g.columns - row * g.width - length columns) blank);
-}
+-- the grid with these columns in the place of those from row number `row` on, counted from 0
+abbrev pub with_rows : GridState → ℕ → List Col → GridState
+with_rows g row columns = record g { columns = paste g.columns (row * g.width) columns }

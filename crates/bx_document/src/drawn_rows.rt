@@ -1,47 +1,38 @@
 //! The rows of a text, drawn one below another.
-ghost use Rattle.std.specs.Prelude.{◌≡◌, ℕ, ◌+◌, ◌-◌, ◌<◌, ◌≤◌, ◌++◌, ◌*◌, IfOk, IsErrOf, OnErr, OnOk, if◌then◌else◌, length, nat_le, replicate, drop, take};
-ghost use Rattle.bx_grid.specs.Columns.{blank};
+ghost use Rattle.std.specs.Prelude.{◌≡◌, ℕ, ◌<◌, ◌≤◌, ◌++◌, ◌*◌, IfOk, OnOk, length, drop, take};
 ghost use Rattle.bx_view.specs.Source.{IsViewBy, Keeps, OfRow, Stands, StandsOn, rows};
-ghost use Rattle.bx_view.specs.TextRows.{row_of};
+ghost use Rattle.bx_document.specs.Data.{answers};
 ghost use Rattle.bx_document.specs.Cache.{AreDrawnBy};
-ghost use Rattle.bx_document.specs.Drawing.{IsBlankFrom, row_columns, rows_columns, with_row};
+ghost use Rattle.bx_document.specs.Drawing.{row_columns, rows_columns, with_rows};
 
-use crate::answers::Answers;
-use crate::drawing::put_row;
-use crate::error::DocumentError;
+use crate::drawing::drawn;
 use crate::row_cache::RowCache;
-use bx_grid::Grid;
+use bx_grid::{Grid, OwnedRow};
+use bx_terms::OutOfMemory;
 use bx_ucd::BidiData;
 use bx_view::{Layout, RowAt, Source};
+use std::alloc::Global;
 
-/// Draws a row of the text into row number `row` of a grid, from 0, which is blank from that row on.
+/// A row of the text, drawn anew.
 ///
 /// Errors: `OutOfMemory`.
 fn draw_anew<D: BidiData>(
+    alloc: Global,
     layout: &Layout,
     source: &Source<'_, D>,
     at: RowAt,
-    grid: &mut Grid,
-    row: u16,
-) -> Result<(), DocumentError>
+) -> Result<OwnedRow, OutOfMemory>
     requires data { IsViewBy source.now layout.now }
     requires row { Stands source.now layout.now at }
-    requires inside { row < grid.old.height }
-    requires width { grid.old.width ≡ layout.now.w }
-    requires blank { IsBlankFrom grid.old row }
-    ensures drawn { OfRow source.now layout.now at (λ r.
-        OnOk result (grid.new ≡ with_row grid.old row (row_columns (⟦<D as Answers>⟧.data source.now.tables.now) layout.now.w r))) }
-    ensures filled { OfRow source.now layout.now at (λ r.
-        OnOk result (length (row_columns (⟦<D as Answers>⟧.data source.now.tables.now) layout.now.w r) ≡ layout.now.w)) }
-    ensures memory { OnErr result (IsErrOf result DocumentError.OutOfMemory) }
+    ensures drawn { OfRow source.now layout.now at (λ r. IfOk result (λ row. row ≡ row_columns (answers source.now) layout.now.w r)) }
+    ensures filled { IfOk result (λ row. length row ≡ layout.now.w) }
 {
     let picture = layout.picture(source, at)?;
-    put_row(grid, row, &picture)?;
-    Ok(())
+    drawn(alloc, &picture, layout.width())
 }
 
-/// Draws a row of the text as `draw_anew` does, or puts the copy of it that is kept. What is drawn is kept, as row number
-/// `row` of a page of `count` rows.
+/// Puts a row of the text into row number `row` of a grid, from 0: the one that is kept, or else one that is drawn anew, and
+/// kept as row number `row` of a page of `count` rows.
 ///
 /// Errors: `OutOfMemory`.
 fn draw_row<D: BidiData>(
@@ -52,35 +43,32 @@ fn draw_row<D: BidiData>(
     row: u16,
     count: u16,
     cache: &mut RowCache,
-) -> Result<(), DocumentError>
+) -> Result<(), OutOfMemory>
     requires data { IsViewBy source.now layout.now }
     requires row { Stands source.now layout.now at }
     requires inside { row < grid.old.height }
     requires width { grid.old.width ≡ layout.now.w }
-    requires blank { IsBlankFrom grid.old row }
-    requires cache { AreDrawnBy (⟦<D as Answers>⟧.data source.now.tables.now) cache.old }
+    requires cache { AreDrawnBy (answers source.now) cache.old }
     ensures drawn { OfRow source.now layout.now at (λ r.
-        OnOk result (grid.new ≡ with_row grid.old row (row_columns (⟦<D as Answers>⟧.data source.now.tables.now) layout.now.w r))) }
+        OnOk result (grid.new ≡ with_rows grid.old row (row_columns (answers source.now) layout.now.w r))) }
     ensures filled { OfRow source.now layout.now at (λ r.
-        OnOk result (length (row_columns (⟦<D as Answers>⟧.data source.now.tables.now) layout.now.w r) ≡ layout.now.w)) }
-    ensures cache { AreDrawnBy (⟦<D as Answers>⟧.data source.now.tables.now) cache.new }
-    ensures memory { OnErr result (IsErrOf result DocumentError.OutOfMemory) }
+        OnOk result (length (row_columns (answers source.now) layout.now.w r) ≡ layout.now.w)) }
+    ensures cache { AreDrawnBy (answers source.now) cache.new }
 {
-    // tells the proof how many columns the grid has
-    let _columns = grid.columns();
     let (body, number) = layout.row_in_body(source, at);
     let base = layout.base();
     if let Some(i) = cache.find(row, body, base, number, layout.width()) {
-        grid.put_copy(row, cache.columns(i))?;
+        grid.put_row(row, cache.columns(i))?;
         cache.bring(i, row);
         return Ok(());
     }
-    draw_anew(layout, source, at, grid, row)?;
-    cache.keep(body, base, number, grid, row, count);
+    let new = draw_anew(cache.allocator(), layout, source, at)?;
+    grid.put_row(row, &new)?;
+    cache.keep(body, base, number, new, row, count);
     Ok(())
 }
 
-/// Draws so many rows of the text into the first rows of a blank grid, from one on.
+/// Puts `count` rows of the text into the first rows of a grid, from one on, and blank rows where the text ends.
 ///
 /// Errors: `OutOfMemory`.
 pub(crate) fn draw_rows<D: BidiData>(
@@ -90,23 +78,20 @@ pub(crate) fn draw_rows<D: BidiData>(
     grid: &mut Grid,
     count: u16,
     cache: &mut RowCache,
-) -> Result<(), DocumentError>
+) -> Result<(), OutOfMemory>
     requires data { IsViewBy source.now layout.old }
     requires row { Stands source.now layout.old at }
     requires some { 0 < count }
     requires inside { count ≤ grid.old.height }
     requires width { grid.old.width ≡ layout.old.w }
-    requires blank { IsBlankFrom grid.old 0 }
-    requires cache { AreDrawnBy (⟦<D as Answers>⟧.data source.now.tables.now) cache.old }
+    requires cache { AreDrawnBy (answers source.now) cache.old }
     ensures keeps { Keeps source.now layout.old layout.new }
     ensures drawn { (k : ℕ) → StandsOn source.now layout.old at k → OnOk result
         (grid.new ≡ record grid.old {
-          columns = rows_columns (⟦<D as Answers>⟧.data source.now.tables.now) layout.old.w count
-              (take count (drop k (rows source.now layout.old)))
-              ++ replicate ((grid.old.height - count) * grid.old.width) blank;
+          columns = rows_columns (answers source.now) layout.old.w count (take count (drop k (rows source.now layout.old)))
+              ++ drop (count * grid.old.width) grid.old.columns;
         }) }
-    ensures cache { AreDrawnBy (⟦<D as Answers>⟧.data source.now.tables.now) cache.new }
-    ensures memory { OnErr result (IsErrOf result DocumentError.OutOfMemory) }
+    ensures cache { AreDrawnBy (answers source.now) cache.new }
 {
     // tells the proof how many columns the grid has
     let _columns = grid.columns();
@@ -115,6 +100,7 @@ pub(crate) fn draw_rows<D: BidiData>(
     let mut row = 0;
     while row + 1 < count {
         let Some(next) = layout.next_row(source, here)? else {
+            grid.blank_rows(row + 1, count);
             return Ok(());
         };
         here = next;

@@ -8,10 +8,9 @@ ghost use Rattle.bx_document.specs.Document.{after_insertion, after_removal, pla
 
 use crate::answers::Answers;
 use crate::document::Document;
-use crate::error::DocumentError;
 use crate::window::place_in_window;
 use bx_paras::Index;
-use bx_terms::LARGEST_TEXT;
+use bx_terms::{LARGEST_TEXT, OutOfMemory};
 use bx_text::{Change, Text};
 use bx_ucd::BidiData;
 use bx_view::{HeldRange, Layout, Source};
@@ -68,13 +67,12 @@ impl<D: BidiData + Drop> Document<D> {
     /// The place behind an edit that puts characters instead of those from start to stop, which is not made yet.
     ///
     /// Errors: `OutOfMemory`.
-    fn place_behind(&mut self, start: usize, stop: usize, new: &str) -> Result<usize, DocumentError>
+    fn place_behind(&mut self, start: usize, stop: usize, new: &str) -> Result<usize, OutOfMemory>
         requires range { IsRange self.old.document.content.text start stop }
         requires fits { fits self.old.document.content.text start stop new.now ≡ true }
         ensures same { self.new ≡ self.old }
         ensures place { IfOk result (λ o. o ≡ place_behind (⟦<D as Answers>⟧.data self.old.tables) self.old.document start stop new.now) }
         ensures text_place { IfOk result (IsTextPlace (D.class_of self.old.tables) (splice self.old.document.content.text start stop new.now)) }
-        ensures memory { OnErr result (IsErrOf result DocumentError.OutOfMemory) }
     {
         // tell the proof that the text is UTF-8 and what sides a window may have
         let _utf8 = self.text.len();
@@ -95,7 +93,7 @@ impl<D: BidiData + Drop> Document<D> {
     /// nothing has changed.
     ///
     /// Errors: `OutOfMemory`, and nothing has changed.
-    pub fn insert(&mut self, place: usize, new: &str) -> Result<Option<usize>, DocumentError>
+    pub fn insert(&mut self, place: usize, new: &str) -> Result<Option<usize>, OutOfMemory>
         requires text_place { IsTextPlace (D.class_of self.old.tables) self.old.document.content.text place }
         ensures ok { IfOk result (λ after. MatchOption after
             ((fits self.old.document.content.text place place new.now ≡ false) × (self.new ≡ self.old))
@@ -106,7 +104,6 @@ impl<D: BidiData + Drop> Document<D> {
             × (o ≡ place_behind (⟦<D as Answers>⟧.data self.old.tables) self.old.document place place new.now))) }
         ensures text_place { IfOk result (λ after. IfSome after (IsTextPlace (D.class_of self.new.tables) self.new.document.content.text)) }
         ensures err { OnErr result (self.new ≡ self.old) }
-        ensures memory { OnErr result (IsErrOf result DocumentError.OutOfMemory) }
     {
         if new.len() > LARGEST_TEXT - self.text.len() {
             return Ok(None);
@@ -114,7 +111,7 @@ impl<D: BidiData + Drop> Document<D> {
         let after = self.place_behind(place, place, new)?;
         self.index.ready(new.len())?;
         let Ok(change) = self.text.insert(place, new, place, after) else {
-            return Err(DocumentError::OutOfMemory);
+            return Err(OutOfMemory);
         };
         follow(&mut self.index, &self.text, &self.tables, &change);
         Ok(Some(after))
@@ -123,12 +120,7 @@ impl<D: BidiData + Drop> Document<D> {
     /// Takes out what stands from one offset to another, where the cursor stands at `place`, and answers the new place.
     ///
     /// Errors: `OutOfMemory`, and nothing has changed.
-    pub fn remove(
-        &mut self,
-        start: usize,
-        stop: usize,
-        place: usize,
-    ) -> Result<usize, DocumentError>
+    pub fn remove(&mut self, start: usize, stop: usize, place: usize) -> Result<usize, OutOfMemory>
         requires range { IsRange self.old.document.content.text start stop }
         requires text_place { IsTextPlace (D.class_of self.old.tables) self.old.document.content.text place }
         ensures ok { OnOk result (self.new ≡ record self.old {
@@ -137,14 +129,13 @@ impl<D: BidiData + Drop> Document<D> {
         ensures place { IfOk result (λ o. o ≡ place_behind (⟦<D as Answers>⟧.data self.old.tables) self.old.document start stop []) }
         ensures text_place { IfOk result (IsTextPlace (D.class_of self.new.tables) self.new.document.content.text) }
         ensures err { OnErr result (self.new ≡ self.old) }
-        ensures memory { OnErr result (IsErrOf result DocumentError.OutOfMemory) }
     {
         // tells the proof that the text is short
         let _short = self.text.len();
         let after = self.place_behind(start, stop, "")?;
         self.index.ready(0)?;
         let Ok(change) = self.text.remove(start, stop, place, after) else {
-            return Err(DocumentError::OutOfMemory);
+            return Err(OutOfMemory);
         };
         follow(&mut self.index, &self.text, &self.tables, &change);
         Ok(after)
@@ -153,12 +144,11 @@ impl<D: BidiData + Drop> Document<D> {
     /// Takes back the latest edit, and answers the place before it; none where there is nothing to take back.
     ///
     /// Errors: `OutOfMemory`, and nothing has changed.
-    pub fn undo(&mut self) -> Result<Option<usize>, DocumentError>
+    pub fn undo(&mut self) -> Result<Option<usize>, OutOfMemory>
         ensures ok { OnOk result (self.new ≡ record self.old { document = record self.old.document { content = undone self.old.document.content } }) }
         ensures place { IfOk result (λ o. o ≡ option_map (λ c. c.place) (next_undo self.old.document.content)) }
         ensures text_place { IfOk result (λ place. IfSome place (IsTextPlace (D.class_of self.new.tables) self.new.document.content.text)) }
         ensures err { OnErr result (self.new ≡ self.old) }
-        ensures memory { OnErr result (IsErrOf result DocumentError.OutOfMemory) }
     {
         // tells the proof that the text is UTF-8
         let _utf8 = self.text.len();
@@ -173,7 +163,7 @@ impl<D: BidiData + Drop> Document<D> {
         let held = held_change(&mut self.layout, &source, &next);
         self.index.ready(next.added)?;
         let Ok(Some(change)) = self.text.undo() else {
-            return Err(DocumentError::OutOfMemory);
+            return Err(OutOfMemory);
         };
         follow(&mut self.index, &self.text, &self.tables, &change);
         follow_in_layout(&mut self.layout, held, &self.text, &self.tables, &change);
@@ -183,12 +173,11 @@ impl<D: BidiData + Drop> Document<D> {
     /// Makes the next edit again, and answers the place after it; none where there is nothing to make again.
     ///
     /// Errors: `OutOfMemory`, and nothing has changed.
-    pub fn redo(&mut self) -> Result<Option<usize>, DocumentError>
+    pub fn redo(&mut self) -> Result<Option<usize>, OutOfMemory>
         ensures ok { OnOk result (self.new ≡ record self.old { document = record self.old.document { content = redone self.old.document.content } }) }
         ensures place { IfOk result (λ o. o ≡ option_map (λ c. c.place) (next_redo self.old.document.content)) }
         ensures text_place { IfOk result (λ place. IfSome place (IsTextPlace (D.class_of self.new.tables) self.new.document.content.text)) }
         ensures err { OnErr result (self.new ≡ self.old) }
-        ensures memory { OnErr result (IsErrOf result DocumentError.OutOfMemory) }
     {
         // tells the proof that the text is UTF-8
         let _utf8 = self.text.len();
@@ -203,7 +192,7 @@ impl<D: BidiData + Drop> Document<D> {
         let held = held_change(&mut self.layout, &source, &next);
         self.index.ready(next.added)?;
         let Ok(Some(change)) = self.text.redo() else {
-            return Err(DocumentError::OutOfMemory);
+            return Err(OutOfMemory);
         };
         follow(&mut self.index, &self.text, &self.tables, &change);
         follow_in_layout(&mut self.layout, held, &self.text, &self.tables, &change);

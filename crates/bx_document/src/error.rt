@@ -1,10 +1,9 @@
-//! The refusals.
-use bx_grid::GridError;
+//! Why a text is not opened.
 use bx_terms::OutOfMemory;
 use std::alloc::AllocError;
 use thiserror::Error;
 
-/// Why a text could not be opened, or a call had no effect.
+/// Why a text could not be opened.
 #[derive(Clone, Copy, PartialEq, Eq, Debug, Error)]
 pub enum DocumentError {
     /// The text has more than 16,777,216 bytes.
@@ -33,17 +32,6 @@ impl From<OutOfMemory> for DocumentError {
     ghost from_gives = { λ e r. r ≡ OutOfMemory };
 
     fn from(_error: OutOfMemory) -> Self {
-        DocumentError::OutOfMemory
-    }
-}
-
-impl From<GridError> for DocumentError {
-    ghost use Rattle.std.specs.Prelude.{◌≡◌};
-    ghost use Rattle.bx_document.specs.declared.error.DocumentError.TheVariants.{OutOfMemory};
-
-    ghost from_gives = { λ e r. r ≡ OutOfMemory };
-
-    fn from(_error: GridError) -> Self {
         DocumentError::OutOfMemory
     }
 }

@@ -15,6 +15,5 @@ mod window;
 
 pub use answers::Answers;
 pub use document::Document;
-pub use drawing::put_row;
 pub use error::DocumentError;
 pub use shown::Shown;

@@ -1,10 +1,10 @@
-//! Rows that were drawn, kept so that they can be put into another grid.
+//! Rows that were drawn, kept so that they can be put into a grid again.
 ghost use Rattle.std.specs.Prelude.{◌≡◌, ◌<◌, ◌*◌, [], length, drop, take, All, HoldsAt, IfOk, IfSome, IsTrue};
 ghost use Rattle.bx_document.specs.Cache.{AreDrawnBy, DrawnRowState, HoldsRow, IsDrawnBy, IsRowOf};
 ghost use Rattle.bx_document.specs.Data.{Data};
 
 use bx_explicit::Base;
-use bx_grid::{Grid, GridError, RowCopy};
+use bx_grid::OwnedRow;
 use std::alloc::{AllocError, Global};
 use std::marker::Model;
 
@@ -18,7 +18,7 @@ struct DrawnRow {
     body: String,
     base: Base,
     number: usize,
-    columns: RowCopy,
+    columns: OwnedRow,
 }
 
 impl Model for DrawnRow {
@@ -47,33 +47,6 @@ impl Model for RowCache {
 }
 
 impl DrawnRow {
-    /// A copy of a row of a grid, with what it shows.
-    fn of(
-        alloc: Global,
-        body: &str,
-        base: Base,
-        number: usize,
-        grid: &Grid,
-        row: u16,
-    ) -> Result<DrawnRow, GridError>
-        requires { row < grid.now.height }
-        ensures { IfOk result (λ r. r ≡ record {
-          body = body.now;
-          base = base;
-          number = number;
-          columns = take grid.now.width (drop (row * grid.now.width) grid.now.columns);
-        }) }
-    {
-        let columns = grid.copy_row(row)?;
-        let body = String::from_str(alloc, body)?;
-        Ok(DrawnRow {
-            body,
-            base,
-            number,
-            columns,
-        })
-    }
-
     /// Whether it is the row of a number of a body, under a base direction and in a window of so many columns. No memory.
     fn is_of(&self, body: &str, base: Base, number: usize, width: u16) -> bool
         ensures { IsTrue result → IsRowOf body.now base number width self.now }
@@ -148,6 +121,11 @@ impl RowCache {
         }
     }
 
+    /// Where rows that are kept take their memory.
+    pub(crate) fn allocator(&self) -> Global {
+        *self.rows.allocator()
+    }
+
     /// The number, among those that are kept, of the row of a number of a body, under a base direction and in a window of
     /// so many columns; it is looked for from its number in the page on. No memory.
     pub(crate) fn find(
@@ -164,7 +142,7 @@ impl RowCache {
     }
 
     /// The columns of a row that is kept, by its number.
-    pub(crate) fn columns(&self, i: usize) -> &RowCopy
+    pub(crate) fn columns(&self, i: usize) -> &OwnedRow
         requires { i < length self.now }
         ensures { HoldsAt (λ r. result.now ≡ r.columns) self.now i }
     {
@@ -179,31 +157,32 @@ impl RowCache {
         bring(&mut self.rows, i, at as usize);
     }
 
-    /// Keeps a row of a grid, which shows the row of a number of a body, at its number in the page of `count` rows. One
-    /// that there is no memory for is not kept.
+    /// Keeps the columns of the row of a number of a body at its number in the page of `count` rows. One that there is no
+    /// memory for is not kept.
     pub(crate) fn keep(
         &mut self,
         body: &str,
         base: Base,
         number: usize,
-        grid: &Grid,
+        columns: OwnedRow,
         at: u16,
         count: u16,
     )
-        requires { at < grid.now.height }
-        ensures { (d : Data) → AreDrawnBy d self.old → IsDrawnBy d (record {
-          body = body.now;
-          base = base;
-          number = number;
-          columns = take grid.now.width (drop (at * grid.now.width) grid.now.columns);
-        }) → AreDrawnBy d self.new }
+        ensures { (d : Data) → AreDrawnBy d self.old
+            → IsDrawnBy d (record { body = body.now; base = base; number = number; columns = columns })
+            → AreDrawnBy d self.new }
     {
         if body.len() > LARGEST_BODY {
             return;
         }
-        let alloc = *self.rows.allocator();
-        let Ok(new) = DrawnRow::of(alloc, body, base, number, grid, at) else {
+        let Ok(body) = String::from_str(self.allocator(), body) else {
             return;
+        };
+        let new = DrawnRow {
+            body,
+            base,
+            number,
+            columns,
         };
         let _kept = put_in(&mut self.rows, at, count, new);
     }

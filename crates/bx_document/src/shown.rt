@@ -1,17 +1,16 @@
 //! The rows that are shown, and where the cursor stands among them.
-ghost use Rattle.std.specs.Prelude.{◌≡◌, ◌-◌, ◌<◌, ◌≤◌, ◌++◌, ◌*◌, IfOk, IsErrOf, OnErr, replicate};
-ghost use Rattle.bx_grid.specs.Columns.{blank};
+ghost use Rattle.std.specs.Prelude.{◌≡◌, ◌<◌, ◌≤◌, ◌++◌, ◌*◌, IfOk, drop};
 ghost use Rattle.bx_view.specs.Position.{IsPosition};
 ghost use Rattle.bx_view.specs.TextRows.{cell_of};
 ghost use Rattle.bx_view.specs.Top.{follow};
 ghost use Rattle.bx_document.specs.Document.{rows};
-ghost use Rattle.bx_document.specs.Drawing.{IsAmong, IsBlankFrom, rows_above, shown_columns};
+ghost use Rattle.bx_document.specs.Drawing.{IsAmong, rows_above, shown_columns};
 
 use crate::answers::Answers;
 use crate::document::Document;
 use crate::drawn_rows::draw_rows;
-use crate::error::DocumentError;
 use bx_grid::Grid;
+use bx_terms::OutOfMemory;
 use bx_ucd::BidiData;
 use bx_view::{Position, Source};
 
@@ -27,18 +26,17 @@ pub struct Shown {
 }
 
 impl<D: BidiData + Drop> Document<D> {
-    /// Draws `count` rows into the first rows of a blank grid, among which the row of a place is: from the row on that the offset
-    /// `top` falls in, moved by as few rows as that takes.
+    /// Puts `count` rows into the first rows of a grid, among which the row of a place is: from the row on that the offset
+    /// `top` falls in, moved by as few rows as that takes. Rows that stand there already stay.
     ///
-    /// Errors: `OutOfMemory`.
+    /// Errors: `OutOfMemory`, and some of the rows are put.
     pub fn show(
         &mut self,
         grid: &mut Grid,
         top: usize,
         place: usize,
         count: u16,
-    ) -> Result<Shown, DocumentError>
-        requires blank { IsBlankFrom grid.old 0 }
+    ) -> Result<Shown, OutOfMemory>
         requires width { grid.old.width ≡ self.old.document.w }
         requires inside { count ≤ grid.old.height }
         requires some { 0 < count }
@@ -47,14 +45,13 @@ impl<D: BidiData + Drop> Document<D> {
         ensures among { IfOk result (λ s. IsAmong (rows (⟦<D as Answers>⟧.data self.old.tables) self.old.document) s.top place count) }
         ensures drawn { IfOk result (λ s. grid.new ≡ record grid.old {
           columns = shown_columns (⟦<D as Answers>⟧.data self.old.tables) self.old.document s.top count
-              ++ replicate ((grid.old.height - count) * grid.old.width) blank;
+              ++ drop (count * grid.old.width) grid.old.columns;
         }) }
         ensures row { IfOk result (λ s. s.row ≡ rows_above (⟦<D as Answers>⟧.data self.old.tables) self.old.document s.top place) }
         ensures few { IfOk result (λ s. s.row < count) }
         ensures position { IfOk result (λ s. IsPosition (D.class_of self.old.tables) self.old.document.w self.old.document.content.text
             (rows (⟦<D as Answers>⟧.data self.old.tables) self.old.document) place s.position) }
         ensures inside { IfOk result (λ s. (1 ≤ s.position.column) × (s.position.column ≤ self.old.document.w)) }
-        ensures memory { OnErr result (IsErrOf result DocumentError.OutOfMemory) }
     {
         // tell the proof that the text is UTF-8 and what sides a window may have
         let _utf8 = self.text.len();
@@ -84,11 +81,10 @@ impl<D: BidiData + Drop> Document<D> {
     /// The column, from 1, of the cell of a place.
     ///
     /// Errors: `OutOfMemory`.
-    pub fn cell_of(&mut self, place: usize) -> Result<u16, DocumentError>
+    pub fn cell_of(&mut self, place: usize) -> Result<u16, OutOfMemory>
         ensures same { self.new ≡ self.old }
         ensures cell { IfOk result (λ column. column ≡ cell_of self.old.document.w (rows (⟦<D as Answers>⟧.data self.old.tables) self.old.document) place) }
         ensures inside { IfOk result (λ column. (1 ≤ column) × (column ≤ self.old.document.w)) }
-        ensures memory { OnErr result (IsErrOf result DocumentError.OutOfMemory) }
     {
         // tell the proof that the text is UTF-8 and what sides a window may have
         let _utf8 = self.text.len();

@@ -7,8 +7,8 @@ ghost use Rattle.bx_view.specs.Moves.{place_from};
 ghost use Rattle.bx_view.specs.Source.{bytes};
 ghost use Rattle.bx_document.specs.Window.{window, window_start, window_stop};
 
-use crate::error::DocumentError;
 use bx_paras::Index;
+use bx_terms::OutOfMemory;
 use bx_text::Text;
 use bx_ucd::BidiData;
 use bx_view::{Layout, Source};
@@ -87,15 +87,14 @@ fn place_in<D: BidiData>(
     tables: &D,
     layout: &mut Layout,
     offset: usize,
-) -> Result<usize, DocumentError>
+) -> Result<usize, OutOfMemory>
     requires data { IsViewBy (D.class_of tables.now) (D.bracket_of tables.now) layout.old }
     ensures keeps { Keeps (D.class_of tables.now) (D.bracket_of tables.now) layout.old layout.new }
     ensures place { IfOk result (λ o. o ≡ place_from
         (rows_by (D.class_of tables.now) (D.bracket_of tables.now) layout.old (string_bytes characters)) offset) }
-    ensures memory { OnErr result (IsErrOf result DocumentError.OutOfMemory) }
 {
     let Ok(text) = Text::open(alloc, characters) else {
-        return Err(DocumentError::OutOfMemory);
+        return Err(OutOfMemory);
     };
     let index = Index::build(alloc, &text, tables)?;
     let place = layout.place_from(&Source::of(&text, &index, tables), offset)?;
@@ -112,7 +111,7 @@ pub(crate) fn place_in_window<D: BidiData>(
     layout: &mut Layout,
     range: Range<usize>,
     new: &str,
-) -> Result<usize, DocumentError>
+) -> Result<usize, OutOfMemory>
     requires data { IsViewBy (D.class_of source.now.tables.now) (D.bracket_of source.now.tables.now) layout.old }
     requires range { IsRange (bytes source.now) range.start range.end }
     requires fits { fits (bytes source.now) range.start range.end new.now ≡ true }
@@ -120,7 +119,6 @@ pub(crate) fn place_in_window<D: BidiData>(
     ensures place { IfOk result (λ o. o ≡ place_from
         (rows_by (D.class_of source.now.tables.now) (D.bracket_of source.now.tables.now) layout.old
         (splice (bytes source.now) range.start range.end new.now)) (range.start + length new.now)) }
-    ensures memory { OnErr result (IsErrOf result DocumentError.OutOfMemory) }
 {
     // tells the proof what sides a window may have
     let _side = layout.width();

@@ -1,4 +1,4 @@
--- Characters from SPACE to TILDE, put one after another into a row of a grid.
+-- Characters from SPACE to TILDE, put one after another into a row of blanks.
 use Rattle.std.proofs.Common.{◌≡◌, ℕ, zero, suc, ◌+◌, ◌-◌, ◌*◌, ◌<◌, ◌≤◌, true, false, List, [], ◌∷◌, length, take, get_or, ap, sym, subst, ◌∙◌, arith}
 use Rattle.std.specs.Prelude.{encode_utf8}
 use Rattle.std.proofs.lemmas.Str.{encode_ascii}
@@ -9,8 +9,7 @@ use Rattle.bx_grid.specs.Columns.{Glyph, paste, plain_columns, run_columns, run_
 use Rattle.bx_grid.specs.Picture.{GridState, HasRoom}
 use Rattle.bx_grid.proofs.Laid.{plain_is_one, plain_run_width, plain_text}
 use Rattle.bx_grid.proofs.Reading.{and_left, and_right}
-use Rattle.bx_document.specs.Drawing.{with_row}
-use Rattle.bx_document.proofs.PutOn.{IsRoomy, put_next, room_next}
+use Rattle.bx_document.proofs.PutOn.{one_row, put_next, room_next}
 
 pub printable_at : (text : List ℕ) (i : ℕ) → are_ascii_printable text ≡ true → i < length text → is_ascii_printable (get_or text i 0) ≡ true
 printable_at [] i h inside = absurd (omega arith)
@@ -18,28 +17,28 @@ printable_at (b ∷ bs) zero h inside = and_left (is_ascii_printable b) (are_asc
 printable_at (b ∷ bs) (suc i) h inside = printable_at bs i (and_right (is_ascii_printable b) (are_ascii_printable bs) h) (omega arith)
 
 -- the first `i` characters are put
-abbrev pub IsWritten : GridState → ℕ → List ℕ → ℕ → GridState → Type 0
-IsWritten old row text i new = new ≡ with_row old row (plain_columns false (take i text))
+abbrev pub IsWritten : ℕ → List ℕ → ℕ → GridState → Type 0
+IsWritten w text i new = new ≡ one_row w (plain_columns false (take i text))
 
-length-plain : (text : List ℕ) (i : ℕ) → i ≤ length text → length (plain_columns false (take i text)) ≡ i
+pub length-plain : (text : List ℕ) (i : ℕ) → i ≤ length text → length (plain_columns false (take i text)) ≡ i
 length-plain text i inside = length-map (take i text) (λ b. Glyph (b ∷ []) 1 0 false) ∙ length-take-le i text inside
 
-pub room : (old : GridState) (row : ℕ) (text : List ℕ) (i count : ℕ) (new : GridState) → IsRoomy old row → i < length text → length text ≤ old.width
-    → count ≡ 1 → IsWritten old row text i new → HasRoom new (row + 1) (i + 1) count
-room old row text i count new h inside fits one e =
+pub room : (w : ℕ) (text : List ℕ) (i count : ℕ) (new : GridState) → i < length text → length text ≤ w → count ≡ 1 → IsWritten w text i new
+    → HasRoom new 1 (i + 1) count
+room w text i count new inside fits one e =
     let len = length-plain text i (omega arith) in
-    room_next old row (plain_columns false (take i text)) new (i + 1) count h e (omega (arith, len)) (omega (arith, len, one))
+    room_next w (plain_columns false (take i text)) new (i + 1) e (omega (arith, len)) count (omega (arith, len, one))
 
-pub next : (old : GridState) (row : ℕ) (text bytes : List ℕ) (i : ℕ) (new later : GridState) → IsRoomy old row → i < length text → length text ≤ old.width
-    → bytes ≡ get_or text i 0 ∷ [] → is_ascii_printable (get_or text i 0) ≡ true → IsWritten old row text i new
-    → later ≡ record new { columns = paste new.columns ((row + 1 - 1) * new.width + (i + 1 - 1)) (run_columns false bytes) }
-    → IsWritten old row text (i + 1) later
-next old row text bytes i new later h inside fits spelled printed e step =
+pub next : (w : ℕ) (text bytes : List ℕ) (i : ℕ) (new later : GridState) → i < length text → length text ≤ w
+    → bytes ≡ get_or text i 0 ∷ [] → is_ascii_printable (get_or text i 0) ≡ true → IsWritten w text i new
+    → later ≡ record new { columns = paste new.columns ((1 - 1) * new.width + (i + 1 - 1)) (run_columns false bytes) }
+    → IsWritten w text (i + 1) later
+next w text bytes i new later inside fits spelled printed e step =
     let b = get_or text i 0 in
     let len = length-plain text i (omega arith) in
-    put_next old row (plain_columns false (take i text)) (Glyph (b ∷ []) 1 0 false ∷ []) (run_columns false bytes) new later (i + 1) h e (omega (arith, len))
+    put_next w (plain_columns false (take i text)) new (i + 1) e (omega (arith, len)) (Glyph (b ∷ []) 1 0 false ∷ []) (run_columns false bytes) later
     (omega (arith, len)) (plain_is_one false bytes b spelled printed) step
-    ∙ ap (with_row old row) (sym (map_more (λ c. Glyph (c ∷ []) 1 0 false) text i 0 inside))
+    ∙ ap (one_row w) (sym (map_more (λ c. Glyph (c ∷ []) 1 0 false) text i 0 inside))
 
 -- character number `i`, encoded
 pub spelled : (text items bytes : List ℕ) (i : ℕ) → items ≡ text → i < length items → are_ascii_printable text ≡ true

@@ -1,55 +1,31 @@
--- A picture's grid: the rows of text that were drawn, and the status row behind them.
-use Rattle.std.proofs.Common.{◌≡◌, ℕ, ◌+◌, ◌-◌, ◌*◌, ◌≤◌, true, false, nat_le, List, [], ◌++◌, length, take, drop, replicate, sym, ap}
-use Rattle.std.proofs.Common.{ap₂, ◌∙◌, arith, length-append}
+-- A picture's grid: the rows of text that were put, and the status row behind them.
+use Rattle.std.proofs.Common.{◌≡◌, ℕ, ◌+◌, ◌-◌, ◌*◌, ◌≤◌, true, nat_le, List, [], ◌++◌, length, take, drop, replicate, sym, ap}
+use Rattle.std.proofs.Common.{ap₂, ◌∙◌, arith, length-append, length-drop}
 use Rattle.std.specs.Prelude.{if◌then◌else◌}
+use Rattle.std.proofs.Math.Nat.{mul-le-mul_right}
 use Rattle.std.proofs.lemmas.Bool.Decides.{nat_tests}
-use Rattle.std.proofs.lemmas.List.{drop_at, length-replicate, take_at}
-use Rattle.bx_grid.specs.Columns.{Col, blank, plain_columns}
+use Rattle.std.proofs.lemmas.List.{append-nil, drop_all, length-replicate, take_at}
+use Rattle.bx_grid.specs.Columns.{Col, blank, paste}
 use Rattle.bx_grid.specs.Picture.{GridState, PictureState}
-use Rattle.bx_document.specs.Drawing.{IsBlankFrom, with_row}
+use Rattle.bx_document.specs.Drawing.{with_rows}
 use Rattle.bx_editor.specs.Data.{Data}
 use Rattle.bx_editor.specs.Editor.{Editor, text_height}
 use Rattle.bx_editor.specs.Status.{status_columns, status_text, text_columns}
 use Rattle.bx_editor.proofs.StatusRow.{last-row}
 
--- ---- rows that are drawn in the first rows of a grid, and blanks behind them
+-- ---- rows that are put into the first rows of a grid
 
-module _ (g : GridState) (shown : List Col) (t : ℕ) (low : t ≤ g.height) (size : length g.columns ≡ g.height * g.width)
-    (is : g.columns ≡ shown ++ replicate ((g.height - t) * g.width) blank) where
-  abbrev left : ℕ
-  left = g.height - t
-
-  filled : length shown ≡ t * g.width
-  filled =
-      let high : g.height ≡ t + left = omega (arith, low) in
-      let sum : (t + left) * g.width ≡ t * g.width + left * g.width = omega arith in
-      let all : g.height * g.width ≡ t * g.width + left * g.width = ap (λ n. n * g.width) high ∙ sum in
-      omega (arith, size, all, ap length is, length-append shown (replicate (left * g.width) blank), length-replicate (left * g.width) blank)
-
-  pub rows-blank : IsBlankFrom g t
-  rows-blank =
-      let rest : left * g.width ≡ length g.columns - t * g.width =
-      omega (arith, filled, ap length is, length-append shown (replicate (left * g.width) blank), length-replicate (left * g.width) blank) in
-      ap (drop (t * g.width)) is ∙ drop_at shown (replicate (left * g.width) blank) (t * g.width) filled ∙ ap (λ k. replicate k blank) rest
-
-  pub rows-front : take (t * g.width) g.columns ≡ shown
-  rows-front = ap (take (t * g.width)) is ∙ take_at shown (replicate (left * g.width) blank) (t * g.width) filled
-
--- as rows are drawn into a grid
-module _ (old g : GridState) (shown : List Col) (t : ℕ) (low : t ≤ old.height) (size : length g.columns ≡ g.height * g.width)
-    (drawn : g ≡ record old { columns = shown ++ replicate ((old.height - t) * old.width) blank }) where
-  height-is : g.height ≡ old.height
-  height-is = ap (λ (x : GridState). x.height) drawn
-
-  columns-are : g.columns ≡ shown ++ replicate ((g.height - t) * g.width) blank
-  columns-are = ap (λ (x : GridState). x.columns) drawn
-      ∙ ap₂ (λ h w. shown ++ replicate ((h - t) * w) blank) (sym height-is) (sym (ap (λ (x : GridState). x.width) drawn))
-
-  pub drawn-blank : IsBlankFrom g t
-  drawn-blank = rows-blank g shown t (omega (arith, low, height-is)) size columns-are
-
-  pub drawn-front : take (t * g.width) g.columns ≡ shown
-  drawn-front = rows-front g shown t (omega (arith, low, height-is)) size columns-are
+pub drawn-front : (old g : GridState) (shown : List Col) (t : ℕ) → t ≤ old.height → length old.columns ≡ old.height * old.width
+    → length g.columns ≡ g.height * g.width → g ≡ record old { columns = shown ++ drop (t * old.width) old.columns } → take (t * g.width) g.columns ≡ shown
+drawn-front old g shown t low size later drawn =
+    let w = old.width in
+    let width : g.width ≡ w = ap (λ (x : GridState). x.width) drawn in
+    let columns : g.columns ≡ shown ++ drop (t * w) old.columns = ap (λ (x : GridState). x.columns) drawn in
+    let all : g.height * g.width ≡ old.height * w = ap (λ (x : GridState). x.height * x.width) drawn in
+    let le : t * w ≤ old.height * w = mul-le-mul_right w low in
+    let filled : length shown ≡ t * w =
+    omega (arith, later, all, size, le, ap length columns, length-append shown (drop (t * w) old.columns), length-drop (t * w) old.columns) in
+    ap₂ (λ k cs. take (t * k) cs) width columns ∙ take_at shown (drop (t * w) old.columns) (t * w) filled
 
 -- ---- the status row
 
@@ -58,17 +34,30 @@ module _ (d : Data) (e : Editor) (g : GridState) (height : g.height ≡ e.height
   abbrev With : GridState → Type 0
   With new = new ≡ record g { columns = take (text_height e.height * e.width) g.columns ++ status_columns d e }
 
-  pub some-status : (row : ℕ) (new : GridState) → 2 ≤ e.height → row ≡ e.height - 1
-      → new ≡ with_row g row (plain_columns false (take e.width (status_text d e))) → With new
-  some-status row new high at step =
+  pub some-status : (row : ℕ) (columns : List Col) (new : GridState) → 2 ≤ e.height → row ≡ e.height - 1 → length columns ≡ g.width
+      → columns ≡ text_columns e.width (status_text d e) → new ≡ with_rows g row columns → With new
+  some-status row columns new high at wide is step =
       let some : nat_le 2 e.height ≡ true = grind (arith, nat_tests) in
       let rows : text_height e.height ≡ row = ap (λ b. if b then e.height - 1 else 1) some ∙ sym at in
-      let own : status_columns d e ≡ text_columns e.width (status_text d e) =
-      ap (λ b. if b then text_columns e.width (status_text d e) else []) some in
-      step ∙ ap (λ w. with_row g row (plain_columns false (take w (status_text d e)))) (sym width)
-      ∙ last-row g row (status_text d e) size (omega (arith, height, at, high))
-      ∙ ap (λ w. record g { columns = take (row * w) g.columns ++ text_columns w (status_text d e) }) width
+      let own : status_columns d e ≡ columns =
+      ap (λ b. if b then text_columns e.width (status_text d e) else []) some ∙ sym is in
+      step ∙ last-row g row columns size (omega (arith, height, at, high)) wide
+      ∙ ap (λ w. record g { columns = take (row * w) g.columns ++ columns }) width
       ∙ sym (ap₂ (λ n cs. record g { columns = take (n * e.width) g.columns ++ cs }) rows own)
+
+-- ---- a page that was made blank
+
+pub all-blank : (g new : GridState) → length g.columns ≡ g.height * g.width → new ≡ with_rows g 0 (replicate ((g.height - 0) * g.width) blank)
+    → new ≡ record g { columns = replicate (g.height * g.width) blank }
+all-blank g new size step =
+    let n = g.height * g.width in
+    let none : 0 * g.width ≡ 0 = omega arith in
+    let high : (g.height - 0) * g.width ≡ n = let h : g.height - 0 ≡ g.height = omega arith in ap (λ k. k * g.width) h in
+    let past : length g.columns ≤ 0 + length (replicate n blank) = omega (arith, size, length-replicate n blank) in
+    step
+    ∙ ap₂ (λ k m. record g { columns = paste g.columns k (replicate m blank) }) none high
+    ∙ ap (λ cs. record g { columns = replicate n blank ++ cs }) (drop_all (0 + length (replicate n blank)) g.columns past)
+    ∙ ap (λ cs. record g { columns = cs }) (append-nil (replicate n blank))
 
 -- ---- the picture of a grid and a cursor
 

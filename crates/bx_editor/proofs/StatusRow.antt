@@ -1,17 +1,18 @@
 -- The text of the status row: its characters, and the columns that it takes of a row.
 use Rattle.std.proofs.Common.{◌≡◌, ℕ, zero, suc, ◌+◌, ◌-◌, ◌*◌, ◌%◌, ◌^◌, ◌<◌, ◌≤◌, Bool, true, false, nat_le, ◌&&◌, List, [], ◌∷◌, ◌++◌, length, map, take}
-use Rattle.std.proofs.Common.{replicate, decimal, Option, Some, None, refl, sym, ap, ap₂, ◌∙◌, arith}
+use Rattle.std.proofs.Common.{length-append, replicate, decimal, Option, Some, None, refl, sym, ap, ap₂, ◌∙◌, arith}
 use Rattle.std.specs.Prelude.{codes, if◌then◌else◌}
 use Rattle.std.proofs.lemmas.Bool.Decides.{nat_tests}
 use Rattle.std.proofs.lemmas.Fmt.{decimal_by_steps}
-use Rattle.std.proofs.lemmas.List.{length-map, take-replicate}
+use Rattle.std.proofs.lemmas.List.{append-nil, drop_all, length-map, length-replicate, length-take-le, take-replicate}
 use Rattle.std.proofs.lemmas.List.Folds.{list_all-append}
 use Rattle.bx_terms.specs.Characters.{are_ascii_printable, is_ascii_printable}
 use Rattle.bx_explicit.specs.declared.base.Base.TheVariants.{Auto, Ltr, Rtl}
-use Rattle.bx_grid.specs.Columns.{Glyph, blank, plain_columns}
+use Rattle.bx_grid.specs.Columns.{Col, Glyph, blank, plain_columns}
 use Rattle.bx_grid.specs.Picture.{GridState}
 use Rattle.bx_grid.proofs.Reading.{and_left, and_right}
-use Rattle.bx_document.specs.Drawing.{with_row}
+use Rattle.bx_document.specs.Drawing.{with_rows}
+use Rattle.bx_document.proofs.PutOn.{one_row}
 use Rattle.bx_editor.specs.declared.message.Message.{Message}
 use Rattle.bx_editor.specs.declared.message.Message.TheVariants.{Saved, SaveFailed, TextFull, NothingToUndo, NothingToRedo, Unsaved, Direction}
 use Rattle.bx_editor.specs.Status.{message_part, message_text, status_line, text_columns}
@@ -81,14 +82,23 @@ columns-by (suc w) n (b ∷ bs) h =
 pub columns-are : (w : ℕ) (text : List ℕ) → text_columns w text ≡ plain_columns false (take w text) ++ replicate (w - length (take w text)) blank
 columns-are w text = columns-by w w text (omega arith)
 
--- in the last row of a grid
-pub last-row : (g : GridState) (row : ℕ) (text : List ℕ) → length g.columns ≡ g.height * g.width → g.height ≡ row + 1
-    → with_row g row (plain_columns false (take g.width text)) ≡ record g { columns = take (row * g.width) g.columns ++ text_columns g.width text }
-last-row g row text size e =
-    let plain = plain_columns false (take g.width text) in
-    let wide : length plain ≡ length (take g.width text) = length-map (take g.width text) (λ b. Glyph (b ∷ []) 1 0 false) in
+pub length-text-columns : (w : ℕ) (text : List ℕ) → length (text_columns w text) ≡ w
+length-text-columns w text =
+    let cols = map (λ b. Glyph (b ∷ []) 1 0 false) text in
+    length-take-le w (cols ++ replicate w blank) (omega (arith, length-append cols (replicate w blank), length-replicate w blank))
+
+-- as they are put into a row of blanks
+pub row-written : (w : ℕ) (text : List ℕ) (g : GridState) → g ≡ one_row w (plain_columns false (take w text)) → g.columns ≡ text_columns w text
+row-written w text g e =
+    let wide = length-map (take w text) (λ b. Glyph (b ∷ []) 1 0 false) in
+    ap (λ (x : GridState). x.columns) e ∙ ap (λ n. plain_columns false (take w text) ++ replicate (w - n) blank) wide ∙ sym (columns-are w text)
+
+-- and in the last row of a grid
+pub last-row : (g : GridState) (row : ℕ) (columns : List Col) → length g.columns ≡ g.height * g.width → g.height ≡ row + 1 → length columns ≡ g.width
+    → with_rows g row columns ≡ record g { columns = take (row * g.width) g.columns ++ columns }
+last-row g row columns size e wide =
     let one : (row + 1) * g.width ≡ row * g.width + g.width = omega arith in
-    let all : length g.columns ≡ row * g.width + g.width = size ∙ ap (λ h. h * g.width) e ∙ one in
-    let left : length g.columns - row * g.width - length plain ≡ g.width - length (take g.width text) = omega (arith, all, wide) in
-    ap (λ k. record g { columns = take (row * g.width) g.columns ++ (plain ++ replicate k blank) }) left
-    ∙ ap (λ cs. record g { columns = take (row * g.width) g.columns ++ cs }) (sym (columns-are g.width text))
+    let all : length g.columns ≤ row * g.width + length columns = omega (arith, size, ap (λ h. h * g.width) e, one, wide) in
+    ap (λ cs. record g { columns = cs })
+    (ap (λ cs. (take (row * g.width) g.columns ++ columns) ++ cs) (drop_all (row * g.width + length columns) g.columns all)
+    ∙ append-nil (take (row * g.width) g.columns ++ columns))

@@ -5,15 +5,15 @@ ghost use Rattle.bx_view.specs.Moves.{step_logical};
 ghost use Rattle.bx_editor.specs.Editor.{after_insertion, after_redo, after_removal, after_undo, rows, without_message};
 
 use crate::editor::Editor;
-use crate::error::EditorError;
 use crate::message::Message;
 use bx_document::Answers;
+use bx_terms::OutOfMemory;
 use bx_ucd::BidiData;
 use bx_view::{Logical, Move};
 
 impl<D: BidiData + Drop> Editor<D> {
     /// Puts a character in at the place, unless the text has no room for it.
-    pub(crate) fn insert(&mut self, c: char) -> Result<(), EditorError>
+    pub(crate) fn insert(&mut self, c: char) -> Result<(), OutOfMemory>
         ensures ok { OnOk result (self.new ≡ record self.old {
           editor = after_insertion (⟦<D as Answers>⟧.data self.old.tables) (without_message self.old.editor) (encode_utf8 c);
         }) }
@@ -33,7 +33,7 @@ impl<D: BidiData + Drop> Editor<D> {
     }
 
     /// Takes out what stands from one offset to another, if anything stands there.
-    fn remove(&mut self, start: usize, stop: usize) -> Result<(), EditorError>
+    fn remove(&mut self, start: usize, stop: usize) -> Result<(), OutOfMemory>
         requires range { IsRange self.old.editor.content.text start stop }
         ensures ok { OnOk result (self.new ≡ record self.old {
           editor = after_removal (⟦<D as Answers>⟧.data self.old.tables) (without_message self.old.editor) start stop;
@@ -53,7 +53,7 @@ impl<D: BidiData + Drop> Editor<D> {
     }
 
     /// Takes out the unit before the place, if there is one.
-    pub(crate) fn erase(&mut self) -> Result<(), EditorError>
+    pub(crate) fn erase(&mut self) -> Result<(), OutOfMemory>
         ensures ok { OnOk result (self.new ≡ record self.old {
           editor = after_removal (⟦<D as Answers>⟧.data self.old.tables) (without_message self.old.editor)
               (step_logical (rows (⟦<D as Answers>⟧.data self.old.tables) self.old.editor) Logical.Back self.old.editor.place) self.old.editor.place;
@@ -69,7 +69,7 @@ impl<D: BidiData + Drop> Editor<D> {
     }
 
     /// Takes out the unit at the place, if there is one.
-    pub(crate) fn delete(&mut self) -> Result<(), EditorError>
+    pub(crate) fn delete(&mut self) -> Result<(), OutOfMemory>
         ensures ok { OnOk result (self.new ≡ record self.old {
           editor = after_removal (⟦<D as Answers>⟧.data self.old.tables) (without_message self.old.editor) self.old.editor.place
               (step_logical (rows (⟦<D as Answers>⟧.data self.old.tables) self.old.editor) Logical.Forward self.old.editor.place);
@@ -85,7 +85,7 @@ impl<D: BidiData + Drop> Editor<D> {
     }
 
     /// Takes back the latest edit, if there is one.
-    pub(crate) fn undo(&mut self) -> Result<(), EditorError>
+    pub(crate) fn undo(&mut self) -> Result<(), OutOfMemory>
         ensures ok { OnOk result (self.new ≡ record self.old { editor = after_undo (without_message self.old.editor) self.old.editor.content.past }) }
         ensures err { OnErr result (self.new ≡ self.old) }
     {
@@ -101,7 +101,7 @@ impl<D: BidiData + Drop> Editor<D> {
     }
 
     /// Makes the next edit again, if there is one.
-    pub(crate) fn redo(&mut self) -> Result<(), EditorError>
+    pub(crate) fn redo(&mut self) -> Result<(), OutOfMemory>
         ensures ok { OnOk result (self.new ≡ record self.old { editor = after_redo (without_message self.old.editor) self.old.editor.content.future }) }
         ensures err { OnErr result (self.new ≡ self.old) }
     {

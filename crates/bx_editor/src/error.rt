@@ -1,7 +1,4 @@
-//! The refusals.
-use bx_document::DocumentError;
-use bx_grid::GridError;
-use std::alloc::AllocError;
+//! Why a file is not opened.
 use thiserror::Error;
 
 /// Why a file was not opened.
@@ -19,30 +16,4 @@ pub enum OpenError {
     /// Memory ran out.
     #[error("out of memory")]
     OutOfMemory,
-}
-
-/// Why a key had no effect, or a picture could not be made.
-#[derive(Clone, Copy, PartialEq, Eq, Debug, Error)]
-pub enum EditorError {
-    /// Memory ran out.
-    #[error("out of memory")]
-    OutOfMemory,
-}
-
-impl From<DocumentError> for EditorError {
-    fn from(_error: DocumentError) -> Self {
-        EditorError::OutOfMemory
-    }
-}
-
-impl From<GridError> for EditorError {
-    fn from(_error: GridError) -> Self {
-        EditorError::OutOfMemory
-    }
-}
-
-impl From<AllocError> for EditorError {
-    fn from(_error: AllocError) -> Self {
-        EditorError::OutOfMemory
-    }
 }

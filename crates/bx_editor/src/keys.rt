@@ -4,11 +4,11 @@ ghost use Rattle.bx_editor.specs.Editor.{after_quit, next_base, with_base, witho
 ghost use Rattle.bx_editor.specs.Keys.{after_key, is_edit_or_move, is_save, is_size_key};
 
 use crate::editor::Editor;
-use crate::error::EditorError;
 use crate::message::Message;
 use bx_document::Answers;
 use bx_explicit::Base;
 use bx_keys::Key;
+use bx_terms::OutOfMemory;
 use bx_ucd::BidiData;
 use bx_view::{Logical, Move, Vertical, Visual};
 
@@ -77,7 +77,7 @@ impl<D: BidiData + Drop> Editor<D> {
     /// Applies a key that neither saves nor tells a size.
     ///
     /// Errors: `OutOfMemory`, for a key that edits, undoes, redoes or moves alone: nothing has changed.
-    pub fn apply(&mut self, key: Key) -> Result<(), EditorError>
+    pub fn apply(&mut self, key: Key) -> Result<(), OutOfMemory>
         requires no_save { is_save key ≡ false }
         requires no_size { is_size_key key ≡ false }
         ensures ok { OnOk result (self.new.editor ≡ after_key (⟦<D as Answers>⟧.data self.old.tables) false self.old.editor key) }

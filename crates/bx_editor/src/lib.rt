@@ -13,7 +13,6 @@ mod picture;
 mod status;
 
 pub use editor::Editor;
-pub use error::{EditorError, OpenError};
+pub use error::OpenError;
 pub use laws::top_stays;
 pub use message::Message;
-pub use status::{put_text, status_line};

@@ -5,9 +5,9 @@ ghost use Rattle.bx_view.specs.Places.{IsTextPlace};
 ghost use Rattle.bx_editor.specs.Editor.{rows, text_height, with_place, without_message};
 
 use crate::editor::Editor;
-use crate::error::EditorError;
 use crate::picture::text_height;
 use bx_document::Answers;
+use bx_terms::OutOfMemory;
 use bx_ucd::BidiData;
 use bx_view::Move;
 
@@ -25,7 +25,7 @@ impl<D: BidiData + Drop> Editor<D> {
     /// to the end. The old message goes, as it does with a key that moves.
     ///
     /// Errors: `OutOfMemory`, and nothing has changed.
-    pub fn go_to(&mut self, offset: usize) -> Result<(), EditorError>
+    pub fn go_to(&mut self, offset: usize) -> Result<(), OutOfMemory>
         ensures ok { OnOk result (self.new ≡ record self.old {
           editor = with_place (without_message self.old.editor)
               (place_from (rows (⟦<D as Answers>⟧.data self.old.tables) self.old.editor) offset);
@@ -45,7 +45,7 @@ impl<D: BidiData + Drop> Editor<D> {
     }
 
     /// The cursor goes where a move leads.
-    pub(crate) fn moved(&mut self, m: Move) -> Result<(), EditorError>
+    pub(crate) fn moved(&mut self, m: Move) -> Result<(), OutOfMemory>
         ensures ok { OnOk result (self.new ≡ record self.old {
           editor = with_place (without_message self.old.editor)
               (moved self.old.editor.width (rows (⟦<D as Answers>⟧.data self.old.tables) self.old.editor) m self.old.editor.place);

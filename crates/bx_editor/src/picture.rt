@@ -2,16 +2,15 @@
 ghost use Rattle.std.specs.Prelude.{◌≡◌, ◌*◌, ◌≤◌, ◌++◌, false, true, IfOk, OnOk, take};
 ghost use Rattle.bx_terms.specs.Sizes.{is_side};
 ghost use Rattle.bx_view.specs.Position.{IsPosition};
-ghost use Rattle.bx_document.specs.Drawing.{IsBlankFrom};
 ghost use Rattle.bx_editor.specs.Editor.{rows, text_height};
 ghost use Rattle.bx_editor.specs.Picture.{StandsOnItsCell, next_top, picture};
 ghost use Rattle.bx_editor.specs.Status.{status_columns};
 
 use crate::editor::Editor;
-use crate::error::EditorError;
-use crate::status::{cut, put_text, status_line};
+use crate::status::{status_line, status_row};
 use bx_document::Answers;
 use bx_grid::{Cell, Grid, Picture};
+use bx_terms::OutOfMemory;
 use bx_ucd::BidiData;
 use bx_view::Position;
 use std::alloc::Global;
@@ -27,28 +26,26 @@ pub(crate) fn text_height(height: u16) -> u16
 }
 
 impl<D: BidiData + Drop> Editor<D> {
-    /// Puts the status row into a grid that is blank behind the rows of text, where the window has a row for it, by where the
-    /// cursor stands.
+    /// Puts the status row behind the rows of text, where the window has a row for it, by where the cursor stands.
     ///
     /// Errors: `OutOfMemory`.
     fn put_status(
         &self,
         alloc: Global,
-        grid: &mut Grid,
+        page: &mut Grid,
         position: Position,
-    ) -> Result<(), EditorError>
-        requires height { grid.old.height ≡ self.now.editor.height }
-        requires width { grid.old.width ≡ self.now.editor.width }
-        requires blank { IsBlankFrom grid.old (text_height self.now.editor.height) }
+    ) -> Result<(), OutOfMemory>
+        requires height { page.old.height ≡ self.now.editor.height }
+        requires width { page.old.width ≡ self.now.editor.width }
         requires position { IsPosition (D.class_of self.now.tables) self.now.editor.width self.now.editor.content.text
             (rows (⟦<D as Answers>⟧.data self.now.tables) self.now.editor) self.now.editor.place position }
-        ensures status { OnOk result (grid.new ≡ record grid.old {
-          columns = take (text_height self.now.editor.height * self.now.editor.width) grid.old.columns
+        ensures status { OnOk result (page.new ≡ record page.old {
+          columns = take (text_height self.now.editor.height * self.now.editor.width) page.old.columns
               ++ status_columns (⟦<D as Answers>⟧.data self.now.tables) self.now.editor;
         }) }
     {
-        // tells the proof how many columns the grid has
-        let _columns = grid.columns();
+        // tells the proof how many columns the page has
+        let _columns = page.columns();
         if self.height < 2 {
             return Ok(());
         }
@@ -58,38 +55,48 @@ impl<D: BidiData + Drop> Editor<D> {
             ..
         } = position;
         let line = status_line(alloc, self.changed, paragraph, unit, self.message)?;
-        let width = usize::from(self.document.width());
-        put_text(grid, self.height - 1, cut(line.as_str(), width))?;
+        let row = status_row(alloc, line.as_str(), self.document.width())?;
+        page.put_row(self.height - 1, &row)?;
         Ok(())
     }
 
     /// What is shown of the editor where the rows were shown from the offset `top` on: the offset from which on they are
-    /// shown now, and the picture.
+    /// shown now, and the picture. It is made on a page of the window's size, where rows that stand there already stay.
     ///
     /// Errors: `OutOfMemory`.
-    pub fn picture(&mut self, alloc: Global, top: usize) -> Result<(usize, Picture), EditorError>
+    pub fn picture(
+        &mut self,
+        alloc: Global,
+        page: Grid,
+        top: usize,
+    ) -> Result<(usize, Picture), OutOfMemory>
+        requires height { page.height ≡ self.old.editor.height }
+        requires width { page.width ≡ self.old.editor.width }
         ensures same { self.new ≡ self.old }
         ensures top { IfOk result (λ shown. shown.0 ≡ next_top (⟦<D as Answers>⟧.data self.old.tables) self.old.editor top) }
         ensures picture { IfOk result (λ shown. shown.1 ≡ picture (⟦<D as Answers>⟧.data self.old.tables) self.old.editor shown.0) }
         ensures cursor { self.old.editor.ended ≡ false
             → IfOk result (λ shown. StandsOnItsCell (⟦<D as Answers>⟧.data self.old.tables) self.old.editor shown.0 shown.1) }
     {
-        let mut grid = Grid::blank(alloc, self.height, self.document.width())?;
+        let mut page = page;
+        // tells the proof how many columns the page has
+        let _columns = page.columns();
         if self.ended {
+            page.blank_rows(0, self.height);
             let cursor = Cell { line: 1, column: 1 };
-            return Ok((top, Picture::new(grid, cursor)));
+            return Ok((top, Picture::new(page, cursor)));
         }
         // tells the proof that the text is UTF-8
         let _utf8 = self.document.len();
         let count = text_height(self.height);
-        let shown = self.document.show(&mut grid, top, self.place, count)?;
-        // tells the proof how many columns the grid has
-        let _columns = grid.columns();
-        self.put_status(alloc, &mut grid, shown.position)?;
+        let shown = self.document.show(&mut page, top, self.place, count)?;
+        // still as many
+        let _columns = page.columns();
+        self.put_status(alloc, &mut page, shown.position)?;
         let cursor = Cell {
             line: shown.row + 1,
             column: shown.position.column,
         };
-        Ok((shown.top, Picture::new(grid, cursor)))
+        Ok((shown.top, Picture::new(page, cursor)))
     }
 }

@@ -1,12 +1,12 @@
 //! The status row.
-ghost use Rattle.std.specs.Prelude.{◌≡◌, ◌<◌, ◌≤◌, false, true, IfOk, OnErr, OnOk, length, string_bytes, take};
+ghost use Rattle.std.specs.Prelude.{◌≡◌, ◌≤◌, false, true, IfOk, length, string_bytes, take};
 ghost use Rattle.bx_terms.specs.Characters.{are_ascii_printable};
-ghost use Rattle.bx_grid.specs.Columns.{plain_columns};
-ghost use Rattle.bx_document.specs.Drawing.{IsBlankFrom, with_row};
-ghost use Rattle.bx_editor.specs.Status.{status_line};
+ghost use Rattle.bx_terms.specs.Sizes.{is_side};
+ghost use Rattle.bx_editor.specs.Status.{status_line, text_columns};
 
 use crate::message::Message;
-use bx_grid::{Cell, Grid, GridError};
+use bx_grid::{Cell, Grid, OwnedRow};
+use bx_terms::OutOfMemory;
 use itoa::Buffer;
 use std::alloc::{AllocError, Global};
 
@@ -37,7 +37,7 @@ fn write_line(
 /// both from 1, and a message.
 ///
 /// Errors: want of memory.
-pub fn status_line(
+pub(crate) fn status_line(
     alloc: Global,
     changed: bool,
     paragraph: usize,
@@ -52,7 +52,7 @@ pub fn status_line(
 }
 
 /// The first characters of a text of characters from SPACE to TILDE, at most so many.
-pub fn cut(text: &str, width: usize) -> &str
+fn cut(text: &str, width: usize) -> &str
     requires printable { are_ascii_printable text.now ≡ true }
     ensures cut { result.now ≡ take width text.now }
     ensures printable { are_ascii_printable result.now ≡ true }
@@ -61,27 +61,25 @@ pub fn cut(text: &str, width: usize) -> &str
     &text[..text.len().min(width)]
 }
 
-/// Puts characters from SPACE to TILDE into row number `row` of a grid, from 0, which is blank from that row on.
+/// A row of `width` columns that begins with a text of characters from SPACE to TILDE, which is cut where it is longer.
 ///
 /// Errors: `OutOfMemory`.
-pub fn put_text(grid: &mut Grid, row: u16, text: &str) -> Result<(), GridError>
-    requires inside { row < grid.old.height }
+pub(crate) fn status_row(alloc: Global, text: &str, width: u16) -> Result<OwnedRow, OutOfMemory>
+    requires side { is_side width ≡ true }
     requires printable { are_ascii_printable text.now ≡ true }
-    requires fits { length text.now ≤ grid.old.width }
-    requires blank { IsBlankFrom grid.old row }
-    ensures ok { OnOk result (grid.new ≡ with_row grid.old row (plain_columns false text.now)) }
-    ensures memory { OnErr result (result ≡ Err GridError.OutOfMemory) }
+    ensures { IfOk result (λ row. row ≡ text_columns width text.now) }
 {
-    // tell the proof how wide a grid may be and how many columns the grid has
-    let _width = grid.width();
-    let _columns = grid.columns();
-    for (i, byte) in text.as_bytes().iter().enumerate() {
+    let Ok(mut grid) = Grid::blank(alloc, 1, width) else {
+        return Err(OutOfMemory);
+    };
+    let shown = cut(text, usize::from(width));
+    for (i, byte) in shown.as_bytes().iter().enumerate() {
         let cell = Cell {
-            line: row + 1,
+            line: 1,
             column: i as u16 + 1,
         };
         let mut buffer = [0; 4];
         grid.put(cell, (*byte as char).encode_utf8(&mut buffer), false)?;
     }
-    Ok(())
+    Ok(grid.into_row())
 }

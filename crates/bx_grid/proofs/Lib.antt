@@ -19,6 +19,7 @@ pub mod Laid
 pub mod Blanks
 pub mod Shared
 pub mod Copied
+pub mod RowsPut
 pub mod Printed
 mod AtOnce
 mod Still

@@ -1,5 +1,5 @@
 -- Columns pasted over others: what stays on both sides, and whole glyphs over blanks.
-use Rattle.std.proofs.Common.{◌≡◌, false, ℕ, ◌+◌, ◌*◌, ◌-◌, ◌<◌, ◌≤◌, List, [], ◌∷◌, ◌++◌, length, take, drop, replicate, zero, suc, Result, Ok, Err, OnErr}
+use Rattle.std.proofs.Common.{◌≡◌, false, refl, ℕ, ◌+◌, ◌*◌, ◌-◌, ◌<◌, ◌≤◌, List, [], ◌∷◌, ◌++◌, length, take, drop, replicate, zero, suc, Result, Ok, Err, OnErr}
 use Rattle.std.proofs.Common.{subst, ap, sym, ◌∙◌, append_assoc, length-append, arith}
 use Rattle.std.proofs.Math.Seq.{take-append-add, drop-append-add}
 use Rattle.std.proofs.lemmas.List.{take-append-drop, take-append-le, drop-append-le, take_at, drop_at, drop-drop, length-drop, length-take-le, length-replicate}
@@ -60,6 +60,10 @@ blanked_back xs ys k n same blanks =
     ∙ ap (λ cs. take k xs ++ (cs ++ drop (k + n) xs)) (sym blanks)
     ∙ sym (three_parts xs k n))
 
+-- what stood where others are pasted does not matter
+pub pasted_around : (xs ys news : List Col) (k n : ℕ) → AreSameAround k n xs ys → length news ≡ n → paste ys k news ≡ paste xs k news
+pasted_around xs ys news k n same len = rw (len, same.before, same.after) refl
+
 pub err_always : {T E : Type 0} (r : Result T E) (P : Type 0) → P → OnErr r P
 err_always (Ok x) P h = tt
 err_always (Err e) P h = h
@@ -103,7 +107,7 @@ rows_first h w k a b news wide fits low blanks new first rest =
     rw (paste_before a b news k fits', take_at (paste a k news) b w len, drop_at (paste a k news) b w len)
     (whole_paste a news k low (blank_before a b k (length news) fits' blanks) new first, rest)
 
-rows_next : (h w k q : ℕ) (a b news : List Col) → length a ≡ w → k ≡ w + q → AreWhole a → AreWholeRows h w (paste b q news)
+pub rows_next : (h w k q : ℕ) (a b news : List Col) → length a ≡ w → k ≡ w + q → AreWhole a → AreWholeRows h w (paste b q news)
     → AreWholeRows (suc h) w (paste (a ++ b) k news)
 rows_next h w k q a b news wide at first rest =
     rw (paste_after a b news k q (omega arith), take_at a (paste b q news) w wide, drop_at a (paste b q news) w wide) (first, rest)

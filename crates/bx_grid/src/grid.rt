@@ -14,7 +14,7 @@ use crate::columns::{are_blank, blank_columns, put_over_blanks};
 use crate::error::GridError;
 use crate::glyph_text::SHORT;
 use crate::row::Row;
-use bx_terms::{is_side, run_width};
+use bx_terms::{OutOfMemory, is_side, run_width};
 use std::alloc::{AllocError, Global};
 use std::marker::Model;
 
@@ -68,7 +68,7 @@ impl Grid {
     /// (`run_width`), not all of them from SPACE to TILDE. One of at most seven bytes takes no memory.
     ///
     /// Errors: `OutOfMemory`, and nothing has changed.
-    pub fn put(&mut self, cell: Cell, text: &str, negative: bool) -> Result<(), GridError>
+    pub fn put(&mut self, cell: Cell, text: &str, negative: bool) -> Result<(), OutOfMemory>
         requires inside { IsWithin self.old.height self.old.width cell.line cell.column }
         requires glyph { is_one_glyph text.now ≡ true }
         requires room { HasRoom self.old cell.line cell.column (run_width text.now) }
@@ -76,7 +76,6 @@ impl Grid {
           columns = paste self.old.columns ((cell.line - 1) * self.old.width + (cell.column - 1)) (run_columns negative text.now);
         }) }
         ensures err { OnErr result (self.new ≡ self.old) }
-        ensures memory { OnErr result (result ≡ Err GridError.OutOfMemory) }
         ensures short { length text.now ≤ 7 → IsOk result }
     {
         let count = run_width(text);
@@ -92,7 +91,7 @@ impl Grid {
         text: &str,
         count: usize,
         negative: bool,
-    ) -> Result<(), GridError>
+    ) -> Result<(), OutOfMemory>
         requires inside { IsWithin self.old.height self.old.width cell.line cell.column }
         requires glyph { is_one_glyph text.now ≡ true }
         requires counted { count ≡ run_width text.now }
@@ -101,7 +100,6 @@ impl Grid {
           columns = paste self.old.columns ((cell.line - 1) * self.old.width + (cell.column - 1)) (run_columns negative text.now);
         }) }
         ensures err { OnErr result (self.new ≡ self.old) }
-        ensures memory { OnErr result (result ≡ Err GridError.OutOfMemory) }
         ensures short { length text.now ≤ 7 → IsOk result }
     {
         let index = (cell.line - 1) as usize * self.width as usize + (cell.column - 1) as usize;

@@ -17,9 +17,9 @@ mod glyph_text;
 mod grid;
 mod laws;
 mod live;
+mod owned_row;
 mod picture;
 mod row;
-mod row_copy;
 mod screen;
 mod sequence;
 mod text;
@@ -32,9 +32,9 @@ pub use error::GridError;
 pub use glyph_text::GlyphText;
 pub use grid::Grid;
 pub use laws::reads_tokens;
+pub use owned_row::OwnedRow;
 pub use picture::Picture;
 pub use row::Row;
-pub use row_copy::RowCopy;
 pub use screen::Screen;
 
 /// However the bytes are cut, reading them piece by piece is reading them at once.

@@ -50,6 +50,13 @@ impl Picture {
         &self.grid
     }
 
+    /// The grid without the cursor. No memory.
+    pub fn into_grid(self) -> Grid
+        ensures { result ≡ record { height = self.height; width = self.width; columns = self.columns } }
+    {
+        self.grid
+    }
+
     /// Where the cursor stands.
     pub fn cursor(&self) -> Cell
         ensures line { result.line ≡ self.now.row + 1 }

@@ -45,6 +45,7 @@ impl<D: BidiData + Drop> Session<D> {
             top: 0,
             decoder: Decoder::new(),
             painted: None,
+            spare: None,
             is_known: false,
             painting_owed: false,
             queue: Vec::new(alloc),

@@ -1,16 +1,18 @@
 //! The picture on its way to the terminal.
 
-ghost use Rattle.std.specs.Prelude.{◌≡◌, ◌++◌, IfSome, OnErr, OnOk};
-ghost use Rattle.bx_grid.specs.Picture.{AreWholeTokens, IsPicture};
+ghost use Rattle.std.specs.Prelude.{◌≡◌, ◌++◌, true, IfOk, IfSome, OnErr, OnOk};
+ghost use Rattle.bx_grid.specs.Picture.{AreWholeTokens, IsPicture, is_size};
 ghost use Rattle.bx_session.specs.Painting.{Leads, QueuesPicture};
 ghost use Rattle.bx_session.specs.Session.{known_if, painting, with_painting, with_painting_owed};
 
 use crate::error::Refused;
 use crate::session::Session;
 use bx_document::Answers;
-use bx_grid::Picture;
+use bx_grid::{Grid, Picture};
 use bx_paint::{PaintError, changes_into, whole_into};
+use bx_terms::OutOfMemory;
 use bx_ucd::BidiData;
+use std::alloc::Global;
 
 /// Appends the bytes that lead from the picture last painted, where the screen is taken to show it, to another of its size, or
 /// else those that paint the other whole.
@@ -37,6 +39,33 @@ fn append(
     }
 }
 
+/// A page of a window of so many rows and columns: a spare one of this size, or else a blank one.
+///
+/// Errors: `OutOfMemory`.
+fn page_of(alloc: Global, spare: Option<Grid>, height: u16, width: u16) -> Result<Grid, OutOfMemory>
+    requires sized { is_size height width ≡ true }
+    ensures height { IfOk result (λ page. page.height ≡ height) }
+    ensures width { IfOk result (λ page. page.width ≡ width) }
+{
+    match spare {
+        Some(page) if page.height() == height && page.width() == width => Ok(page),
+        _ => {
+            let Ok(page) = Grid::blank(alloc, height, width) else {
+                return Err(OutOfMemory);
+            };
+            Ok(page)
+        }
+    }
+}
+
+/// The page of a picture that is not needed any more.
+fn spare_of(picture: Option<Picture>) -> Option<Grid> {
+    match picture {
+        Some(picture) => Some(picture.into_grid()),
+        None => None,
+    }
+}
+
 impl<D: BidiData + Drop> Session<D> {
     /// The top follows the cursor, and what leads to the picture is queued. A byte and a told size do so by themselves, and a
     /// byte of a journal does not.
@@ -52,13 +81,18 @@ impl<D: BidiData + Drop> Session<D> {
     {
         let alloc = *self.queue.allocator();
         self.painting_owed = true;
-        let Ok((top, picture)) = self.editor.picture(alloc, self.top) else {
+        let (height, width) = (self.editor.height(), self.editor.width());
+        let Ok(page) = page_of(alloc, self.spare.take(), height, width) else {
+            return Err(Refused::Paint);
+        };
+        let Ok((top, picture)) = self.editor.picture(alloc, page, self.top) else {
             return Err(Refused::Paint);
         };
         let Ok(()) = append(&mut self.queue, &self.painted, self.is_known, &picture) else {
             return Err(Refused::Paint);
         };
         self.top = top;
+        self.spare = spare_of(self.painted.take());
         self.painted = Some(picture);
         self.is_known = true;
         self.painting_owed = false;

@@ -6,7 +6,7 @@ ghost use Rattle.bx_session.specs.Session.{after_sending, key_of_byte, status_of
 
 use crate::status::Status;
 use bx_editor::Editor;
-use bx_grid::{Picture, Screen};
+use bx_grid::{Grid, Picture, Screen};
 use bx_keys::{Decoder, Key};
 use bx_ucd::BidiData;
 use std::marker::Model;
@@ -20,6 +20,8 @@ pub struct Session<D: BidiData + Drop> {
     pub(crate) decoder: Decoder,
     // the picture last painted; none before the first
     pub(crate) painted: Option<Picture>,
+    // what was painted before that: the next picture is made on it
+    pub(crate) spare: Option<Grid>,
     // the screen is taken to show it once all is read
     pub(crate) is_known: bool,
     pub(crate) painting_owed: bool,

@@ -1,5 +1,4 @@
-use Rattle.std.proofs.Common.{◌≡◌, ◌≤◌, ◌-◌, ◌*◌, ◌++◌, ap, replicate, subst, sym}
-use Rattle.bx_grid.specs.Columns.{blank}
+use Rattle.std.proofs.Common.{◌≡◌, ◌≤◌, ◌*◌, ◌++◌, ap, drop, subst, sym}
 use Rattle.bx_view.specs.Position.{IsPosition}
 use Rattle.bx_view.proofs.Told.{side-some}
 use Rattle.bx_document.specs.Data.{Data}
@@ -41,7 +40,7 @@ returns-clause-drawn g c =
         class = g.D.BidiData.class_of s.tables;
         bracket = g.D.BidiData.bracket_of s.tables;
         mirror = g.D.BidiData.mirror_of s.tables;
-      }) s.document c.first_in-first.result c.args.count ++ replicate ((was.height - c.args.count) * was.width) blank;
+      }) s.document c.first_in-first.result c.args.count ++ drop (c.args.count * was.width) was.columns;
     }) c.self.view_is
     (drawn-told class bracket i.layout c.locate.new.self text c.len-utf8.ensures.utf8 c.locate.ensures.keeps located.top c.args.top c.args.place c.from.result
     c.first_in-first.result located.above told.top (c.first_in-first.ensures _ told.top) told.above d was c.draw_rows.new.grid c.args.count (c.in_ok-draw_rows.ensures.drawn _ told.top))

@@ -1,28 +1,20 @@
-use Rattle.std.proofs.Common.{◌≡◌, ◌+◌, ◌-◌, ◌*◌, ◌≤◌, ◌∙◌, ◌++◌, List, IsUtf8, ap, ap₂, arith, subst, sym, take}
+use Rattle.std.proofs.Common.{◌≡◌, ◌+◌, ◌-◌, ◌*◌, ◌≤◌, ◌∙◌, ◌++◌, List, IsUtf8, ap, ap₂, arith, replicate, subst, sym, take}
 use Rattle.std.specs.Prelude.{if◌then◌else◌}
+use Rattle.bx_grid.specs.Columns.{blank}
+use Rattle.bx_grid.specs.Picture.{GridState}
 use Rattle.bx_view.specs.Places.{IsTextPlace}
 use Rattle.bx_view.specs.Position.{IsPosition}
 use Rattle.bx_view.specs.TextRows.{TextRow, cell_of, row_of}
 use Rattle.bx_view.specs.Top.{follow, shown_rows}
-use Rattle.bx_view.proofs.Told.{side-some}
-use Rattle.bx_document.specs.Drawing.{IsAmong, IsBlankFrom, rows_columns, shown_columns}
+use Rattle.bx_document.specs.Drawing.{IsAmong, rows_columns, shown_columns, with_rows}
 use Rattle.bx_document.specs.Document.{rows as document_rows}
 use Rattle.bx_editor.specs.Data.{Data}
 use Rattle.bx_editor.specs.Editor.{Editor, rows, text_height}
 use Rattle.bx_editor.specs.Picture.{blank_picture, next_top, picture, text_picture}
 use Rattle.bx_editor.specs.Status.{status_columns}
 use Rattle.bx_editor.proofs.OnItsCell.{stands}
-use Rattle.bx_editor.proofs.Shown.{drawn-blank, drawn-front, picture-is}
+use Rattle.bx_editor.proofs.Shown.{all-blank, drawn-front, picture-is}
 use Rattle.bx_editor.proofs.editor.Editor.picture.Goals as goal
-
-pub put_status-requires-clause-blank : goal.put_status-requires-clause-blank
-put_status-requires-clause-blank g c =
-    let i = c.self.inside in
-    let n = c.text_height-count.result in
-    let high = ap (λ x. x.height) c.in_ok-grid.ensures.ok in
-    subst (λ t. IsBlankFrom c.show.new.grid t) c.text_height-count.ensures.rows
-    (drawn-blank c.in_ok-grid.grid c.show.new.grid _ n (omega (arith, high, c.text_height-count.ensures.inside))
-    c.columns-columns.ensures.grid.sized.each c.in_ok-shown.ensures.drawn)
 
 pub put_status-requires-clause-position : goal.put_status-requires-clause-position
 put_status-requires-clause-position g c =
@@ -93,9 +85,9 @@ returns-clause-picture g c =
     let all : List TextRow = rows d e in
     let top = c.in_ok-shown.shown.top in
     let n = c.text_height-count.result in
-    let was = c.in_ok-grid.grid in
+    let was = c.args.page in
     let mid = c.show.new.grid in
-    let new = c.put_status.new.grid in
+    let new = c.put_status.new.page in
     let drawn = c.in_ok-shown.ensures.drawn in
     let row = c.in_ok-shown.ensures.row in
     let cell = c.in_ok-shown.ensures.position.column in
@@ -116,10 +108,10 @@ returns-clause-picture g c =
         width = doc.document.w;
       });
     }) c.show.ensures.same c.in_ok-put_status.ensures.status in
-    let high = ap (λ x. x.height) c.in_ok-grid.ensures.ok in
-    let wide = ap (λ x. x.width) drawn ∙ ap (λ x. x.width) c.in_ok-grid.ensures.ok ∙ c.width.ensures.width in
+    let high = c.requires.height ∙ sym (ap (λ s. s.editor.height) c.self.view_is) in
+    let wide = ap (λ x. x.width) drawn ∙ c.requires.width ∙ sym (ap (λ s. s.editor.width) c.self.view_is) in
     let front = drawn-front was mid (shown_columns d i.document.document top n) n (omega (arith, high, c.text_height-count.ensures.inside))
-    c.columns-columns.ensures.grid.sized.each drawn in
+    c.columns-columns.ensures.grid.sized.each c.columns-columns-2.ensures.grid.sized.each drawn in
     let shown : take (text_height i.height * i.document.document.w) mid.columns
     ≡ rows_columns d e.width (text_height i.height) (shown_rows all top (text_height i.height)) =
     ap₂ (λ t w. take (t * w) mid.columns) (sym c.text_height-count.ensures.rows) (sym wide) ∙ front
@@ -141,7 +133,7 @@ returns-clause-cursor g c = λ live.
     let same = c.self.view_is in
     let top = c.in_ok-shown.shown.top in
     let count = c.text_height-count.ensures.rows in
-    let some = subst (λ s. 1 ≤ s.editor.width) same (side-some i.document.document.w c.width.ensures.side) in
+    let some = subst (λ n. 1 ≤ n) c.requires.width c.columns-columns.ensures.grid.sized.narrow in
     let utf8 = subst (λ s. IsUtf8 s.editor.content.text) same c.len-utf8.ensures.utf8 in
     let place = subst (λ s. IsTextPlace (g.D.BidiData.class_of s.tables) s.editor.content.text s.editor.place) same c.self.invariant.0 in
     let shown = subst (λ s. IsAmong (rows (record {
@@ -163,3 +155,24 @@ returns-clause-cursor g c = λ live.
     }) in
     stands d e top c.new-2.result some utf8 place shown
     (returns-clause-picture g c ∙ ap (λ b. if b then blank_picture e.height e.width else text_picture d e top (rows d e)) live)
+
+-- once the session has ended
+pub returns-then-self-clause-picture : goal.returns-then-self-clause-picture
+returns-then-self-clause-picture g c =
+    let i = c.self.inside in
+    let now = c.args.self.now in
+    let e : Editor = now.editor in
+    let d : Data = (record {
+      class = g.D.BidiData.class_of now.tables;
+      bracket = g.D.BidiData.bracket_of now.tables;
+      mirror = g.D.BidiData.mirror_of now.tables;
+    }) in
+    let was = c.args.page in
+    let height = ap (λ s. s.editor.height) c.self.view_is ∙ sym c.requires.height in
+    let step = c.blank_rows.ensures ∙ ap (λ h. with_rows was 0 (replicate ((h - 0) * was.width) blank)) height in
+    let ended = sym (ap (λ s. s.editor.ended) c.self.view_is) ∙ c.if-self.true in
+    c.new.ensures
+    ∙ ap (λ (x : GridState). record { height = x.height; width = x.width; columns = x.columns; row = 1 - 1; column = 1 - 1 })
+    (all-blank was c.blank_rows.new.self c.columns-columns.ensures.grid.sized.each step)
+    ∙ ap₂ (λ h w. blank_picture h w) c.requires.height c.requires.width
+    ∙ sym (ap (λ b. if b then blank_picture e.height e.width else text_picture d e c.args.top (rows d e)) ended)

@@ -1,17 +1,16 @@
-use Rattle.std.proofs.Common.{◌≡◌, false, ◌+◌, ◌-◌, ◌*◌, ◌∙◌, ◌++◌, ap, ap₂, arith, refl, subst, sym, take}
-use Rattle.bx_grid.specs.Columns.{plain_columns}
-use Rattle.bx_document.specs.Drawing.{with_row}
+use Rattle.std.proofs.Common.{◌≡◌, ◌+◌, ◌-◌, ◌*◌, ◌∙◌, ◌++◌, ap, ap₂, arith, length, refl, subst, sym, take}
 use Rattle.bx_editor.specs.Data.{Data}
 use Rattle.bx_editor.specs.Editor.{Editor, text_height}
-use Rattle.bx_editor.specs.Status.{paragraph_number, status_columns, status_line, unit_number}
+use Rattle.bx_editor.specs.Status.{paragraph_number, status_columns, status_line, text_columns, unit_number}
 use Rattle.bx_editor.proofs.Shown.{some-status}
+use Rattle.bx_editor.proofs.StatusRow.{length-text-columns}
 use Rattle.bx_editor.proofs.editor.Editor.put_status.Goals as goal
 
 pub returns : goal.returns
 returns g c =
     let i = c.self.inside in
     let tables = i.document.tables in
-    let was = c.args.grid.now in
+    let was = c.args.page.now in
     let d : Data = record { class = g.D.BidiData.class_of tables; bracket = g.D.BidiData.bracket_of tables; mirror = g.D.BidiData.mirror_of tables } in
     let e : Editor = record {
       content = i.document.document.content;
@@ -30,10 +29,11 @@ returns g c =
     (sym c.self.view_is) c.requires.position.unit in
     let text = c.as_str.ensures.value ∙ c.in_ok-line.ensures.line
     ∙ ap₂ (λ p u. status_line i.changed p u i.message) paragraph unit in
-    let width = c.from-width.ensures ∙ c.width.ensures.width in
-    let step = c.in_ok-put_text.ensures.ok ∙ ap (λ t. with_row was (i.height - 1) (plain_columns false t)) (c.cut.ensures.cut ∙ ap₂ take width text) in
+    let columns = c.in_ok-row.ensures ∙ ap₂ text_columns c.width.ensures.width text in
+    let width = c.requires.width ∙ sym (ap (λ s. s.editor.width) c.self.view_is) in
+    let wide = ap length columns ∙ length-text-columns e.width _ ∙ sym width in
     record {
-      status = subst (λ s. c.put_text.new.grid ≡ record was {
+      status = subst (λ s. c.put_row.new.self ≡ record was {
         columns = take (text_height s.editor.height * s.editor.width) was.columns
             ++ status_columns (record {
               class = g.D.BidiData.class_of s.tables;
@@ -41,7 +41,7 @@ returns g c =
               mirror = g.D.BidiData.mirror_of s.tables;
             }) s.editor;
       }) c.self.view_is
-          (some-status d e was (c.requires.height ∙ sym (ap (λ s. s.editor.height) c.self.view_is))
-          (c.requires.width ∙ sym (ap (λ s. s.editor.width) c.self.view_is)) c.columns-columns.ensures.grid.sized.each (i.height - 1) c.put_text.new.grid
-          (omega (arith, c.if-self-lt2.false)) refl step);
+          (some-status d e was (c.requires.height ∙ sym (ap (λ s. s.editor.height) c.self.view_is)) width
+          c.columns-columns.ensures.grid.sized.each (i.height - 1) c.in_ok-row.row c.put_row.new.self
+          (omega (arith, c.if-self-lt2.false)) refl wide columns c.in_ok-put_row.ensures.ok);
     }

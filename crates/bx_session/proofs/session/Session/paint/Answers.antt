@@ -15,16 +15,16 @@ invariant_of-self-2 g c =
       mirror = g.D.BidiData.mirror_of c.self.inside.editor.tables;
     } in
     let e : Editor = c.self.inside.editor.editor in
-    let same : c.picture.new.self.editor ≡ e = ap (λ (x : EditorState g.row.D.Denot). x.editor) c.in-Ok.ensures.same in (
+    let same : c.picture.new.self.editor ≡ e = ap (λ (x : EditorState g.row.D.Denot). x.editor) c.in-Ok-picture.ensures.same in (
       omega (
         arith,
         c.self.invariant.0,
         ap length c.in-Ok-append.ensures.bytes,
-        length-append c.self.inside.queue.items (painting (known_if c.self.inside.is_known c.self.inside.painted) c.in-Ok.picture),
+        length-append c.self.inside.queue.items (painting (known_if c.self.inside.is_known c.self.inside.painted) c.in-Ok-picture.picture),
       ),
       (
-        ap (λ (p : PictureState). p.height) c.in-Ok.ensures.picture ∙ picture_height d e c.in-Ok.top ∙ ap (λ (x : Editor). x.height) (sym same),
-        ap (λ (p : PictureState). p.width) c.in-Ok.ensures.picture ∙ picture_width d e c.in-Ok.top ∙ ap (λ (x : Editor). x.width) (sym same),
+        ap (λ (p : PictureState). p.height) c.in-Ok-picture.ensures.picture ∙ picture_height d e c.in-Ok-picture.top ∙ ap (λ (x : Editor). x.height) (sym same),
+        ap (λ (p : PictureState). p.width) c.in-Ok-picture.ensures.picture ∙ picture_width d e c.in-Ok-picture.top ∙ ap (λ (x : Editor). x.width) (sym same),
       ),
     )
 
@@ -45,9 +45,9 @@ returns-clause-ok g c =
       pending = drop c.self.inside.taken c.self.inside.queue.items;
     } in
     rw (← c.self.view_is)
-    (painting_is d s c.picture.new.self.editor c.in-Ok.top c.in-Ok.picture (drop c.self.inside.taken c.append.new.queue.items)
-    (ap (λ (x : EditorState g.row.D.Denot). x.editor) c.in-Ok.ensures.same) c.in-Ok.ensures.top c.in-Ok.ensures.picture
-    (longer_queue c.self.inside.taken c.self.inside.queue.items (painting (known_if c.self.inside.is_known c.self.inside.painted) c.in-Ok.picture) c.append.new.queue.items c.self.invariant.0
+    (painting_is d s c.picture.new.self.editor c.in-Ok-picture.top c.in-Ok-picture.picture (drop c.self.inside.taken c.append.new.queue.items)
+    (ap (λ (x : EditorState g.row.D.Denot). x.editor) c.in-Ok-picture.ensures.same) c.in-Ok-picture.ensures.top c.in-Ok-picture.ensures.picture
+    (longer_queue c.self.inside.taken c.self.inside.queue.items (painting (known_if c.self.inside.is_known c.self.inside.painted) c.in-Ok-picture.picture) c.append.new.queue.items c.self.invariant.0
     c.in-Ok-append.ensures.bytes))
 
 pub returns-clause-paints : goal.returns-clause-paints
@@ -67,7 +67,7 @@ returns-clause-paints g c =
       pending = drop c.self.inside.taken c.self.inside.queue.items;
     } in
     rw (← c.self.view_is)
-    (painting_queues d s c.picture.new.self.editor c.in-Ok.top c.in-Ok.picture (drop c.self.inside.taken c.append.new.queue.items)
-    (ap (λ (x : EditorState g.row.D.Denot). x.editor) c.in-Ok.ensures.same) c.in-Ok.ensures.picture
-    (longer_queue c.self.inside.taken c.self.inside.queue.items (painting (known_if c.self.inside.is_known c.self.inside.painted) c.in-Ok.picture) c.append.new.queue.items c.self.invariant.0
-    c.in-Ok-append.ensures.bytes) c.append.ensures.tokens c.append.ensures.leads c.append.ensures.is_picture c.in-Ok.ensures.cursor)
+    (painting_queues d s c.picture.new.self.editor c.in-Ok-picture.top c.in-Ok-picture.picture (drop c.self.inside.taken c.append.new.queue.items)
+    (ap (λ (x : EditorState g.row.D.Denot). x.editor) c.in-Ok-picture.ensures.same) c.in-Ok-picture.ensures.picture
+    (longer_queue c.self.inside.taken c.self.inside.queue.items (painting (known_if c.self.inside.is_known c.self.inside.painted) c.in-Ok-picture.picture) c.append.new.queue.items c.self.invariant.0
+    c.in-Ok-append.ensures.bytes) c.append.ensures.tokens c.append.ensures.leads c.append.ensures.is_picture c.in-Ok-picture.ensures.cursor)

@@ -1,25 +1,27 @@
-//! A row of a grid, copied, so that it can be put into another grid.
+//! A row of columns that is kept apart from a grid, so that it can be put into one.
 
-ghost use Rattle.std.specs.Prelude.{List, ◌≡◌, ◌+◌, ◌*◌, ◌≤◌, ◌<◌, ◌++◌, length, take, drop, IfOk, OnOk, OnErr};
-ghost use Rattle.bx_grid.specs.Columns.{Col, paste, AreBlank, AreSameAround};
+ghost use Rattle.std.specs.Prelude.{List, ◌≡◌, ◌+◌, ◌-◌, ◌*◌, ◌≤◌, ◌<◌, ◌++◌, length, take, drop, replicate, OnOk, OnErr};
+ghost use Rattle.bx_grid.specs.Columns.{Col, blank, paste, AreSameAround};
 ghost use Rattle.bx_grid.specs.Seen.{all_seen};
 
+use crate::codes::note_codes;
 use crate::column::Column;
 use crate::columns::fill_blank;
-use crate::error::GridError;
 use crate::grid::Grid;
+use crate::row::Row;
+use bx_terms::OutOfMemory;
 use std::alloc::{AllocError, Global};
 use std::marker::Model;
 
-/// A row of a grid, kept apart from it: columns side by side that are whole glyphs.
+/// A row of columns, kept apart from a grid: whole glyphs side by side.
 #[derive(Drop)]
-pub struct RowCopy {
+pub struct OwnedRow {
     columns: Vec<Column>,
     codes: Vec<u64>,
 }
 
 // Clauses see what the columns show.
-impl Model for RowCopy {
+impl Model for OwnedRow {
     ghost use Rattle.std.specs.Prelude.{◌≡◌, List};
     ghost use Rattle.bx_grid.specs.Columns.{Col};
     ghost use Rattle.bx_grid.specs.Codes.{codes_of};
@@ -33,60 +35,70 @@ impl Model for RowCopy {
     ghost invariant = { λ r. AreWhole (all_seen r.columns.items) × (r.codes.items ≡ codes_of (all_seen r.columns.items)) };
 }
 
-impl RowCopy {
+impl OwnedRow {
     /// How many columns it has.
     pub fn width(&self) -> usize
         ensures { result ≡ length self.now }
     {
         self.columns.len()
     }
+
+    /// The row, lent.
+    pub fn as_row(&self) -> Row<'_>
+        ensures { result ≡ self.now }
+    {
+        Row::new(&self.columns, &self.codes)
+    }
 }
 
 impl Grid {
-    /// A copy of a row, from 0.
-    ///
-    /// Errors: `OutOfMemory`.
-    pub fn copy_row(&self, row: u16) -> Result<RowCopy, GridError>
-        requires { row < self.now.height }
-        ensures row { IfOk result (λ r. r ≡ take self.now.width (drop (row * self.now.width) self.now.columns)) }
-        ensures memory { OnErr result (result ≡ Err GridError.OutOfMemory) }
+    /// The row of a grid that has no other. No memory.
+    pub fn into_row(self) -> OwnedRow
+        requires { self.height ≡ 1 }
+        ensures { result ≡ self.columns }
     {
+        OwnedRow {
+            columns: self.columns,
+            codes: self.codes,
+        }
+    }
+
+    /// Puts a row of as many columns in the place of one, from 0. One that shows the same stays.
+    ///
+    /// Errors: `OutOfMemory`, and the row is blank.
+    pub fn put_row(&mut self, row: u16, new: &OwnedRow) -> Result<(), OutOfMemory>
+        requires inside { row < self.old.height }
+        requires width { length new.now ≡ self.old.width }
+        ensures ok { OnOk result (self.new ≡ record self.old { columns = paste self.old.columns (row * self.old.width) new.now }) }
+        ensures err { OnErr result (self.new ≡ record self.old {
+          columns = paste self.old.columns (row * self.old.width) (replicate self.old.width blank);
+        }) }
+    {
+        if self.row(row).is_same(&new.as_row()) {
+            return Ok(());
+        }
         let alloc = *self.columns.allocator();
         let start = row as usize * self.width as usize;
         let stop = start + self.width as usize;
-        let columns = copies_of(alloc, &self.columns[start..stop])?;
-        let codes = self.codes[start..stop].to_vec(alloc)?;
-        Ok(RowCopy { columns, codes })
-    }
-
-    /// Puts a copy of a row in the place of a row, from 0, of as many columns, all of which are blanks.
-    ///
-    /// Errors: `OutOfMemory`, and nothing has changed.
-    pub fn put_copy(&mut self, row: u16, copy: &RowCopy) -> Result<(), GridError>
-        requires inside { row < self.old.height }
-        requires width { length copy.now ≡ self.old.width }
-        requires blank { AreBlank (row * self.old.width) self.old.width self.old.columns }
-        ensures ok { OnOk result (self.new ≡ record self.old { columns = paste self.old.columns (row * self.old.width) copy.now }) }
-        ensures err { OnErr result (self.new ≡ self.old) }
-        ensures memory { OnErr result (result ≡ Err GridError.OutOfMemory) }
-    {
-        let alloc = *self.columns.allocator();
-        let start = row as usize * self.width as usize;
-        put_copies(alloc, self.columns.as_mut_slice(), start, &copy.columns)?;
-        put_codes(self.codes.as_mut_slice(), start, &copy.codes);
+        let put = put_copies(alloc, self.columns.as_mut_slice(), start, &new.columns);
+        note_codes(self.codes.as_mut_slice(), &self.columns, start, stop);
+        put?;
         Ok(())
     }
-}
 
-/// Copies of columns.
-fn copies_of(alloc: Global, columns: &[Column]) -> Result<Vec<Column>, AllocError>
-    ensures { IfOk result (λ copies. all_seen copies.items ≡ all_seen columns.now) }
-{
-    let mut copies = Vec::with_capacity(alloc, columns.len())?;
-    for column in columns {
-        copies.push_reserved(column.copy(alloc)?);
+    /// Makes the rows from one up to another blank, both from 0. No memory.
+    pub fn blank_rows(&mut self, from: u16, to: u16)
+        requires order { from ≤ to }
+        requires inside { to ≤ self.old.height }
+        ensures { self.new ≡ record self.old {
+          columns = paste self.old.columns (from * self.old.width) (replicate ((to - from) * self.old.width) blank);
+        } }
+    {
+        let start = from as usize * self.width as usize;
+        let stop = to as usize * self.width as usize;
+        fill_blank(self.columns.as_mut_slice(), start, stop);
+        note_codes(self.codes.as_mut_slice(), &self.columns, start, stop);
     }
-    Ok(copies)
 }
 
 /// Goes on putting copies of columns from an index up to the next one that may take memory, or that comes over one that may
@@ -128,7 +140,7 @@ fn copy_over(
     Ok(())
 }
 
-/// Puts copies of columns over blanks. Where memory runs out they are blanks again.
+/// Puts copies of columns. Where memory runs out blanks stand there.
 fn put_copies(
     alloc: Global,
     columns: &mut [Column],
@@ -136,21 +148,12 @@ fn put_copies(
     others: &[Column],
 ) -> Result<(), AllocError>
     requires inside { from + length others.now ≤ length columns.old }
-    requires blank { AreBlank from (length others.now) (all_seen columns.old) }
     ensures ok { OnOk result (all_seen columns.new ≡ paste (all_seen columns.old) from (all_seen others.now)) }
-    ensures err { OnErr result (all_seen columns.new ≡ all_seen columns.old) }
+    ensures err { OnErr result (all_seen columns.new ≡ paste (all_seen columns.old) from (replicate (length others.now) blank)) }
 {
     let copied = copy_over(alloc, columns, from, others);
     if copied.is_err() {
         fill_blank(columns, from, from + others.len());
     }
     copied
-}
-
-/// Puts codes in the place of others.
-fn put_codes(codes: &mut [u64], from: usize, others: &[u64])
-    requires { from + length others.now ≤ length codes.old }
-    ensures { codes.new ≡ take from codes.old ++ others.now ++ drop (from + length others.now) codes.old }
-{
-    codes[from..from + others.len()].copy_from_slice(others);
 }

@@ -1,0 +1,45 @@
+use Rattle.std.proofs.Common.{◌≡◌, ◌+◌, ◌-◌, ◌*◌, ◌≤◌, ◌∙◌, ap, arith, length, subst, sym, take, take_all}
+use Rattle.bx_terms.specs.Glyphs.{run_width}
+use Rattle.bx_grid.specs.Columns.{paste, run_columns}
+use Rattle.bx_grid.specs.Picture.{HasRoom}
+use Rattle.bx_document.proofs.PutOn.{all_put}
+use Rattle.bx_document.proofs.RowGlyphs.{glyphs_columns, is_next, length-glyphs, next_put, room, within}
+use Rattle.bx_document.proofs.drawing.drawn.Goals as goal
+
+pub put_counted-requires-clause-inside : goal.put_counted-requires-clause-inside
+put_counted-requires-clause-inside c =
+    let ds = c.args.picture.now.glyphs.items in
+    within c.args.width ds c.loop-glyph.glyph-index c.loop-glyph.grid c.loop-glyph.column c.glyph-item.result
+    (is_next c.args.width ds c.deref-glyph-items.result.now c.loop-glyph.glyph-index c.glyph-item.result c.requires.columns
+    c.deref-glyph-items.ensures.value c.loop-glyph-test.true c.glyph-item.is c.requires.glyphs c.requires.widths)
+    c.loop-glyph.invariant
+
+pub put_counted-requires-clause-room : goal.put_counted-requires-clause-room
+put_counted-requires-clause-room c =
+    let ds = c.args.picture.now.glyphs.items in
+    subst (λ t. HasRoom c.loop-glyph.grid 1 c.loop-glyph.column (run_width t)) (sym c.as_str.ensures.value)
+    (room c.args.width ds c.loop-glyph.glyph-index c.loop-glyph.grid c.loop-glyph.column c.glyph-item.result
+    (is_next c.args.width ds c.deref-glyph-items.result.now c.loop-glyph.glyph-index c.glyph-item.result c.requires.columns
+    c.deref-glyph-items.ensures.value c.loop-glyph-test.true c.glyph-item.is c.requires.glyphs c.requires.widths)
+    c.loop-glyph.invariant)
+
+pub loop-glyph-preserved : goal.loop-glyph-preserved
+loop-glyph-preserved c =
+    let ds = c.args.picture.now.glyphs.items in
+    let g = c.loop-glyph.grid in
+    next_put c.args.width ds c.loop-glyph.glyph-index g c.loop-glyph.column c.glyph-item.result
+    (is_next c.args.width ds c.deref-glyph-items.result.now c.loop-glyph.glyph-index c.glyph-item.result c.requires.columns
+    c.deref-glyph-items.ensures.value c.loop-glyph-test.true c.glyph-item.is c.requires.glyphs c.requires.widths)
+    c.loop-glyph.invariant c.put_counted.new.self
+    (subst (λ t. c.put_counted.new.self ≡ record g {
+      columns = paste g.columns ((1 - 1) * g.width + (c.loop-glyph.column - 1)) (run_columns c.glyph-item.result.negative t);
+    }) c.as_str.ensures.value c.in_ok-put_counted.ensures.ok)
+
+pub returns : goal.returns
+returns c =
+    let ds = c.args.picture.now.glyphs.items in
+    let i = c.loop-glyph.glyph-index in
+    let past : length ds ≤ i = omega (arith, c.loop-glyph-test.false, ap length c.deref-glyph-items.ensures.value) in
+    let whole : take i ds ≡ ds = take_all i ds past in
+    let wide : length (glyphs_columns (take i ds)) ≡ c.args.width = ap (λ xs. length (glyphs_columns xs)) whole ∙ length-glyphs ds ∙ c.requires.columns in
+    c.into_row.ensures ∙ all_put c.args.width (glyphs_columns (take i ds)) c.loop-glyph.grid c.loop-glyph.invariant.grid wide ∙ ap glyphs_columns whole
