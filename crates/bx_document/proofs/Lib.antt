@@ -3,8 +3,8 @@ pub mod CopiedRows
 pub mod RowGlyphs
 pub mod RowsDrawn
 pub mod CellColumns
-pub mod WindowPlace
-pub mod WindowTold
+pub mod TouchedPlace
+pub mod TouchedTold
 pub mod PlaceBehind
 pub mod PlacesKept
 pub mod PlacesMoved

@@ -1,4 +1,4 @@
--- The place behind an edit, as a window tells it and as a document says it.
+-- The place behind an edit, as the touched paragraphs tell it and as a document says it.
 use Rattle.std.proofs.Common.{◌≡◌, ℕ, ◌+◌, ◌-◌, ◌≤◌, true, List, ◌++◌, length, take, drop, Option, IsUtf8, IsCharBoundary, sym, ap, subst, ◌∙◌}
 use Rattle.std.proofs.Common.{arith, length-append, length-drop}
 use Rattle.std.proofs.lemmas.Bool.Decides.{nat_tests}
@@ -14,8 +14,8 @@ use Rattle.bx_view.specs.TextRows.{text_rows}
 use Rattle.bx_view.proofs.KeptPlaces.{text-places-kept}
 use Rattle.bx_view.proofs.TextPlaces.{place-between}
 use Rattle.bx_document.specs.Document.{DocumentState}
-use Rattle.bx_document.specs.Window.{window, window_start}
-use Rattle.bx_document.proofs.WindowPlace.{splice_utf8, window_place}
+use Rattle.bx_document.specs.Touched.{touched, touched_start}
+use Rattle.bx_document.proofs.TouchedPlace.{splice_utf8, touched_place}
 
 splice_bytes : (text : List ℕ) (start stop : ℕ) (new : List ℕ) → IsRange text start stop → length (splice text start stop new)
     ≡ length text - (stop - start) + length new
@@ -59,19 +59,19 @@ behind class bracket base w text start stop new o side utf8 range new_utf8 is =
     let own : IsTextPlace class now o = subst (IsTextPlace class now) (sym is) kept in
     record { place = is; text_place = own; boundary = place-between class now o valid own }
 
--- found in the window
+-- found in the touched paragraphs
 pub found : (class : ℕ → Class) (bracket : ℕ → Option (Side × ℕ)) (base : Base) (w : ℕ) (text : List ℕ) (start stop : ℕ) (new bytes : List ℕ)
-    (first offset place : ℕ) → is_side w ≡ true → IsUtf8 text → IsRange text start stop → IsUtf8 new → first ≡ window_start class text start
-    → bytes ≡ window class text start stop new → offset ≡ start - first + length new → place ≡ place_from (text_rows class bracket base w bytes) offset
+    (first offset place : ℕ) → is_side w ≡ true → IsUtf8 text → IsRange text start stop → IsUtf8 new → first ≡ touched_start class text start
+    → bytes ≡ touched class text start stop new → offset ≡ start - first + length new → place ≡ place_from (text_rows class bracket base w bytes) offset
     → IsBehind class bracket base w text start stop new (first + place)
 found class bracket base w text start stop new bytes first offset place side utf8 range new_utf8 a b e f =
     let some : 1 ≤ w = grind (arith, nat_tests) in
-    let same : offset ≡ start - window_start class text start + length new = omega (arith, e, a) in
+    let same : offset ≡ start - touched_start class text start + length new = omega (arith, e, a) in
     let is : first + place ≡ place_from (text_rows class bracket base w (splice text start stop new)) (start + length new) =
-    ap (λ n. n + place) a ∙ ap (λ n. window_start class text start + n)
+    ap (λ n. n + place) a ∙ ap (λ n. touched_start class text start + n)
     (f ∙ ap (λ bs. place_from (text_rows class bracket base w bs) offset) b
-    ∙ ap (place_from (text_rows class bracket base w (window class text start stop new))) same)
-    ∙ sym (window_place class text utf8 start stop new range new_utf8 bracket base w some) in
+    ∙ ap (place_from (text_rows class bracket base w (touched class text start stop new))) same)
+    ∙ sym (touched_place class text utf8 start stop new range new_utf8 bracket base w some) in
     behind class bracket base w text start stop new (first + place) side utf8 range new_utf8 is
 
 -- and as a document says it

@@ -10,8 +10,8 @@ use Rattle.bx_grid.specs.Picture.{GridState}
 use Rattle.bx_grid.proofs.Pasted.{paste_after}
 use Rattle.bx_ucd.specs.declared.class.Class.{Class}
 use Rattle.bx_ucd.specs.declared.data.Side.{Side}
-use Rattle.bx_view.specs.declared.cursor.RowAt.{RowAt}
-use Rattle.bx_view.specs.Cursor.{StandsOn, rows_by}
+use Rattle.bx_view.specs.declared.row_at.RowAt.{RowAt}
+use Rattle.bx_view.specs.FoundRow.{StandsOn, rows_by}
 use Rattle.bx_view.specs.Holding.{Keeps, ViewState}
 use Rattle.bx_view.specs.TextRows.{TextRow, no_text_row, row_at}
 use Rattle.bx_view.proofs.Told.{rows-kept, side-some}

@@ -1,7 +1,8 @@
+pub mod Answers
 pub mod Cache
 pub mod Data
 pub mod Document
 pub mod Drawing
 pub mod Numbers
 pub mod Past
-pub mod Window
+pub mod Touched

@@ -1,12 +1,12 @@
 //! The rows of a text, drawn one below another.
 ghost use Rattle.std.specs.Prelude.{◌≡◌, ℕ, ◌<◌, ◌≤◌, ◌++◌, ◌*◌, IfOk, OnOk, length, drop, take};
 ghost use Rattle.bx_view.specs.Source.{IsViewBy, Keeps, OfRow, Stands, StandsOn, rows};
-ghost use Rattle.bx_document.specs.Data.{answers};
+ghost use Rattle.bx_document.specs.Answers.{answers};
 ghost use Rattle.bx_document.specs.Cache.{AreDrawnBy};
 ghost use Rattle.bx_document.specs.Drawing.{row_columns, rows_columns, with_rows};
 
 use crate::drawing::drawn;
-use crate::row_cache::RowCache;
+use crate::row_cache::{RowCache, RowKey};
 use bx_grid::{Grid, OwnedRow};
 use bx_terms::OutOfMemory;
 use bx_ucd::BidiData;
@@ -56,15 +56,20 @@ fn draw_row<D: BidiData>(
     ensures cache { AreDrawnBy (answers source.now) cache.new }
 {
     let (body, number) = layout.row_in_body(source, at);
-    let base = layout.base();
-    if let Some(i) = cache.find(row, body, base, number, layout.width()) {
+    let key = RowKey {
+        body,
+        base: layout.base(),
+        number,
+        width: layout.width(),
+    };
+    if let Some(i) = cache.find(row, key) {
         grid.put_row(row, cache.columns(i))?;
         cache.bring(i, row);
         return Ok(());
     }
     let new = draw_anew(cache.allocator(), layout, source, at)?;
     grid.put_row(row, &new)?;
-    cache.keep(body, base, number, new, row, count);
+    cache.keep(key, new, row, count);
     Ok(())
 }
 

@@ -8,7 +8,7 @@ ghost use Rattle.bx_document.specs.Document.{after_insertion, after_removal, pla
 
 use crate::answers::Answers;
 use crate::document::Document;
-use crate::window::place_in_window;
+use crate::touched::place_in_touched;
 use bx_paras::Index;
 use bx_terms::{LARGEST_TEXT, OutOfMemory};
 use bx_text::{Change, Text};
@@ -85,7 +85,7 @@ impl<D: BidiData + Drop> Document<D> {
         if let Some(place) = self.layout.edit(&source, start, stop, new)? {
             return Ok(place);
         }
-        let place = place_in_window(self.alloc, &source, &mut self.layout, start..stop, new)?;
+        let place = place_in_touched(self.alloc, &source, &mut self.layout, start..stop, new)?;
         Ok(place)
     }
 

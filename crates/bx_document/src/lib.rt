@@ -11,7 +11,7 @@ mod error;
 mod moves;
 mod row_cache;
 mod shown;
-mod window;
+mod touched;
 
 pub use answers::Answers;
 pub use document::Document;

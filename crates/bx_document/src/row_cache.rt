@@ -11,6 +11,19 @@ use std::marker::Model;
 // The body is copied for each row that is kept: rows of a longer one are drawn anew.
 const LARGEST_BODY: usize = 16_384;
 
+/// Which row it is, by all that its columns depend on but Unicode's tables.
+#[derive(Clone, Copy)]
+pub(crate) struct RowKey<'b> {
+    /// The body of its paragraph.
+    pub(crate) body: &'b str,
+    /// The base direction.
+    pub(crate) base: Base,
+    /// The number of the row in the body, from 0.
+    pub(crate) number: usize,
+    /// The window's columns.
+    pub(crate) width: u16,
+}
+
 /// A row that was drawn: its paragraph's body and the base direction, its number in that body, from 0, and its columns, as
 /// many as the window has.
 #[derive(Drop)]
@@ -47,37 +60,30 @@ impl Model for RowCache {
 }
 
 impl DrawnRow {
-    /// Whether it is the row of a number of a body, under a base direction and in a window of so many columns. No memory.
-    fn is_of(&self, body: &str, base: Base, number: usize, width: u16) -> bool
-        ensures { IsTrue result → IsRowOf body.now base number width self.now }
+    /// Whether it is the row that is asked for. No memory.
+    fn is_of(&self, key: RowKey<'_>) -> bool
+        ensures { IsTrue result → IsRowOf key.body.now key.base key.number key.width self.now }
     {
-        self.number == number
-            && self.base == base
-            && self.columns.width() == width as usize
-            && self.body.as_str() == body
+        self.number == key.number
+            && self.base == key.base
+            && self.columns.width() == key.width as usize
+            && self.body.as_str() == key.body
     }
 }
 
 /// Whether the row of the number `i` of those that are kept is the one that is asked for. No memory.
-fn is_kept(rows: &[DrawnRow], i: usize, body: &str, base: Base, number: usize, width: u16) -> bool
-    ensures { IsTrue result → HoldsRow body.now base number width rows.now i }
+fn is_kept(rows: &[DrawnRow], i: usize, key: RowKey<'_>) -> bool
+    ensures { IsTrue result → HoldsRow key.body.now key.base key.number key.width rows.now i }
 {
-    i < rows.len() && rows[i].is_of(body, base, number, width)
+    i < rows.len() && rows[i].is_of(key)
 }
 
 /// Which of the rows that are kept, from the number `start` on, is the one that is asked for. No memory.
-fn position(
-    rows: &[DrawnRow],
-    start: usize,
-    body: &str,
-    base: Base,
-    number: usize,
-    width: u16,
-) -> Option<usize>
-    ensures { IfSome result (HoldsRow body.now base number width rows.now) }
+fn position(rows: &[DrawnRow], start: usize, key: RowKey<'_>) -> Option<usize>
+    ensures { IfSome result (HoldsRow key.body.now key.base key.number key.width rows.now) }
 {
     for i in start..rows.len() {
-        if is_kept(rows, i, body, base, number, width) {
+        if is_kept(rows, i, key) {
             return Some(i);
         }
     }
@@ -126,19 +132,11 @@ impl RowCache {
         *self.rows.allocator()
     }
 
-    /// The number, among those that are kept, of the row of a number of a body, under a base direction and in a window of
-    /// so many columns; it is looked for from its number in the page on. No memory.
-    pub(crate) fn find(
-        &self,
-        at: u16,
-        body: &str,
-        base: Base,
-        number: usize,
-        width: u16,
-    ) -> Option<usize>
-        ensures { IfSome result (HoldsRow body.now base number width self.now) }
+    /// The number of a row among those that are kept; it is looked for from its number in the page on. No memory.
+    pub(crate) fn find(&self, at: u16, key: RowKey<'_>) -> Option<usize>
+        ensures { IfSome result (HoldsRow key.body.now key.base key.number key.width self.now) }
     {
-        position(&self.rows, at as usize, body, base, number, width)
+        position(&self.rows, at as usize, key)
     }
 
     /// The columns of a row that is kept, by its number.
@@ -157,31 +155,22 @@ impl RowCache {
         bring(&mut self.rows, i, at as usize);
     }
 
-    /// Keeps the columns of the row of a number of a body at its number in the page of `count` rows. One that there is no
-    /// memory for is not kept.
-    pub(crate) fn keep(
-        &mut self,
-        body: &str,
-        base: Base,
-        number: usize,
-        columns: OwnedRow,
-        at: u16,
-        count: u16,
-    )
+    /// Keeps the columns of a row at its number in the page of `count` rows. One that there is no memory for is not kept.
+    pub(crate) fn keep(&mut self, key: RowKey<'_>, columns: OwnedRow, at: u16, count: u16)
         ensures { (d : Data) → AreDrawnBy d self.old
-            → IsDrawnBy d (record { body = body.now; base = base; number = number; columns = columns })
+            → IsDrawnBy d (record { body = key.body.now; base = key.base; number = key.number; columns = columns })
             → AreDrawnBy d self.new }
     {
-        if body.len() > LARGEST_BODY {
+        if key.body.len() > LARGEST_BODY {
             return;
         }
-        let Ok(body) = String::from_str(self.allocator(), body) else {
+        let Ok(body) = String::from_str(self.allocator(), key.body) else {
             return;
         };
         let new = DrawnRow {
             body,
-            base,
-            number,
+            base: key.base,
+            number: key.number,
             columns,
         };
         let _kept = put_in(&mut self.rows, at, count, new);

@@ -1,8 +1,8 @@
 -- Whole rows put over others of a grid: rows of whole glyphs stay.
 use Rattle.std.proofs.Common.{◌≡◌, ℕ, ◌+◌, ◌-◌, ◌*◌, ◌≤◌, List, ◌++◌, length, take, drop, zero, suc, sym, ap, ◌∙◌, subst, append_assoc, take_all, arith}
-use Rattle.std.proofs.lemmas.List.{drop-append-le, drop-drop, length-drop, length-take-le, nil_from_length, take-append-drop, take-append-le}
+use Rattle.std.proofs.lemmas.List.{drop-append-le, drop-drop, drop-map, length-drop, length-map, length-take-le, map-append, nil_from_length, take-append-drop, take-append-le, take-map}
 use Rattle.std.proofs.Math.Nat.{mul-le-mul_right}
-use Rattle.bx_grid.specs.Codes.{codes_of}
+use Rattle.bx_grid.specs.Codes.{code_of, codes_of}
 use Rattle.bx_grid.specs.Columns.{Col, paste}
 use Rattle.bx_grid.specs.Glyphs.{AreWhole, AreWholeRows}
 use Rattle.bx_grid.specs.Picture.{GridState, IsGrid}
@@ -104,3 +104,17 @@ noted_rows g r n to news columns lent before after is low size whole new same co
       noted g.columns (all_seen lent) news before after (r * g.width) to (n * g.width) codes (ap all_seen same ∙ new) size end inside noted-so
           ∙ ap (λ cs. codes_of (all_seen cs)) same,
     )
+
+-- ---- or puts those of the columns
+
+pub codes_pasted : (old news : List Col) (codes others : List ℕ) (k : ℕ) → codes ≡ codes_of old → others ≡ codes_of news
+    → take k codes ++ others ++ drop (k + length others) codes ≡ codes_of (paste old k news)
+codes_pasted old news codes others k e f =
+    let n = length news in
+    ap (λ m. take k codes ++ others ++ drop (k + m) codes) (ap length f ∙ length-map news code_of)
+    ∙ ap (λ ls. take k ls ++ others ++ drop (k + n) ls) e
+    ∙ ap (λ ls. take k (codes_of old) ++ ls ++ drop (k + n) (codes_of old)) f
+    ∙ ap (λ ls. ls ++ codes_of news ++ drop (k + n) (codes_of old)) (take-map code_of k old)
+    ∙ ap (λ ls. codes_of (take k old) ++ codes_of news ++ ls) (drop-map code_of (k + n) old)
+    ∙ ap (λ ls. ls ++ codes_of (drop (k + n) old)) (sym (map-append code_of (take k old) news))
+    ∙ sym (map-append code_of (take k old ++ news) (drop (k + n) old))

@@ -80,10 +80,16 @@ impl Grid {
         let alloc = *self.columns.allocator();
         let start = row as usize * self.width as usize;
         let stop = start + self.width as usize;
-        let put = put_copies(alloc, self.columns.as_mut_slice(), start, &new.columns);
-        note_codes(self.codes.as_mut_slice(), &self.columns, start, stop);
-        put?;
-        Ok(())
+        match put_copies(alloc, self.columns.as_mut_slice(), start, &new.columns) {
+            Ok(()) => {
+                put_codes(self.codes.as_mut_slice(), start, &new.codes);
+                Ok(())
+            }
+            Err(_) => {
+                note_codes(self.codes.as_mut_slice(), &self.columns, start, stop);
+                Err(OutOfMemory)
+            }
+        }
     }
 
     /// Makes the rows from one up to another blank, both from 0. No memory.
@@ -156,4 +162,12 @@ fn put_copies(
         fill_blank(columns, from, from + others.len());
     }
     copied
+}
+
+/// Puts codes in the place of others.
+fn put_codes(codes: &mut [u64], from: usize, others: &[u64])
+    requires { from + length others.now ≤ length codes.old }
+    ensures { codes.new ≡ take from codes.old ++ others.now ++ drop (from + length others.now) codes.old }
+{
+    codes[from..from + others.len()].copy_from_slice(others);
 }

@@ -7,8 +7,8 @@ use Rattle.bx_paragraph.specs.declared.moves.Visual.{Visual}
 use Rattle.bx_paragraph.specs.declared.moves.Visual.TheVariants.{Left, Right}
 use Rattle.bx_paragraph.specs.BodyRows.{BodyRow}
 use Rattle.bx_paragraph.specs.Slots.{reading_end, reading_start, reads_on}
-use Rattle.bx_view.specs.declared.cursor.RowAt.{RowAt}
-use Rattle.bx_view.specs.Cursor.{StandsOn, rows_by}
+use Rattle.bx_view.specs.declared.row_at.RowAt.{RowAt}
+use Rattle.bx_view.specs.FoundRow.{StandsOn, rows_by}
 use Rattle.bx_view.specs.Holding.{Keeps, ViewState}
 use Rattle.bx_view.specs.Moves.{end_of, place_in, row_after, row_before, start_of}
 use Rattle.bx_view.specs.TextRows.{TextRow, no_text_row, row_at, text_rows}

@@ -17,7 +17,7 @@ use Rattle.bx_paragraph.specs.BodyRows.{BodyRow, no_row, offsets_of}
 use Rattle.bx_view.specs.Moves.{moved, row_end, row_home}
 use Rattle.bx_view.specs.TextRows.{TextRow, first, places, places_of, text_row, text_rows}
 use Rattle.bx_view.specs.declared.moves.Move.{Move}
-use Rattle.bx_view.specs.Cursor.{rows_by}
+use Rattle.bx_view.specs.FoundRow.{rows_by}
 use Rattle.bx_view.specs.Holding.{ViewState}
 use Rattle.bx_view.specs.Laws.{MovesKeep}
 use Rattle.bx_view.proofs.Around.{from, own}

@@ -4,8 +4,8 @@ use Rattle.std.proofs.Common.{sym, ap, ◌∙◌, arith}
 use Rattle.bx_ucd.specs.declared.class.Class.{Class}
 use Rattle.bx_ucd.specs.declared.data.Side.{Side}
 use Rattle.bx_paragraph.specs.BodyRows.{last_of}
-use Rattle.bx_view.specs.declared.cursor.RowAt.{RowAt}
-use Rattle.bx_view.specs.Cursor.{StandsOn, rows_by}
+use Rattle.bx_view.specs.declared.row_at.RowAt.{RowAt}
+use Rattle.bx_view.specs.FoundRow.{StandsOn, rows_by}
 use Rattle.bx_view.specs.Holding.{Keeps, ViewState}
 use Rattle.bx_view.specs.Moves.{place_from}
 use Rattle.bx_view.specs.TextRows.{TextRow, first, places, places_of, row_at, row_of}

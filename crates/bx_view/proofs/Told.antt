@@ -17,8 +17,8 @@ use Rattle.bx_paragraph.specs.declared.moves.Visual.{Visual}
 use Rattle.bx_paragraph.specs.Slots.{beside, column_of, entry, reading_end, reading_start, row_slots}
 use Rattle.bx_paragraph.specs.declared.slot.Slot.{Slot}
 use Rattle.bx_paragraph.proofs.Starts.{row_count}
-use Rattle.bx_view.specs.declared.cursor.RowAt.{RowAt}
-use Rattle.bx_view.specs.Cursor.{StandsOn}
+use Rattle.bx_view.specs.declared.row_at.RowAt.{RowAt}
+use Rattle.bx_view.specs.FoundRow.{StandsOn}
 use Rattle.bx_view.specs.Holding.{HoldsBody, IsHeld, IsOfText, IsViewBy, Keeps, ViewState}
 use Rattle.bx_view.specs.Moves.{row_home}
 use Rattle.bx_view.specs.Standing.{IsRow, body_at, count, rows_in, start_at}

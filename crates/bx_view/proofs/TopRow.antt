@@ -3,8 +3,8 @@ use Rattle.std.proofs.Common.{◌≡◌, ℕ, zero, suc, ◌+◌, ◌-◌, ◌<�
 use Rattle.std.proofs.lemmas.Bool.{cases_lt}
 use Rattle.bx_ucd.specs.declared.class.Class.{Class}
 use Rattle.bx_ucd.specs.declared.data.Side.{Side}
-use Rattle.bx_view.specs.declared.cursor.RowAt.{RowAt}
-use Rattle.bx_view.specs.Cursor.{StandsOn, rows_by}
+use Rattle.bx_view.specs.declared.row_at.RowAt.{RowAt}
+use Rattle.bx_view.specs.FoundRow.{StandsOn, rows_by}
 use Rattle.bx_view.specs.Holding.{Keeps, ViewState}
 use Rattle.bx_view.specs.TextRows.{first, row_at}
 use Rattle.bx_view.specs.Top.{nearest_top}

@@ -5,7 +5,7 @@ ghost use Rattle.bx_paragraph.specs.Layout.{IsLayoutBy, rows_by as rows_of_body}
 ghost use Rattle.bx_paras.specs.Paragraphs.{is_separator};
 ghost use Rattle.bx_text.specs.Edits.{splice};
 ghost use Rattle.bx_view.specs.BodyPlaces.{place_in_body};
-ghost use Rattle.bx_view.specs.Cursor.{rows_by};
+ghost use Rattle.bx_view.specs.FoundRow.{rows_by};
 ghost use Rattle.bx_view.specs.Holding as holding;
 ghost use Rattle.bx_view.specs.Moves.{place_from};
 ghost use Rattle.bx_view.specs.Source.{IsViewBy, Keeps, bytes};

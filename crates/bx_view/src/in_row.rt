@@ -7,9 +7,9 @@ ghost use Rattle.bx_view.specs.Moves.{entry_in, place_in, row_end};
 ghost use Rattle.bx_view.specs.Source.{IsViewBy, Keeps, OfRow, Stands, rows};
 ghost use Rattle.bx_view.specs.TextRows.{first};
 
-use crate::cursor::RowAt;
 use crate::error::ViewError;
 use crate::layout::Layout;
+use crate::row_at::RowAt;
 use crate::source::Source;
 use bx_paragraph::Visual;
 use bx_ucd::BidiData;

@@ -4,15 +4,15 @@ ghost use Rattle.bx_terms.specs.Sizes.{is_side};
 ghost use Rattle.bx_paras.specs.Paragraphs.{lengths};
 ghost use Rattle.bx_paras.specs.Positions.{paragraph_of};
 ghost use Rattle.bx_text.specs.Edits.{IsRange, largest_text};
-ghost use Rattle.bx_view.specs.Cursor.{IsSameAtEnd};
+ghost use Rattle.bx_view.specs.FoundRow.{IsSameAtEnd};
 ghost use Rattle.bx_view.specs.Holding.{HoldsBody};
 ghost use Rattle.bx_view.specs.Moves.{row_home};
 ghost use Rattle.bx_view.specs.Source.{IsBefore, IsNext, IsOfText, IsViewBy, Keeps, Stands, StandsOn, body_at, bytes, rows};
 ghost use Rattle.bx_view.specs.TextRows.{cell_of, row_of};
 
-use crate::cursor::RowAt;
 use crate::error::ViewError;
 use crate::holder::{hold, lay_out_in, position, room_beside};
+use crate::row_at::RowAt;
 use crate::source::Source;
 use crate::span::{body_span, paragraph_under};
 use bx_explicit::Base;

@@ -5,11 +5,11 @@ ghost use Rattle.bx_view.specs.Moves.{place_from, step_logical};
 ghost use Rattle.bx_view.specs.Source.{IsViewBy, Keeps, OfRow, Stands, bytes, rows};
 ghost use Rattle.bx_view.specs.TextRows.{places, places_of};
 
-use crate::cursor::RowAt;
 use crate::error::ViewError;
 use crate::in_row::place_in;
 use crate::layout::Layout;
 use crate::moves::Logical;
+use crate::row_at::RowAt;
 use crate::source::Source;
 use bx_ucd::BidiData;
 

@@ -5,9 +5,9 @@ ghost use Rattle.bx_paras.specs.Positions.{paragraph_of};
 ghost use Rattle.bx_view.specs.Position.{IsPosition};
 ghost use Rattle.bx_view.specs.Source.{IsViewBy, Stands, bytes, rows};
 
-use crate::cursor::RowAt;
 use crate::error::ViewError;
 use crate::layout::Layout;
+use crate::row_at::RowAt;
 use crate::source::Source;
 use bx_ucd::BidiData;
 

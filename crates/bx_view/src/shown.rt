@@ -8,9 +8,9 @@ ghost use Rattle.bx_rows.specs.Shown.{glyph_of};
 ghost use Rattle.bx_view.specs.Source.{IsViewBy, Keeps, OfRow, Stands, rows, rows_of_body};
 ghost use Rattle.bx_view.specs.TextRows.{row_at, row_of, slots, text_row_glyphs};
 
-use crate::cursor::RowAt;
 use crate::error::ViewError;
 use crate::layout::Layout;
+use crate::row_at::RowAt;
 use crate::source::Source;
 use bx_paragraph::Slot;
 use bx_rows::RowPicture;

@@ -6,10 +6,10 @@ ghost use Rattle.bx_view.specs.Source.{BeginsAt, IsViewBy, Keeps, Stands, Stands
 ghost use Rattle.bx_view.specs.TextRows.{row_of};
 ghost use Rattle.bx_view.specs.Top.{follow, nearest_top};
 
-use crate::cursor::RowAt;
 use crate::error::ViewError;
 use crate::layout::Layout;
 use crate::position::Position;
+use crate::row_at::RowAt;
 use crate::source::Source;
 use bx_ucd::BidiData;
 

@@ -3,10 +3,10 @@ ghost use Rattle.std.specs.Prelude.{◌≡◌, ℕ, ◌+◌, ◌-◌, IfOk, leng
 ghost use Rattle.bx_view.specs.Moves.{row_away, rows_away};
 ghost use Rattle.bx_view.specs.Source.{IsViewBy, Keeps, Stands, StandsOn, rows};
 
-use crate::cursor::RowAt;
 use crate::error::ViewError;
 use crate::layout::Layout;
 use crate::moves::Vertical;
+use crate::row_at::RowAt;
 use crate::source::Source;
 use bx_ucd::BidiData;
 

@@ -4,9 +4,9 @@ ghost use Rattle.bx_paragraph.specs.Slots.{reads_on};
 ghost use Rattle.bx_view.specs.Moves.{end_of, past, row_after, row_before, start_of, step_visual};
 ghost use Rattle.bx_view.specs.Source.{IsViewBy, Keeps, OfRow, Stands, StandsOn, rows};
 
-use crate::cursor::RowAt;
 use crate::error::ViewError;
 use crate::layout::Layout;
+use crate::row_at::RowAt;
 use crate::source::Source;
 use bx_paragraph::Visual;
 use bx_ucd::BidiData;

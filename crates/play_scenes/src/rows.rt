@@ -4,7 +4,7 @@ ghost use Rattle.std.specs.Prelude.{IsTrue};
 ghost use Rattle.bx_grid.specs.Picture.{IsWithin};
 
 use bx_grid::{Cell, Grid, GridError, Picture};
-use bx_terms::{is_glyph, run_width};
+use bx_terms::{OutOfMemory, is_glyph, run_width};
 use std::alloc::Global;
 
 /// Why rows make no picture.
@@ -20,6 +20,12 @@ impl From<GridError> for RowFault {
             GridError::SizeOutOfRange => RowFault::NoPicture,
             GridError::OutOfMemory => RowFault::OutOfMemory,
         }
+    }
+}
+
+impl From<OutOfMemory> for RowFault {
+    fn from(_error: OutOfMemory) -> Self {
+        RowFault::OutOfMemory
     }
 }
 

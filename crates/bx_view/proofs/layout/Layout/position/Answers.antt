@@ -1,8 +1,8 @@
 use Rattle.std.proofs.Common.{◌+◌, ◌∙◌, ap, arith, refl}
-use Rattle.bx_view.specs.Cursor.{StandsOn, rows_by as text_rows_by}
+use Rattle.bx_view.specs.FoundRow.{StandsOn, rows_by as text_rows_by}
 use Rattle.bx_view.specs.Holding.{Keeps}
 use Rattle.bx_view.specs.TextRows.{row_of}
-use Rattle.bx_view.specs.declared.cursor.RowAt.{RowAt}
+use Rattle.bx_view.specs.declared.row_at.RowAt.{RowAt}
 use Rattle.bx_view.proofs.Told.{cell-told, stands}
 use Rattle.bx_view.proofs.UnitNumbers.{number-short, number-told}
 use Rattle.bx_view.proofs.layout.Layout.position.Goals as goal

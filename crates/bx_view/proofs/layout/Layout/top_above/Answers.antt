@@ -1,5 +1,5 @@
 use Rattle.std.proofs.Common.{◌≡◌, ℕ, ◌+◌, ◌-◌, ◌<◌, arith, refl, subst}
-use Rattle.bx_view.specs.Cursor.{IsBefore, StandsOn}
+use Rattle.bx_view.specs.FoundRow.{IsBefore, StandsOn}
 use Rattle.bx_view.specs.Top.{nearest_top}
 use Rattle.bx_view.proofs.Beyond.{keeps-then}
 use Rattle.bx_view.proofs.TopRow.{at-or-above, behind-it, top-furthest, top-reached}

@@ -1,7 +1,7 @@
 use Rattle.std.proofs.Common.{◌+◌, length, string_bytes}
 use Rattle.bx_text.specs.Edits.{IsRange}
-use Rattle.bx_document.proofs.WindowTold.{pushed_part}
-use Rattle.bx_document.proofs.window.push_range.Goals as goal
+use Rattle.bx_document.proofs.TouchedTold.{pushed_part}
+use Rattle.bx_document.proofs.touched.push_range.Goals as goal
 
 pub loop-at-preserved : goal.loop-at-preserved
 loop-at-preserved c =

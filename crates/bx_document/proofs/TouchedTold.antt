@@ -1,4 +1,4 @@
--- Where a window begins and ends, as an index of the text tells it.
+-- Where the touched paragraphs begin and end, as an index of the text tells it.
 use Rattle.std.proofs.Common.{◌≡◌, ℕ, ◌+◌, ◌-◌, ◌<◌, ◌≤◌, List, ◌++◌, length, take, drop, get_or, slice_get, slice_range, Some, IsUtf8, IsCharBoundary}
 use Rattle.std.proofs.Common.{sym, ap, subst, ◌∙◌, arith, append_assoc}
 use Rattle.std.proofs.lemmas.List.{drop-drop}
@@ -12,8 +12,8 @@ use Rattle.bx_paras.proofs.Asked.{separator_at, span_at}
 use Rattle.bx_paras.proofs.Totals.{total_more}
 use Rattle.bx_view.proofs.Begins.{take_parts}
 use Rattle.bx_view.proofs.Numbers.{falls-at, lengths-count}
-use Rattle.bx_document.specs.Window.{window_start, window_stop}
-use Rattle.bx_document.proofs.WindowPlace.{back_is, front_is}
+use Rattle.bx_document.specs.Touched.{touched_start, touched_stop}
+use Rattle.bx_document.proofs.TouchedPlace.{back_is, front_is}
 
 -- one part more of what stands from one offset to another
 pub pushed_part : (text was part now all : List ℕ) (at stop : ℕ) → now ≡ was ++ part → take (length part) (drop at text) ≡ part → at + length part ≤ stop
@@ -37,7 +37,7 @@ module _ (class : ℕ → Class) (text : List ℕ) (ls : List Lengths) (utf8 : I
       let falls = falls-at class text offset n utf8 (e ∙ ap (λ ks. paragraph_of ks offset) same) in
       omega (arith, falls.within, lengths-count class text, ap length same)
 
-  pub start_told : (start n : ℕ) (s : ℕ × ℕ) → n ≡ paragraph_of ls (start - 1) → slice_get (spans ls) n ≡ Some s → s.0 ≡ window_start class text start
+  pub start_told : (start n : ℕ) (s : ℕ × ℕ) → n ≡ paragraph_of ls (start - 1) → slice_get (spans ls) n ≡ Some s → s.0 ≡ touched_start class text start
   start_told start n (a, b) e f =
       let told = span_at 0 n ls none (there (start - 1) n e) in
       let both = some_pair_parts a (0 + total (take n ls)) b (0 + total (take n ls) + (get_or ls n none).body) (sym f ∙ told) in
@@ -51,7 +51,7 @@ module _ (class : ℕ → Class) (text : List ℕ) (ls : List Lengths) (utf8 : I
       (record { start_bounds = front.bounds; stop_bounds = bounds; in_order = front.order })
 
   pub stop_told : (stop n : ℕ) (s : ℕ × ℕ) (k : ℕ) → n ≡ paragraph_of ls stop → slice_get (spans ls) n ≡ Some s → slice_get (separators ls) n ≡ Some k
-      → s.1 + k ≡ window_stop class text stop
+      → s.1 + k ≡ touched_stop class text stop
   stop_told stop n (a, b) k e f g =
       let within = there stop n e in
       let told = span_at 0 n ls none within in
@@ -60,11 +60,11 @@ module _ (class : ℕ → Class) (text : List ℕ) (ls : List Lengths) (utf8 : I
       omega (arith, both.1, behind, total_more ls n none within) ∙ ap (λ m. total (take (m + 1) ls)) e
       ∙ ap (λ ks. total (take (paragraph_of ks stop + 1) ks)) same
 
-  pub stop_range : (stop : ℕ) → IsCharBoundary text stop → IsRange text stop (window_stop class text stop)
+  pub stop_range : (stop : ℕ) → IsCharBoundary text stop → IsRange text stop (touched_stop class text stop)
   stop_range stop bounds =
       let back = back_is class text utf8 stop bounds.0 in record { start_bounds = bounds; stop_bounds = back.bounds; in_order = back.reached }
 
-  pub stop_inside : (stop : ℕ) → IsCharBoundary text stop → window_stop class text stop ≤ length text
+  pub stop_inside : (stop : ℕ) → IsCharBoundary text stop → touched_stop class text stop ≤ length text
   stop_inside stop bounds =
-      let range : IsRange text stop (window_stop class text stop) = stop_range stop bounds in
-      let last : IsCharBoundary text (window_stop class text stop) = range.stop_bounds in last.0
+      let range : IsRange text stop (touched_stop class text stop) = stop_range stop bounds in
+      let last : IsCharBoundary text (touched_stop class text stop) = range.stop_bounds in last.0

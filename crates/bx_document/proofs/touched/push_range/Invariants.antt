@@ -1,7 +1,7 @@
 -- What was put behind the characters stands before the offset.
 use Rattle.std.proofs.Common.{◌≡◌, ◌-◌, ◌++◌, slice_range, string_bytes}
 use Rattle.bx_text.specs.Edits.{IsRange}
-use Rattle.bx_document.proofs.window.push_range.Given as goal
+use Rattle.bx_document.proofs.touched.push_range.Given as goal
 
 abbrev pub invariant-loop-at : goal.invariant-loop-at
 invariant-loop-at l = record {

@@ -1,7 +1,7 @@
 use Rattle.std.proofs.Common.{ap, ◌∙◌, ◌-◌}
 use Rattle.bx_paras.specs.Positions.{paragraph_of}
-use Rattle.bx_document.proofs.WindowTold.{start_range, start_told, there}
-use Rattle.bx_document.proofs.window.start_before.Goals as goal
+use Rattle.bx_document.proofs.TouchedTold.{start_range, start_told, there}
+use Rattle.bx_document.proofs.touched.start_before.Goals as goal
 
 pub span-requires : goal.span-requires
 span-requires g c =

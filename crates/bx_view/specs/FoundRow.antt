@@ -3,7 +3,7 @@ use Rattle.std.specs.Prelude.{◌≡◌, ℕ, ◌+◌, ◌-◌, ◌<◌, true, L
 use Rattle.bx_terms.specs.Sizes.{is_side}
 use Rattle.bx_ucd.specs.declared.class.Class.{Class}
 use Rattle.bx_ucd.specs.declared.data.Side.{Side}
-use Rattle.bx_view.specs.declared.cursor.RowAt.{RowAt}
+use Rattle.bx_view.specs.declared.row_at.RowAt.{RowAt}
 use Rattle.bx_view.specs.Holding.{HoldsBody, ViewState}
 use Rattle.bx_view.specs.Standing.{IsRow, body_at, start_at}
 use Rattle.bx_view.specs.TextRows.{TextRow, row_at, text_rows}

@@ -6,14 +6,14 @@ use Rattle.bx_paras.specs.Positions.{paragraph_of}
 use Rattle.bx_view.specs.Standing.{start_at}
 
 -- where the paragraph begins that the byte before an offset stands in
-abbrev pub window_start : (ℕ → Class) → List ℕ → ℕ → ℕ
-window_start class text start = start_at class text (paragraph_of (lengths class text) (start - 1))
+abbrev pub touched_start : (ℕ → Class) → List ℕ → ℕ → ℕ
+touched_start class text start = start_at class text (paragraph_of (lengths class text) (start - 1))
 
 -- the end, with its separator, of the paragraph that an offset falls in
-abbrev pub window_stop : (ℕ → Class) → List ℕ → ℕ → ℕ
-window_stop class text stop = start_at class text (paragraph_of (lengths class text) stop + 1)
+abbrev pub touched_stop : (ℕ → Class) → List ℕ → ℕ → ℕ
+touched_stop class text stop = start_at class text (paragraph_of (lengths class text) stop + 1)
 
 -- what stands between them once bytes stand instead of those from start to stop
-abbrev pub window : (ℕ → Class) → List ℕ → ℕ → ℕ → List ℕ → List ℕ
-window class text start stop new =
-    slice_range text (window_start class text start) start ++ new ++ slice_range text stop (window_stop class text stop)
+abbrev pub touched : (ℕ → Class) → List ℕ → ℕ → ℕ → List ℕ → List ℕ
+touched class text start stop new =
+    slice_range text (touched_start class text start) start ++ new ++ slice_range text stop (touched_stop class text stop)

@@ -1,11 +1,11 @@
 //! The part of a text that tells the place behind an edit: the paragraphs that the edit touches, as they are after it.
 ghost use Rattle.std.specs.Prelude.{◌≡◌, ◌≤◌, ◌+◌, ◌++◌, true, IfOk, IsCharBoundary, IsErrOf, OnErr, OnOk, length, slice_range, string_bytes};
 ghost use Rattle.bx_text.specs.Edits.{IsRange, fits, splice};
-ghost use Rattle.bx_view.specs.Cursor.{rows_by};
+ghost use Rattle.bx_view.specs.FoundRow.{rows_by};
 ghost use Rattle.bx_view.specs.Holding.{IsViewBy, Keeps};
 ghost use Rattle.bx_view.specs.Moves.{place_from};
 ghost use Rattle.bx_view.specs.Source.{bytes};
-ghost use Rattle.bx_document.specs.Window.{window, window_start, window_stop};
+ghost use Rattle.bx_document.specs.Touched.{touched, touched_start, touched_stop};
 
 use bx_paras::Index;
 use bx_terms::OutOfMemory;
@@ -18,7 +18,7 @@ use std::ops::Range;
 /// Where the paragraph begins that the byte before an offset stands in. No memory.
 fn start_before<D: BidiData>(source: &Source<'_, D>, start: usize) -> usize
     requires bounds { IsCharBoundary (bytes source.now) start }
-    ensures start { result ≡ window_start (D.class_of source.now.tables.now) (bytes source.now) start }
+    ensures start { result ≡ touched_start (D.class_of source.now.tables.now) (bytes source.now) start }
     ensures range { IsRange (bytes source.now) result start }
 {
     let number = source.index.paragraph_of(start.saturating_sub(1));
@@ -28,7 +28,7 @@ fn start_before<D: BidiData>(source: &Source<'_, D>, start: usize) -> usize
 /// The end, with its separator, of the paragraph that an offset falls in. No memory.
 fn stop_behind<D: BidiData>(source: &Source<'_, D>, stop: usize) -> usize
     requires bounds { IsCharBoundary (bytes source.now) stop }
-    ensures stop { result ≡ window_stop (D.class_of source.now.tables.now) (bytes source.now) stop }
+    ensures stop { result ≡ touched_stop (D.class_of source.now.tables.now) (bytes source.now) stop }
     ensures range { IsRange (bytes source.now) stop result }
 {
     let number = source.index.paragraph_of(stop);
@@ -55,7 +55,7 @@ fn push_range(
 }
 
 /// Where the paragraphs begin that an edit touches, and their text after it.
-fn window<D: BidiData>(
+fn touched<D: BidiData>(
     alloc: Global,
     source: &Source<'_, D>,
     start: usize,
@@ -64,9 +64,9 @@ fn window<D: BidiData>(
 ) -> Result<(usize, String), AllocError>
     requires range { IsRange (bytes source.now) start stop }
     requires fits { fits (bytes source.now) start stop new.now ≡ true }
-    ensures start { IfOk result (λ w. w.0 ≡ window_start (D.class_of source.now.tables.now) (bytes source.now) start) }
+    ensures start { IfOk result (λ w. w.0 ≡ touched_start (D.class_of source.now.tables.now) (bytes source.now) start) }
     ensures order { IfOk result (λ w. w.0 ≤ start) }
-    ensures text { IfOk result (λ w. string_bytes w.1 ≡ window (D.class_of source.now.tables.now) (bytes source.now) start stop new.now) }
+    ensures text { IfOk result (λ w. string_bytes w.1 ≡ touched (D.class_of source.now.tables.now) (bytes source.now) start stop new.now) }
 {
     let first = start_before(source, start);
     let last = stop_behind(source, stop);
@@ -105,7 +105,7 @@ fn place_in<D: BidiData>(
 /// paragraphs that it touches.
 ///
 /// Errors: `OutOfMemory`.
-pub(crate) fn place_in_window<D: BidiData>(
+pub(crate) fn place_in_touched<D: BidiData>(
     alloc: Global,
     source: &Source<'_, D>,
     layout: &mut Layout,
@@ -122,7 +122,7 @@ pub(crate) fn place_in_window<D: BidiData>(
 {
     // tells the proof what sides a window may have
     let _side = layout.width();
-    let (first, characters) = window(alloc, source, range.start, range.end, new)?;
+    let (first, characters) = touched(alloc, source, range.start, range.end, new)?;
     // They are no more bytes than the text has after the edit.
     let offset = range.start - first + new.len();
     let place = place_in(alloc, characters, source.tables, layout, offset)?;

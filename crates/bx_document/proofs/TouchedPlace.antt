@@ -22,10 +22,10 @@ use Rattle.bx_view.proofs.Begins.{begin_at, drop_parts, no_chars, some_chars, ta
 use Rattle.bx_view.proofs.Cutting.{parts_ahead, parts_behind}
 use Rattle.bx_view.proofs.LeastPlace.{place_before_back, place_behind_front}
 use Rattle.bx_view.proofs.Numbers.{falls-at, holds-of, lengths-count, some-paragraph}
-use Rattle.bx_document.specs.Window.{window, window_start, window_stop}
+use Rattle.bx_document.specs.Touched.{touched, touched_start, touched_stop}
 
 module _ (class : ℕ → Class) (text : List ℕ) (utf8 : IsUtf8 text) where
-  -- ---- where a window begins and ends
+  -- ---- where the touched paragraphs begin and end
 
   pub record IsFront (start at : ℕ) : Type 0 where
     pub bounds : IsCharBoundary text at
@@ -33,11 +33,11 @@ module _ (class : ℕ → Class) (text : List ℕ) (utf8 : IsUtf8 text) where
     pub some : (at ≡ 0) ⊎ (at < start)
     pub parts : parts class (chars (take at text)) (chars (drop at text)) ≡ true
 
-  pub front_is : (start : ℕ) → IsFront start (window_start class text start)
+  pub front_is : (start : ℕ) → IsFront start (touched_start class text start)
   front_is start =
       let falls = falls-at class text (start - 1) (paragraph_of (lengths class text) (start - 1)) utf8 refl in
       let begin = begin_at class text utf8 (paragraph_of (lengths class text) (start - 1)) falls.within in
-      let at = window_start class text start in
+      let at = touched_start class text start in
       record {
         bounds = begin.bounds;
         order = omega (arith, falls.order);
@@ -64,17 +64,17 @@ module _ (class : ℕ → Class) (text : List ℕ) (utf8 : IsUtf8 text) where
       record { bounds = subst (IsCharBoundary text) (sym all) (IsCharBoundary-end text); reached = omega (arith, all, inside); ends = inl all })
       (cases_lt (n + 1) (count class text))
 
-  pub back_is : (stop : ℕ) → stop ≤ length text → IsBack stop (window_stop class text stop)
+  pub back_is : (stop : ℕ) → stop ≤ length text → IsBack stop (touched_stop class text stop)
   back_is stop inside = back_at stop (paragraph_of (lengths class text) stop) inside refl
 
   -- ---- the text after an edit
 
   module _ (start stop : ℕ) (new : List ℕ) (range : IsRange text start stop) (new_utf8 : IsUtf8 new) where
     abbrev a : ℕ
-    a = window_start class text start
+    a = touched_start class text start
 
     abbrev b : ℕ
-    b = window_stop class text stop
+    b = touched_stop class text stop
 
     abbrev before : List ℕ
     before = take a text
@@ -89,7 +89,7 @@ module _ (class : ℕ → Class) (text : List ℕ) (utf8 : IsUtf8 text) where
     behind_all = drop b text
 
     abbrev mine : List ℕ
-    mine = window class text start stop new
+    mine = touched class text start stop new
 
     stop_inside : stop ≤ length text
     stop_inside = let bounds : IsCharBoundary text stop = range.stop_bounds in bounds.0
@@ -137,7 +137,7 @@ module _ (class : ℕ → Class) (text : List ℕ) (utf8 : IsUtf8 text) where
     mine_bytes : length mine ≡ start - a + length new + length tail
     mine_bytes = omega (arith, length-append (head ++ new) tail, length-append head new, head_bytes)
 
-    -- in front of the window the same paragraphs end as before the edit
+    -- in front of them the same paragraphs end as before the edit
     front_at : (a ≡ 0) ⊎ (a < start) → parts class (chars before) (chars (mine ++ behind_all)) ≡ true
     front_at (inl none) =
         let bare : chars before ≡ [] = ap (λ n. chars (take n text)) none ∙ no_chars in
@@ -151,7 +151,7 @@ module _ (class : ℕ → Class) (text : List ℕ) (utf8 : IsUtf8 text) where
         ∙ parts_ahead class (chars before) (chars head) (chars (drop start text)) (chars rest) some
         (ap (parts class (chars before)) (sym (ap chars was ∙ chars-append head (drop start text) head_utf8)) ∙ front.parts)
 
-    -- the place behind what stands in a window is that in front of what stands behind it
+    -- the place behind what stands in them is that in front of what stands behind them
     back_at_end : (offset : ℕ) (bracket : ℕ → Option (Side × ℕ)) (base : Base) (w : ℕ) → 1 ≤ w → offset ≤ length mine
         → (b ≡ length text) ⊎ ((stop < b) × (parts class (chars (take b text)) (chars (drop b text)) ≡ true))
         → place_from (text_rows class bracket base w (mine ++ behind_all)) offset ≡ place_from (text_rows class bracket base w mine) offset
@@ -172,10 +172,10 @@ module _ (class : ℕ → Class) (text : List ℕ) (utf8 : IsUtf8 text) where
         place_before_back class bracket base w h mine behind_all offset mine_utf8 behind_utf8 q within
 
     -- the place behind an edit
-    pub window_place : (bracket : ℕ → Option (Side × ℕ)) (base : Base) (w : ℕ) → 1 ≤ w
+    pub touched_place : (bracket : ℕ → Option (Side × ℕ)) (base : Base) (w : ℕ) → 1 ≤ w
         → place_from (text_rows class bracket base w (splice text start stop new)) (start + length new)
         ≡ a + place_from (text_rows class bracket base w mine) (start - a + length new)
-    window_place bracket base w h =
+    touched_place bracket base w h =
         let offset = start + length new in
         let inner : offset - length before ≡ start - a + length new = omega (arith, before_bytes, front.order) in
         ap (λ bs. place_from (text_rows class bracket base w bs) offset) whole
