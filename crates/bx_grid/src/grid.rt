@@ -7,13 +7,13 @@ ghost use Rattle.bx_grid.specs.Seen.{seen, all_seen};
 ghost use Rattle.bx_grid.specs.Picture.{GridState, HasRoom, IsGrid, IsWithin, is_size};
 ghost use Rattle.bx_terms.specs.Sizes.{largest_side};
 
+use crate::borrowed_row::BorrowedRow;
 use crate::cell::Cell;
 use crate::codes::{blank_codes, note_codes, set_column};
 use crate::column::Column;
 use crate::columns::{are_blank, blank_columns, put_over_blanks};
 use crate::error::GridError;
 use crate::glyph_text::SHORT;
-use crate::row::Row;
 use bx_terms::{OutOfMemory, is_side, run_width};
 use std::alloc::{AllocError, Global};
 use std::marker::Model;
@@ -151,7 +151,7 @@ impl Grid {
     }
 
     /// A row, from 0.
-    pub fn row(&self, row: u16) -> Row<'_>
+    pub fn row(&self, row: u16) -> BorrowedRow<'_>
         requires { row < self.now.height }
         ensures row { result ≡ take self.now.width (drop (row * self.now.width) self.now.columns) }
         ensures width { length result ≡ self.now.width }
@@ -159,7 +159,7 @@ impl Grid {
     {
         let start = row as usize * self.width as usize;
         let stop = start + self.width as usize;
-        Row::new(&self.columns[start..stop], &self.codes[start..stop])
+        BorrowedRow::new(&self.columns[start..stop], &self.codes[start..stop])
     }
 
     /// How many rows, from 1 to 500.

@@ -8,6 +8,7 @@ ghost use Rattle.bx_grid.specs.Glyphs.{ShareWholeGlyphs, DifferInWholeGlyphs};
 ghost use Rattle.bx_grid.specs.Picture.{PictureState, IsPicture};
 ghost use Rattle.bx_grid.specs.Terminal.{Terminal, reads, after_resize};
 
+mod borrowed_row;
 mod cell;
 mod codes;
 mod column;
@@ -19,13 +20,13 @@ mod laws;
 mod live;
 mod owned_row;
 mod picture;
-mod row;
 mod screen;
 mod sequence;
 mod text;
 mod token;
 mod width;
 
+pub use borrowed_row::BorrowedRow;
 pub use cell::Cell;
 pub use column::{Column, all_same};
 pub use error::GridError;
@@ -34,7 +35,6 @@ pub use grid::Grid;
 pub use laws::reads_tokens;
 pub use owned_row::OwnedRow;
 pub use picture::Picture;
-pub use row::Row;
 pub use screen::Screen;
 
 /// However the bytes are cut, reading them piece by piece is reading them at once.

@@ -4,11 +4,11 @@ ghost use Rattle.std.specs.Prelude.{List, ◌≡◌, ◌+◌, ◌-◌, ◌*◌, 
 ghost use Rattle.bx_grid.specs.Columns.{Col, blank, paste, AreSameAround};
 ghost use Rattle.bx_grid.specs.Seen.{all_seen};
 
+use crate::borrowed_row::BorrowedRow;
 use crate::codes::note_codes;
 use crate::column::Column;
 use crate::columns::fill_blank;
 use crate::grid::Grid;
-use crate::row::Row;
 use bx_terms::OutOfMemory;
 use std::alloc::{AllocError, Global};
 use std::marker::Model;
@@ -44,10 +44,10 @@ impl OwnedRow {
     }
 
     /// The row, lent.
-    pub fn as_row(&self) -> Row<'_>
+    pub fn as_row(&self) -> BorrowedRow<'_>
         ensures { result ≡ self.now }
     {
-        Row::new(&self.columns, &self.codes)
+        BorrowedRow::new(&self.columns, &self.codes)
     }
 }
 

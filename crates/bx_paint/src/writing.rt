@@ -10,7 +10,7 @@ ghost use Rattle.bx_paint.specs.Painting.{rows_sent};
 
 use crate::numbers::{write_column_number, write_line_number};
 use crate::output::Output;
-use bx_grid::{Column, GlyphText, Grid, Row};
+use bx_grid::{BorrowedRow, Column, GlyphText, Grid};
 use std::alloc::AllocError;
 
 /// Sends the cursor to a row and a column, from 0.
@@ -65,7 +65,7 @@ fn write_glyph(
 }
 
 /// Whether both begin with the same columns, so many or all that there are.
-fn is_same_front(old: &Row<'_>, new: &Row<'_>, count: u16) -> bool
+fn is_same_front(old: &BorrowedRow<'_>, new: &BorrowedRow<'_>, count: u16) -> bool
     ensures { result ≡ are_equal (take count old.now) (take count new.now) }
 {
     let count = count as usize;
@@ -76,7 +76,7 @@ fn is_same_front(old: &Row<'_>, new: &Row<'_>, count: u16) -> bool
 }
 
 /// Whether the columns begin with a glyph of which a column differs from the old ones.
-fn is_sent(old: &Row<'_>, new: &Row<'_>) -> bool
+fn is_sent(old: &BorrowedRow<'_>, new: &BorrowedRow<'_>) -> bool
     ensures { result ≡ spec.is_sent old.now new.now }
 {
     match new.columns().first() {
@@ -97,8 +97,8 @@ fn write_column(
     row: u16,
     column: u16,
     pen: Pen,
-    old: &Row<'_>,
-    new: &Row<'_>,
+    old: &BorrowedRow<'_>,
+    new: &BorrowedRow<'_>,
 ) -> Result<Pen, AllocError>
     requires small { (row < 65535) × (column < 65535) }
     ensures bytes { OnOk result (out.new.painting ≡ out.old.painting ++ (column_sent row column pen.near pen.negative old.now new.now).bytes) }
@@ -128,8 +128,8 @@ fn write_at(
     row: u16,
     index: usize,
     pen: Pen,
-    old: &Row<'_>,
-    new: &Row<'_>,
+    old: &BorrowedRow<'_>,
+    new: &BorrowedRow<'_>,
 ) -> Result<Pen, AllocError>
     requires small { (row < 65535) × (length new.now < 65535) }
     requires same { length old.now ≡ length new.now }
@@ -162,8 +162,8 @@ fn write_columns(
     out: &mut Output,
     row: u16,
     negative: bool,
-    old: &Row<'_>,
-    new: &Row<'_>,
+    old: &BorrowedRow<'_>,
+    new: &BorrowedRow<'_>,
 ) -> Result<bool, AllocError>
     requires small { (row < 65535) × (length new.now < 65535) }
     requires same { length old.now ≡ length new.now }
@@ -237,8 +237,8 @@ fn write_changed_row(
     out: &mut Output,
     row: u16,
     negative: bool,
-    old: &Row<'_>,
-    new: &Row<'_>,
+    old: &BorrowedRow<'_>,
+    new: &BorrowedRow<'_>,
 ) -> Result<bool, AllocError>
     requires small { (row < 65535) × (length new.now < 65535) }
     requires same { length old.now ≡ length new.now }
@@ -256,8 +256,8 @@ fn write_row(
     out: &mut Output,
     row: u16,
     negative: bool,
-    old: &Row<'_>,
-    new: &Row<'_>,
+    old: &BorrowedRow<'_>,
+    new: &BorrowedRow<'_>,
 ) -> Result<bool, AllocError>
     requires small { (row < 65535) × (length new.now < 65535) }
     requires same { length old.now ≡ length new.now }
@@ -288,7 +288,11 @@ pub fn write_rows(out: &mut Output, old: &Grid, new: &Grid) -> Result<bool, Allo
 }
 
 /// Sends all rows of a grid that stand where blanks are, of which one row is given.
-pub fn write_over_blanks(out: &mut Output, blanks: &Row<'_>, new: &Grid) -> Result<bool, AllocError>
+pub fn write_over_blanks(
+    out: &mut Output,
+    blanks: &BorrowedRow<'_>,
+    new: &Grid,
+) -> Result<bool, AllocError>
     requires { blanks.now ≡ replicate new.now.width blank }
     ensures bytes { OnOk result (out.new.painting ≡ out.old.painting
         ++ (rows_sent new.now.height 0 new.now.width false (replicate (new.now.height * new.now.width) blank) new.now.columns).bytes) }

@@ -3,7 +3,7 @@ use Rattle.std.proofs.lemmas.List.{length-map}
 use Rattle.bx_grid.specs.Codes.{code_of}
 use Rattle.bx_grid.specs.Seen.{all_seen}
 use Rattle.bx_grid.proofs.Coded.{code_at, inside_told, narrow_told, wide_told}
-use Rattle.bx_grid.proofs.row.Row.begins_alike.Goals as goal
+use Rattle.bx_grid.proofs.borrowed_row.BorrowedRow.begins_alike.Goals as goal
 
 pub returns-then-offset_in-gt0 : goal.returns-then-offset_in-gt0
 returns-then-offset_in-gt0 c test =

@@ -12,13 +12,13 @@ use std::marker::Model;
 
 /// Columns of one row of a grid, side by side.
 #[derive(Drop)]
-pub struct Row<'g> {
+pub struct BorrowedRow<'g> {
     columns: &'g [Column],
     codes: &'g [u64],
 }
 
 // Clauses see what the columns show.
-impl<'g> Model for Row<'g> {
+impl<'g> Model for BorrowedRow<'g> {
     ghost use Rattle.std.specs.Prelude.{◌≡◌, List};
     ghost use Rattle.bx_grid.specs.Columns.{Col};
     ghost use Rattle.bx_grid.specs.Codes.{codes_of};
@@ -31,13 +31,13 @@ impl<'g> Model for Row<'g> {
     ghost invariant = { λ r. r.codes.now ≡ codes_of (all_seen r.columns.now) };
 }
 
-impl<'g> Row<'g> {
+impl<'g> BorrowedRow<'g> {
     /// The row of these columns, whose codes these are.
-    pub(crate) fn new(columns: &'g [Column], codes: &'g [u64]) -> Row<'g>
+    pub(crate) fn new(columns: &'g [Column], codes: &'g [u64]) -> BorrowedRow<'g>
         requires { codes.now ≡ codes_of (all_seen columns.now) }
         ensures { result ≡ all_seen columns.now }
     {
-        Row { columns, codes }
+        BorrowedRow { columns, codes }
     }
 
     /// What stands in its columns, from the left.
@@ -48,24 +48,24 @@ impl<'g> Row<'g> {
     }
 
     /// Its first columns, or all where there are fewer.
-    pub fn front(&self, count: usize) -> Row<'g>
+    pub fn front(&self, count: usize) -> BorrowedRow<'g>
         ensures { result ≡ take count self.now }
     {
         let end = self.columns.len().min(count);
-        Row::new(&self.columns[..end], &self.codes[..end])
+        BorrowedRow::new(&self.columns[..end], &self.codes[..end])
     }
 
     /// Its columns from one on.
-    pub fn rest(&self, from: usize) -> Row<'g>
+    pub fn rest(&self, from: usize) -> BorrowedRow<'g>
         requires { from ≤ length self.now }
         ensures { result ≡ drop from self.now }
     {
-        Row::new(&self.columns[from..], &self.codes[from..])
+        BorrowedRow::new(&self.columns[from..], &self.codes[from..])
     }
 
     /// Whether codes tell that a glyph which begins in the other row at an index stands in this one too. It is true where no
     /// glyph begins in a column that both have, and false where a glyph has more than two columns or no code of its own.
-    pub fn begins_alike(&self, other: &Row<'_>, index: usize) -> bool
+    pub fn begins_alike(&self, other: &BorrowedRow<'_>, index: usize) -> bool
         requires inside { index < length self.now }
         requires also { index < length other.now }
         ensures { result ≡ true → BeginAlike (drop index self.now) (drop index other.now) }
@@ -91,7 +91,7 @@ impl<'g> Row<'g> {
     }
 
     /// Whether codes tell that both begin with different columns.
-    pub fn begins_otherwise(&self, other: &Row<'_>) -> bool
+    pub fn begins_otherwise(&self, other: &BorrowedRow<'_>) -> bool
         ensures { result ≡ true → (n : ℕ) → 0 < n → are_equal (take n self.now) (take n other.now) ≡ false }
     {
         let codes = self.codes;
@@ -103,7 +103,7 @@ impl<'g> Row<'g> {
     }
 
     /// Whether both show the same.
-    pub fn is_same(&self, other: &Row<'_>) -> bool
+    pub fn is_same(&self, other: &BorrowedRow<'_>) -> bool
         ensures { result ≡ are_equal self.now other.now }
     {
         are_same(self.columns, self.codes, other.columns, other.codes)

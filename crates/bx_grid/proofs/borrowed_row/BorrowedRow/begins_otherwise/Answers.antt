@@ -1,6 +1,6 @@
 use Rattle.bx_grid.specs.Seen.{all_seen}
 use Rattle.bx_grid.proofs.Coded.{begin_otherwise}
-use Rattle.bx_grid.proofs.row.Row.begins_otherwise.Goals as goal
+use Rattle.bx_grid.proofs.borrowed_row.BorrowedRow.begins_otherwise.Goals as goal
 
 pub returns-in-len1-up-len1-up : goal.returns-in-len1-up-len1-up
 returns-in-len1-up-len1-up c test =

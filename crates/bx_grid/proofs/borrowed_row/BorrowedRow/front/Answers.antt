@@ -2,7 +2,7 @@ use Rattle.std.proofs.Common.{take, ap, sym, ◌∙◌}
 use Rattle.std.proofs.lemmas.List.{take-map}
 use Rattle.bx_grid.specs.Seen.{seen, all_seen}
 use Rattle.bx_grid.proofs.Coded.{take_codes, take_min}
-use Rattle.bx_grid.proofs.row.Row.front.Goals as goal
+use Rattle.bx_grid.proofs.borrowed_row.BorrowedRow.front.Goals as goal
 
 pub new-requires : goal.new-requires
 new-requires c = take_codes c.min-end.result c.self.inside.columns.now c.self.inside.codes.now c.self.invariant

@@ -3,7 +3,7 @@ use Rattle.std.proofs.lemmas.List.{drop-map, take_rest}
 use Rattle.bx_grid.specs.Codes.{codes_of}
 use Rattle.bx_grid.specs.Seen.{seen, all_seen}
 use Rattle.bx_grid.proofs.Coded.{drop_codes}
-use Rattle.bx_grid.proofs.row.Row.rest.Goals as goal
+use Rattle.bx_grid.proofs.borrowed_row.BorrowedRow.rest.Goals as goal
 
 pub new-requires : goal.new-requires
 new-requires c =
