@@ -62,14 +62,14 @@ fn draw_row<D: BidiData>(
         number,
         width: layout.width(),
     };
-    if let Some(i) = cache.find(row, key) {
+    if let Some(i) = cache.find(row, &key) {
         grid.put_row(row, cache.columns(i))?;
         cache.bring(i, row);
         return Ok(());
     }
     let new = draw_anew(cache.allocator(), layout, source, at)?;
     grid.put_row(row, &new)?;
-    cache.keep(key, new, row, count);
+    cache.keep(&key, new, row, count);
     Ok(())
 }
 

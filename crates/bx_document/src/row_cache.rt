@@ -61,8 +61,8 @@ impl Model for RowCache {
 
 impl DrawnRow {
     /// Whether it is the row that is asked for. No memory.
-    fn is_of(&self, key: RowKey<'_>) -> bool
-        ensures { IsTrue result → IsRowOf key.body.now key.base key.number key.width self.now }
+    fn is_of(&self, key: &RowKey<'_>) -> bool
+        ensures { IsTrue result → IsRowOf key.now.body.now key.now.base key.now.number key.now.width self.now }
     {
         self.number == key.number
             && self.base == key.base
@@ -72,15 +72,15 @@ impl DrawnRow {
 }
 
 /// Whether the row of the number `i` of those that are kept is the one that is asked for. No memory.
-fn is_kept(rows: &[DrawnRow], i: usize, key: RowKey<'_>) -> bool
-    ensures { IsTrue result → HoldsRow key.body.now key.base key.number key.width rows.now i }
+fn is_kept(rows: &[DrawnRow], i: usize, key: &RowKey<'_>) -> bool
+    ensures { IsTrue result → HoldsRow key.now.body.now key.now.base key.now.number key.now.width rows.now i }
 {
     i < rows.len() && rows[i].is_of(key)
 }
 
 /// Which of the rows that are kept, from the number `start` on, is the one that is asked for. No memory.
-fn position(rows: &[DrawnRow], start: usize, key: RowKey<'_>) -> Option<usize>
-    ensures { IfSome result (HoldsRow key.body.now key.base key.number key.width rows.now) }
+fn position(rows: &[DrawnRow], start: usize, key: &RowKey<'_>) -> Option<usize>
+    ensures { IfSome result (HoldsRow key.now.body.now key.now.base key.now.number key.now.width rows.now) }
 {
     for i in start..rows.len() {
         if is_kept(rows, i, key) {
@@ -133,8 +133,8 @@ impl RowCache {
     }
 
     /// The number of a row among those that are kept; it is looked for from its number in the page on. No memory.
-    pub(crate) fn find(&self, at: u16, key: RowKey<'_>) -> Option<usize>
-        ensures { IfSome result (HoldsRow key.body.now key.base key.number key.width self.now) }
+    pub(crate) fn find(&self, at: u16, key: &RowKey<'_>) -> Option<usize>
+        ensures { IfSome result (HoldsRow key.now.body.now key.now.base key.now.number key.now.width self.now) }
     {
         position(&self.rows, at as usize, key)
     }
@@ -156,9 +156,9 @@ impl RowCache {
     }
 
     /// Keeps the columns of a row at its number in the page of `count` rows. One that there is no memory for is not kept.
-    pub(crate) fn keep(&mut self, key: RowKey<'_>, columns: OwnedRow, at: u16, count: u16)
+    pub(crate) fn keep(&mut self, key: &RowKey<'_>, columns: OwnedRow, at: u16, count: u16)
         ensures { (d : Data) → AreDrawnBy d self.old
-            → IsDrawnBy d (record { body = key.body.now; base = key.base; number = key.number; columns = columns })
+            → IsDrawnBy d (record { body = key.now.body.now; base = key.now.base; number = key.now.number; columns = columns })
             → AreDrawnBy d self.new }
     {
         if key.body.len() > LARGEST_BODY {
