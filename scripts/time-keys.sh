@@ -1,11 +1,12 @@
 #!/bin/sh
-# time-keys.sh [TEXT [BYTES]]: what a key costs in one paragraph of so many bytes, 1,000,000 unless named, of TEXT: hebrew, arabic,
-# ascii or mixed; all four where none is named. The built program takes its keys from a file, in a window of 24x80: those that lead
-# to a place, what the key erases or undoes, and then 200 of the key or none; five runs are made of each, in turn. A figure is the
-# least user and system time with the keys less the least without them, by 200, in milliseconds. Letters make words, and stand inside
-# a word of the text, but at its end; End and Home alternate. Then comes the most memory of the program, in MB, where so many letters
-# are typed at the paragraph's beginning. It stands beside the gate. The status is 1 where a run ends otherwise than by Quit, and 77
-# where the program is not built or there is no python3.
+# time-keys.sh [--windows] [TEXT [BYTES]]: what a key costs in one paragraph of so many bytes, 1,000,000 unless named, of TEXT: hebrew,
+# arabic, ascii or mixed; all four where none is named. With --windows: what a letter at a line's beginning costs in windows of several
+# sizes, in a text of so many bytes in lines of some 110 characters. The built program takes its keys from a file, in a window of
+# 24x80 but with --windows: those that lead to a place, what the key erases or undoes, and then 200 of the key or none; five runs are
+# made of each, in turn. A figure is the least user and system time with the keys less the least without them, by 200, in
+# milliseconds. Letters make words, and stand inside a word of the text, but at its end; End and Home alternate. Then comes the most
+# memory of the program, in MB, where so many letters are typed at the paragraph's beginning. It stands beside the gate. The status is
+# 1 where a run ends otherwise than by Quit, and 77 where the program is not built or there is no python3.
 set -eu
 
 top=$(cd "$(dirname "$0")/.." && pwd)
@@ -34,6 +35,7 @@ TEXTS = {
     "mixed": "שלום לכל the readers of this, והנה עוד 12 ספרים (books) אשר with a word נקראו היום, and then 7 others [not read], ",
 }
 COUNT, RUNS, LETTERS = 200, 5, (0, 1, 200, 1000)
+WINDOWS = (24, 80), (60, 200), (100, 400), (500, 500)
 DOWN, PAGE, HOME, END, FORWARD = b"\x1b[B", b"\x1b[6~", b"\x1b[H", b"\x1b[F", b"\x06"
 ERASE, UNDO, REPAINT, QUIT = b"\x7f", b"\x1a", b"\x0c", b"\x11\x11"
 WHOLE = b"\x1b[0m\x1b[2J"  # what a whole painting begins with
@@ -88,32 +90,55 @@ def series(lead, word):
     }
 
 
-def print_times(name, places):
-    """The row of each key, with its figure at each place."""
-    least = {run: math.inf for place in places for before, keys in place.values() for run in (before, before + keys)}
+def least_seconds(series):
+    """The least time of a run with the keys before, and of one with the key as well."""
+    least = {run: math.inf for before, keys in series for run in (before, before + keys)}
     for _ in range(RUNS):
         for run in least:
             least[run] = min(least[run], seconds(run))
+    return least
+
+
+def print_windows(name):
+    """The row of a letter in a line, with its figure in each window."""
+    times = []
+    for rows, columns in WINDOWS:
+        command[1:3] = f"--rows={rows}", f"--cols={columns}"
+        before, keys = DOWN * (rows // 2), (TEXTS[name][:5] * COUNT)[:COUNT].encode()
+        least = least_seconds([(before, keys)])
+        times.append(least[before + keys] - least[before])
+    print(f"| a letter | {name} | " + " | ".join(f"{1000 * time / COUNT:.2f}" for time in times) + " |", flush=True)
+
+
+def print_times(name, places):
+    """The row of each key, with its figure at each place."""
+    least = least_seconds([run for place in places for run in place.values()])
     for key in places[0]:
         times = [least[before + keys] - least[before] for before, keys in (place[key] for place in places)]
         print(f"| {key} | {name} | " + " | ".join(f"{1000 * time / COUNT:.2f}" for time in times) + " |", flush=True)
 
 
 parser = argparse.ArgumentParser(prog="time-keys.sh")
+parser.add_argument("--windows", action="store_true")
 parser.add_argument("text", nargs="?", choices=list(TEXTS))
 parser.add_argument("bytes", nargs="?", type=int, default=1_000_000)
 words = parser.parse_args(sys.argv[3:])
 command = [sys.argv[1], "--rows=24", "--cols=80", *(f"--{word}={sys.argv[2]}/{file}.txt" for word, file in FILES.items()), "text"]
 memory = []
-print("| Key, ms | Text | first rows | middle | end |\n|---|---|---|---|---|")
+places = [f"{rows}x{columns}" for rows, columns in WINDOWS] if words.windows else ["first rows", "middle", "end"]
+print("| Key, ms | Text | " + " | ".join(places) + " |\n|---|---|" + "---|" * len(places))
 for name in [words.text] if words.text else TEXTS:
-    text = TEXTS[name] * (words.bytes // len(TEXTS[name].encode()) + 1)
+    text = (TEXTS[name] + "\n" * words.windows) * (words.bytes // len(TEXTS[name].encode()) + 1)
     with open("text", "w", encoding="utf-8") as file:
         file.write(text)
+    if words.windows:
+        print_windows(name)
+        continue
     print_times(name, [series(lead, text[:5]) for lead in leads(len(text), len(TEXTS[name]))])
     memory.append((name, [megabytes((text[:5] * count)[:count].encode()) for count in LETTERS]))
-print("\n| Most memory, MB, after letters: | " + " | ".join(map(str, LETTERS)) + " |\n|---|" + "---|" * len(LETTERS))
-for name, peaks in memory:
-    print(f"| {name} | " + " | ".join(f"{peak:.1f}" for peak in peaks) + " |")
+if memory:
+    print("\n| Most memory, MB, after letters: | " + " | ".join(map(str, LETTERS)) + " |\n|---|" + "---|" * len(LETTERS))
+    for name, peaks in memory:
+        print(f"| {name} | " + " | ".join(f"{peak:.1f}" for peak in peaks) + " |")
 END
 python3 keys.py "$editor" "$top/data" "$@"
