@@ -1,4 +1,4 @@
--- The place behind an edit, as the touched paragraphs tell it and as a document says it.
+-- The place after an edit, as the touched paragraphs tell it and as a document says it.
 use Rattle.std.proofs.Common.{◌≡◌, ℕ, ◌+◌, ◌-◌, ◌≤◌, true, List, ◌++◌, length, take, drop, Option, IsUtf8, IsCharBoundary, sym, ap, subst, ◌∙◌}
 use Rattle.std.proofs.Common.{arith, length-append, length-drop}
 use Rattle.std.proofs.lemmas.Bool.Decides.{nat_tests}
@@ -39,7 +39,7 @@ splice_short text start stop new range e =
     let most : length text - (stop - start) + length new ≤ largest_text = grind (arith, nat_tests) in
     omega (arith, most, splice_bytes text start stop new range)
 
--- the place behind an edit
+-- the place after an edit
 pub record IsBehind (class : ℕ → Class) (bracket : ℕ → Option (Side × ℕ)) (base : Base) (w : ℕ) (text : List ℕ) (start stop : ℕ) (new : List ℕ)
     (o : ℕ) : Type 0 where
   pub place : o ≡ place_from (text_rows class bracket base w (splice text start stop new)) (start + length new)

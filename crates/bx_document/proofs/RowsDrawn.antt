@@ -77,7 +77,7 @@ module _ (old : GridState) (cols : TextRow → List Col) (rows : List TextRow) w
           filled = ap length more ∙ length-append (front cols rows n) (cols r) ∙ omega (arith, is.filled, wide, next);
         }
 
--- blank rows behind them
+-- blank rows after them
 pub all-drawn : (d : Data) (old mid : GridState) (w : ℕ) (rows : List TextRow) (n count : ℕ) (new : GridState) → old.width ≡ w → n ≤ count
     → n ≡ length (take count rows) → take n rows ≡ take count rows → AreDrawn old (row_columns d w) rows n mid
     → new ≡ with_rows mid n (replicate ((count - n) * mid.width) blank)
@@ -101,7 +101,7 @@ all-drawn d old mid w rows n count new width few e same is step =
     ∙ ap (λ cs. record old { columns = cs })
     (sym (append_assoc (flat_map cols shown) (replicate ((count - length shown) * w) blank) (drop (count * old.width) old.columns)))
 
--- so many as are asked for, where there are as many
+-- as many as are asked for, where there are as many
 pub count-drawn : (d : Data) (old : GridState) (w : ℕ) (rows : List TextRow) (count : ℕ) (new : GridState) → count ≤ length rows
     → AreDrawn old (row_columns d w) rows count new
     → new ≡ record old { columns = rows_columns d w count (take count rows) ++ drop (count * old.width) old.columns }

@@ -1,4 +1,4 @@
--- The place behind an edit is told by the paragraphs that the edit touches.
+-- The place after an edit is that in the paragraphs that the edit touches.
 use Rattle.std.proofs.Common.{◌≡◌, ℕ, ◌+◌, ◌-◌, ◌<◌, ◌≤◌, ◌⊎◌, inl, inr, true, List, [], ◌++◌, length, take, drop, chars, slice_range, Option}
 use Rattle.std.proofs.Common.{IsUtf8, IsCharBoundary, refl, sym, ap, subst, ◌∙◌, arith, append_assoc, append-nil, length-append, length-drop}
 use Rattle.std.proofs.Common.{⊎_elim}
@@ -151,7 +151,7 @@ module _ (class : ℕ → Class) (text : List ℕ) (utf8 : IsUtf8 text) where
         ∙ parts_ahead class (chars before) (chars head) (chars (drop start text)) (chars rest) some
         (ap (parts class (chars before)) (sym (ap chars was ∙ chars-append head (drop start text) head_utf8)) ∙ front.parts)
 
-    -- the place behind what stands in them is that in front of what stands behind them
+    -- the place after what stands in them is that in front of what stands after them
     back_at_end : (offset : ℕ) (bracket : ℕ → Option (Side × ℕ)) (base : Base) (w : ℕ) → 1 ≤ w → offset ≤ length mine
         → (b ≡ length text) ⊎ ((stop < b) × (parts class (chars (take b text)) (chars (drop b text)) ≡ true))
         → place_from (text_rows class bracket base w (mine ++ behind_all)) offset ≡ place_from (text_rows class bracket base w mine) offset
@@ -171,7 +171,7 @@ module _ (class : ℕ → Class) (text : List ℕ) (utf8 : IsUtf8 text) where
         (sym (ap chars was ∙ chars-append (take stop text) tail (IsUtf8-take text stop utf8 range.stop_bounds))) ∙ p) in
         place_before_back class bracket base w h mine behind_all offset mine_utf8 behind_utf8 q within
 
-    -- the place behind an edit
+    -- the place after an edit
     pub touched_place : (bracket : ℕ → Option (Side × ℕ)) (base : Base) (w : ℕ) → 1 ≤ w
         → place_from (text_rows class bracket base w (splice text start stop new)) (start + length new)
         ≡ a + place_from (text_rows class bracket base w mine) (start - a + length new)

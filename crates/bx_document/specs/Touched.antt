@@ -1,4 +1,4 @@
--- The part of a text that tells the place behind an edit: the paragraphs that the edit touches, as they are after it.
+-- The part of a text that tells the place after an edit: the paragraphs that the edit touches, as they are after it.
 use Rattle.std.specs.Prelude.{ℕ, ◌+◌, ◌-◌, List, ◌++◌, slice_range}
 use Rattle.bx_ucd.specs.declared.class.Class.{Class}
 use Rattle.bx_paras.specs.Paragraphs.{lengths}

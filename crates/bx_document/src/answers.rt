@@ -3,7 +3,7 @@ ghost use Rattle.bx_document.specs.Data.{Data};
 
 use bx_ucd::BidiData;
 
-/// Tables, told by all that they say of characters.
+/// Tables, by all that they say of characters.
 pub trait Answers {
     ghost data: { Self → Data };
 }

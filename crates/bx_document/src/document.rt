@@ -50,7 +50,7 @@ impl<D: BidiData + Drop> Model for Document<D> {
 }
 
 impl<D: BidiData + Drop> Document<D> {
-    /// A text that has no past and no future, in so many columns. A refusal drops the text and the tables.
+    /// A text that has no past and no future, in `w` columns. A refusal drops the text and the tables.
     ///
     /// Errors: `TooLong` above 16,777,216 bytes; `OutOfMemory`.
     pub fn open(
@@ -120,7 +120,7 @@ impl<D: BidiData + Drop> Document<D> {
         self.layout = Layout::of(self.alloc, self.layout.width(), base);
     }
 
-    /// Lays the text out in so many columns. The paragraphs that the layout holds keep their levels. No memory.
+    /// Lays the text out in `w` columns. The paragraphs that the layout holds keep their levels. No memory.
     pub fn set_width(&mut self, w: u16)
         requires side { is_side w ≡ true }
         ensures { self.new ≡ record self.old { document = record self.old.document { w = w } } }

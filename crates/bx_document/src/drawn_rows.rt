@@ -22,7 +22,6 @@ fn draw_anew<D: BidiData>(
     source: &Source<'_, D>,
     at: RowAt,
 ) -> Result<OwnedRow, OutOfMemory>
-    requires data { IsViewBy source.now layout.now }
     requires row { Stands source.now layout.now at }
     ensures drawn { OfRow source.now layout.now at (λ r. IfOk result (λ row. row ≡ row_columns (answers source.now) layout.now.w r)) }
     ensures filled { IfOk result (λ row. length row ≡ layout.now.w) }
@@ -32,7 +31,7 @@ fn draw_anew<D: BidiData>(
 }
 
 /// Puts a row of the text into row number `row` of a grid, from 0: the one that is kept, or else one that is drawn anew, and
-/// kept as row number `row` of a page of `count` rows.
+/// kept as that row of the page.
 ///
 /// Errors: `OutOfMemory`.
 fn draw_row<D: BidiData>(
@@ -41,10 +40,8 @@ fn draw_row<D: BidiData>(
     at: RowAt,
     grid: &mut Grid,
     row: u16,
-    count: u16,
     cache: &mut RowCache,
 ) -> Result<(), OutOfMemory>
-    requires data { IsViewBy source.now layout.now }
     requires row { Stands source.now layout.now at }
     requires inside { row < grid.old.height }
     requires width { grid.old.width ≡ layout.now.w }
@@ -69,7 +66,7 @@ fn draw_row<D: BidiData>(
     }
     let new = draw_anew(cache.allocator(), layout, source, at)?;
     grid.put_row(row, &new)?;
-    cache.keep(&key, new, row, count);
+    cache.keep(&key, new, row);
     Ok(())
 }
 
@@ -84,7 +81,6 @@ pub(crate) fn draw_rows<D: BidiData>(
     count: u16,
     cache: &mut RowCache,
 ) -> Result<(), OutOfMemory>
-    requires data { IsViewBy source.now layout.old }
     requires row { Stands source.now layout.old at }
     requires some { 0 < count }
     requires inside { count ≤ grid.old.height }
@@ -100,7 +96,8 @@ pub(crate) fn draw_rows<D: BidiData>(
 {
     // tells the proof how many columns the grid has
     let _columns = grid.columns();
-    draw_row(layout, source, at, grid, 0, count, cache)?;
+    cache.begin(count);
+    draw_row(layout, source, at, grid, 0, cache)?;
     let mut here = at;
     let mut row = 0;
     while row + 1 < count {
@@ -110,7 +107,7 @@ pub(crate) fn draw_rows<D: BidiData>(
         };
         here = next;
         row += 1;
-        draw_row(layout, source, here, grid, row, count, cache)?;
+        draw_row(layout, source, here, grid, row, cache)?;
     }
     Ok(())
 }

@@ -64,7 +64,7 @@ fn follow_in_layout<D: BidiData>(
 }
 
 impl<D: BidiData + Drop> Document<D> {
-    /// The place behind an edit that puts characters instead of those from start to stop, which is not made yet.
+    /// The place after an edit that puts characters instead of those from start to stop, which is not made yet.
     ///
     /// Errors: `OutOfMemory`.
     fn place_behind(&mut self, start: usize, stop: usize, new: &str) -> Result<usize, OutOfMemory>

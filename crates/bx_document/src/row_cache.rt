@@ -44,10 +44,13 @@ impl Model for DrawnRow {
 }
 
 /// Rows that were drawn. What a row shows depends on nothing but what is kept beside its columns and on Unicode's tables,
-/// so an edit makes none of them wrong. The rows of the page that was drawn last stand first, in its order.
+/// so an edit makes none of them wrong. Those of the page that was drawn last stand first, each at its number in the page
+/// where all before it could be kept.
 #[derive(Drop)]
 pub(crate) struct RowCache {
     rows: Vec<DrawnRow>,
+    // how many rows the page has
+    page: usize,
 }
 
 impl Model for RowCache {
@@ -99,21 +102,24 @@ fn bring(rows: &mut Vec<DrawnRow>, i: usize, at: usize)
     }
 }
 
-/// Keeps a row at the number `at` of a page of `count` rows. The one that stood there is kept at that number behind the
-/// page, where it drops another.
-fn put_in(rows: &mut Vec<DrawnRow>, at: u16, count: u16, new: DrawnRow) -> Result<(), AllocError>
+/// Keeps a row at the number `at` of a page. The one that stood there is kept at the number `after`, behind the page, where it
+/// drops another.
+fn put_in(
+    rows: &mut Vec<DrawnRow>,
+    at: usize,
+    after: usize,
+    new: DrawnRow,
+) -> Result<(), AllocError>
     ensures { (d : Data) → AreDrawnBy d rows.old.items → IsDrawnBy d new → AreDrawnBy d rows.new.items }
 {
-    rows.truncate(2 * count as usize);
-    let behind = at as usize + count as usize;
-    if behind < rows.len() {
-        rows[behind] = new;
-        bring(rows, behind, at as usize);
+    if after < rows.len() {
+        rows[after] = new;
+        bring(rows, after, at);
         return Ok(());
     }
     rows.push(new)?;
     let last = rows.len() - 1;
-    bring(rows, last, at as usize);
+    bring(rows, last, at);
     Ok(())
 }
 
@@ -124,7 +130,16 @@ impl RowCache {
     {
         RowCache {
             rows: Vec::new(alloc),
+            page: 0,
         }
+    }
+
+    /// Begins a page of `count` rows: at most twice as many stay. No memory.
+    pub(crate) fn begin(&mut self, count: u16)
+        ensures { (d : Data) → AreDrawnBy d self.old → AreDrawnBy d self.new }
+    {
+        self.page = usize::from(count);
+        self.rows.truncate(2 * usize::from(count));
     }
 
     /// Where rows that are kept take their memory.
@@ -155,8 +170,8 @@ impl RowCache {
         bring(&mut self.rows, i, at as usize);
     }
 
-    /// Keeps the columns of a row at its number in the page of `count` rows. One that there is no memory for is not kept.
-    pub(crate) fn keep(&mut self, key: &RowKey<'_>, columns: OwnedRow, at: u16, count: u16)
+    /// Keeps the columns of a row at its number in the page. One that there is no memory for is not kept.
+    pub(crate) fn keep(&mut self, key: &RowKey<'_>, columns: OwnedRow, at: u16)
         ensures { (d : Data) → AreDrawnBy d self.old
             → IsDrawnBy d (record { body = key.now.body.now; base = key.now.base; number = key.now.number; columns = columns })
             → AreDrawnBy d self.new }
@@ -173,6 +188,8 @@ impl RowCache {
             number: key.number,
             columns,
         };
-        let _kept = put_in(&mut self.rows, at, count, new);
+        let at = usize::from(at);
+        let after = at.saturating_add(self.page);
+        let _kept = put_in(&mut self.rows, at, after, new);
     }
 }

@@ -1,7 +1,6 @@
 //! The rows that are shown, and where the cursor stands among them.
 ghost use Rattle.std.specs.Prelude.{◌≡◌, ◌<◌, ◌≤◌, ◌++◌, ◌*◌, IfOk, drop};
 ghost use Rattle.bx_view.specs.Position.{IsPosition};
-ghost use Rattle.bx_view.specs.TextRows.{cell_of};
 ghost use Rattle.bx_view.specs.Top.{follow};
 ghost use Rattle.bx_document.specs.Document.{rows};
 ghost use Rattle.bx_document.specs.Drawing.{IsAmong, rows_above, shown_columns};
@@ -76,25 +75,5 @@ impl<D: BidiData + Drop> Document<D> {
             row: located.above as u16,
             position: located.position,
         })
-    }
-
-    /// The column, from 1, of the cell of a place.
-    ///
-    /// Errors: `OutOfMemory`.
-    pub fn cell_of(&mut self, place: usize) -> Result<u16, OutOfMemory>
-        ensures same { self.new ≡ self.old }
-        ensures cell { IfOk result (λ column. column ≡ cell_of self.old.document.w (rows (⟦<D as Answers>⟧.data self.old.tables) self.old.document) place) }
-        ensures inside { IfOk result (λ column. (1 ≤ column) × (column ≤ self.old.document.w)) }
-    {
-        // tell the proof that the text is UTF-8 and what sides a window may have
-        let _utf8 = self.text.len();
-        let _side = self.layout.width();
-        let source = Source {
-            text: &self.text,
-            index: &self.index,
-            tables: &self.tables,
-        };
-        let column = self.layout.cell_of(&source, place)?;
-        Ok(column)
     }
 }

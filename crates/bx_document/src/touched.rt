@@ -1,4 +1,4 @@
-//! The part of a text that tells the place behind an edit: the paragraphs that the edit touches, as they are after it.
+//! The part of a text that tells the place after an edit: the paragraphs that the edit touches, as they are after it.
 ghost use Rattle.std.specs.Prelude.{◌≡◌, ◌≤◌, ◌+◌, ◌++◌, true, IfOk, IsCharBoundary, IsErrOf, OnErr, OnOk, length, slice_range, string_bytes};
 ghost use Rattle.bx_text.specs.Edits.{IsRange, fits, splice};
 ghost use Rattle.bx_view.specs.FoundRow.{rows_by};
@@ -35,7 +35,7 @@ fn stop_behind<D: BidiData>(source: &Source<'_, D>, stop: usize) -> usize
     source.index.span(number).1 + source.index.separator(number)
 }
 
-/// Puts what stands from one offset of a text to another behind some characters.
+/// Puts what stands from one offset of a text to another after some characters.
 fn push_range(
     text: &Text,
     start: usize,
@@ -78,7 +78,7 @@ fn touched<D: BidiData>(
     Ok((first, characters))
 }
 
-/// The place at an offset of some characters or behind it, where they are a text of their own, which is not too long.
+/// The place at an offset of some characters or after it, where they are a text of their own, which is not too long.
 ///
 /// Errors: `OutOfMemory`.
 fn place_in<D: BidiData>(
@@ -101,7 +101,7 @@ fn place_in<D: BidiData>(
     Ok(place)
 }
 
-/// The place behind an edit that puts characters instead of those of a range, which is not made yet: found in a copy of the
+/// The place after an edit that puts characters instead of those of a range, which is not made yet: found in a copy of the
 /// paragraphs that it touches.
 ///
 /// Errors: `OutOfMemory`.

@@ -1,4 +1,4 @@
--- A picture's grid: the rows of text that were put, and the status row behind them.
+-- A picture's grid: the rows of text that were put, and the status row after them.
 use Rattle.std.proofs.Common.{◌≡◌, ℕ, ◌+◌, ◌-◌, ◌*◌, ◌≤◌, true, nat_le, List, [], ◌++◌, length, take, drop, replicate, sym, ap}
 use Rattle.std.proofs.Common.{ap₂, ◌∙◌, arith, length-append, length-drop}
 use Rattle.std.specs.Prelude.{if◌then◌else◌}

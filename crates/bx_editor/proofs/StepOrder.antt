@@ -1,4 +1,4 @@
--- The place before another is not behind it, and the place behind another is not before it.
+-- The place before another is not after it, and the place after another is not before it.
 use Rattle.std.proofs.Common.{◌≡◌, ◌≤◌, ℕ, Bool, true, false, nat_lt, cond, List, [], ◌∷◌, Some, refl, sym, subst, arith, ltb-true}
 use Rattle.std.specs.Prelude.{find, reverse, unwrap_or, IsCharBoundary}
 use Rattle.bx_text.specs.Edits.{IsRange}

@@ -61,7 +61,7 @@ text_height height = if nat_le 2 height then height - 1 else 1
 abbrev pub place_after : Data → Editor → List ℕ → ℕ → ℕ
 place_after d e text offset = place_from (rows_of d e text) offset
 
--- bytes go in at the place, unless the text would be too long; the cursor stands behind them
+-- bytes go in at the place, unless the text would be too long; the cursor stands after them
 abbrev pub after_insertion : Data → Editor → List ℕ → Editor
 after_insertion d e new =
     if fits e.content.text e.place e.place new

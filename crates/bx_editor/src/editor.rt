@@ -13,8 +13,8 @@ use bx_text::Slices;
 use bx_ucd::BidiData;
 use std::marker::Model;
 
-/// A text that is edited, the cursor's place in it, and what the last key had to say, in a window of so many rows and
-/// columns.
+/// A text that is edited, the cursor's place in it, and what the last key had to say, in a window
+/// of rows and columns.
 #[derive(Drop)]
 pub struct Editor<D: BidiData + Drop> {
     pub(crate) document: Document<D>,
@@ -53,7 +53,7 @@ impl<D: BidiData + Drop> Model for Editor<D> {
 }
 
 impl<D: BidiData + Drop> Editor<D> {
-    /// The window has so many rows and columns. No memory.
+    /// Another size of the window, in rows and columns. No memory.
     pub fn resize(&mut self, height: u16, width: u16)
         requires sized { is_size height width ≡ true }
         ensures { self.new ≡ record self.old { editor = with_size self.old.editor height width } }

@@ -7,7 +7,7 @@ pub enum OpenError {
     /// The file has more than 16,777,216 bytes.
     #[error("file too long")]
     TooLong,
-    /// So many first bytes of the file are UTF-8, and no more.
+    /// How many bytes at the file's beginning are UTF-8; the next one is not.
     #[error("not UTF-8 at byte {0}")]
     NotUtf8(usize),
     /// A side of the window is not from 1 to 500.

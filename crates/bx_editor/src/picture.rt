@@ -26,7 +26,7 @@ pub(crate) fn text_height(height: u16) -> u16
 }
 
 impl<D: BidiData + Drop> Editor<D> {
-    /// Puts the status row behind the rows of text, where the window has a row for it, by where the cursor stands.
+    /// Puts the status row after the rows of text, where the window has a row for it, by where the cursor stands.
     ///
     /// Errors: `OutOfMemory`.
     fn put_status(

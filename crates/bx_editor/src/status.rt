@@ -51,7 +51,7 @@ pub(crate) fn status_line(
     Ok(line)
 }
 
-/// The first characters of a text of characters from SPACE to TILDE, at most so many.
+/// The first characters of a text of characters from SPACE to TILDE, at most `width`.
 fn cut(text: &str, width: usize) -> &str
     requires printable { are_ascii_printable text.now ≡ true }
     ensures cut { result.now ≡ take width text.now }

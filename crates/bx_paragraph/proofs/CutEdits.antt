@@ -30,7 +30,7 @@ module _ (class : ℕ → Class) (bracket : ℕ → Option (Side × ℕ)) (t : T
   abbrev near : List ℕ
   near = chars t.near.now
 
-  -- what stands from the strong character on, and behind it
+  -- what stands from the strong character on, and after it
   from-x : drop i (front ++ near) ≡ chars (drop x.start t.near.now)
   from-x = ap (λ k. drop k (front ++ near)) i_is ∙ drop-append-add front near x.index ∙ sym at_x.start.rest
 

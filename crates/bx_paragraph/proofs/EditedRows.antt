@@ -95,7 +95,7 @@ rows-met class w body rest near stop shift last i k starts found some valid also
     (ap (λ xs. map (moved o t) (drop k xs)) e ∙ sym (rows-meet-again class w body rest k i o t valid also there here left))
     ∙ take-append-drop i (row_starts class w rest)
 
--- ---- rows behind the start of another
+-- ---- rows after the start of another
 
 all-front : {X : Type 0} (P : X → Type 0) (xs ys : List X) → All P (xs ++ ys) → All P xs
 all-front P xs ys h i d less = subst P (get_or_append_left xs ys d i less) (h i d (omega (arith, less, length-append xs ys)))
@@ -121,7 +121,7 @@ all-behind-moved : (f o t : RowStart) (xs : List RowStart) → map (behind f) (m
 all-behind-moved f o t [] = refl
 all-behind-moved f o t (x ∷ xs) = ap₂ (λ y ys. y ∷ ys) (behind-moved f o t x) (all-behind-moved f o t xs)
 
--- the rows `whole` behind the start `f` of one, of which some are `front` and the others those of `back`, moved from behind `o` to behind `t`
+-- the rows `whole` after the start `f` of one, of which some are `front` and the others those of `back`, moved from after `o` to after `t`
 pub record AreMet (f o t : RowStart) (front back whole : List RowStart) : Type 0 where
   pub joined : map (behind f) front ++ map (moved o (behind f t)) back ≡ map (behind f) whole
   pub room_front : All (λ s. HasRoom (behind f s)) front

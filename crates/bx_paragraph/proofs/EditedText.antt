@@ -65,7 +65,7 @@ module _ (e : BodyEdit) (is : IsEdit e) where
         length-drop e.stop e.body.now,
       )
 
-  -- what is left of it from an offset on, in pieces: what stands before the inserted text, and the rest, behind it; `text` has as much of
+  -- what is left of it from an offset on, in pieces: what stands before the inserted text, and the rest, after it; `text` has as much of
   -- the rest as `near`
   module _ (from : ℕ) (before rest near text : List ℕ) (le : from ≤ e.start) (at_from : IsCharBoundary e.body.now from) (u : IsUtf8 e.body.now)
       (v : IsUtf8 e.inserted.now) (before_is : before ≡ take (e.start - from) (drop from e.body.now)) (rest_is : rest ≡ drop e.stop e.body.now)

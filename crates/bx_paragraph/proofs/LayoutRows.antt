@@ -21,7 +21,7 @@ use Rattle.bx_paragraph.specs.Layout.{IsLayoutBy, LayoutState, row_by}
 one-more : (k : ℕ) → suc k + 1 ≡ suc (k + 1)
 one-more k = omega arith
 
--- the row of a number, the last one told that it is
+-- the row of a number, the last one marked as the last
 pub last-at : (row : Bool → List Unit → BodyRow) (xs : List (List Unit)) (k : ℕ) → k < length xs
     → get_or (with_last row xs) k no_row ≡ row (k + 1 == length xs) (get_or xs k [])
 last-at row [] k h = absurd (omega (arith, h))

@@ -29,7 +29,7 @@ chars-before text i at u p h =
     let n : length front ≡ i = omega (arith, size, h, length-drop i (chars text)) in
     sym (ap (take i) all ∙ ap (λ k. take k (front ++ back)) (sym n) ∙ take-append_seam front back)
 
--- the character at a place, and the place behind it
+-- the character at a place, and the place after it
 pub record IsCharAt (text : List ℕ) (i c next : ℕ) : Type 0 where
   pub inside : i < length (chars text)
   pub char_is : c ≡ get_or (chars text) i 0

@@ -43,7 +43,7 @@ count-prepend : (part : List ℕ) (ps : List (List ℕ)) → count_of (prepend p
 count-prepend part [] = refl
 count-prepend part (p ∷ ps) = let n = length-append part p in omega (arith, n)
 
--- whether a cluster ends is told by the first character behind it
+-- the first character after a cluster says whether it ends
 same-test : (before : List ℕ) (c : ℕ) (cs : List ℕ) (n : ℕ) (ys zs : List ℕ)
     → is_grapheme_break true (c ∷ before) ((cs ++ n ∷ ys) ++ []) ≡ is_grapheme_break true (c ∷ before) ((cs ++ n ∷ zs) ++ [])
 unfolding is_grapheme_break
@@ -65,7 +65,7 @@ some-count : (t : Bool) (c m : ℕ) (ys : List (List ℕ)) → 0 < count_of (tak
 some-count true c m ys = omega (arith, one c)
 some-count false c m ys = omega (arith, ap count_of (take-prepend m (c ∷ []) ys) ∙ count-prepend (c ∷ []) (take (suc m) ys), one c)
 
--- the clusters that end before the character `n` are the same whatever stands behind it
+-- the clusters that end before the character `n` are the same whatever stands after it
 same-pieces : (before xs : List ℕ) (n : ℕ) (ys zs : List ℕ) (k : ℕ) → count_of (take k (cut (is_grapheme_break true) before (xs ++ n ∷ ys) [])) ≤ length xs
     → take k (cut (is_grapheme_break true) before (xs ++ n ∷ ys) []) ≡ take k (cut (is_grapheme_break true) before (xs ++ n ∷ zs) [])
 unfolding cut
@@ -87,7 +87,7 @@ offsets-taken zero at ps = refl
 offsets-taken (suc k) at [] = refl
 offsets-taken (suc k) at (p ∷ ps) = ap (λ xs. (at, p) ∷ xs) (offsets-taken k (at + length p) ps)
 
--- a unit begins behind the bytes of those before it
+-- a unit begins after the bytes of those before it
 offset-behind : (class : ℕ → Class) (w k at : ℕ) (ps : List (List ℕ)) (u : Unit) (rest : List Unit) → drop k (map (unit_at class w) (with_offsets at ps)) ≡ u ∷ rest
     → u.start ≡ at + length (concat (take k ps))
 unfolding with_offsets
@@ -204,7 +204,7 @@ same-cut old new k xs (n ∷ ms) ys zs some e f few =
     let cut-of : List ℕ → List (List ℕ) = λ cs. take k (cut (is_grapheme_break true) [] cs []) in
     ap cut-of a ∙ same-pieces [] xs n (ms ++ ys) (ms ++ zs) k (subst (λ cs. count_of (cut-of cs) ≤ length xs) a few) ∙ sym (ap cut-of b)
 
--- the units before one of an old body stay in a new body that is the same up to behind its first character
+-- the units before one of an old body stay in a new body that is the same up to after its first character
 pub record AreShared (p q : Unit → Bool) (old new : List ℕ) (us vs : List Unit) (k : ℕ) : Type 0 where
   pub same : take k us ≡ take k vs
   pub agree : Agrees p q old new (take k us)

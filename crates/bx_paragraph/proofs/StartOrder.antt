@@ -57,7 +57,7 @@ count-map p f (x ∷ xs) =
 
 -- ---- row starts
 
--- each begins behind the ones before
+-- each begins after the ones before
 pub starts-rise : (class : ℕ → Class) (w : ℕ) (body : List ℕ) → IsUtf8 body → IsNonDecreasingBy (λ (s : RowStart). s.offset) (row_starts class w body)
 starts-rise class w body valid i j d le h =
     let xs = row_starts class w body in

@@ -25,7 +25,7 @@ abbrev pub row_with : (ℕ → Class) → List ℕ → ℕ → List (Option ℕ)
 row_with class body paragraph each is_last us =
     record { body = body; paragraph = paragraph; units = us; levels = row_levels class body paragraph each us; is_last = is_last }
 
--- one row after another, the last one told that it is
+-- one row after another, the last one marked as the last
 abbrev pub with_last : (Bool → List Unit → BodyRow) → List (List Unit) → List BodyRow
 with_last row [] = []
 with_last row (us ∷ []) = row true us ∷ []

@@ -61,7 +61,7 @@ pub record IsBareEdit (class : ℕ → Class) (bracket : ℕ → Option (Side ×
 abbrev pub has_no_bracket : (ℕ → Option (Side × ℕ)) → List ℕ → Bool
 has_no_bracket bracket text = list_all (λ c. not (is_listed bracket c)) (chars text)
 
--- an edit with no bracket before the strong character `x` that stands before it, or none behind `y` that stands behind it
+-- an edit with no bracket before the strong character `x` that stands before it, or none after `y` that stands after it
 abbrev pub IsOpenEdit : (ℕ → Option (Side × ℕ)) → TextEdit → Strong → Strong → Type 0
 IsOpenEdit bracket t x y = ((has_no_bracket bracket t.front.now ≡ true) × (has_no_bracket bracket (take x.start t.near.now) ≡ true))
     ⊎ (has_no_bracket bracket (drop y.stop t.behind.now) ≡ true)
@@ -99,7 +99,7 @@ pub record AreAsBefore (was now : Levels) : Type 0 where
   pub paragraph_is : now.paragraph ≡ was.paragraph
   pub each_is : now.each.items ≡ was.each.items
 
--- from the levels of the text before an edit come those of the text behind it
+-- from the levels of the text before an edit come those of the text after it
 abbrev pub FollowsEdit : (ℕ → Class) → (ℕ → Option (Side × ℕ)) → TextEdit → Levels → Levels → Type 0
 FollowsEdit class bracket t was now = (base : Base) → HasNoFormatting class (old_text (edit_of t)) → AreLevelsOf class bracket base (old_text (edit_of t)) was
     → AreLevelsOf class bracket base (new_text (edit_of t)) now

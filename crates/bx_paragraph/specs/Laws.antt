@@ -5,7 +5,7 @@ use Rattle.bx_ucd.specs.declared.class.Class.{Class}
 use Rattle.bx_rows.specs.declared.start_search.RowStart.{RowStart}
 use Rattle.bx_rows.specs.RowStarts.{row_starts}
 
--- Two bodies that are the same up to an offset, behind the start of row number `q` of the first: the starts of the rows up to
+-- Two bodies that are the same up to an offset, after the start of row number `q` of the first: the starts of the rows up to
 -- number `k` are the same, where that begins more than a window's columns of units before row `q`.
 abbrev pub RowsBeforeStay : Type 0
 RowsBeforeStay = (class : ℕ → Class) (w : ℕ) (old new : List ℕ) (offset k q : ℕ) (s e : RowStart) → 1 ≤ w → IsUtf8 old → IsUtf8 new

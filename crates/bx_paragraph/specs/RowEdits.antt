@@ -1,4 +1,4 @@
--- Rows that an edit of a body leaves, and rows behind it that meet them again.
+-- Rows that an edit of a body leaves, and rows after it that meet them again.
 use Rattle.std.specs.Prelude.{◌≡◌, ◌<◌, ◌≤◌, ◌+◌, ◌-◌, ◌^◌, ℕ, List, length, slice_index_or}
 use Rattle.bx_rows.specs.declared.start_search.RowStart.{RowStart}
 
@@ -14,7 +14,7 @@ pub record IsWellBefore (w offset : ℕ) (starts : List RowStart) (k : ℕ) : Ty
   pub begins : (slice_index_or starts row origin).offset < offset
   pub ahead : (slice_index_or starts k origin).units + w < (slice_index_or starts row origin).units
 
--- a row begins as far behind an offset of one text as another row behind an offset of another text
+-- a row begins as far after an offset of one text as another row after an offset of another text
 pub record IsSamePlace (shift stop : ℕ) (new old : RowStart) : Type 0 where
   pub behind_shift : shift ≤ new.offset
   pub behind_stop : stop ≤ old.offset

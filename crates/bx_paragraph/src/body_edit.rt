@@ -8,7 +8,7 @@ use bx_rows::RowStart;
 use std::alloc::{AllocError, Global};
 
 /// An edit that puts a text in the place of a body's from an offset up to another. The body's rows begin at the starts, in a
-/// window of so many columns.
+/// window of `w` columns.
 #[derive(Clone, Copy)]
 pub(crate) struct BodyEdit<'t> {
     pub(crate) body: &'t str,

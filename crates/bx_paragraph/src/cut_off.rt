@@ -39,7 +39,7 @@ fn is_open_before<D: BidiData>(edit: &TextEdit<'_>, before: Strong, tables: &D) 
     has_no_bracket(edit.front, tables)
 }
 
-/// Whether no bracket stands before the one strong character, or none behind the other. The shorter side is looked at first.
+/// Whether no bracket stands before the one strong character, or none after the other. The shorter side is looked at first.
 fn is_open<D: BidiData>(edit: &TextEdit<'_>, before: Strong, behind: Strong, tables: &D) -> bool
     requires before { IsStrongIn (D.class_of tables.now) edit.now.near.now before }
     requires behind { IsStrongIn (D.class_of tables.now) edit.now.behind.now behind }

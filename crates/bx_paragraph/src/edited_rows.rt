@@ -14,10 +14,10 @@ use bx_rows::{RowStart, row_starts};
 use bx_terms::OutOfMemory;
 use bx_ucd::BidiData;
 
-/// So many bytes behind an edit does a first search go, for each column of a window.
+/// How many bytes after an edit a first search goes, for each column of a window.
 const REACH: usize = 16;
 
-/// The beginning of a text: so many bytes for each column of a window, and on to where a character ends.
+/// The beginning of a text: its bytes up to a number for each column of a window, and on to where a character ends.
 fn near_text(text: &str, w: u16) -> &str
     ensures near { result.now ≡ take (length result.now) text.now }
     ensures boundary { IsCharBoundary text.now (length result.now) }
@@ -32,8 +32,8 @@ fn near_text(text: &str, w: u16) -> &str
     &text[..at]
 }
 
-/// The numbers of a row of the beginning of a text and of an old row that begin in the same place behind an edit, which ends
-/// at an offset of the text. That beginning has `len` bytes; rows in which what is behind it has a part are left out.
+/// The numbers of a row of the beginning of a text and of an old row that begin in the same place after an edit, which ends
+/// at an offset of the text. That beginning has `len` bytes; rows in which what is after it has a part are left out.
 fn meeting_near(
     found: &[RowStart],
     len: usize,

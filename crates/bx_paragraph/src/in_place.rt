@@ -5,7 +5,7 @@ ghost use Rattle.std.specs.Str.{IsCharBoundary};
 
 use std::alloc::AllocError;
 
-/// Makes room in a text for so many more bytes. It grows by an eighth at least, so that few of a row of edits ask for memory.
+/// Makes room in a text for a number of bytes more. It grows by an eighth at least, so that few of a row of edits ask for memory.
 pub(crate) fn make_room(text: &mut String, more: usize) -> Result<(), AllocError>
     ensures bytes { string_bytes text.new ≡ string_bytes text.old }
     ensures room { OnOk result (string_len text.new + more ≤ string_capacity text.new) }

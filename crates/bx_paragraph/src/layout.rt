@@ -23,7 +23,7 @@ use bx_ucd::BidiData;
 use std::alloc::Global;
 use std::marker::Model;
 
-/// A paragraph's body in a window of so many columns: its levels, and where its rows begin. It is resolved once; the
+/// A paragraph's body in a window's columns: its levels, and where its rows begin. It is resolved once; the
 /// units of a row are made when that row is looked at.
 #[derive(Drop)]
 pub struct ParagraphLayout {

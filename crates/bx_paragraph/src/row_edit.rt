@@ -1,4 +1,4 @@
-//! Rows that an edit of a body leaves, and rows behind it that meet them again.
+//! Rows that an edit of a body leaves, and rows after it that meet them again.
 ghost use Rattle.std.specs.Prelude.{◌≡◌, ◌≤◌, ◌<◌, ◌+◌, ◌++◌, All, IfSome, OnOk, length, map, true};
 ghost use Rattle.bx_rows.specs.Laws.{behind, moved};
 ghost use Rattle.bx_paragraph.specs.RowEdits.{DoMeet, HasRoom, IsSamePlace, IsWellBefore};
@@ -20,7 +20,7 @@ fn count_before(starts: &[RowStart], offset: usize) -> usize
     starts.partition_point(|s| s.offset < offset)
 }
 
-/// The number of a row that begins well before an offset: what stands there and behind has no part in where the rows up to it
+/// The number of a row that begins well before an offset: what stands there and after has no part in where the rows up to it
 /// begin.
 pub(crate) fn well_before(starts: &[RowStart], offset: usize, w: u16) -> Option<usize>
     ensures { IfSome result (IsWellBefore w offset starts.now) }
@@ -39,7 +39,7 @@ pub(crate) fn well_before(starts: &[RowStart], offset: usize, w: u16) -> Option<
     None
 }
 
-/// Whether a row begins as far behind an offset as another one behind another offset.
+/// Whether a row begins as far after an offset as another one after another offset.
 fn is_same_place(new: RowStart, old: RowStart, shift: usize, stop: usize) -> bool
     ensures { result ≡ true → IsSamePlace shift stop new old }
 {
@@ -52,7 +52,7 @@ fn is_same_place(new: RowStart, old: RowStart, shift: usize, stop: usize) -> boo
     new.offset - shift == old.offset - stop
 }
 
-/// The numbers of a found row, at most the `last`, and of an old row that begin in the same place behind an edit.
+/// The numbers of a found row, at most the `last`, and of an old row that begin in the same place after an edit.
 pub(crate) fn meeting(
     found: &[RowStart],
     starts: &[RowStart],
@@ -81,7 +81,7 @@ pub(crate) fn meeting(
     None
 }
 
-/// Where a row begins in a body, of which it is known where it begins behind the start of another.
+/// Where a row begins in a body, of which it is known where it begins after the start of another.
 pub(crate) fn behind(first: RowStart, start: RowStart) -> RowStart
     requires { HasRoom (behind first start) }
     ensures { result ≡ behind first start }
@@ -93,7 +93,7 @@ pub(crate) fn behind(first: RowStart, start: RowStart) -> RowStart
     }
 }
 
-/// Where a row begins that begins as far behind `new` as it did behind `old`.
+/// Where a row begins that begins as far after `new` as it did after `old`.
 fn moved(old: RowStart, new: RowStart, start: RowStart) -> RowStart
     requires { HasRoom (moved old new start) }
     ensures { result ≡ moved old new start }
@@ -105,7 +105,7 @@ fn moved(old: RowStart, new: RowStart, start: RowStart) -> RowStart
     }
 }
 
-/// Adds the rows behind a row's start.
+/// Adds the rows after a row's start.
 pub(crate) fn push_behind(
     starts: &mut Vec<RowStart>,
     first: RowStart,
@@ -121,7 +121,7 @@ pub(crate) fn push_behind(
     Ok(())
 }
 
-/// Adds rows that move from behind `old` to behind `new`.
+/// Adds rows that move from after `old` to after `new`.
 pub(crate) fn push_moved(
     starts: &mut Vec<RowStart>,
     old: RowStart,

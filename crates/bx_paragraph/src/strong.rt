@@ -18,7 +18,7 @@ pub(crate) struct Strong {
     pub(crate) stop: usize,
 }
 
-/// The character that begins at an offset, and the offset behind it.
+/// The character that begins at an offset, and the offset after it.
 fn next_char(text: &str, at: usize) -> Option<(char, usize)>
     requires { IsCharBoundary text.now at }
     ensures { MatchOption result (length text.now ≡ at) (λ (c, next). (at < next) × IsCharBoundary text.now next

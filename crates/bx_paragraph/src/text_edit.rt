@@ -12,7 +12,7 @@ use bx_ucd::BidiData;
 use std::alloc::{AllocError, Global};
 
 /// An edit of a text. Before what stands near it is the front, which has `ahead` characters; what it removes gives way to what
-/// it inserts, and the rest stands behind.
+/// it inserts, and the rest stands after.
 #[derive(Clone, Copy)]
 pub(crate) struct TextEdit<'t> {
     pub(crate) front: &'t str,

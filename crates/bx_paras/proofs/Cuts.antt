@@ -1,4 +1,4 @@
--- The lengths of paragraphs, told character by character, and where they part.
+-- The lengths of paragraphs, character by character, and where they part.
 use Rattle.std.proofs.Common.{◌≡◌, ◌<◌, ◌+◌, ◌∙◌, ◌⊎◌, inl, inr, ℕ, Bool, true, false, not, ◌&&◌, ◌==◌, List, [], ◌∷◌, ◌++◌, map, length, encode_utf8}
 use Rattle.std.proofs.Common.{encode_utf8_all, refl, ap, sym, arith, length-append, append-nil}
 use Rattle.std.proofs.lemmas.Bool.Decides.{nat_tests}
@@ -30,7 +30,7 @@ one_width c = ap length (append-nil (encode_utf8 c))
 pub widths_append : (cs ds : List ℕ) → widths (cs ++ ds) ≡ widths cs + widths ds
 widths_append cs ds = ap length (encodes-append cs ds) ∙ length-append (encode_utf8_all cs) (encode_utf8_all ds)
 
--- an unended paragraph of so many bytes, the last of a text
+-- an unended paragraph of a number of bytes, the last of a text
 abbrev pub unended : ℕ → Lengths
 unended n = record { body = n; separator = 0 }
 

@@ -98,9 +98,9 @@ module _ (class : ℕ → Class) where
         few = few_in_first m h rest l back g s.rest (omega (arith, s.bytes)) (beginning class m);
       }
 
-  -- ---- behind an edit
+  -- ---- after an edit
 
-  -- characters behind an edit, in which a paragraph ends: those after it stay, whatever stands in front
+  -- characters after an edit, in which a paragraph ends: those after it stay, whatever stands in front
   pub record Back (d : List ℕ) (past : ℕ) (back : List Lengths) : Type 0 where
     pub t : List ℕ
     pub y : List ℕ
@@ -145,7 +145,7 @@ module _ (class : ℕ → Class) where
       subst (λ n. Back d ((n + bytes_of l) - widths b) (m ∷ back)) s.bytes
       (back_in b d v k l m back s.whole (omega (arith, s.bytes)) (omega (arith, s.bytes)) s.rest (beginning class k))
 
-  -- characters behind an edit that the last paragraph holds
+  -- characters after an edit that the last paragraph holds
   last_few : (b d v k : List ℕ) (l : Lengths) → b ++ d ≡ v ++ k → widths v ≤ widths b → lens class k ≡ l ∷ [] → count class d ≤ 1
   last_few b d v k l e start_before f =
       let (s, g, j) = shorter v k b d (sym e) start_before in

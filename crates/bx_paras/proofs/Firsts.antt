@@ -59,7 +59,7 @@ module _ (class : ℕ → Class) where
 
   module _ (text s : List ℕ) (at : ℕ) (utf8 : IsUtf8 text) (bounds : IsCharBoundary text at) (e : take (length s) (drop at text) ≡ s)
       (next : IsCharBoundary text (at + length s)) where
-    -- the characters behind the piece
+    -- the characters after the piece
     abbrev behind : List ℕ
     behind = chars (drop (at + length s) text)
 

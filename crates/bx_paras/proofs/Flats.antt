@@ -18,7 +18,7 @@ flat_append (b ∷ bs) ds = ap (λ ls. b ++ ls) (flat_append bs ds) ∙ sym (app
 pub flat_one : (b : List Lengths) → flat (b ∷ []) ≡ b
 flat_one b = append-nil b
 
--- the blocks in front of a position, and those behind it
+-- the blocks in front of a position, and those after it
 pub flat_cut : (n : ℕ) (bs : List (List Lengths)) → flat bs ≡ flat (take n bs) ++ flat (drop n bs)
 flat_cut n bs = ap flat (sym (take-append-drop n bs)) ∙ flat_append (take n bs) (drop n bs)
 
@@ -54,14 +54,14 @@ pub whole_back : (bs : List (List Lengths)) (n m : ℕ) → m ≡ length (flat (
 whole_back bs n m e = ap (drop m) (flat_cut n bs) ∙ ap (λ k. drop k (flat (take n bs) ++ flat (drop n bs))) e
     ∙ drop-append_seam (flat (take n bs)) (flat (drop n bs))
 
--- of two cuts between blocks the one with more paragraphs in front is behind
+-- of two cuts between blocks the one with more paragraphs in front is after
 pub ordered : (bs : List (List Lengths)) (k n : ℕ) → length (flat (take k bs)) < length (flat (take n bs)) → k < n
 ordered bs k n h = ordered_at bs k n (nat_lt k n) refl h
 
 -- ---- a position among the blocks
 
 module _ (bs : List (List Lengths)) (i : ℕ) (b : List Lengths) (h : i < length bs) (e : b ≡ get_or bs i b) where
-  -- the paragraphs are those in front of a block, the block, and those behind it
+  -- the paragraphs are those in front of a block, the block, and those after it
   pub around : flat bs ≡ flat (take i bs) ++ (b ++ flat (drop (i + 1) bs))
   around =
       flat_cut (i + 1) bs ∙ ap (λ ls. ls ++ flat (drop (i + 1) bs)) (flat_more bs i b h ∙ ap (λ c. flat (take i bs) ++ c) (sym e))

@@ -47,7 +47,7 @@ parted_at ps u d n h =
     ap (λ ls. ls ++ u ∷ []) (sym (take-append-drop n ps) ∙ ap (λ ls. take n ps ++ ls) (drop_more ps n d h))
     ∙ append_assoc (take n ps) (get_or ps n d ∷ drop (n + 1) ps) (u ∷ [])
 
--- the paragraph at a position, and what stands behind it
+-- the paragraph at a position, and what stands after it
 record IsParted (ps : List Lengths) (u : Lengths) (offset : ℕ) (p : Position) : Type 0 where
   here : Lengths
   behind : List Lengths
@@ -120,7 +120,7 @@ module _ {class : ℕ → Class} {old : List ℕ} {c : Change} {new : List ℕ} 
   inside_of q n (d ∷ ds) e f g = change_inside class old c new touched.old_utf8 touched.new_utf8 touched.leads (take first.number ps) before.here before.behind
       (sym touched.were ∙ before.whole) starts holds (take n ps) q d (ds ++ u ∷ []) e f g
 
-  -- where a paragraph ends behind the change
+  -- where a paragraph ends after the change
   pub follow_inside : (end : ℕ) → last.end ≡ Some end
       → IsRewritten class new (take first.number ps) ((end - c.removed) + c.added) added_separators (drop (last.number + 1) ps ++ u ∷ [])
   follow_inside end k =
@@ -142,18 +142,18 @@ module _ {class : ℕ → Class} {old : List ℕ} {c : Change} {new : List ℕ} 
       change_at_end class old c new touched.old_utf8 touched.new_utf8 touched.leads (take first.number ps) before.here before.behind
       (sym touched.were ∙ before.whole) starts holds ps u (sym touched.were) (omega (arith, h.start, h.start_before, ap total all))
 
-  -- the first paragraph of the change is not behind its last
+  -- the first paragraph of the change is not after its last
   pub in_order : (end : ℕ) → last.end ≡ Some end → first.number ≤ last.number + 1
   in_order end k = ordered_at (has_end ps (c.start + c.removed) last end touched.last_is k) (nat_le first.number (last.number + 1)) refl
 
-  -- the new text's bytes, told by what is kept and found
+  -- the new text's bytes, by what is kept and found
   pub bytes_of_found : (stop : ℕ) (back : List Lengths) (w : List Lengths) → lengths class new ≡ take first.number ps ++ (w ++ back)
       → length new ≡ total (take first.number ps) + (total w + total back)
   bytes_of_found stop back w e =
       sym (total_lengths class new touched.new_utf8) ∙ ap total e ∙ total_append (take first.number ps) (w ++ back)
       ∙ ap (λ n. total (take first.number ps) + n) (total_append w back)
 
-  -- ---- told by the offset where the first paragraph begins
+  -- ---- by the offset where the first paragraph begins
 
   -- the paragraphs that end from there to an offset in the new text
   abbrev pub found : ℕ → List Lengths

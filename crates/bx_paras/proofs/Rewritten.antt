@@ -1,4 +1,4 @@
--- The paragraphs of a text after a change: those in front of it stay, some are found anew, and those behind it stay.
+-- The paragraphs of a text after a change: those in front of it stay, some are found anew, and those after it stay.
 use Rattle.std.proofs.Common.{◌≡◌, ◌<◌, ◌≤◌, ◌+◌, ◌-◌, ◌∙◌, ℕ, true, List, [], ◌∷◌, ◌++◌, length, take, drop, chars, IsUtf8, IsCharBoundary, ap, sym, subst}
 use Rattle.std.proofs.Common.{arith, length-append, append_assoc, append-nil}
 use Rattle.std.proofs.lemmas.Str.{length-le-encodes}
@@ -16,7 +16,7 @@ use Rattle.bx_paras.proofs.Counts.{AreEnded, count, cut_of, total_lens, count_fe
 use Rattle.bx_paras.proofs.Edits.{Front, Back, front_of, back_of, last_of, ended_all, ended_in_none}
 use Rattle.bx_paras.proofs.Changes.{AreAround, around, cut_at}
 
--- the paragraphs of a text that stay in front, those that end from there to an offset, and those that stay behind
+-- the paragraphs of a text that stay in front, those that end from there to an offset, and those that stay after
 pub record IsRewritten (class : ℕ → Class) (text : List ℕ) (front : List Lengths) (stop separators : ℕ) (back : List Lengths) : Type 0 where
   pub bounds : IsCharBoundary text (total front)
   pub kept : lengths class text ≡ front ++ (ended_within (stop - total front) (lengths class (drop (total front) text)) ++ back)
@@ -35,7 +35,7 @@ module _ (class : ℕ → Class) where
       let c = cut_of class g in
       subst AreEnded (sym (ap before_last c.is ∙ before_last_append c.front (unended c.last))) c.are_ended
 
-  -- what is found anew, where paragraphs stay behind it
+  -- what is found anew, where paragraphs stay after it
   record IsFound (r : List ℕ) (k separators : ℕ) (back : List Lengths) : Type 0 where
     ends : List Lengths
     are_found : ended_within k (lens class r) ≡ ends
@@ -124,7 +124,7 @@ module _ (class : ℕ → Class) where
     in_front = front_of class a (o ++ d) front l behind (ap (lens class) (sym around_change.old_chars) ∙ first) (omega (arith, around_change.before))
         (omega (arith, around_change.before))
 
-    -- the new characters behind those of the front
+    -- the new characters after those of the front
     abbrev found : List ℕ
     found = in_front.h ++ (n ++ d)
 
@@ -143,7 +143,7 @@ module _ (class : ℕ → Class) where
     to_rest : widths (a ++ o) ≡ c.start + c.removed
     to_rest = omega (arith, widths_append a o, around_change.before, around_change.gone)
 
-    -- a paragraph ends behind the change
+    -- a paragraph ends after the change
     pub change_inside : (upto : List Lengths) (q m : Lengths) (back : List Lengths) → lengths class old ≡ upto ++ q ∷ m ∷ back
         → total upto ≤ c.start + c.removed → c.start + c.removed < total upto + bytes_of q
         → IsRewritten class new front (((total upto + bytes_of q) - (c.start + c.removed)) + (c.start + c.added)) separators (m ∷ back)

@@ -120,7 +120,7 @@ module _ (class : ℕ → Class) (text : List ℕ) (utf8 : IsUtf8 text) where
   pub none_there : (n : ℕ) → length text ≤ n → NoneBefore class text n → HasNone class (chars text)
   none_there n l h = none_of [] (chars text) [] n (sym (append-nil (chars text))) (omega (arith, spelt text utf8)) h
 
--- ---- LF behind CR
+-- ---- LF after CR
 
 module _ (class : ℕ → Class) where
   lf_at : (b c : ℕ) (cs : List ℕ) (is_lf : Bool) → (c == 10) ≡ is_lf → (b == 10) ≡ is_lf

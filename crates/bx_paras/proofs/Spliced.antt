@@ -10,7 +10,7 @@ use Rattle.bx_paras.proofs.Totals.{total_append, total_push, total_cut, total_fr
 use Rattle.bx_paras.proofs.Flats.{flat_append, flat_one, flat_cut, flat_more, total_flat_more, total_flat_front, length_flat_front, length_flat_front_of}
 use Rattle.bx_paras.proofs.Flats.{whole_back, ordered, front_in_block, back_in_block}
 
--- lists cut behind one element
+-- lists cut after one element
 take_behind : (bs ds : List (List Lengths)) (b : List Lengths) (n : ℕ) → length bs ≡ n → take (n + 1) (bs ++ b ∷ ds) ≡ bs ++ b ∷ []
 take_behind bs ds b n e =
     let long : length (bs ++ b ∷ []) ≡ n + 1 = omega (arith, length-append bs (b ∷ []), e) in
@@ -227,7 +227,7 @@ taken bs ds from to e l h =
       fewer = omega (arith, ap length e, length-append (take from bs) (drop to bs), long, length-drop to bs);
     }
 
--- two cuts of which the second is not behind the first have nothing between them
+-- two cuts of which the second is not after the first have nothing between them
 pub nothing_between : (bs ds : List (List Lengths)) (first last from to : ℕ) → length (flat (take first bs)) ≡ from → take first ds ≡ take first bs
     → length (flat (take last ds)) ≡ to
     → last ≤ first → from ≤ to → flat ds ≡ flat bs → flat (drop first ds) ≡ drop to (flat bs)
@@ -245,7 +245,7 @@ pub two_blocks : (bs : List (List Lengths)) (i : ℕ) → i + 1 < length bs → 
 two_blocks bs i h =
     omega (arith, total_flat_more bs i [] (omega arith), total_flat_more bs (i + 1) [] h, total_flat_front (i + 1 + 1) bs)
 
--- a paragraph put in behind all
+-- a paragraph put in after all
 pub pushed_behind : (bs ds : List (List Lengths)) (at behind : ℕ) (p : Lengths) → flat (take behind ds) ≡ flat (take at bs) ++ p ∷ []
     → flat (drop behind ds) ≡ flat (drop at bs) → flat (drop at bs) ≡ [] → flat ds ≡ flat bs ++ p ∷ []
 pushed_behind bs ds at behind p f b none =

@@ -72,7 +72,7 @@ span_is ps n start here h e k =
 pub separator_is : (ps : List Lengths) (n : ℕ) (here : Lengths) → n < length ps → here ≡ get_or ps n here → slice_get (separators ps) n ≡ Some here.separator
 separator_is ps n here h k = separator_at ps n here h ∙ ap (λ (q : Lengths). Some q.separator) (sym k)
 
--- the offset behind the paragraph
+-- the offset after the paragraph
 pub behind_is : (ps : List Lengths) (n start : ℕ) (here : Lengths) → n < length ps → start ≡ total (take n ps) → here ≡ get_or ps n here
     → start + bytes_of here ≤ total ps
 behind_is ps n start here h e k = omega (arith, e, ap bytes_of k, total_more ps n here h, total_front (n + 1) ps)

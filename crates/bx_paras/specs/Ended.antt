@@ -19,6 +19,6 @@ abbrev pub first : List Lengths → Lengths
 first [] = record { body = 0; separator = 0 }
 first (p ∷ ps) = p
 
--- a paragraph with so many more bytes in front
+-- a paragraph with `n` more bytes in front
 abbrev pub further : ℕ → Lengths → Lengths
 further n p = record p { body = n + p.body }

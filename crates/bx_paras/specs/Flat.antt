@@ -23,11 +23,11 @@ free_before bs at = if at == 0 then 0 else block_capacity - length (get_or bs (a
 abbrev pub room_at : BlocksState → ℕ → ℕ
 room_at s at = free_before s.blocks at + block_capacity * s.spares
 
--- the bytes of a paragraph's separator, 0 where there are not so many paragraphs
+-- the bytes of a paragraph's separator, 0 where there are fewer paragraphs
 abbrev pub separator_of : List Lengths → ℕ → ℕ
 separator_of ps n = (get_or ps n (record { body = 0; separator = 0 })).separator
 
--- the paragraph that an offset falls in: it ends past the offset, or it is the one behind all of these
+-- the paragraph that an offset falls in: it ends past the offset, or it is the one after all of these
 pub record IsPosition (ps : List Lengths) (offset : ℕ) (p : Position) : Type 0 where
   pub number : p.number ≤ length ps
   pub start : p.start ≡ total (take p.number ps)

@@ -12,7 +12,7 @@ use Rattle.bx_paras.specs.Positions.{total}
 
 pub record IndexState : Type 0 where
   pub paragraphs : List Lengths
-  -- where it is Some of a number, the next edit takes no memory if what it adds has at most so many separators
+  -- where it is Some of a number, the next edit takes no memory if what it adds has at most that many separators
   pub room : Option ℕ
 
 abbrev pub index_of : Inside → IndexState
@@ -27,6 +27,6 @@ pub record IsIndex (i : Inside) : Type 0 where
   pub few : length (flat i.front.blocks) ≤ largest_text
   pub has_room : IfSome i.room (HasSpares i.front.spares)
 
--- a room covers the separators of each text of so many bytes
+-- a room covers the separators of each text of at most `bytes` bytes
 abbrev pub CoversBytes : Option ℕ → ℕ → Type 0
 CoversBytes room bytes = (class : ℕ → Class) (text : List ℕ) → IsUtf8 text → length text ≤ bytes → HasRoomFor room (separator_count class text)

@@ -5,7 +5,7 @@ use Rattle.bx_paras.specs.Paragraphs.{Paragraph, is_separator, paragraphs, lengt
 use Rattle.bx_paras.specs.Positions.{spans}
 use Rattle.bx_paras.specs.Scan.{HasNone}
 
--- paragraphs one after another, each body with its separator behind it
+-- paragraphs one after another, each body with its separator after it
 abbrev pub joined : List Paragraph → List ℕ
 joined [] = []
 joined (p ∷ ps) = p.body ++ (p.separator ++ joined ps)

@@ -1,4 +1,4 @@
--- Where paragraphs stand in a text, told by their lengths. Offsets count bytes.
+-- Where paragraphs stand in a text, by their lengths. Offsets count bytes.
 use Rattle.std.specs.Prelude.{ℕ, ◌+◌, ◌-◌, nat_le, List, [], ◌∷◌, map, count_by}
 use Rattle.bx_paras.specs.declared.lengths.Lengths.{Lengths}
 

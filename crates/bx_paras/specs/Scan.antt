@@ -8,7 +8,7 @@ abbrev pub HasNone : (ℕ → Class) → List ℕ → Type 0
 HasNone class [] = Unit {0}
 HasNone class (c ∷ cs) = (is_separator (class c) ≡ false) × HasNone class cs
 
--- the first separator of the characters is c, with so many bytes before it
+-- the first separator of the characters is c, with a number of bytes before it
 pub record IsAt (class : ℕ → Class) (cs : List ℕ) (before c : ℕ) : Type 0 where
   pub front : List ℕ
   pub rest : List ℕ

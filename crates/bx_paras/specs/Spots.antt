@@ -4,11 +4,11 @@ use Rattle.bx_paras.specs.declared.lengths.Lengths.{Lengths}
 use Rattle.bx_paras.specs.declared.spot.Spot.{Spot}
 use Rattle.bx_paras.specs.Flat.{flat}
 
--- the paragraphs of some blocks, and behind them the last, of so many bytes
+-- the paragraphs of some blocks, and after them the last, of `last` bytes
 abbrev pub closed : List (List Lengths) → ℕ → List Lengths
 closed bs last = flat bs ++ record { body = last; separator = 0 } ∷ []
 
--- a paragraph of that number stands there: in a block, or behind them all
+-- a paragraph of that number stands there: in a block, or after them all
 pub record IsSpot (bs : List (List Lengths)) (s : Spot) : Type 0 where
   pub inside : s.block ≤ length bs
   pub counted : s.number ≡ length (flat (take s.block bs)) + s.within

@@ -7,7 +7,7 @@ use Rattle.bx_paras.specs.Paragraphs.{lengths}
 use Rattle.bx_paras.specs.Positions.{bytes_of}
 use Rattle.bx_paras.specs.Ended.{first, further}
 
--- what is left of a paragraph behind so many of its bytes
+-- what is left of a paragraph after `n` of its bytes
 abbrev pub rest_of : ℕ → Lengths → Lengths
 rest_of n p = record { body = p.body - n; separator = min p.separator (bytes_of p - n) }
 

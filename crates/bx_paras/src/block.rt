@@ -76,7 +76,7 @@ impl Block {
         self.lengths.len() < BLOCK_CAPACITY
     }
 
-    /// One paragraph more, behind the others.
+    /// One paragraph more, after the others.
     #[tactic(auto, using(crate::proofs::Totals::total_push))]
     pub fn push(&mut self, paragraph: Lengths)
         requires room { length self.old < block_capacity }
@@ -103,7 +103,7 @@ impl Block {
         rest
     }
 
-    /// Puts the paragraphs of another block behind these.
+    /// Puts the paragraphs of another block after these.
     #[tactic(auto, using(crate::proofs::Totals::total_append))]
     pub fn append(&mut self, other: &Block)
         requires room { length self.old + length other.now ≤ block_capacity }

@@ -128,7 +128,7 @@ impl Blocks {
         (count, bytes)
     }
 
-    /// A paragraph and the offset at which it begins; none where there are not so many.
+    /// A paragraph and the offset at which it begins; none where there are fewer.
     #[tactic(auto, using(crate::proofs::Flats::total_flat_more, crate::proofs::Flats::length_flat_more, crate::proofs::Flats::total_flat_front, crate::proofs::Flats::length_flat_front))]
     pub fn get(&self, number: usize) -> Option<(usize, Lengths)>
         ensures { MatchOption result (length (flat self.now.blocks) ≤ number)
@@ -149,7 +149,7 @@ impl Blocks {
         None
     }
 
-    /// The paragraphs of a block; none where there are not so many blocks.
+    /// The paragraphs of a block; none where there are fewer blocks.
     pub fn block(&self, at: usize) -> Option<&[Lengths]>
         ensures lent { MatchOption result (length self.now.blocks ≤ at) (λ ls. (at < length self.now.blocks) × (ls.now ≡ get_or self.now.blocks at [])) }
         ensures few { length self.now.blocks < 2 ^ 64 }
@@ -158,18 +158,7 @@ impl Blocks {
         Some(self.blocks.get(at)?.lengths())
     }
 
-    /// The offset at which a paragraph begins, or the one behind the last.
-    pub fn start_of(&self, number: usize) -> usize
-        requires { number ≤ length (flat self.now.blocks) }
-        ensures { result ≡ total (take number (flat self.now.blocks)) }
-    {
-        match self.get(number) {
-            Some((start, _)) => start,
-            None => self.size().1,
-        }
-    }
-
-    /// The block of a paragraph, and how many paragraphs of the block stand before it; behind the last one no block
+    /// The block of a paragraph, and how many paragraphs of the block stand before it; after the last one no block
     /// is left.
     #[tactic(auto, using(crate::proofs::Flats::length_flat_more, crate::proofs::Flats::length_flat_front))]
     pub fn seek(&self, number: usize) -> (usize, usize)
@@ -191,7 +180,7 @@ impl Blocks {
         (self.blocks.len(), 0)
     }
 
-    /// Room in the lists for so many blocks made ahead.
+    /// Room in the lists for a number of blocks made ahead.
     fn reserve(&mut self, spares: usize) -> Result<(), AllocError>
         ensures blocks { self.new.blocks ≡ self.old.blocks }
         ensures spares { self.new.spares ≡ self.old.spares }
@@ -229,7 +218,7 @@ impl Blocks {
             self.add_spare()?;
         }
         if missing {
-            // The one that was made first is used first, so that memory behind the used ones can be given back.
+            // The one that was made first is used first, so that memory after the used ones can be given back.
             self.spares.reverse();
         }
         Ok(())
@@ -242,7 +231,7 @@ impl Blocks {
         if self.spares.len() <= SPARES_KEPT {
             return;
         }
-        // The one that was made last is freed last, so that the memory behind those in use goes back at once.
+        // The one that was made last is freed last, so that the memory after those in use goes back at once.
         self.spares.reverse();
         self.spares.truncate(SPARES_KEPT);
         self.spares.shrink_to(SPARES_KEPT);
@@ -250,7 +239,7 @@ impl Blocks {
     }
 
     /// Cuts the block that a paragraph stands in, so that the paragraph begins a block, and gives the block's number,
-    /// which is that of the blocks where the paragraph is behind the last.
+    /// which is that of the blocks where the paragraph is after the last.
     fn cut(&mut self, number: usize) -> usize
         requires spare { 0 < self.old.spares }
         requires inside { number ≤ length (flat self.old.blocks) }
@@ -271,7 +260,7 @@ impl Blocks {
         block + 1
     }
 
-    /// Puts a paragraph behind those of the blocks before a position among the blocks, and gives the position behind it.
+    /// Puts a paragraph after those of the blocks before a position among the blocks, and gives the position after it.
     pub fn push(&mut self, at: usize, paragraph: Lengths) -> usize
         requires position { at ≤ length self.old.blocks }
         requires room { 0 < room_at self.old at }
@@ -310,7 +299,7 @@ impl Blocks {
         first
     }
 
-    /// Joins the blocks before and behind a position among them, where they have room for one another.
+    /// Joins the blocks before and after a position among them, where they have room for one another.
     pub fn join(&mut self, at: usize)
         ensures paragraphs { flat self.new.blocks ≡ flat self.old.blocks }
         ensures spares { self.new.spares ≡ self.old.spares }

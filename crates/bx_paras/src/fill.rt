@@ -17,7 +17,7 @@ use bx_text::Text;
 use bx_ucd::BidiData;
 
 /// Puts in, at a position among the blocks, the paragraphs of a text that end with a separator from one offset to another,
-/// of which it looks at what stands in a window. Gives the position behind them and the offset where the last of them ends.
+/// of which it looks at what stands in a window. Gives the position after them and the offset where the last of them ends.
 fn fill<D: BidiData>(
     blocks: &mut Blocks,
     position: usize,

@@ -47,7 +47,7 @@ impl Model for Index {
     ghost invariant = { IsIndex };
 }
 
-/// The paragraphs that a change reached: the one that the byte before it stands in, and the one that goes on behind it.
+/// The paragraphs that a change reached: the one that the byte before it stands in, and the one that goes on after it.
 fn touched<D: BidiData>(
     front: &Blocks,
     last: u32,
@@ -83,7 +83,7 @@ fn quiet_until(first: Position, change: &Change) -> usize
 }
 
 /// What follows a change, of the paragraph that goes on there: the rest of its body and of its separator. The change
-/// ended at an offset of the text before it, and so many bytes of the text follow it.
+/// ended at an offset of the text before it, and `left` bytes of the text follow it.
 fn rest_behind(last: Position, offset: usize, left: usize) -> (usize, usize)
     ensures { MatchOption last.end (result ≡ (left, 0)) (λ e. result ≡ (e - last.separator - offset, min last.separator (e - offset))) }
 {
@@ -161,7 +161,7 @@ impl Index {
         })
     }
 
-    /// Makes room: after Ok an edit can be followed with no memory if what it adds has at most so many
+    /// Makes room: after Ok an edit can be followed with no memory if what it adds has at most this number of
     /// separators. No text has more of them than bytes, so a count of bytes will do. What is left of the room is given
     /// back then.
     ///
@@ -278,18 +278,20 @@ impl Index {
         }
     }
 
-    /// A walk that stands at the paragraph of a number.
-    pub fn walk_at(&self, number: usize) -> ParagraphWalk<'_>
-        requires { number < length self.now.paragraphs }
+    /// A walk that stands at the paragraph of a number, which begins at the offset `start`.
+    pub fn walk_at(&self, number: usize, start: usize) -> ParagraphWalk<'_>
+        requires inside { number < length self.now.paragraphs }
+        requires begins { start ≡ total (take number self.now.paragraphs) }
         ensures { result ≡ record { paragraphs = self.now.paragraphs; number = number } }
     {
-        ParagraphWalk::new(&self.front, self.last, number)
+        ParagraphWalk::new(&self.front, self.last, number, start)
     }
 
     /// A walk that stands at the paragraph that an offset in bytes falls in.
     pub fn walk_at_offset(&self, offset: usize) -> ParagraphWalk<'_>
         ensures { result ≡ record { paragraphs = self.now.paragraphs; number = paragraph_of self.now.paragraphs offset } }
     {
-        ParagraphWalk::new(&self.front, self.last, self.front.find(offset).number)
+        let position = self.front.find(offset);
+        ParagraphWalk::new(&self.front, self.last, position.number, position.start)
     }
 }

@@ -31,7 +31,7 @@ fn lead_byte(code: u32) -> u8
     }
 }
 
-/// Below which code the characters are asked for, before a scan of so many bytes: the more, the longer it is.
+/// Below which code the characters are asked for, before a scan of `bytes` bytes: the more, the longer it is.
 fn asked_below(bytes: usize) -> u32
     ensures { result < 0x110000 }
 {
@@ -58,7 +58,7 @@ fn mark<D: BidiData>(flags: &mut [bool; 256], tables: &D, code: u32)
     }
 }
 
-/// The first bytes of separators, for a scan of so many bytes.
+/// The first bytes of separators, for a scan of `bytes` bytes.
 pub fn leads_of<D: BidiData>(tables: &D, bytes: usize) -> Leads
     ensures { TellLeads (D.class_of tables.now) result.may_separate }
 {

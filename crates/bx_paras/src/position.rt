@@ -7,7 +7,7 @@ pub struct Position {
     pub number: usize,
     /// The offset at which its body begins.
     pub start: usize,
-    /// The offset behind its separator; none where it has none.
+    /// The offset after its separator; none where it has none.
     pub end: Option<usize>,
     /// How many bytes its separator has, 0 where it has none.
     pub separator: usize,

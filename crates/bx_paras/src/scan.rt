@@ -103,7 +103,7 @@ fn separator_bytes<D: BidiData>(text: &Text, tables: &D, c: char, after: usize) 
 }
 
 /// What stands from an offset on, as far as the piece of the text that holds it goes, up to another offset, if that is
-/// behind it.
+/// after it.
 fn part_before(text: &Text, at: usize, stop: usize) -> &str
     requires bounds { IsCharBoundary text.now.edited.text at }
     requires inside { at < length text.now.edited.text }
@@ -119,7 +119,7 @@ fn part_before(text: &Text, at: usize, stop: usize) -> &str
 }
 
 /// The lengths of the paragraph that begins at an offset, or of what follows the offset of the one that holds it. Only
-/// what stands in the window is looked at, and the LF behind a CR.
+/// what stands in the window is looked at, and the LF after a CR.
 pub fn paragraph_from<D: BidiData>(
     text: &Text,
     tables: &D,

@@ -22,7 +22,7 @@ pub fn cut_at(blocks: &mut Vec<Block>, at: usize, within: usize, spare: Block)
     blocks.insert(at + 1, back).unwrap();
 }
 
-/// Puts a paragraph behind those of a block.
+/// Puts a paragraph after those of a block.
 #[tactic(auto, using(crate::proofs::Written::set_parts))]
 pub fn push_at(blocks: &mut Vec<Block>, at: usize, paragraph: Lengths)
     requires position { at < vec_len blocks.old }
@@ -35,7 +35,7 @@ pub fn push_at(blocks: &mut Vec<Block>, at: usize, paragraph: Lengths)
     blocks[at].push(paragraph);
 }
 
-/// Puts the paragraphs of the next block behind those of a block.
+/// Puts the paragraphs of the next block after those of a block.
 #[tactic(auto, using(crate::proofs::Written::join_parts))]
 pub fn join_at(blocks: &mut Vec<Block>, at: usize)
     requires position { at + 1 < vec_len blocks.old }

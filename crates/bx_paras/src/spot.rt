@@ -7,7 +7,7 @@ ghost use Rattle.bx_paras.specs.Spots.{IsSpot, closed};
 use crate::blocks::Blocks;
 use crate::lengths::Lengths;
 
-/// Where a paragraph stands: in a block, or, where it is the last of the text, behind all blocks.
+/// Where a paragraph stands: in a block, or, where it is the last of the text, after all blocks.
 #[derive(Clone, Copy, PartialEq, Eq, Debug)]
 pub struct Spot {
     /// The paragraph's number, from 0.
@@ -72,7 +72,7 @@ fn last_filled(blocks: &Blocks, to: usize) -> (usize, usize)
     (0, 0)
 }
 
-/// Where the next paragraph stands; none behind the last.
+/// Where the next paragraph stands; none after the last.
 #[tactic(auto, using(crate::proofs::Flats::length_flat_more))]
 pub fn next_spot(blocks: &Blocks, spot: Spot) -> Option<Spot>
     requires { IsSpot blocks.now.blocks spot }
@@ -120,7 +120,7 @@ pub fn previous_spot(blocks: &Blocks, spot: Spot) -> Option<Spot>
     })
 }
 
-/// The paragraph that stands there, where the last one has so many bytes.
+/// The paragraph that stands there, where the last one has `last` bytes.
 pub fn paragraph_at(blocks: &Blocks, last: u32, spot: Spot) -> Lengths
     requires { IsSpot blocks.now.blocks spot }
     ensures { result ≡ get_or (closed blocks.now.blocks last) spot.number result }

@@ -1,6 +1,6 @@
 //! A walk over the paragraphs of a text.
 
-ghost use Rattle.std.specs.Prelude.{◌≡◌, ℕ, ◌+◌, ◌-◌, ◌<◌, ◌≤◌, Some, length, nat_lt, slice_get, if◌then◌else◌};
+ghost use Rattle.std.specs.Prelude.{◌≡◌, ℕ, ◌+◌, ◌-◌, ◌<◌, ◌≤◌, Some, length, nat_lt, slice_get, take, if◌then◌else◌};
 ghost use Rattle.bx_text.specs.Edits.{largest_text};
 ghost use Rattle.bx_paras.specs.Flat.{flat};
 ghost use Rattle.bx_paras.specs.Positions.{total, spans, separators};
@@ -35,9 +35,16 @@ impl<'a> Model for ParagraphWalk<'a> {
 }
 
 impl<'a> ParagraphWalk<'a> {
-    /// A walk that stands at the paragraph of a number, where the last paragraph has so many bytes.
-    pub(crate) fn new(blocks: &'a Blocks, last: u32, number: usize) -> ParagraphWalk<'a>
+    /// A walk that stands at the paragraph of a number, which begins at the offset `start`, where the last paragraph has `last`
+    /// bytes.
+    pub(crate) fn new(
+        blocks: &'a Blocks,
+        last: u32,
+        number: usize,
+        start: usize,
+    ) -> ParagraphWalk<'a>
         requires inside { number ≤ length (flat blocks.now.blocks) }
+        requires begins { start ≡ total (take number (closed blocks.now.blocks last)) }
         requires short { total (closed blocks.now.blocks last) ≤ largest_text }
         ensures { result ≡ record { paragraphs = closed blocks.now.blocks last; number = number } }
     {
@@ -46,7 +53,7 @@ impl<'a> ParagraphWalk<'a> {
             blocks,
             last,
             spot,
-            start: blocks.start_of(number),
+            start,
             here: paragraph_at(blocks, last, spot),
         }
     }

@@ -30,7 +30,7 @@ module _ (class : ℕ → Class) (body : List ℕ) (at : ℕ) (u : IsUtf8 body) 
       (open-narrow class body r.stop (get_or body r.stop 0) b rest (left_at body r.stop within here) (begins_ascii (get_or body r.stop 0) here) blank)
       size (left_at body (r.stop + 1) less next) (begins_ascii (get_or body (r.stop + 1) 0) next).0 refl
 
-  -- bytes behind which no row may end
+  -- bytes after which no row may end
   no_break : (d : ℕ) (r : NarrowRun) → IsLonger class body at r → r.stop + d < length body
       → ((i : ℕ) → r.stop ≤ i → i ≤ r.stop + d → is_ascii_printable (get_or body i 0) ≡ true)
       → ((i : ℕ) → r.stop ≤ i → i < r.stop + d → is_blank (class (get_or body i 0)) ≡ false)

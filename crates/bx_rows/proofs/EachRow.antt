@@ -84,8 +84,8 @@ abbrev next_from : ℕ → Option Row → ℕ
 next_from n None = n
 next_from n (Some r) = r.start
 
--- a row of units from number 0 to `total`, with the next one: that begins where the row ends, or behind its first unit where
--- it has none; behind the last row no unit is left
+-- a row of units from number 0 to `total`, with the next one: that begins where the row ends, or after its first unit where
+-- it has none; after the last row no unit is left
 record IsFollowed (w total : ℕ) (r : Row) (after : Option Row) : Type 0 where
   pub begins : r.start < total
   pub order : r.start ≤ r.stop

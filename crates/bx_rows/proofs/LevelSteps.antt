@@ -172,7 +172,7 @@ take-nil : (n : ℕ) → take {A = Option ℕ} n [] ≡ []
 take-nil zero = refl
 take-nil (suc n) = refl
 
--- characters behind the last level
+-- characters after the last level
 no_levels : (k : Bool) (p : ℕ) (found : List ℕ) (waiting n : ℕ) (counts : List ℕ)
     → unit_from k p found waiting (suc n) counts [] ≡ unit_from k p found waiting n counts []
 no_levels true p found waiting n counts = ap (λ xs. with_levels_behind p (settled p waiting found) (unit_levels counts xs)) (sym (drop-nil n))

@@ -13,7 +13,7 @@ use Rattle.bx_rows.specs.RowPicture.{mirror_image}
 use Rattle.bx_rows.proofs.GlyphTexts.{mirror_or}
 use Rattle.bx_rows.proofs.Unmirrored.{own_if_none}
 
--- a text whose first character has nothing behind it
+-- a text whose first character has nothing after it
 pub single : (text behind : List ℕ) (c : ℕ) → IsUtf8 text → text ≡ encode_utf8 c ++ behind → length behind ≡ 0 → chars text ≡ c ∷ []
 single text behind c u e z =
     chars_past_char text behind c u e ∙ ap (λ x. c ∷ chars x) (nil_from_length behind z) ∙ ap (λ x. c ∷ x) chars-nil

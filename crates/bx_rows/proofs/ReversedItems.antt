@@ -28,7 +28,7 @@ map-turned f i j xs =
     ∙ ap₂ (λ a b. a ++ b) (map-append f (take i xs) (reverse run)
     ∙ ap₂ (λ a b. a ++ b) (sym (take-map f i xs)) (map-reverse f run ∙ ap reverse (sym same))) (sym (drop-map f j xs))
 
--- the first run of what stands behind `done`
+-- the first run of what stands after `done`
 turned-behind : {X : Type 0} (done xs : List X) (i j : ℕ) → length done ≡ i → i ≤ j
     → turned i j (done ++ drop i xs) ≡ done ++ reverse (between i j xs) ++ drop j xs
 turned-behind done xs i j e h =

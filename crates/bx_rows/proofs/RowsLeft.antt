@@ -25,7 +25,7 @@ use Rattle.bx_rows.proofs.RowUnits.{chars-behind, starts-of-none, starts-of-some
 use Rattle.bx_rows.proofs.RowsFit.{rest-of}
 use Rattle.bx_rows.proofs.Wraps.{no_unit, rows_turn}
 
--- ---- units that stand so many bytes further on
+-- ---- units that stand some bytes further on
 
 abbrev pub shifted : ℕ → Unit → Unit
 shifted d u = record { start = d + u.start; stop = d + u.stop; face = u.face }

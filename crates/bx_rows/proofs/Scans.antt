@@ -106,7 +106,7 @@ scan-break p w here behind u rest columns last count since s f is_break =
       less = omega arith;
     }
 
--- what is left behind the break, and behind all that was read
+-- what is left after the break, and after all that was read
 module _ (p : Unit → Bool) (w : ℕ) (here behind rest : List Unit) (columns last count since : ℕ) (s : IsScan p w here behind rest columns last count since)
   where
     scan-size : length (s.front ++ s.back) ≡ last + count
@@ -203,7 +203,7 @@ module _ (p : Unit → Bool) (w : ℕ) (here behind : List Unit) (u : Unit) (res
       (ap (λ n. drop n here) one ∙ drop-read p w here behind (u ∷ rest) columns last count since s)
       ∙ ap (λ n. record { start = i; stop = i + count } ∷ rows_from p w (i + n) 0 (u ∷ rest)) more
 
-  -- it has no unit, and goes on behind the one that is too wide
+  -- it has no unit, and goes on after the one that is too wide
   pub row-none : fit_count_from w columns (u ∷ rest) ≡ 0 → (i : ℕ) → last ≡ 0 → count ≡ 0
       → rows_from p w i 0 here ≡ record { start = i; stop = i + 0 } ∷ rows_from p w (i + 1) 0 rest
   row-none full i none empty =

@@ -49,7 +49,7 @@ fits_full us w c i h = fit_full w c (drop i us) h
 pub fits_all : (us : List Unit) (w c : ℕ) → fit_count_from w c (drop (length us) us) ≡ 0
 fits_all us w c = rw drop-length
 
--- the next row, and those behind it
+-- the next row, and those after it
 pub rows_turn : (p : Unit → Bool) (w i : ℕ) (us : List Unit) → 0 < length us
     → rows_from p w i 0 us ≡ record { start = i; stop = i + row_len p w us } ∷ rows_from p w (i + max (row_len p w us) 1) 0 (drop (max (row_len p w us) 1) us)
 rows_turn p w i [] h = absurd (omega arith)

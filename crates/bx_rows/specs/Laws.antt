@@ -44,7 +44,7 @@ abbrev pub RowsAreOfRest : Type 0
 RowsAreOfRest = (class : ℕ → Class) (w : ℕ) (body : List ℕ) (k : ℕ) (s : RowStart) → IsUtf8 body → slice_get (row_starts class w body) k ≡ Some s
     → drop k (row_starts class w body) ≡ map (behind s) (row_starts class w (drop s.offset body))
 
--- where a row begins that begins as far behind `r` as `t` begins behind `s`
+-- where a row begins that begins as far after `r` as `t` begins after `s`
 abbrev pub moved : RowStart → RowStart → RowStart → RowStart
 moved s r t = record { offset = r.offset + (t.offset - s.offset); units = r.units + (t.units - s.units); chars = r.chars + (t.chars - s.chars) }
 

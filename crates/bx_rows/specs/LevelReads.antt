@@ -1,4 +1,4 @@
--- The levels of a row's units while its characters are read from left to right: the units behind the last character that does
+-- The levels of a row's units while its characters are read from left to right: the units after the last character that does
 -- not trail have their levels only once it is known whether what follows trails.
 use Rattle.std.specs.Prelude.{◌≡◌, ℕ, zero, suc, Bool, true, false, ◌||◌, cond, List, [], ◌∷◌, ◌++◌, drop, Option, Some, None, is_some, unwrap_or}
 use Rattle.std.specs.List.{last_or}
@@ -15,11 +15,11 @@ settled paragraph (suc waiting) (l ∷ ls) = l ∷ settled paragraph waiting ls
 abbrev pub settled_if : Bool → ℕ → ℕ → List ℕ → List ℕ
 settled_if trailing paragraph waiting found = cond trailing (settled paragraph waiting found) found
 
--- the level of a unit with no kept character, behind units of these levels
+-- the level of a unit with no kept character, after units of these levels
 abbrev pub level_before : ℕ → List ℕ → ℕ
 level_before paragraph found = unwrap_or (last_or None found) paragraph
 
--- these levels, and those of the units behind by their own first levels
+-- these levels, and those of the units after by their own first levels
 abbrev pub with_levels_behind : ℕ → List ℕ → List (Option ℕ) → List ℕ
 with_levels_behind paragraph found ls = found ++ levels_or_before (level_before paragraph found) ls
 
@@ -34,7 +34,7 @@ abbrev pub unit_from : Bool → ℕ → List ℕ → ℕ → ℕ → List ℕ �
 unit_from true paragraph found waiting n counts cs = levels_from paragraph found waiting n counts cs
 unit_from false paragraph found waiting n counts cs = levels_from paragraph found waiting 0 (n ∷ counts) cs
 
--- a kept character of a class is read, whatever is behind it
+-- a kept character of a class is read, whatever is after it
 abbrev pub Reads : ℕ → Class → List ℕ → ℕ → List ℕ → ℕ → Type 0
 Reads paragraph class old waiting new next =
     (l : ℕ) (b : Bool) → settled_if b paragraph next new ≡ settled_if (trails (class, Some l) b) paragraph waiting old

@@ -24,7 +24,7 @@ is_trailing _ = false
 abbrev pub CharLevel : Type 0
 CharLevel = Class × Option ℕ
 
--- whether a character and those behind it trail, given whether those behind it do: one that X9 removes does not count
+-- whether a character and those after it trail, given whether those after it do: one that X9 removes does not count
 abbrev pub trails : CharLevel → Bool → Bool
 trails (class, None) after = after
 trails (class, Some level) after = elim (is_segment_separator class) [ true ↦ true | false ↦ is_trailing class && after ]

@@ -54,7 +54,7 @@ pub record IsRead (class : ℕ → Class) (w : ℕ) (body : List ℕ) (starts : 
 abbrev pub new_scan : RowStart → Scan
 new_scan start = record { start = start; next = start.offset; columns = 0; last = 0; count = 0; since = 0 }
 
--- a row that also has `n` units of one column each, of which `m` stand up to the last break, behind which `next` begins
+-- a row that also has `n` units of one column each, of which `m` stand up to the last break, after which `next` begins
 abbrev pub with_run : Scan → ℕ → ℕ → ℕ → Scan
 with_run s n zero next =
     record { start = s.start; next = s.next; columns = s.columns + n; last = s.last; count = s.count + n; since = s.since + n }
@@ -68,7 +68,7 @@ pub record HasExtent (class : ℕ → Class) (w : ℕ) (body : List ℕ) (e : Ex
   pub here : units_from class w body e.start ≡ u ∷ rest
   pub behind : units_from class w body e.stop ≡ rest
 
--- the starts and the row that is being read, before and behind a unit of this extent
+-- the starts and the row that is being read, before and after a unit of this extent
 abbrev pub Takes : ℕ → List ℕ → Extent → List RowStart → Scan → List RowStart → Scan → Type 0
 Takes w body e starts s new t =
     (class : ℕ → Class) (u : Unit) (rest : List Unit) → HasExtent class w body e u rest → IsRead class w body starts s (u ∷ rest)

@@ -32,7 +32,7 @@ abbrev pub units_of_row : (ℕ → Class) → ℕ → List ℕ → ℕ → List 
 units_of_row class w body k = let us = units class w body in units_in us (slice_get (wrap class w body us) k)
 
 -- How many units the row has at most that begins at `start`, where the next one begins at `next`. The last row has none
--- behind it, and no more units than the body has bytes. In a window of no columns each row is empty.
+-- after it, and no more units than the body has bytes. In a window of no columns each row is empty.
 abbrev pub most_units : ℕ → List ℕ → RowStart → Option RowStart → ℕ
 most_units zero body start next = 0
 most_units (suc w) body start None = length body

@@ -110,7 +110,7 @@ fn push_text<'a>(
     Ok(())
 }
 
-/// Whether a face is own text of so many columns.
+/// Whether a face is own text of a number of columns.
 pub(crate) fn is_own(face: Face, n: u16) -> bool
     ensures { result ≡ is_own n face }
 {

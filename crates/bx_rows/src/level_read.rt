@@ -1,6 +1,6 @@
 //! The levels of units, read character by character from left to right.
 //!
-//! By L1 a character that may trail has the paragraph level where all behind it, up to a separator or the row's end, may
+//! By L1 a character that may trail has the paragraph level where all after it, up to a separator or the row's end, may
 //! trail too. So the units whose first kept characters may trail wait, from the first of them on, until that is known.
 ghost use Rattle.std.specs.Prelude.{◌≡◌, ◌≤◌, ◌<◌, ◌++◌, ◌∷◌, [], Bool, IfOk, List, None, chars, drop, get_or, length, map, ℕ};
 ghost use Rattle.std.specs.List.{zip};
@@ -154,7 +154,7 @@ fn push_before(found: &mut Vec<u8>, waiting: usize, paragraph: u8) -> Result<usi
     Ok(found.len())
 }
 
-/// The first level, and those behind it; none where no level is left.
+/// The first level, and those after it; none where no level is left.
 #[inline(always)]
 pub(crate) fn first_level(levels: &[Level]) -> (Option<u8>, &[Level])
     ensures first { result.0 ≡ get_or levels.now 0 None }
@@ -166,7 +166,7 @@ pub(crate) fn first_level(levels: &[Level]) -> (Option<u8>, &[Level])
     (levels[0].get(), &levels[1..])
 }
 
-/// Reads a unit; gives the number of the first unit that waits then, and the levels behind the unit's characters.
+/// Reads a unit; gives the number of the first unit that waits then, and the levels after the unit's characters.
 #[inline(always)]
 pub(crate) fn read_unit<'a, D: BidiData>(
     found: &mut Vec<u8>,

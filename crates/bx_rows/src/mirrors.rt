@@ -84,7 +84,7 @@ fn fixed_mirror<'a, D: BidiData>(text: &str, tables: &D, w: u16) -> Option<&'a s
     fixed_text(mirror, tables, w)
 }
 
-/// The mirror image of a text, where that is shown as itself in so many columns; none where the text stays.
+/// The mirror image of a text, where that is shown as itself in `columns` columns; none where the text stays.
 pub(crate) fn mirrored<'a, D: BidiData>(
     alloc: Global,
     text: &str,

@@ -10,8 +10,8 @@ use bx_cells::first_char;
 use bx_cells::simple::{Simple, common_kind, simple_kind};
 use bx_ucd::BidiData;
 
-/// Units of one column each: the offset behind them, how many they are, how many of them there are up to the last after which
-/// a row may end, and the offset behind that one, or that of the first if there is none.
+/// Units of one column each: the offset after them, how many they are, how many of them there are up to the last after which
+/// a row may end, and the offset after that one, or that of the first if there is none.
 #[derive(Clone, Copy)]
 pub(crate) struct NarrowRun {
     pub(crate) stop: usize,

@@ -31,7 +31,7 @@ pub(crate) struct PlainRow<'a> {
     pub(crate) levels: Vec<u8>,
 }
 
-/// Whether a character is a unit of one column of its own text wherever a unit begins behind it.
+/// Whether a character is a unit of one column of its own text wherever a unit begins after it.
 #[inline(always)]
 pub(crate) fn is_plain<D: BidiData>(c: char, tables: &D, w: u16) -> bool
     ensures begin { result ≡ true → begins c ≡ true }
@@ -83,7 +83,7 @@ fn is_cluster_end(text: &str) -> bool
     matches!(simple_kind(c), Simple::Begins(_))
 }
 
-/// The first character of a text, its bytes, and the text behind it.
+/// The first character of a text, its bytes, and the text after it.
 #[inline(always)]
 fn first_part(text: &str) -> Option<(char, &str, &str)>
     ensures { MatchOption result (length text.now ≡ 0) (λ r.

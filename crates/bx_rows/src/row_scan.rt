@@ -22,8 +22,8 @@ pub(crate) struct Extent {
     pub(crate) is_break: bool,
 }
 
-/// The row that is being read: where it begins, the offset behind its last break, its columns, how many units it has up to
-/// that break and behind it, and the columns of these in a row of their own.
+/// The row that is being read: where it begins, the offset after its last break, its columns, how many units it has up to
+/// that break and after it, and the columns of these in a row of their own.
 #[derive(Clone, Copy)]
 pub(crate) struct Scan {
     pub(crate) start: RowStart,
@@ -134,7 +134,7 @@ pub(crate) fn take_run(scan: Scan, run: NarrowRun, body: &str, at: usize, w: u16
     }
 }
 
-/// Keeps the start of a row that has no unit, since the unit is wider than the window, and goes on behind that unit.
+/// Keeps the start of a row that has no unit, since the unit is wider than the window, and goes on after that unit.
 fn pass(
     starts: &mut Vec<RowStart>,
     scan: Scan,
@@ -187,7 +187,7 @@ fn take_unbroken(
     pass(starts, scan, unit, body, w)
 }
 
-/// The row that begins behind the last break.
+/// The row that begins after the last break.
 fn behind_break(scan: Scan, body: &str) -> Scan
     requires start { IsCharBoundary body.now scan.start.offset }
     requires next { IsCharBoundary body.now scan.next }

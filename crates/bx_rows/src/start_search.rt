@@ -78,7 +78,7 @@ fn may_begin_run(body: &str, at: usize) -> bool
     }
 }
 
-/// Reads the units of one column that begin at an offset, as many as fit; gives the offset behind them.
+/// Reads the units of one column that begin at an offset, as many as fit; gives the offset after them.
 #[inline(always)]
 fn read_run<D: BidiData>(scan: Scan, body: &str, at: usize, tables: &D, w: u16) -> (Scan, usize)
     requires in_turn { IsInOrder w body.now scan at }
@@ -95,7 +95,7 @@ fn read_run<D: BidiData>(scan: Scan, body: &str, at: usize, tables: &D, w: u16) 
     (take_run(scan, run, body, at, w), run.stop)
 }
 
-/// Reads the unit that begins at an offset, if one is left; gives the offset behind it.
+/// Reads the unit that begins at an offset, if one is left; gives the offset after it.
 #[inline(always)]
 fn read_unit<D: BidiData>(
     starts: &mut Vec<RowStart>,

@@ -1,4 +1,4 @@
--- The rows of a text around one paragraph: those before it, its own, and those behind it.
+-- The rows of a text around one paragraph: those before it, its own, and those after it.
 use Rattle.std.proofs.Common.{◌≡◌, ℕ, ◌+◌, ◌-◌, ◌<◌, ◌≤◌, nat_le, List, [], ◌∷◌, ◌++◌, map, length, Option, IsUtf8, refl}
 use Rattle.std.proofs.Common.{cond, sym, ap, subst, ◌∙◌, arith, append_assoc, length-append}
 use Rattle.std.proofs.lemmas.Bool.Decides.{nat_tests}
@@ -131,7 +131,7 @@ module _ (class : ℕ → Class) (bracket : ℕ → Option (Side × ℕ)) (base 
         (rises-further start (map first (map (text_row start) (own p))) (start + length p.body + 1) next (omega (arith, e.0)) (own-rise start p u.0.body))
         (subst (λ h. Rises next (map first (from next (q ∷ ps))) h) same (all-rise next (q ∷ ps) u.1 e.1)))
 
-    -- none of the rows behind an offset begins at it or before it
+    -- none of the rows after an offset begins at it or before it
     none-behind : (offset stop : ℕ) (ps : List Paragraph) → AreUtf8 ps → AreEnded ps → EndsBefore ps offset stop → rank offset (map first (from stop ps)) ≡ 0
     none-behind offset stop [] u e h = refl
     none-behind offset stop (p ∷ ps) u e h =
@@ -150,7 +150,7 @@ module _ (class : ℕ → Class) (bracket : ℕ → Option (Side × ℕ)) (base 
     own-within p n u = omega (arith, own-rank p n u, rank-few n (map first_of (own p)), length-map (own p) first_of)
 
     module _ (text : List ℕ) (number start : ℕ) (p : Paragraph) (ahead behind : List Paragraph) (is : IsAmong class text number start p ahead behind) where
-      -- the rows of the text are those ahead, its own, and those behind
+      -- the rows of the text are those ahead, its own, and those after
       pub rows-around : text_rows class bracket base w text
           ≡ from 0 ahead ++ (map (text_row start) (own p) ++ from (start + bytes_of (lengths_of p)) behind)
       rows-around =

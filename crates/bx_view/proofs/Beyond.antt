@@ -1,4 +1,4 @@
--- Moves from a row to the one behind it or before it.
+-- Moves from a row to the one after it or before it.
 use Rattle.std.proofs.Common.{◌≡◌, ℕ, suc, ◌+◌, ◌-◌, ◌<◌, List, length, Option, Some, None, IsUtf8, sym, ap, ap₂, ◌∙◌, arith}
 use Rattle.std.proofs.lemmas.Option.{slice_get-get_or, slice_get_past}
 use Rattle.bx_ucd.specs.declared.class.Class.{Class}

@@ -11,7 +11,7 @@ use Rattle.bx_paras.proofs.Cuts.{ends, is_paired, parts, parts_append, parts_sam
 module _ (class : ℕ → Class) where
   -- ---- where a paragraph begins
 
-  -- characters part as before where the same ones stand behind
+  -- characters part as before where the same ones stand after
   pub parts_ahead : (x h r s : List ℕ) → 0 < length h → parts class x (h ++ r) ≡ true → parts class x (h ++ s) ≡ true
   parts_ahead x [] r s some p = absurd (omega (arith, some))
   parts_ahead x (c ∷ h) r s some p = parts_same class x (c ∷ h ++ s) (c ∷ h ++ r) refl ∙ p
@@ -86,7 +86,7 @@ module _ (class : ℕ → Class) where
   quiet_cut [] ds q others none e = e
   quiet_cut (c ∷ cs) ds q others none e = cut_plain class c (cs ++ ds) none.0 ∙ ap (after_character c) (quiet_cut cs ds q others none.1 e)
 
-  -- the characters of the first body, and what stands behind it
+  -- the characters of the first body, and what stands after it
   pub record Opens (cs : List ℕ) : Type 0 where
     pub body : List ℕ
     pub rest : List ℕ

@@ -1,4 +1,4 @@
--- The place behind an edit within one paragraph is told by the body that the edit leaves.
+-- The place after an edit within one paragraph is that of the body that the edit leaves.
 use Rattle.std.proofs.Common.{◌≡◌, ℕ, ◌+◌, ◌-◌, ◌<◌, ◌≤◌, ◌==◌, ◌||◌, nat_lt, zero, suc, ◌⊎◌, inl, inr, true, List, [], ◌∷◌, ◌++◌, map, length, take, drop, chars, encode_utf8_all}
 use Rattle.std.proofs.Common.{Option, IsUtf8, IsCharBoundary, refl, sym, ap, subst, ◌∙◌, arith, append_assoc, length-append, length-drop, get_or, slice_range}
 use Rattle.std.specs.List.{splice as list_splice}
@@ -98,7 +98,7 @@ module _ (class : ℕ → Class) (text : List ℕ) (utf8 : IsUtf8 text) (number 
       ap (cut class) o.whole ∙ quiet_cut class o.body o.rest o.separator o.others o.none o.behind in
       ap first_body (sym (ap (map lengths_of) is) ∙ begin.rest)
 
-  -- what stands behind its body
+  -- what stands after its body
   abbrev back : List ℕ
   back = drop (length body) rest
 

@@ -268,7 +268,7 @@ narrow_shown : shown 2 1 2 (rows 2 (codes "xyabcd")) ≡ codes "ab" ∷ []
 unfolding unicode_segmentation unicode_width
 narrow_shown = refl
 
--- the place behind a separator begins the next row
+-- the place after a separator begins the next row
 after_separator : place_from after_empty 1 ∷ row_of after_empty 1 ∷ cell_of 4 after_empty 1 ∷ [] ≡ 1 ∷ 1 ∷ 1 ∷ []
 unfolding unicode_segmentation unicode_width
 after_separator = refl
@@ -283,12 +283,12 @@ inside_separator : row_of with_crlf 2 ∷ row_of with_crlf 9 ∷ [] ≡ 0 ∷ 1 
 unfolding unicode_segmentation unicode_width
 inside_separator = refl
 
--- the least place not before an offset inside a cluster is behind it
+-- the least place not before an offset inside a cluster is after it
 place_from_inside_cluster : place_from (rows 5 (codes "e" ++ (acute ∷ []))) 3 ∷ place_from (rows 5 (codes "e" ++ (acute ∷ []))) 1 ∷ [] ≡ 3 ∷ 3 ∷ []
 unfolding unicode_segmentation unicode_width
 place_from_inside_cluster = refl
 
--- the end behind a wide character
+-- the end after a wide character
 end_behind_wide : cell_of 4 (rows 4 (codes "x" ++ (wide ∷ []))) 4 ≡ 4
 unfolding unicode_segmentation unicode_width
 end_behind_wide = refl

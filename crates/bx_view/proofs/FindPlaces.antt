@@ -109,7 +109,7 @@ module _ (start offset : ℕ) (order : start ≤ offset) (os : List ℕ) (o : Op
       ∙ sym (find-moved start (λ k. nat_lt k offset) (λ k. nat_lt k (offset - start)) (λ k. grind (arith, nat_tests)) (reverse os))
       ∙ ap (find (λ k. nat_lt k offset)) (sym (reverse-moved start os))
 
--- ---- a row, the rows before it and those behind it
+-- ---- a row, the rows before it and those after it
 
 pub head-some : (r : TextRow) → IsHead r → 0 < length (offsets_of r.row)
 head-some r head = omega (arith, ap length head.1, length-map (offsets_of r.row) (λ o. r.start + o))

@@ -180,7 +180,7 @@ either-slot zero true end ss s c = ⊎_elim (λ a. inl a) (λ e. inr (refl, one-
 either-slot (suc n) true end ss s c = ⊎_elim (λ e. inr (refl, one-is end s e)) (λ a. inl a) (Contains-append_cases (end ∷ []) ss s c)
 either-slot n false end ss s c = inl c
 
--- the blanks of a row stand before its glyphs or behind them
+-- the blanks of a row stand before its glyphs or after them
 record ArePadded (odd n : ℕ) (glyphs left own : List Glyph) : Type 0 where
   rest : List Glyph
   shown : elim odd [ zero ↦ glyphs ++ replicate n blank | suc _ ↦ replicate n blank ++ glyphs ]

@@ -1,4 +1,4 @@
--- Where rows begin, told by later states of a layout.
+-- Where rows begin, in later states of a layout.
 use Rattle.std.proofs.Common.{◌≡◌, ℕ, ◌<◌, ◌≤◌, List, length, Option, IsUtf8, sym, ap, ap₂, ◌∙◌, arith}
 use Rattle.bx_terms.specs.Sizes.{is_side}
 use Rattle.bx_ucd.specs.declared.class.Class.{Class}

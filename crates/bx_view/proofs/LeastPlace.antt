@@ -1,4 +1,4 @@
--- The least place of a text that is not before an offset, told by a part of the text that begins and ends where paragraphs do.
+-- The least place of a text that is not before an offset, by a part of the text that begins and ends where paragraphs do.
 use Rattle.std.proofs.Common.{◌≡◌, ℕ, ◌+◌, ◌-◌, ◌<◌, ◌≤◌, nat_le, cond, Bool, true, false, List, [], ◌∷◌, ◌++◌, map, length, chars, find, unwrap_or, Option}
 use Rattle.std.proofs.Common.{Some, None, IsUtf8, refl, sym, ap, subst, ◌∙◌, arith, length-append, ⊎_elim}
 use Rattle.std.specs.Prelude.{flat_map}
@@ -72,7 +72,7 @@ least_behind offset low a (o ∷ before) os r h some =
     least_past offset o (before ++ os) (omega (arith, near, h)) (omega (arith, length-append before os, some))
     ∙ least_behind offset (o + 1) a before os r.1 h some
 
--- and offsets behind it
+-- and offsets after it
 pub least_stops : (offset : ℕ) (before : List ℕ) (z : ℕ) (ys zs : List ℕ) → offset ≤ z → least offset (before ++ z ∷ ys) ≡ least offset (before ++ z ∷ zs)
 least_stops offset [] z ys zs h = least_here offset z ys h ∙ sym (least_here offset z zs h)
 least_stops offset (o ∷ before) z ys zs h = ⊎_elim
@@ -189,7 +189,7 @@ module _ (class : ℕ → Class) (bracket : ℕ → Option (Side × ℕ)) (base 
       (omega (arith, some, length-map (places (rows v)) (λ o. a + o)))
       ∙ least_moved a offset (places (rows v)) order some
 
-  -- and what stands behind where one ends
+  -- and what stands after where one ends
   pub place_before_back : (x y : List ℕ) (offset : ℕ) → IsUtf8 x → IsUtf8 y → parts class (chars x) (chars y) ≡ true → offset ≤ length x
       → place_from (rows (x ++ y)) offset ≡ place_from (rows x) offset
   place_before_back x y offset ux uy p within =

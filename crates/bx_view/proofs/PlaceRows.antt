@@ -18,7 +18,7 @@ around_crlf : of (97 ∷ 13 ∷ 10 ∷ 98 ∷ []) ≡ 0 ∷ 1 ∷ 3 ∷ 4 ∷ []
 unfolding unicode_segmentation
 around_crlf = refl
 
--- e with an acute, in three bytes, and LF: the last place is behind the separator
+-- e with an acute, in three bytes, and LF: the last place is after the separator
 behind_lf : of (101 ∷ 0x301 ∷ 10 ∷ []) ≡ 0 ∷ 3 ∷ 4 ∷ []
 unfolding unicode_segmentation
 behind_lf = refl

@@ -55,11 +55,12 @@ module _ (class : ℕ → Class) (bracket : ℕ → Option (Side × ℕ)) where
       }
 
   -- the row that an offset falls in
-  pub stands : (v : ViewState) (text : List ℕ) (offset : ℕ) (at : RowAt) (l : LayoutState) → IsUtf8 text
+  pub stands : (v : ViewState) (text : List ℕ) (offset : ℕ) (at : RowAt) (l : LayoutState) → IsUtf8 text → IsViewBy class bracket v
       → at.paragraph ≡ paragraph_of (lengths class text) offset → at.start ≡ start_at class text at.paragraph
       → HoldsBody (body_at class text at.paragraph) v.w v.held at.held → IsOfText class bracket v text at.paragraph l
       → at.row ≡ row_of_body (rows_by class bracket l) (offset - at.start) → StandsOn class bracket v text at (row_of (of v text) offset)
-  stands v text offset at l utf8 number start held is row = record {
+  stands v text offset at l utf8 all number start held is row = record {
+    by = all;
     side = is.side;
     start_is = start;
     is = row-under class bracket v.base v.w (side-some v.w is.side) text utf8 offset at.paragraph at.row number
@@ -194,14 +195,16 @@ module _ (class : ℕ → Class) (bracket : ℕ → Option (Side × ℕ)) where
     last-here : length l.starts ≤ at.row + 1 → at.row + 1 ≡ length (rows_in class bracket v.base v.w text at.paragraph)
     last-here last = let within = on.is.row in omega (arith, last, within, is.count_is)
 
-    pub next-there : (new : ViewState) (start held : ℕ) → Keeps class bracket v new → length l.starts ≤ at.row + 1 → at.paragraph + 1 < count class text
-        → start ≡ start_at class text (at.paragraph + 1) → HoldsBody (body_at class text (at.paragraph + 1)) new.w new.held held
-        → StandsOn class bracket new text (record { paragraph = at.paragraph + 1; start = start; row = 0; held = held }) (n + 1)
-    next-there new start held keeps last more e h = record {
+    pub next-there : (new : ViewState) (number start held : ℕ) → Keeps class bracket v new → length l.starts ≤ at.row + 1 → number ≡ at.paragraph + 1
+        → at.paragraph + 1 < count class text → start ≡ start_at class text number → HoldsBody (body_at class text number) new.w new.held held
+        → StandsOn class bracket new text (record { paragraph = number; start = start; row = 0; held = held }) (n + 1)
+    next-there new number start held keeps last next more e h = record {
+      by = keeps.held;
       side = ap is_side keeps.w ∙ is.side;
       start_is = e;
-      is = kept-row v new text (at.paragraph + 1) 0 (n + 1) keeps
-          (next-over class bracket v.base v.w (side-some v.w is.side) text utf8 at.paragraph at.row n on.is (last-here last) more);
+      is = subst (λ k. IsRow class bracket new.base new.w text k 0 (n + 1)) (sym next)
+          (kept-row v new text (at.paragraph + 1) 0 (n + 1) keeps
+          (next-over class bracket v.base v.w (side-some v.w is.side) text utf8 at.paragraph at.row n on.is (last-here last) more));
       held_is = h;
     }
 
@@ -222,6 +225,7 @@ module _ (class : ℕ → Class) (bracket : ℕ → Option (Side × ℕ)) where
       (kept-row old v text at.paragraph at.row n keeps on.is)) in (
         before-some class bracket v.base v.w (side-some v.w is.side) text utf8 (number + 1) 0 n there (omega arith),
         record {
+          by = keeps.held;
           side = is.side;
           start_is = e;
           is = before-over class bracket v.base v.w (side-some v.w is.side) text utf8 number (rows - 1) n there (omega (arith, counted, some, is.count_is));

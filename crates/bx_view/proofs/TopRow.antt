@@ -24,7 +24,7 @@ top-furthest k n t zero within few last behind = omega (arith, few, last)
 top-furthest k n t (suc a) within few last behind =
     let high = behind (omega arith) in let one : min k n ≡ k = omega (arith, high) in omega (arith, within, few, last, high, one)
 
--- rows by the offsets at which they begin, told by a later state of the layout
+-- rows by the offsets at which they begin, in a later state of the layout
 module _ (class : ℕ → Class) (bracket : ℕ → Option (Side × ℕ)) (old v : ViewState) (text : List ℕ) (utf8 : IsUtf8 text)
     (keeps : Keeps class bracket old v) (at : RowAt) (m : ℕ) (on : StandsOn class bracket v text at m) (k begin old-begin : ℕ)
     (here : begin ≡ first (row_at (rows_by class bracket v text) m)) (there : k < length (rows_by class bracket old text))

@@ -175,7 +175,7 @@ body-row-lies P class bracket base w body k utf8 each h =
     subst (LiesIn P w) (sym (last-at make xs k (omega (arith, h, length-with-last make xs))))
     (row-lies P w (make (k + 1 == length xs) (get_or xs k [])) (each 0 (IsCharBoundary-start body utf8)) (each (length body) (IsCharBoundary-end body)) all)
 
--- ---- what is told of a row
+-- ---- what is known of a row
 
 pub slots-fit : (P : ℕ → Type 0) (start most : ℕ) (ss : List Slot) → ((o : ℕ) → P o → start + o ≤ most) → Within P (map (λ s. s.offset) ss)
     → All (λ s. start + s.offset ≤ most) ss

@@ -1,4 +1,4 @@
--- The places of one body, told by its rows. Offsets count bytes of the body.
+-- The places of one body, by its rows. Offsets count bytes of the body.
 use Rattle.std.specs.Prelude.{ℕ, nat_le, List, find, flat_map, unwrap_or}
 use Rattle.bx_paragraph.specs.BodyRows.{BodyRow, last_offset, offsets_of}
 

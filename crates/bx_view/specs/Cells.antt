@@ -28,7 +28,7 @@ abbrev pub glyphs_before : (ℕ → Class) → (ℕ → Option ℕ) → ℕ → 
 glyphs_before class mirror w r numbers =
     elim (r.paragraph % 2) [ zero ↦ [] | suc _ ↦ replicate (w - columns_used w r.units) blank ] ++ flat_map (glyphs_of class mirror w r) numbers
 
--- A unit of the row begins at the place, and its glyphs in the column: that is the next one behind all that the row shows left of
+-- A unit of the row begins at the place, and its glyphs in the column: that is the next one after all that the row shows left of
 -- them, which is the glyphs of the units before it in visual order.
 pub record IsUnitCell (class : ℕ → Class) (mirror : ℕ → Option ℕ) (w : ℕ) (r : TextRow) (place column : ℕ) : Type 0 where
   pub number : ℕ

@@ -4,18 +4,19 @@ use Rattle.bx_terms.specs.Sizes.{is_side}
 use Rattle.bx_ucd.specs.declared.class.Class.{Class}
 use Rattle.bx_ucd.specs.declared.data.Side.{Side}
 use Rattle.bx_view.specs.declared.row_at.RowAt.{RowAt}
-use Rattle.bx_view.specs.Holding.{HoldsBody, ViewState}
+use Rattle.bx_view.specs.Holding.{HoldsBody, IsViewBy, ViewState}
 use Rattle.bx_view.specs.Standing.{IsRow, body_at, start_at}
 use Rattle.bx_view.specs.TextRows.{TextRow, row_at, text_rows}
 
--- it is row `n` of the text, in a window that there may be, and its paragraph is held
+-- it is row `n` of the text, in a window that there may be, and its paragraph is held; all that is held is by the data
 pub record StandsOn (class : ℕ → Class) (bracket : ℕ → Option (Side × ℕ)) (v : ViewState) (text : List ℕ) (at : RowAt) (n : ℕ) : Type 0 where
+  pub by : IsViewBy class bracket v
   pub side : is_side v.w ≡ true
   pub start_is : at.start ≡ start_at class text at.paragraph
   pub is : IsRow class bracket v.base v.w text at.paragraph at.row n
   pub held_is : HoldsBody (body_at class text at.paragraph) v.w v.held at.held
 
--- the row behind row `n` of the text, and none where that is the last
+-- the row after row `n` of the text, and none where that is the last
 abbrev pub IsNext : (ℕ → Class) → (ℕ → Option (Side × ℕ)) → ViewState → List ℕ → ℕ → Option RowAt → Type 0
 IsNext class bracket v text n next =
     MatchOption next (n + 1 ≡ length (text_rows class bracket v.base v.w text)) (λ b. StandsOn class bracket v text b (n + 1))

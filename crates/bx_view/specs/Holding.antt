@@ -32,7 +32,7 @@ pub record HasBody (body : List ℕ) (held : List LayoutState) (i : ℕ) : Type 
   pub within : i < length held
   pub body_is : HoldsAt (λ l. l.body ≡ body) held i
 
--- number `i` of those that are held has this body, in so many columns
+-- number `i` of those that are held has this body, in `w` columns
 pub record HoldsBody (body : List ℕ) (w : ℕ) (held : List LayoutState) (i : ℕ) : Type 0 where
   pub within : i < length held
   pub body_is : HoldsAt (λ l. l.body ≡ body) held i

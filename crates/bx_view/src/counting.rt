@@ -1,4 +1,4 @@
-//! The rows of a text by their numbers, told by counting those of the paragraphs before them.
+//! The rows of a text by their numbers, found by counting those of the paragraphs before them.
 ghost use Rattle.std.specs.Prelude.{◌≡◌, ℕ, ◌<◌, ◌≤◌, true, IfOk, IsUtf8, length, option_map, slice_get, slice_range};
 ghost use Rattle.bx_terms.specs.Sizes.{is_side};
 ghost use Rattle.bx_text.specs.Edits.{IsRange, largest_text};
@@ -11,6 +11,7 @@ ghost use Rattle.bx_view.specs.TextRows.{first, row_of};
 use crate::error::ViewError;
 use crate::layout::Layout;
 use crate::source::Source;
+use crate::span::walked_span;
 use bx_explicit::Base;
 use bx_paras::ParagraphWalk;
 use bx_rows::{RowStart, row_starts};
@@ -18,20 +19,7 @@ use bx_terms::OutOfMemory;
 use bx_ucd::BidiData;
 use std::alloc::Global;
 
-/// Where the body of the paragraph begins and ends at which a walk stands.
-fn walked_span<D: BidiData>(source: &Source<'_, D>, walk: &ParagraphWalk<'_>) -> (usize, usize)
-    requires walk { walk.now.paragraphs ≡ lengths (D.class_of source.now.tables.now) (bytes source.now) }
-    requires number { walk.now.number < count source.now }
-    ensures start { result.0 ≡ start_at source.now walk.now.number }
-    ensures body { slice_range (bytes source.now) result.0 result.1 ≡ body_at source.now walk.now.number }
-    ensures range { IsRange (bytes source.now) result.0 result.1 }
-{
-    // the contract alone speaks of it
-    let _ = source;
-    walk.span()
-}
-
-/// Where the rows of that paragraph begin in its body.
+/// Where the rows of the paragraph at which a walk stands begin in its body.
 fn starts_in<D: BidiData>(
     alloc: Global,
     source: &Source<'_, D>,
@@ -65,7 +53,7 @@ fn rows_before<D: BidiData>(
     // tells the proof that there is a paragraph; the contract alone speaks of the base
     let _some = source.index.count();
     let _ = base;
-    let mut walk = source.index.walk_at(0);
+    let mut walk = source.index.walk_at(0, 0);
     let mut ahead = 0;
     let mut done = 0;
     while done < number {
@@ -122,7 +110,7 @@ impl Layout {
         let alloc = *self.held.allocator();
         let w = self.width();
         let count = source.index.count();
-        let mut walk = source.index.walk_at(0);
+        let mut walk = source.index.walk_at(0, 0);
         let mut left = row;
         let mut done = 0;
         while done < count {

@@ -1,4 +1,4 @@
-//! A layout that follows an edit of the text, and the place behind the edit.
+//! A layout that follows an edit of the text, and the place after the edit.
 ghost use Rattle.std.specs.Prelude.{◌≡◌, ◌≤◌, ◌+◌, ◌==◌, ◌||◌, IfOk, IfSome, chars, length, nat_lt};
 ghost use Rattle.std.specs.List.{list_any};
 ghost use Rattle.bx_paragraph.specs.Layout.{IsLayoutBy, rows_by as rows_of_body};
@@ -71,7 +71,7 @@ fn place_in_body<D: BidiData>(
 
 impl Layout {
     /// Lays a paragraph out as an edit of the text will leave it, which puts characters in the place of those from start to
-    /// stop, and answers the place behind the edit. None where the paragraph is not held, where the edit goes beyond it, and
+    /// stop, and answers the place after the edit. None where the paragraph is not held, where the edit goes beyond it, and
     /// at its begin, where a CR and an LF may become one separator: the paragraphs are laid out anew then, when they are
     /// looked for.
     ///

@@ -2,5 +2,5 @@
 
 use bx_terms::OutOfMemory;
 
-/// Why the rows of a text could not be told: memory ran out.
+/// Why the rows of a text could not be found: memory ran out.
 pub type ViewError = OutOfMemory;

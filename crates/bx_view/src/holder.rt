@@ -19,7 +19,7 @@ use std::ops::Range;
 // More than the rows of any window.
 const MOST_HELD: usize = 512;
 
-// So many bytes are held beside the smallest text, so that letters typed into it drop no page.
+// How many bytes are held beside the smallest text, so that letters typed into it drop no page.
 const LEAST_ROOM: usize = 65_536;
 
 /// Whether a paragraph that is held has the bytes between two offsets of a text as its body.
@@ -36,7 +36,7 @@ fn is_held(held: &[ParagraphLayout], i: usize, text: &Text, start: usize, stop: 
 }
 
 /// Which of those that are held has the bytes between two offsets as its body. That of the number `recent` is asked
-/// first, and then the one behind it: the paragraphs of a page were held one after another.
+/// first, and then the one after it: the paragraphs of a page were held one after another.
 pub(crate) fn position(
     held: &[ParagraphLayout],
     recent: usize,
@@ -119,7 +119,7 @@ pub(crate) fn hold<D: BidiData>(
     Ok(held.len() - 1)
 }
 
-/// Lays a paragraph that is held out in so many columns, if it has others. Its levels are kept.
+/// Lays a paragraph that is held out in `w` columns, if it has others. Its levels are kept.
 ///
 /// Errors: `OutOfMemory`, and nothing has changed.
 pub(crate) fn lay_out_in<D: BidiData>(

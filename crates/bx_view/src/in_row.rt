@@ -28,7 +28,6 @@ pub(crate) fn place_in(start: usize, offset: Option<usize>) -> Option<usize>
 impl Layout {
     /// The offset at which a row begins, in bytes of the text.
     pub fn first_in<D: BidiData>(&self, source: &Source<'_, D>, at: RowAt) -> usize
-        requires data { IsViewBy source.now self.now }
         requires row { Stands source.now self.now at }
         ensures { OfRow source.now self.now at (λ r. result ≡ first r) }
     {
@@ -42,7 +41,6 @@ impl Layout {
         source: &Source<'_, D>,
         at: RowAt,
     ) -> Result<usize, ViewError>
-        requires data { IsViewBy source.now self.now }
         requires row { Stands source.now self.now at }
         ensures { OfRow source.now self.now at (λ r. IfOk result (λ o. o ≡ r.start + last_of r.row)) }
     {
@@ -59,7 +57,6 @@ impl Layout {
         side: Visual,
         place: usize,
     ) -> Result<Option<usize>, ViewError>
-        requires data { IsViewBy source.now self.now }
         requires row { Stands source.now self.now at }
         requires order { at.start ≤ place }
         ensures { OfRow source.now self.now at
@@ -76,7 +73,6 @@ impl Layout {
         source: &Source<'_, D>,
         at: RowAt,
     ) -> Result<Option<usize>, ViewError>
-        requires data { IsViewBy source.now self.now }
         requires row { Stands source.now self.now at }
         ensures { OfRow source.now self.now at (λ r. IfOk result (λ o. o ≡ place_in r (reading_start self.now.w r.row))) }
     {
@@ -91,7 +87,6 @@ impl Layout {
         source: &Source<'_, D>,
         at: RowAt,
     ) -> Result<Option<usize>, ViewError>
-        requires data { IsViewBy source.now self.now }
         requires row { Stands source.now self.now at }
         ensures { OfRow source.now self.now at (λ r. IfOk result (λ o. o ≡ place_in r (reading_end self.now.w r.row))) }
     {
@@ -107,7 +102,6 @@ impl Layout {
         at: RowAt,
         column: u16,
     ) -> Result<Option<usize>, ViewError>
-        requires data { IsViewBy source.now self.now }
         requires row { Stands source.now self.now at }
         ensures { OfRow source.now self.now at (λ r. IfOk result (λ o. o ≡ entry_in self.now.w r column)) }
     {

@@ -8,13 +8,13 @@ ghost use Rattle.bx_view.specs.FoundRow.{IsSameAtEnd};
 ghost use Rattle.bx_view.specs.Holding.{HoldsBody};
 ghost use Rattle.bx_view.specs.Moves.{row_home};
 ghost use Rattle.bx_view.specs.Source.{IsBefore, IsNext, IsOfText, IsViewBy, Keeps, Stands, StandsOn, body_at, bytes, rows};
-ghost use Rattle.bx_view.specs.TextRows.{cell_of, row_of};
+ghost use Rattle.bx_view.specs.TextRows.{row_of};
 
 use crate::error::ViewError;
 use crate::holder::{hold, lay_out_in, position, room_beside};
 use crate::row_at::RowAt;
 use crate::source::Source;
-use crate::span::{body_span, paragraph_under};
+use crate::span::{paragraph_under, walked_span};
 use bx_explicit::Base;
 use bx_paragraph::ParagraphLayout;
 use bx_terms::OutOfMemory;
@@ -22,7 +22,7 @@ use bx_ucd::BidiData;
 use std::alloc::Global;
 use std::marker::Model;
 
-/// The rows of a text in a window of so many columns, under a base direction. It holds a few paragraphs, resolved once,
+/// The rows of a text in a window's columns, under a base direction. It holds a few paragraphs, resolved once,
 /// and no rows of the whole text. A paragraph that was laid out in other columns is held as it is until it is looked for.
 #[derive(Drop)]
 pub struct Layout {
@@ -163,7 +163,7 @@ impl Layout {
         })
     }
 
-    /// The row behind one of the text, if there is one.
+    /// The row after one of the text, if there is one.
     ///
     /// Errors: `OutOfMemory`.
     pub fn next_row<D: BidiData>(
@@ -171,7 +171,6 @@ impl Layout {
         source: &Source<'_, D>,
         at: RowAt,
     ) -> Result<Option<RowAt>, ViewError>
-        requires data { IsViewBy source.now self.old }
         requires row { Stands source.now self.old at }
         ensures keeps { Keeps source.now self.old self.new }
         ensures next { (n : ℕ) → StandsOn source.now self.old at n → IfOk result (IsNext source.now self.new n) }
@@ -186,12 +185,12 @@ impl Layout {
                 held: at.held,
             }));
         }
-        let count = source.index.count();
-        let number = at.paragraph + 1;
-        if number >= count {
+        let mut walk = source.index.walk_at(at.paragraph, at.start);
+        if !walk.to_next() {
             return Ok(None);
         }
-        let (start, stop) = body_span(source, number);
+        let number = walk.number();
+        let (start, stop) = walked_span(source, &walk);
         let held = self.find(source, number, start, stop)?;
         Ok(Some(RowAt {
             paragraph: number,
@@ -209,7 +208,6 @@ impl Layout {
         source: &Source<'_, D>,
         at: RowAt,
     ) -> Result<Option<RowAt>, ViewError>
-        requires data { IsViewBy source.now self.old }
         requires row { Stands source.now self.old at }
         ensures keeps { Keeps source.now self.old self.new }
         ensures before { (n : ℕ) → StandsOn source.now self.old at n → IfOk result (IsBefore source.now self.new n) }
@@ -223,11 +221,12 @@ impl Layout {
                 held: at.held,
             }));
         }
-        if at.paragraph == 0 {
+        let mut walk = source.index.walk_at(at.paragraph, at.start);
+        if !walk.to_previous() {
             return Ok(None);
         }
-        let number = at.paragraph - 1;
-        let (start, stop) = body_span(source, number);
+        let number = walk.number();
+        let (start, stop) = walked_span(source, &walk);
         let held = self.find(source, number, start, stop)?;
         let rows = self.paragraph(source, number, held).row_count();
         Ok(Some(RowAt {
@@ -248,7 +247,6 @@ impl Layout {
         at: RowAt,
         offset: usize,
     ) -> Result<RowAt, ViewError>
-        requires data { IsViewBy source.now self.old }
         requires row { Stands source.now self.old at }
         ensures keeps { Keeps source.now self.old self.new }
         ensures row { IfOk result (λ at. StandsOn source.now self.new at (row_of (rows source.now self.new) offset)) }
@@ -267,23 +265,6 @@ impl Layout {
         }
         let there = self.row_at(source, offset)?;
         Ok(there)
-    }
-
-    /// The column, from 1, of the cell of a place.
-    ///
-    /// Errors: `OutOfMemory`.
-    pub fn cell_of<D: BidiData>(
-        &mut self,
-        source: &Source<'_, D>,
-        place: usize,
-    ) -> Result<u16, ViewError>
-        requires data { IsViewBy source.now self.old }
-        ensures keeps { Keeps source.now self.old self.new }
-        ensures cell { IfOk result (λ column. column ≡ cell_of self.old.w (rows source.now self.old) place) }
-    {
-        let at = self.row_at(source, place)?;
-        let position = self.position(source, at, place)?;
-        Ok(position.column)
     }
 
     /// The first offset of the row that a place falls in.

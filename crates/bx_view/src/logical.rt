@@ -1,4 +1,4 @@
-//! The moves in the order of the text, and the place at an offset or behind it.
+//! The moves in the order of the text, and the place at an offset or after it.
 ghost use Rattle.std.specs.Prelude.{◌≡◌, ℕ, ◌≤◌, IfOk, find, nat_le, nat_lt, reverse, unwrap_or};
 ghost use Rattle.std.specs.Str.{IsCharBoundary};
 ghost use Rattle.bx_view.specs.Moves.{place_from, step_logical};
@@ -20,7 +20,7 @@ pub(crate) fn first_from(offsets: &[usize], offset: usize) -> Option<usize>
     offsets.iter().copied().find(|o| offset <= *o)
 }
 
-/// The first of some offsets that is behind one.
+/// The first of some offsets that is after one.
 fn first_behind(offsets: &[usize], offset: usize) -> Option<usize>
     ensures { result ≡ find (nat_lt offset) offsets.now }
 {
@@ -42,7 +42,6 @@ impl Layout {
         at: RowAt,
         offset: usize,
     ) -> Result<Option<usize>, ViewError>
-        requires data { IsViewBy source.now self.now }
         requires row { Stands source.now self.now at }
         requires order { at.start ≤ offset }
         ensures { OfRow source.now self.now at (λ r. IfOk result (λ o. o ≡ find (nat_le offset) (places_of r))) }
@@ -53,14 +52,13 @@ impl Layout {
         Ok(place_in(at.start, found))
     }
 
-    /// The first place of a row that is behind another place.
+    /// The first place of a row that is after another place.
     fn behind_in_row<D: BidiData>(
         &self,
         source: &Source<'_, D>,
         at: RowAt,
         place: usize,
     ) -> Result<Option<usize>, ViewError>
-        requires data { IsViewBy source.now self.now }
         requires row { Stands source.now self.now at }
         requires order { at.start ≤ place }
         ensures { OfRow source.now self.now at (λ r. IfOk result (λ o. o ≡ find (nat_lt place) (places_of r))) }
@@ -78,7 +76,6 @@ impl Layout {
         at: RowAt,
         place: usize,
     ) -> Result<Option<usize>, ViewError>
-        requires data { IsViewBy source.now self.now }
         requires row { Stands source.now self.now at }
         requires order { at.start ≤ place }
         ensures { OfRow source.now self.now at (λ r. IfOk result (λ o. o ≡ find (λ p. nat_lt p place) (reverse (places_of r)))) }
@@ -113,7 +110,7 @@ impl Layout {
         Ok(self.first_in(source, next))
     }
 
-    /// The place behind one; at the text's last place that itself.
+    /// The place after one; at the text's last place that itself.
     fn step_forward<D: BidiData>(
         &mut self,
         source: &Source<'_, D>,
@@ -155,7 +152,7 @@ impl Layout {
         Ok(last)
     }
 
-    /// The place behind one or before it in the order of the text; at the text's end the place itself.
+    /// The place after one or before it in the order of the text; at the text's end the place itself.
     ///
     /// Errors: `OutOfMemory`.
     pub(crate) fn step_logical<D: BidiData>(

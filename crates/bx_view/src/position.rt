@@ -32,7 +32,6 @@ impl Layout {
         at: RowAt,
         place: usize,
     ) -> Result<Position, ViewError>
-        requires data { IsViewBy source.now self.now }
         requires row { Stands source.now self.now at }
         requires paragraph { at.paragraph ≡ paragraph_of (lengths (D.class_of source.now.tables.now) (bytes source.now)) place }
         requires order { at.start ≤ place }

@@ -38,7 +38,6 @@ impl Layout {
         source: &Source<'_, D>,
         at: RowAt,
     ) -> Result<RowPicture<'_>, ViewError>
-        requires data { IsViewBy source.now self.now }
         requires row { Stands source.now self.now at }
         ensures picture { OfRow source.now self.now at (λ r. IfOk result
             (λ p. map glyph_of p.glyphs.items ≡ text_row_glyphs (D.class_of source.now.tables.now) (D.mirror_of source.now.tables.now) self.now.w r)) }
@@ -53,7 +52,6 @@ impl Layout {
 
     /// The body of a row's paragraph, and the number of the row in it, from 0.
     pub fn row_in_body<D: BidiData>(&self, source: &Source<'_, D>, at: RowAt) -> (&str, usize)
-        requires data { IsViewBy source.now self.now }
         requires row { Stands source.now self.now at }
         ensures { OfRow source.now self.now at (λ r. r.row ≡ row_at_body (rows_of_body source.now self.now result.0.now) result.1) }
     {

@@ -6,18 +6,25 @@ ghost use Rattle.bx_paras.specs.Positions.{paragraph_of};
 ghost use Rattle.bx_view.specs.Source.{body_at, bytes, count, start_at};
 
 use crate::source::Source;
+use bx_paras::ParagraphWalk;
 use bx_ucd::BidiData;
 
-/// Where the body of a paragraph begins and ends.
-pub(crate) fn body_span<D: BidiData>(source: &Source<'_, D>, number: usize) -> (usize, usize)
-    requires number { number < count source.now }
-    ensures start { result.0 ≡ start_at source.now number }
-    ensures body { slice_range (bytes source.now) result.0 result.1 ≡ body_at source.now number }
+/// Where the body of the paragraph at which a walk stands begins and ends.
+pub(crate) fn walked_span<D: BidiData>(
+    source: &Source<'_, D>,
+    walk: &ParagraphWalk<'_>,
+) -> (usize, usize)
+    requires walk { walk.now.paragraphs ≡ lengths (D.class_of source.now.tables.now) (bytes source.now) }
+    requires number { walk.now.number < count source.now }
+    ensures start { result.0 ≡ start_at source.now walk.now.number }
+    ensures body { slice_range (bytes source.now) result.0 result.1 ≡ body_at source.now walk.now.number }
     ensures range { IsRange (bytes source.now) result.0 result.1 }
     ensures order { result.0 ≤ result.1 }
     ensures within { result.1 ≤ length (bytes source.now) }
 {
-    source.index.span(number)
+    // the contract alone speaks of it
+    let _ = source;
+    walk.span()
 }
 
 /// The number of the paragraph that an offset falls in, and where its body begins and ends.

@@ -11,14 +11,13 @@ use crate::source::Source;
 use bx_ucd::BidiData;
 
 impl Layout {
-    /// The row that is so many rows above one, at most the first.
+    /// The row that is `count` rows above one, at most the first.
     pub(crate) fn rows_up<D: BidiData>(
         &mut self,
         source: &Source<'_, D>,
         at: RowAt,
         count: usize,
     ) -> Result<RowAt, ViewError>
-        requires data { IsViewBy source.now self.old }
         requires row { Stands source.now self.old at }
         ensures keeps { Keeps source.now self.old self.new }
         ensures row { (n : ℕ) → StandsOn source.now self.old at n → IfOk result (λ b. StandsOn source.now self.new b (n - count)) }
@@ -35,14 +34,13 @@ impl Layout {
         Ok(here)
     }
 
-    /// The row that is so many rows below one, at most the last.
+    /// The row that is `count` rows below one, at most the last.
     fn rows_down<D: BidiData>(
         &mut self,
         source: &Source<'_, D>,
         at: RowAt,
         count: usize,
     ) -> Result<RowAt, ViewError>
-        requires data { IsViewBy source.now self.old }
         requires row { Stands source.now self.old at }
         ensures keeps { Keeps source.now self.old self.new }
         ensures row { (n : ℕ) → StandsOn source.now self.old at n
@@ -60,7 +58,7 @@ impl Layout {
         Ok(here)
     }
 
-    /// The row that is so many rows above or below one, at most the first or the last.
+    /// The row that is `count` rows above or below one, at most the first or the last.
     fn row_away<D: BidiData>(
         &mut self,
         source: &Source<'_, D>,
@@ -68,7 +66,6 @@ impl Layout {
         count: usize,
         at: RowAt,
     ) -> Result<RowAt, ViewError>
-        requires data { IsViewBy source.now self.old }
         requires row { Stands source.now self.old at }
         ensures keeps { Keeps source.now self.old self.new }
         ensures row { (n : ℕ) → StandsOn source.now self.old at n
@@ -86,7 +83,7 @@ impl Layout {
         }
     }
 
-    /// The place where the row that is so many rows above or below that of a place is entered, in the column of the
+    /// The place where the row that is `count` rows above or below that of a place is entered, in the column of the
     /// place; where that is the same row, the place itself.
     pub(crate) fn rows_away<D: BidiData>(
         &mut self,

@@ -24,7 +24,6 @@ fn is_read_on(side: Visual, level: u8) -> bool
 impl Layout {
     /// Whether a side is where a row is read on.
     fn reads_on<D: BidiData>(&self, source: &Source<'_, D>, at: RowAt, side: Visual) -> bool
-        requires data { IsViewBy source.now self.now }
         requires row { Stands source.now self.now at }
         ensures { OfRow source.now self.now at (λ r. result ≡ reads_on side r.row) }
     {
@@ -32,13 +31,12 @@ impl Layout {
         is_read_on(side, paragraph.level())
     }
 
-    /// The place at the reading start of the row behind one, if there is such a row.
+    /// The place at the reading start of the row after one, if there is such a row.
     fn start_after<D: BidiData>(
         &mut self,
         source: &Source<'_, D>,
         at: RowAt,
     ) -> Result<Option<usize>, ViewError>
-        requires data { IsViewBy source.now self.old }
         requires row { Stands source.now self.old at }
         ensures keeps { Keeps source.now self.old self.new }
         ensures place { (n : ℕ) → StandsOn source.now self.old at n
@@ -57,7 +55,6 @@ impl Layout {
         source: &Source<'_, D>,
         at: RowAt,
     ) -> Result<Option<usize>, ViewError>
-        requires data { IsViewBy source.now self.old }
         requires row { Stands source.now self.old at }
         ensures keeps { Keeps source.now self.old self.new }
         ensures place { (n : ℕ) → StandsOn source.now self.old at n
@@ -77,7 +74,6 @@ impl Layout {
         at: RowAt,
         side: Visual,
     ) -> Result<Option<usize>, ViewError>
-        requires data { IsViewBy source.now self.old }
         requires row { Stands source.now self.old at }
         ensures keeps { Keeps source.now self.old self.new }
         ensures place { (n : ℕ) → StandsOn source.now self.old at n

@@ -1,4 +1,4 @@
--- The slots so far, and those of the units behind, are all; the columns behind have room.
+-- The slots so far, and those of the units after, are all; the columns after have room.
 use Rattle.std.proofs.Common.{◌≡◌, ◌+◌, ◌≤◌, ◌++◌, drop, map}
 use Rattle.bx_terms.specs.Sizes.{largest_side}
 use Rattle.bx_paragraph.specs.Slots.{columns_of, extent_of, side_by_side}

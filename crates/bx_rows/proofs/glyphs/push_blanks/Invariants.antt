@@ -1,4 +1,4 @@
--- So many blanks are added.
+-- A number of blanks is added.
 use Rattle.std.proofs.Common.{◌≡◌, ◌++◌, map, replicate}
 use Rattle.bx_rows.specs.RowPicture.{blank}
 use Rattle.bx_rows.specs.Shown.{glyph_of}

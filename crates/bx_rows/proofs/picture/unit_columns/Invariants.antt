@@ -1,4 +1,4 @@
--- The columns so far, and those of the units behind, are all.
+-- The columns so far, and those of the units after, are all.
 use Rattle.std.proofs.Common.{◌≡◌, ◌+◌, ◌++◌, length, drop, sum}
 use Rattle.bx_rows.specs.RowPicture.{unit_columns, columns_used}
 use Rattle.bx_rows.proofs.picture.unit_columns.Given as goal

@@ -1,4 +1,4 @@
--- The rows so far, and those of the units behind them, are all.
+-- The rows so far, and those of the units after them, are all.
 use Rattle.std.proofs.Common.{◌≡◌, ◌++◌, ◌-◌, ◌≤◌, length, drop}
 use Rattle.bx_rows.specs.Wrapping.{is_break, rows_from}
 use Rattle.bx_rows.proofs.wrapping.all_rows.Given as goal

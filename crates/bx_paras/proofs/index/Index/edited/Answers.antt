@@ -15,7 +15,7 @@ pub touched-reached-requires-clause-was : goal.touched-reached-requires-clause-w
 touched-reached-requires-clause-was g c =
     (c.requires.was.0, c.requires.was.1, ap (λ (s : IndexState). s.paragraphs) c.self.view_is ∙ c.requires.was.2, c.requires.was.3)
 
--- ---- where a paragraph ends behind the change
+-- ---- where a paragraph ends after the change
 
 pub overflow_sub-behind : goal.overflow_sub-behind
 overflow_sub-behind g c =

@@ -12,5 +12,5 @@ returns c =
     let i = c.self.inside in
     c.new.ensures
     ∙ ap (λ n. record { paragraphs = closed i.front.blocks i.last; number = n })
-    (position_is (flat i.front.blocks) (unended i.last) c.args.offset c.find.result c.find.ensures)
+    (position_is (flat i.front.blocks) (unended i.last) c.args.offset c.find-position.result c.find-position.ensures)
     ∙ ap (λ (s : IndexState). record { paragraphs = s.paragraphs; number = paragraph_of s.paragraphs c.args.offset }) c.self.view_is

@@ -1,4 +1,4 @@
--- The row is as far behind the paragraph at which the walk stands as rows are left.
+-- The row is as far after the paragraph at which the walk stands as rows are left.
 use Rattle.std.proofs.Common.{◌≡◌, ◌+◌, ◌-◌, ◌<◌}
 use Rattle.bx_paras.specs.Paragraphs.{lengths}
 use Rattle.bx_view.specs.Source.{bytes, count}

@@ -38,9 +38,9 @@ returns g c =
     let on = c.requires.row.1 in
     let row = c.row_of-row.ensures.row class bracket is.by in
     let at : RowAt = record c.args.at { row = c.row_of-row.result } in
-    let keeps : Keeps class bracket v v = record { base = refl; w = refl; held = c.requires.data } in
+    let keeps : Keeps class bracket v v = record { base = refl; w = refl; held = c.requires.row.1.by } in
     let there : StandsOn class bracket v text at (row_of (text_rows_by class bracket v text) c.args.place) =
-    stands class bracket v text c.args.place at c.paragraph-paragraph.result.now utf8 c.requires.paragraph on.start_is on.held_is is row in
+    stands class bracket v text c.args.place at c.paragraph-paragraph.result.now utf8 on.by c.requires.paragraph on.start_is on.held_is is row in
     let told = number-told class bracket v text c.args.place c.args.at.paragraph c.args.at.start c.paragraph-paragraph.result.now utf8 c.requires.paragraph
     on.start_is is c.row_of-row.result c.row_of-row.ensures.within row in
     record {

@@ -11,5 +11,5 @@ returns-then-number-at-clause-row g c =
     let text = c.args.source.now.text.now.edited.text in
     let v = c.args.self.now in
     let held = subst (λ k. HoldsBody (body_at class text k) v.w v.held c.args.at.held) (sym c.if-number-at.true) c.requires.row.1.held_is in
-    stands class bracket v text c.args.offset _ c.paragraph-paragraph.result.now c.args.source.now.utf8 c.paragraph_under-number.ensures.number
+    stands class bracket v text c.args.offset _ c.paragraph-paragraph.result.now c.args.source.now.utf8 c.requires.row.1.by c.paragraph_under-number.ensures.number
     c.paragraph_under-number.ensures.start held c.paragraph-paragraph.ensures (c.row_of.ensures.row class bracket c.paragraph-paragraph.ensures.by)

@@ -11,7 +11,7 @@ loop-above-init g c =
     let bracket = g.D.BidiData.bracket_of c.args.source.now.tables.now in
     let text = c.args.source.now.text.now.edited.text in
     record {
-      keeps = record { base = refl; w = refl; held = c.requires.data };
+      keeps = record { base = refl; w = refl; held = c.requires.row.1.by };
       few = c.requires.some;
       row = c.requires.row;
       within = λ n on. omega arith;

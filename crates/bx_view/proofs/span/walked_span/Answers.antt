@@ -1,5 +1,5 @@
 use Rattle.bx_view.proofs.Numbers.{span-told}
-use Rattle.bx_view.proofs.counting.walked_span.Goals as goal
+use Rattle.bx_view.proofs.span.walked_span.Goals as goal
 
 pub returns-clause-start : goal.returns-clause-start
 returns-clause-start g c =
@@ -18,3 +18,15 @@ returns-clause-range g c =
     let s = c.args.source.now in
     (span-told (g.D.BidiData.class_of s.tables.now) s.text.now.edited.text c.args.walk.now.paragraphs
     c.args.walk.now.number c.span.result.0 c.span.result.1 s.utf8 c.requires.number c.requires.walk c.span.ensures).range
+
+pub returns-clause-order : goal.returns-clause-order
+returns-clause-order g c =
+    let s = c.args.source.now in
+    (span-told (g.D.BidiData.class_of s.tables.now) s.text.now.edited.text c.args.walk.now.paragraphs
+    c.args.walk.now.number c.span.result.0 c.span.result.1 s.utf8 c.requires.number c.requires.walk c.span.ensures).order
+
+pub returns-clause-within : goal.returns-clause-within
+returns-clause-within g c =
+    let s = c.args.source.now in
+    (span-told (g.D.BidiData.class_of s.tables.now) s.text.now.edited.text c.args.walk.now.paragraphs
+    c.args.walk.now.number c.span.result.0 c.span.result.1 s.utf8 c.requires.number c.requires.walk c.span.ensures).within

@@ -1,0 +1,39 @@
+-- Where a walk over the paragraphs goes from one of them.
+use Rattle.std.proofs.Common.{◌≡◌, ◌<◌, ◌≤◌, ◌+◌, ◌-◌, ◌∙◌, ℕ, Bool, true, false, nat_lt, List, length, if◌then◌else◌, ap, arith, sym}
+use Rattle.std.proofs.lemmas.Bool.Decides.{nat_tests}
+use Rattle.bx_paras.specs.declared.lengths.Lengths.{Lengths}
+use Rattle.bx_paras.specs.Walk.{WalkState}
+
+module _ (ps : List Lengths) (n : ℕ) (walk : WalkState) (stands : walk ≡ record { paragraphs = ps; number = n }) (moved : Bool) where
+  number-is : walk.number ≡ n
+  number-is = ap (λ (w : WalkState). w.number) stands
+
+  size-is : length walk.paragraphs ≡ length ps
+  size-is = ap (λ (w : WalkState). length w.paragraphs) stands
+
+  pub no-next : moved ≡ nat_lt (walk.number + 1) (length walk.paragraphs) → moved ≡ false → length ps ≤ n + 1
+  no-next there stayed =
+      let e : nat_lt (walk.number + 1) (length walk.paragraphs) ≡ false = sym there ∙ stayed in
+      let l : length walk.paragraphs ≤ walk.number + 1 = grind (arith, nat_tests) in
+      omega (arith, l, number-is, size-is)
+
+  pub next-inside : moved ≡ nat_lt (walk.number + 1) (length walk.paragraphs) → moved ≡ true → n + 1 < length ps
+  next-inside there went =
+      let e : nat_lt (walk.number + 1) (length walk.paragraphs) ≡ true = sym there ∙ went in
+      let l : walk.number + 1 < length walk.paragraphs = grind (arith, nat_tests) in
+      omega (arith, l, number-is, size-is)
+
+  pub next-number : (m : ℕ) → m ≡ (if moved then walk.number + 1 else walk.number) → moved ≡ true → m ≡ n + 1
+  next-number m e went = e ∙ ap (λ b. if b then walk.number + 1 else walk.number) went ∙ omega (arith, number-is)
+
+  pub no-previous : moved ≡ nat_lt 0 walk.number → moved ≡ false → n ≡ 0
+  no-previous there stayed =
+      let e : nat_lt 0 walk.number ≡ false = sym there ∙ stayed in
+      let l : walk.number ≤ 0 = grind (arith, nat_tests) in
+      omega (arith, l, number-is)
+
+  pub previous-number : (m : ℕ) → moved ≡ nat_lt 0 walk.number → moved ≡ true → m ≡ walk.number - 1 → n ≡ m + 1
+  previous-number m there went e =
+      let k : nat_lt 0 walk.number ≡ true = sym there ∙ went in
+      let l : 0 < walk.number = grind (arith, nat_tests) in
+      omega (arith, l, e, number-is)
