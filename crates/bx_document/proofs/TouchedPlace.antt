@@ -20,7 +20,7 @@ use Rattle.bx_view.specs.Standing.{count, start_at}
 use Rattle.bx_view.specs.TextRows.{text_rows}
 use Rattle.bx_view.proofs.Begins.{begin_at, drop_parts, no_chars, some_chars, take_parts}
 use Rattle.bx_view.proofs.Cutting.{parts_ahead, parts_behind}
-use Rattle.bx_view.proofs.LeastPlace.{place_before_back, place_behind_front}
+use Rattle.bx_view.proofs.LeastPlace.{place_before_back, place_after_front}
 use Rattle.bx_view.proofs.Numbers.{falls-at, holds-of, lengths-count, some-paragraph}
 use Rattle.bx_document.specs.Touched.{touched, touched_start, touched_stop}
 
@@ -179,7 +179,7 @@ module _ (class : ℕ → Class) (text : List ℕ) (utf8 : IsUtf8 text) where
         let offset = start + length new in
         let inner : offset - length before ≡ start - a + length new = omega (arith, before_bytes, front.order) in
         ap (λ bs. place_from (text_rows class bracket base w bs) offset) whole
-        ∙ place_behind_front class bracket base w h before (mine ++ behind_all) offset before_utf8 (IsUtf8-append mine behind_all mine_utf8 behind_utf8)
+        ∙ place_after_front class bracket base w h before (mine ++ behind_all) offset before_utf8 (IsUtf8-append mine behind_all mine_utf8 behind_utf8)
         (front_at front.some) (omega (arith, before_bytes, front.order))
         ∙ ap (λ n. length before + place_from (text_rows class bracket base w (mine ++ behind_all)) n) inner
         ∙ ap (λ n. n + place_from (text_rows class bracket base w (mine ++ behind_all)) (start - a + length new)) before_bytes

@@ -30,13 +30,13 @@ rows d t = rows_of d t t.content.text
 
 -- the place after an edit that puts bytes instead of those from start to stop: the least place of the new text that is
 -- not before their end
-abbrev pub place_behind : Data → Document → ℕ → ℕ → List ℕ → ℕ
-place_behind d t start stop new = place_from (rows_of d t (splice t.content.text start stop new)) (start + length new)
+abbrev pub place_after : Data → Document → ℕ → ℕ → List ℕ → ℕ
+place_after d t start stop new = place_from (rows_of d t (splice t.content.text start stop new)) (start + length new)
 
 -- bytes go in at a place
 abbrev pub after_insertion : Data → Document → ℕ → List ℕ → Document
-after_insertion d t place new = record t { content = inserted t.content place new place (place_behind d t place place new) }
+after_insertion d t place new = record t { content = inserted t.content place new place (place_after d t place place new) }
 
 -- what stands from start to stop goes; the cursor stood at `place`
 abbrev pub after_removal : Data → Document → ℕ → ℕ → ℕ → Document
-after_removal d t start stop place = record t { content = removed t.content start stop place (place_behind d t start stop []) }
+after_removal d t start stop place = record t { content = removed t.content start stop place (place_after d t start stop []) }

@@ -4,7 +4,7 @@ ghost use Rattle.bx_paras.specs.Paragraphs.{lengths};
 ghost use Rattle.bx_text.specs.Edits.{IsRange, Leads, fits, next_redo, next_undo, redone, splice, undone};
 ghost use Rattle.bx_view.specs.Places.{IsTextPlace};
 ghost use Rattle.bx_view.specs.Holding.{IsViewBy, Keeps};
-ghost use Rattle.bx_document.specs.Document.{after_insertion, after_removal, place_behind};
+ghost use Rattle.bx_document.specs.Document.{after_insertion, after_removal, place_after};
 
 use crate::answers::Answers;
 use crate::document::Document;
@@ -67,11 +67,11 @@ impl<D: BidiData + Drop> Document<D> {
     /// The place after an edit that puts characters instead of those from start to stop, which is not made yet.
     ///
     /// Errors: `OutOfMemory`.
-    fn place_behind(&mut self, start: usize, stop: usize, new: &str) -> Result<usize, OutOfMemory>
+    fn place_after(&mut self, start: usize, stop: usize, new: &str) -> Result<usize, OutOfMemory>
         requires range { IsRange self.old.document.content.text start stop }
         requires fits { fits self.old.document.content.text start stop new.now ≡ true }
         ensures same { self.new ≡ self.old }
-        ensures place { IfOk result (λ o. o ≡ place_behind (⟦<D as Answers>⟧.data self.old.tables) self.old.document start stop new.now) }
+        ensures place { IfOk result (λ o. o ≡ place_after (⟦<D as Answers>⟧.data self.old.tables) self.old.document start stop new.now) }
         ensures text_place { IfOk result (IsTextPlace (D.class_of self.old.tables) (splice self.old.document.content.text start stop new.now)) }
     {
         // tell the proof that the text is UTF-8 and what sides a window may have
@@ -101,14 +101,14 @@ impl<D: BidiData + Drop> Document<D> {
             × (self.new ≡ record self.old {
               document = after_insertion (⟦<D as Answers>⟧.data self.old.tables) self.old.document place new.now;
             })
-            × (o ≡ place_behind (⟦<D as Answers>⟧.data self.old.tables) self.old.document place place new.now))) }
+            × (o ≡ place_after (⟦<D as Answers>⟧.data self.old.tables) self.old.document place place new.now))) }
         ensures text_place { IfOk result (λ after. IfSome after (IsTextPlace (D.class_of self.new.tables) self.new.document.content.text)) }
         ensures err { OnErr result (self.new ≡ self.old) }
     {
         if new.len() > LARGEST_TEXT - self.text.len() {
             return Ok(None);
         }
-        let after = self.place_behind(place, place, new)?;
+        let after = self.place_after(place, place, new)?;
         self.index.ready(new.len())?;
         let Ok(change) = self.text.insert(place, new, place, after) else {
             return Err(OutOfMemory);
@@ -126,13 +126,13 @@ impl<D: BidiData + Drop> Document<D> {
         ensures ok { OnOk result (self.new ≡ record self.old {
           document = after_removal (⟦<D as Answers>⟧.data self.old.tables) self.old.document start stop place;
         }) }
-        ensures place { IfOk result (λ o. o ≡ place_behind (⟦<D as Answers>⟧.data self.old.tables) self.old.document start stop []) }
+        ensures place { IfOk result (λ o. o ≡ place_after (⟦<D as Answers>⟧.data self.old.tables) self.old.document start stop []) }
         ensures text_place { IfOk result (IsTextPlace (D.class_of self.new.tables) self.new.document.content.text) }
         ensures err { OnErr result (self.new ≡ self.old) }
     {
         // tells the proof that the text is short
         let _short = self.text.len();
-        let after = self.place_behind(start, stop, "")?;
+        let after = self.place_after(start, stop, "")?;
         self.index.ready(0)?;
         let Ok(change) = self.text.remove(start, stop, place, after) else {
             return Err(OutOfMemory);

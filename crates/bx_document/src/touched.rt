@@ -26,7 +26,7 @@ fn start_before<D: BidiData>(source: &Source<'_, D>, start: usize) -> usize
 }
 
 /// The end, with its separator, of the paragraph that an offset falls in. No memory.
-fn stop_behind<D: BidiData>(source: &Source<'_, D>, stop: usize) -> usize
+fn stop_after<D: BidiData>(source: &Source<'_, D>, stop: usize) -> usize
     requires bounds { IsCharBoundary (bytes source.now) stop }
     ensures stop { result ≡ touched_stop (D.class_of source.now.tables.now) (bytes source.now) stop }
     ensures range { IsRange (bytes source.now) stop result }
@@ -69,7 +69,7 @@ fn touched<D: BidiData>(
     ensures text { IfOk result (λ w. string_bytes w.1 ≡ touched (D.class_of source.now.tables.now) (bytes source.now) start stop new.now) }
 {
     let first = start_before(source, start);
-    let last = stop_behind(source, stop);
+    let last = stop_after(source, stop);
     let size = start - first + new.len() + (last - stop);
     let mut characters = String::with_capacity(alloc, size)?;
     push_range(source.text, first, start, &mut characters)?;

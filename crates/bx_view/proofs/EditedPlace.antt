@@ -30,7 +30,7 @@ use Rattle.bx_view.proofs.Begins.{IsBegin, begin_at, no_chars, some_chars, take_
 use Rattle.bx_view.proofs.BodyFirsts.{starts_of}
 use Rattle.bx_view.proofs.Cutting.{Opens, none_back, none_front, none_joined, opens, parts_ahead, quiet_cut}
 use Rattle.bx_view.proofs.InBody.{not-moved}
-use Rattle.bx_view.proofs.LeastPlace.{least, least_stops, place_behind_front, spots_more}
+use Rattle.bx_view.proofs.LeastPlace.{least, least_stops, place_after_front, spots_more}
 use Rattle.bx_view.proofs.Numbers.{behind, body-is, body-utf8, here}
 use Rattle.bx_view.proofs.PlacesRise.{body-places}
 use Rattle.bx_view.proofs.Told.{side-some}
@@ -219,7 +219,7 @@ module _ (class : ℕ → Class) (text : List ℕ) (utf8 : IsUtf8 text) (number 
         let offset = start + length new in
         let own : offset - length before ≡ start - at + length new = omega (arith, before_bytes, order) in
         ap (λ bs. place_from (text_rows class bracket base w bs) offset) whole
-        ∙ place_behind_front class bracket base w h before (now ++ back) offset before_utf8 (IsUtf8-append now back now_utf8 back_utf8) (parts_now inner)
+        ∙ place_after_front class bracket base w h before (now ++ back) offset before_utf8 (IsUtf8-append now back now_utf8 back_utf8) (parts_now inner)
         (omega (arith, before_bytes, order))
         ∙ ap (λ n. length before + place_from (text_rows class bracket base w (now ++ back)) n) own
         ∙ ap (λ n. n + place_from (text_rows class bracket base w (now ++ back)) (start - at + length new)) before_bytes

@@ -168,9 +168,9 @@ module _ (class : ℕ → Class) (bracket : ℕ → Option (Side × ℕ)) (base 
       omega (arith, ap total (map-append lengths_of front (bare [] ∷ [])), total_push (map lengths_of front) (lengths_of (bare [])), all)
 
   -- what stands in front of where a paragraph begins
-  pub place_behind_front : (x v : List ℕ) (offset : ℕ) → IsUtf8 x → IsUtf8 v → parts class (chars x) (chars v) ≡ true → length x ≤ offset
+  pub place_after_front : (x v : List ℕ) (offset : ℕ) → IsUtf8 x → IsUtf8 v → parts class (chars x) (chars v) ≡ true → length x ≤ offset
       → place_from (rows (x ++ v)) offset ≡ length x + place_from (rows v) (offset - length x)
-  place_behind_front x v offset ux uv p order =
+  place_after_front x v offset ux uv p order =
       let j = joins class (chars x) (chars v) p in
       let a = length x in
       let bytes : 0 + total (map lengths_of j.front) ≡ a + 0 = omega (arith, front_bytes x j.front ux j.alone) in

@@ -37,7 +37,7 @@ fn has_separator<D: BidiData>(new: &str, tables: &D) -> bool
 }
 
 /// Whether a byte of the paragraph that begins at `first` stands before an offset, or none of the text does.
-fn is_behind_begin(first: usize, offset: usize) -> bool
+fn is_after_begin(first: usize, offset: usize) -> bool
     ensures { result ≡ ((first == 0) || nat_lt first offset) }
 {
     first == 0 || first < offset
@@ -103,7 +103,7 @@ impl Layout {
         if !is_edited {
             return Ok(None);
         }
-        if !is_behind_begin(first, start) {
+        if !is_after_begin(first, start) {
             return Ok(None);
         }
         let offset = start - first + new.len();

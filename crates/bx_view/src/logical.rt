@@ -21,7 +21,7 @@ pub(crate) fn first_from(offsets: &[usize], offset: usize) -> Option<usize>
 }
 
 /// The first of some offsets that is after one.
-fn first_behind(offsets: &[usize], offset: usize) -> Option<usize>
+fn first_after(offsets: &[usize], offset: usize) -> Option<usize>
     ensures { result ≡ find (nat_lt offset) offsets.now }
 {
     offsets.iter().copied().find(|o| offset < *o)
@@ -53,7 +53,7 @@ impl Layout {
     }
 
     /// The first place of a row that is after another place.
-    fn behind_in_row<D: BidiData>(
+    fn after_in_row<D: BidiData>(
         &self,
         source: &Source<'_, D>,
         at: RowAt,
@@ -65,7 +65,7 @@ impl Layout {
     {
         let paragraph = self.paragraph(source, at.paragraph, at.held);
         let offsets = paragraph.offsets(at.row, source.tables)?;
-        let found = first_behind(&offsets, place - at.start);
+        let found = first_after(&offsets, place - at.start);
         Ok(place_in(at.start, found))
     }
 
@@ -121,8 +121,8 @@ impl Layout {
         ensures place { IfOk result (λ o. o ≡ unwrap_or (find (nat_lt place) (places (rows source.now self.old))) place) }
     {
         let at = self.row_at(source, place)?;
-        if let Some(behind) = self.behind_in_row(source, at, place)? {
-            return Ok(behind);
+        if let Some(after) = self.after_in_row(source, at, place)? {
+            return Ok(after);
         }
         let Some(next) = self.next_row(source, at)? else {
             return Ok(place);

@@ -4,6 +4,7 @@ use crate::scene::document_of;
 use bx_document::Document;
 use bx_explicit::Base;
 use bx_ucd::{BidiData, Class, Side, Tables, sample_tables};
+use bx_view::Move;
 use std::alloc::Global;
 use std::cell::Cell;
 use std::test::Fail;
@@ -41,7 +42,7 @@ impl BidiData for Counting<'_> {
     }
 }
 
-/// So many paragraphs of two letters.
+/// Paragraphs of two letters.
 fn paragraphs(alloc: Global, count: usize) -> Result<String, Fail> {
     let mut text = String::new(alloc);
     for _ in 0..count {
@@ -50,18 +51,18 @@ fn paragraphs(alloc: Global, count: usize) -> Result<String, Fail> {
     Ok(text)
 }
 
-/// Puts a letter in at the least place that is not before an offset, and asks for the column behind it.
-fn insert<D: BidiData + Drop>(document: &mut Document<D>, offset: usize) -> Result<u16, Fail> {
+/// Puts a letter in at the least place that is not before an offset, and asks for the end of its row.
+fn insert<D: BidiData + Drop>(document: &mut Document<D>, offset: usize) -> Result<usize, Fail> {
     let place = document.place_from(offset)?;
     match document.insert(place, "x")? {
-        Some(after) => Ok(document.cell_of(after)?),
+        Some(after) => Ok(document.moved(Move::RowEnd, after)?),
         None => Err(Fail::new("no room")),
     }
 }
 
-/// The column behind a letter that is put into a text of 1,000 paragraphs, and how many classes are asked for by that. It has
+/// The end of the row of a letter that is put into a text of 1,000 paragraphs, and how many classes are asked for by that. It has
 /// one way out once the document stands, since each would be a proof of what is dropped there.
-fn column_and_questions(alloc: Global, place: usize) -> Result<(u16, u32), Fail> {
+fn end_and_questions(alloc: Global, place: usize) -> Result<(usize, u32), Fail> {
     let text = paragraphs(alloc, 1000)?;
     let questions = Cell::new(0);
     let tables = Counting {
@@ -70,14 +71,14 @@ fn column_and_questions(alloc: Global, place: usize) -> Result<(u16, u32), Fail>
     };
     let mut document = document_of(alloc, text.as_str(), tables, 80, Base::Auto)?;
     questions.set(0);
-    let column = insert(&mut document, place);
-    column.map(|column| (column, questions.get()))
+    let end = insert(&mut document, place);
+    end.map(|end| (end, questions.get()))
 }
 
 #[test]
 fn an_edit_asks_for_few_classes(rt: HostRuntime) -> Result<(), Fail> {
-    let (column, questions) = column_and_questions(rt.alloc(), 1500)?;
-    assert_eq!(rt; column, 2);
+    let (end, questions) = end_and_questions(rt.alloc(), 1500)?;
+    assert_eq!(rt; end, 1503);
     assert!(rt; 0 < questions && questions < 100, "{questions} questions");
     Ok(())
 }

@@ -23,14 +23,11 @@ fn slot_of(word: &str) -> Result<(usize, u16), Fail> {
     Ok((place.parse()?, column.parse()?))
 }
 
-/// Whether the slots of a row, from left to right, are these.
+/// Whether steps lead from each of the slots of a row, from left to right, to the next one and back.
 fn has_slots(scene: &mut Scene<'_>, slots: &str) -> Result<bool, Fail> {
     let mut last = None;
     for word in slots.split(' ') {
-        let (place, column) = slot_of(word)?;
-        if scene.column_of(place)? != column {
-            return Ok(false);
-        }
+        let (place, _) = slot_of(word)?;
         if let Some(before) = last {
             if !are_beside(scene, before, place)? {
                 return Ok(false);
@@ -41,7 +38,7 @@ fn has_slots(scene: &mut Scene<'_>, slots: &str) -> Result<bool, Fail> {
     Ok(true)
 }
 
-/// Whether the slots of all rows are these, with a slash between rows.
+/// Whether they do in all rows, with a slash between rows.
 fn has_rows(scene: &mut Scene<'_>, rows: &str) -> Result<bool, Fail> {
     for slots in rows.split('/') {
         if !has_slots(scene, slots)? {
@@ -61,7 +58,7 @@ fn text_of(alloc: Global, hex: &str) -> Result<String, Fail> {
     Ok(String::from_utf8(bytes)?)
 }
 
-/// Whether the rows of a text are as its line says.
+/// Whether steps lead through the rows of a text as its line says.
 fn has_rows_of_line(alloc: Global, line: &str) -> Result<bool, Fail> {
     let mut fields = line.split('|');
     let text = text_of(alloc, fields.next().ok_or("no text")?)?;
@@ -72,12 +69,13 @@ fn has_rows_of_line(alloc: Global, line: &str) -> Result<bool, Fail> {
     has_rows(&mut scene, rows)
 }
 
-/// Whether the row of a number begins at the least of the places of its slots, falls under each of them, and has these slots.
+/// Whether the row of a number begins at the least of the places of its slots, falls under each of them, and has these slots, each in
+/// its column.
 fn is_row(whole: &Whole, number: usize, slots: &str) -> Result<bool, Fail> {
     let mut places = Vec::new(whole.allocator());
     for word in slots.split(' ') {
-        let (place, _) = slot_of(word)?;
-        if whole.row_of(place)? != number {
+        let (place, column) = slot_of(word)?;
+        if whole.row_of(place)? != number || whole.column_of(place)? != column {
             return Ok(false);
         }
         places.push(place)?;

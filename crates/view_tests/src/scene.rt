@@ -9,7 +9,7 @@ use bx_view::{Move, Visual};
 use std::alloc::Global;
 use std::test::Fail;
 
-/// A text, laid out in so many columns. Whether a window has so many is asked when the test runs.
+/// A text, laid out in `w` columns. Whether a window has as many is asked when the test runs.
 pub(crate) fn document_of<D: BidiData + Drop>(
     alloc: Global,
     text: &str,
@@ -43,10 +43,6 @@ impl<'a> Scene<'a> {
 }
 
 impl Scene<'_> {
-    pub(crate) fn column_of(&mut self, place: usize) -> Result<u16, Fail> {
-        Ok(self.document.cell_of(place)?)
-    }
-
     pub(crate) fn step_visual(&mut self, side: Visual, place: usize) -> Result<usize, Fail> {
         if !self.text.is_char_boundary(place) {
             return Err(Fail::new("within a character"));

@@ -12,7 +12,7 @@ use bx_view::{Layout, Source};
 use std::alloc::Global;
 use std::test::Fail;
 
-/// A text in a window of so many columns.
+/// A text in a window of `w` columns.
 #[derive(Drop)]
 pub(crate) struct Whole {
     alloc: Global,
@@ -64,6 +64,11 @@ impl Whole {
     pub(crate) fn first(&self, row: usize) -> Result<Option<usize>, Fail> {
         let layout = Layout::of(self.alloc, self.w, self.base);
         Ok(layout.first(&self.source(), row)?)
+    }
+
+    pub(crate) fn column_of(&self, place: usize) -> Result<u16, Fail> {
+        let mut layout = Layout::of(self.alloc, self.w, self.base);
+        Ok(layout.locate(&self.source(), place, place, 1)?.position.column)
     }
 
     pub(crate) fn slots(&self, place: usize) -> Result<Vec<usize>, Fail> {

@@ -1,5 +1,5 @@
 use Rattle.std.proofs.Common.{arith, refl, string_bytes}
-use Rattle.bx_document.proofs.PlaceBehind.{found, splice_short}
+use Rattle.bx_document.proofs.PlaceAfter.{found, splice_short}
 use Rattle.bx_document.proofs.touched.place_in_touched.Goals as goal
 
 pub overflow_add-result : goal.overflow_add-result

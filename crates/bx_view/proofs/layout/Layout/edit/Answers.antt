@@ -96,9 +96,9 @@ returns-clause-place g c =
     let side = subst (λ v. is_side v.w ≡ true) c.self.view_is c.self.invariant in
     let further : c.args.start ≤ c.args.stop = search rules in
     let none = none_found class (chars c.args.new.now) (sym c.has_separator.ensures ∙ c.if-has_separator.false) in
-    let inside : c.is_behind_begin.result ≡ true = search rules in
+    let inside : c.is_after_begin.result ≡ true = search rules in
     place_told class bracket c.args.self.now text c.args.source.now.utf8 c.paragraph_under-first.result.0 c.paragraph_under-first.ensures.there
     first c.args.start c.args.stop c.args.new.now c.utf8.new l c.in_ok-place.place (c.args.start - first + length c.args.new.now)
     c.paragraph_under-first.ensures.start c.paragraph_under-first.ensures.order further range none
-    (inner_of first c.args.start (sym c.is_behind_begin.ensures ∙ inside)) side
+    (inner_of first c.args.start (sym c.is_after_begin.ensures ∙ inside)) side
     (is.0.base_is ∙ ap (λ v. v.base) c.self.view_is) (is.1 ∙ ap (λ v. v.w) c.self.view_is) is.2 refl c.in_ok-place.ensures.place

@@ -3,8 +3,8 @@ use Rattle.std.specs.Prelude.{IfSome}
 use Rattle.bx_text.specs.Edits.{splice}
 use Rattle.bx_view.specs.Moves.{place_from}
 use Rattle.bx_view.specs.TextRows.{text_rows}
-use Rattle.bx_document.proofs.PlaceBehind.{behind_by}
-use Rattle.bx_document.proofs.document.Document.place_behind.Goals as goal
+use Rattle.bx_document.proofs.PlaceAfter.{behind_by}
+use Rattle.bx_document.proofs.document.Document.place_after.Goals as goal
 use Rattle.std.proofs.Common.{refl}
 
 pub returns-in-Some-clause-text_place : goal.returns-in-Some-clause-text_place

@@ -1,7 +1,7 @@
 use Rattle.std.proofs.Common.{subst, sym, arith}
 use Rattle.bx_text.specs.Edits.{IsRange}
 use Rattle.bx_document.proofs.TouchedTold.{stop_inside, stop_range, stop_told, there}
-use Rattle.bx_document.proofs.touched.stop_behind.Goals as goal
+use Rattle.bx_document.proofs.touched.stop_after.Goals as goal
 
 pub span-requires : goal.span-requires
 span-requires g c =
