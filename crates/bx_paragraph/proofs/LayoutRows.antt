@@ -1,5 +1,5 @@
 -- A row of a layout, by its units.
-use Rattle.std.proofs.Common.{◌≡◌, ℕ, zero, suc, ◌+◌, ◌==◌, ◌<◌, Bool, List, [], ◌∷◌, length, get_or, Option, refl, sym, ap, ◌∙◌, arith}
+use Rattle.std.proofs.Common.{◌≡◌, ℕ, zero, suc, ◌+◌, ◌==◌, ◌<◌, Bool, true, false, List, [], ◌∷◌, ◌++◌, length, get_or, Option, refl, sym, ap, ◌∙◌, arith}
 use Rattle.std.specs.Prelude.{chars, map, slice_get}
 use Rattle.std.proofs.Common.{ne_eqb}
 use Rattle.std.proofs.Math.Dec.{eqb-suc-suc}
@@ -15,7 +15,7 @@ use Rattle.bx_rows.specs.RowPicture.{Glyph}
 use Rattle.bx_rows.specs.declared.row.Row.{Row}
 use Rattle.bx_rows.specs.RowStarts.{start_of, units_in, units_of_row}
 use Rattle.bx_rows.specs.Wrapping.{row_units, wrap}
-use Rattle.bx_paragraph.specs.BodyRows.{BodyRow, no_row, row_glyphs, row_with, rows_units, with_last}
+use Rattle.bx_paragraph.specs.BodyRows.{BodyRow, no_row, offsets_of, row_glyphs, row_with, rows_units, with_last}
 use Rattle.bx_paragraph.specs.Layout.{IsLayoutBy, LayoutState, row_by}
 
 one-more : (k : ℕ) → suc k + 1 ≡ suc (k + 1)
@@ -63,6 +63,13 @@ units-at us (r ∷ rs) (suc k) = units-at us rs k
 -- the units of a row, by its number
 pub units-of-row : (class : ℕ → Class) (w : ℕ) (body : List ℕ) (k : ℕ) → units_of_row class w body k ≡ get_or (rows_units class w body) k []
 units-of-row class w body k = let us = units class w body in units-at us (wrap class w body us) k
+
+-- the offsets of a row's places, by its units
+pub offsets-are : (l : LayoutState) (class : ℕ → Class) (bracket : ℕ → Option (Side × ℕ)) (k : ℕ) (us : List Unit) (is_last : Bool) (offsets : List ℕ)
+    → IsLayoutBy class bracket l → k < length l.starts → us ≡ get_or (rows_units class l.w l.body) k [] → is_last ≡ (k + 1 == length l.starts)
+    → offsets ≡ map (λ (u : Unit). u.start) us ++ elim is_last [ true ↦ length l.body ∷ [] | false ↦ [] ] → offsets ≡ offsets_of (row_by class bracket l k)
+offsets-are l class bracket k us is_last offsets is h units-are last e =
+    e ∙ ap offsets_of (row-is l class bracket k us (row_levels class l.body l.paragraph l.each us) is_last is h units-are refl last)
 
 -- the glyphs of a row of a layout, by its number
 pub glyphs-are : (class : ℕ → Class) (mirror : ℕ → Option ℕ) (bracket : ℕ → Option (Side × ℕ)) (gs : List Glyph) (l : LayoutState) (k : ℕ)

@@ -8,8 +8,8 @@ ghost use Rattle.bx_paragraph.specs.Slots.{reading_end, reading_side, reading_st
 use crate::layout::ParagraphLayout;
 use crate::moves::Visual;
 use crate::reading::{covering_in, first_in, last_offset, next_in, offsets_toward};
-use crate::row_parts::RowParts;
 use bx_cells::Unit;
+use bx_rows::units_of_row;
 use bx_terms::OutOfMemory;
 use bx_ucd::BidiData;
 use std::alloc::{AllocError, Global};
@@ -42,12 +42,17 @@ fn unit_offsets(alloc: Global, units: &[Unit]) -> Result<Vec<usize>, AllocError>
     units.iter().map(|u| u.start).collect(alloc)
 }
 
-/// The offsets of the places of a row, whose body has `len` bytes.
-fn part_offsets(parts: &RowParts, len: usize) -> Result<Vec<usize>, AllocError>
-    ensures { IfOk result (λ v. v.items ≡ map (λ u. u.start) parts.now.units.items ++ elim (parts.now.is_last) [ true ↦ len ∷ [] | false ↦ [] ]) }
+/// The offsets of the places of a row by its units, in a body of `len` bytes.
+fn place_offsets(
+    alloc: Global,
+    units: &[Unit],
+    is_last: bool,
+    len: usize,
+) -> Result<Vec<usize>, AllocError>
+    ensures { IfOk result (λ v. v.items ≡ map (λ u. u.start) units.now ++ elim is_last [ true ↦ len ∷ [] | false ↦ [] ]) }
 {
-    let mut offsets = unit_offsets(*parts.units.allocator(), &parts.units)?;
-    if parts.is_last {
+    let mut offsets = unit_offsets(alloc, units)?;
+    if is_last {
         offsets.push(len)?;
     }
     Ok(offsets)
@@ -63,8 +68,12 @@ impl ParagraphLayout {
         requires row { row < length self.now.starts }
         ensures { IfOk result (λ v. v.items ≡ offsets_of (row_by (D.class_of tables.now) (D.bracket_of tables.now) self.now row)) }
     {
-        let parts = self.row(row, tables)?;
-        let offsets = part_offsets(&parts, self.body().len())?;
+        // the places of a row do not depend on its levels
+        let alloc = *self.starts.allocator();
+        let body = self.body.as_str();
+        let units = units_of_row(alloc, body, &self.starts, row, tables, self.w)?;
+        let is_last = row + 1 == self.starts.len();
+        let offsets = place_offsets(alloc, &units, is_last, body.len())?;
         Ok(offsets)
     }
 

@@ -68,7 +68,12 @@ impl Whole {
 
     pub(crate) fn column_of(&self, place: usize) -> Result<u16, Fail> {
         let mut layout = Layout::of(self.alloc, self.w, self.base);
-        Ok(layout.locate(&self.source(), place, place, 1)?.position.column)
+        Ok(
+            layout
+                .locate(&self.source(), place, place, 1)?
+                .position
+                .column,
+        )
     }
 
     pub(crate) fn slots(&self, place: usize) -> Result<Vec<usize>, Fail> {
