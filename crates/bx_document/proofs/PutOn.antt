@@ -9,11 +9,6 @@ use Rattle.bx_grid.proofs.Laid.{blank_next, laid_next}
 abbrev pub one_row : ℕ → List Col → GridState
 one_row w done = record { height = 1; width = w; columns = done ++ replicate (w - length done) blank }
 
-pub none_put : (w : ℕ) (g : GridState) → g ≡ record { height = 1; width = w; columns = replicate (1 * w) blank } → g ≡ one_row w []
-none_put w g e =
-    let same : 1 * w ≡ w - 0 = omega arith in
-    e ∙ ap (λ n. record { height = 1; width = w; columns = replicate n blank }) same
-
 module _ (w : ℕ) (done : List Col) (new : GridState) (column : ℕ) (is : new ≡ one_row w done) (at : column ≡ length done + 1) where
   height : new.height ≡ 1
   height = ap (λ (g : GridState). g.height) is

@@ -1,5 +1,5 @@
 -- A page, paragraph by paragraph.
-use Rattle.std.proofs.Common.{◌≡◌, ℕ, ◌+◌, ◌<◌, List, [], ◌∷◌, ◌++◌, length, map, drop, Option, refl, ap, ap₂, ◌∙◌, arith}
+use Rattle.std.proofs.Common.{◌≡◌, ℕ, ◌+◌, List, [], ◌∷◌, ◌++◌, map, drop, Option, refl, ap, ap₂, ◌∙◌}
 use Rattle.std.specs.Prelude.{flat_map}
 use Rattle.std.specs.List.{join_by}
 use Rattle.std.proofs.lemmas.List.Concat.{flat_map-append}
@@ -12,7 +12,7 @@ use Rattle.bx_paras.specs.Positions.{bytes_of}
 use Rattle.bx_paragraph.specs.BodyRows.{BodyRow, body_rows}
 use Rattle.bx_view.specs.TextRows.{TextRow, rows_from, text_row, text_row_glyphs}
 use Rattle.bx_print.specs.declared.marks.Marks.{Marks}
-use Rattle.bx_print.specs.BodyLines.{body_line, body_lines}
+use Rattle.bx_print.specs.BodyLines.{body_lines}
 use Rattle.bx_print.specs.Page.{line, page}
 
 -- lines with a line feed between two are lines behind a line feed each, but for the first byte
@@ -40,9 +40,3 @@ module _ (class : ℕ → Class) (bracket : ℕ → Option (Side × ℕ)) (mirro
   page-is text =
       joined-is (λ r. line marks (text_row_glyphs class mirror w r)) (rows_from class bracket base w 0 (paragraphs class text))
       ∙ ap (drop 1) (rows-lines 0 (paragraphs class text))
-
--- rows make some bytes
-pub some-bytes : (class : ℕ → Class) (mirror : ℕ → Option ℕ) (marks : Marks) (w : ℕ) (rows : List BodyRow) → 0 < length rows
-    → 0 < length (flat_map (body_line class mirror marks w) rows)
-some-bytes class mirror marks w [] some = absurd (omega (arith, some))
-some-bytes class mirror marks w (r ∷ rows) some = omega arith

@@ -28,17 +28,6 @@ module _ {X : Type 0} (f : X → List ℕ) (ps : List X) where
       ap (flat_map f) (take_more ps n d within) ∙ flat_map-append f (take n ps) (get_or ps n d ∷ [])
       ∙ ap (λ bs. flat_map f (take n ps) ++ bs) (flat_map-cons f (get_or ps n d) [] ∙ append-nil (f (get_or ps n d)))
 
-  -- the first part
-  pub first-sent : (a : Option (List ℕ)) (d : X) (bytes pending : List ℕ) → 0 < length ps → bytes ≡ f (get_or ps 0 d) → 0 < length bytes
-      → pending ≡ drop 1 bytes → IsSent a a pending 1 []
-  first-sent a d bytes pending within is some rest =
-      let one : flat_map f (take 1 ps) ≡ bytes = next-part 0 d within ∙ sym is in
-      record {
-        some = omega (arith, some, ap length one);
-        parts = ap (drop 1) one ∙ sym rest;
-        appends = Appends-nil a;
-      }
-
   module _ (a b : Option (List ℕ)) (pending : List ℕ) (n : ℕ) (written : List ℕ) (is : IsSent a b pending n written) where
     -- one more part is pending
     pub more-sent : (d : X) (later : List ℕ) → n < length ps → later ≡ pending ++ f (get_or ps n d) → IsSent a b later (n + 1) written
@@ -89,7 +78,3 @@ module _ {X : Type 0} (f : X → List ℕ) (ps : List X) where
 
     pub none-sent : WritesFront whole a b
     none-sent = front-sent b ([], pending, record { parts = refl; appends = Appends-nil b })
-
-  -- nothing was written yet
-  pub not-sent : (a : Option (List ℕ)) → WritesFront whole a a
-  not-sent a = ([], whole, record { parts = refl; appends = Appends-nil a })

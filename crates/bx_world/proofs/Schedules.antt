@@ -140,10 +140,6 @@ pub record Played (d : Data) (old : World) (store : StoreState) (steps : List St
   pub same_length : length (take count steps) ≡ length answers
   pub plays : PlaysTo d old store (zip (take count steps) answers) new store'
 
-pub nothing_played : (d : Data) (w : World) (store : StoreState) (steps : List Step) (answers : List (Result (Unit {0}) StepFault)) → answers ≡ []
-    → Played d w store steps 0 w store answers
-nothing_played d w store steps answers empty = rw empty (record { same_length = refl; plays = (refl, refl) })
-
 pub one_played : {D : Type 0} (says : D → Data) (tables tables' : D) (old mid new : World) (store mid_store store' : StoreState) (steps : List Step) (count : ℕ)
     (step : Step) (answers answers' : List (Result (Unit {0}) StepFault)) (answer : Result (Unit {0}) StepFault) → tables' ≡ tables
     → Played (says tables) old store steps count mid mid_store answers → take (count + 1) steps ≡ take count steps ++ step ∷ []
