@@ -8,7 +8,7 @@ ghost use Rattle.bx_view.specs.FoundRow.{IsSameAtEnd};
 ghost use Rattle.bx_view.specs.Holding.{HoldsBody};
 ghost use Rattle.bx_view.specs.Moves.{row_home};
 ghost use Rattle.bx_view.specs.Source.{IsBefore, IsNext, IsOfText, IsViewBy, Keeps, Stands, StandsOn, body_at, bytes, rows};
-ghost use Rattle.bx_view.specs.TextRows.{row_of};
+ghost use Rattle.bx_view.specs.TextRows.{cell_of, row_of};
 
 use crate::error::ViewError;
 use crate::holder::{hold, lay_out_in, position, room_beside};
@@ -265,6 +265,23 @@ impl Layout {
         }
         let there = self.row_at(source, offset)?;
         Ok(there)
+    }
+
+    /// The column, from 1, of the cell of a place.
+    ///
+    /// Errors: `OutOfMemory`.
+    pub fn cell_of<D: BidiData>(
+        &mut self,
+        source: &Source<'_, D>,
+        place: usize,
+    ) -> Result<u16, ViewError>
+        requires data { IsViewBy source.now self.old }
+        ensures keeps { Keeps source.now self.old self.new }
+        ensures cell { IfOk result (λ column. column ≡ cell_of self.old.w (rows source.now self.old) place) }
+    {
+        let at = self.row_at(source, place)?;
+        let position = self.position(source, at, place)?;
+        Ok(position.column)
     }
 
     /// The first offset of the row that a place falls in.

@@ -1,9 +1,10 @@
 //! The top of the rows that are shown, and a place among them.
 ghost use Rattle.std.specs.Prelude.{◌≡◌, ℕ, ◌+◌, ◌<◌, IfOk};
+ghost use Rattle.std.specs.Str.{IsCharBoundary};
 ghost use Rattle.bx_view.specs.Position.{IsPosition};
 ghost use Rattle.bx_view.specs.Source.{BeginsAt, IsViewBy, Keeps, Stands, StandsOn, bytes, rows};
 ghost use Rattle.bx_view.specs.TextRows.{row_of};
-ghost use Rattle.bx_view.specs.Top.{nearest_top};
+ghost use Rattle.bx_view.specs.Top.{follow, nearest_top};
 
 use crate::error::ViewError;
 use crate::layout::Layout;
@@ -89,5 +90,26 @@ impl Layout {
             above,
             position,
         })
+    }
+
+    /// The offset at which the rows begin to be shown, `t` of them, among which the row of the place `place` is: the
+    /// row that the offset `top` falls in, moved by as few rows as that takes.
+    ///
+    /// Errors: `OutOfMemory`.
+    pub fn follow<D: BidiData>(
+        &mut self,
+        source: &Source<'_, D>,
+        top: usize,
+        place: usize,
+        t: usize,
+    ) -> Result<usize, ViewError>
+        requires data { IsViewBy source.now self.old }
+        requires some { 0 < t }
+        ensures keeps { Keeps source.now self.old self.new }
+        ensures top { IfOk result (λ o. o ≡ follow (rows source.now self.old) top place t) }
+        ensures boundary { IfOk result (λ o. IsCharBoundary (bytes source.now) o) }
+    {
+        let located = self.locate(source, top, place, t)?;
+        Ok(self.first_in(source, located.top))
     }
 }

@@ -68,12 +68,7 @@ impl Whole {
 
     pub(crate) fn column_of(&self, place: usize) -> Result<u16, Fail> {
         let mut layout = Layout::of(self.alloc, self.w, self.base);
-        Ok(
-            layout
-                .locate(&self.source(), place, place, 1)?
-                .position
-                .column,
-        )
+        Ok(layout.cell_of(&self.source(), place)?)
     }
 
     pub(crate) fn slots(&self, place: usize) -> Result<Vec<usize>, Fail> {
