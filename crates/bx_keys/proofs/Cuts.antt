@@ -32,7 +32,7 @@ longer_not k n bs h le = elim (cases_Bool (begins_item (take n bs))) [
       both_ways (begins_item (take k bs)) h (ap begins_item (sym same) ∙ short))
 ]
 
-up_to_begins : (n : ℕ) (bs : List ℕ) → begins_item (take (beginning_up_to n bs) bs) ≡ true
+pub up_to_begins : (n : ℕ) (bs : List ℕ) → begins_item (take (beginning_up_to n bs) bs) ≡ true
 up_to_begins zero bs = refl
 up_to_begins (suc n) bs = elim (cases_Bool (begins_item (take (suc n) bs))) [
   | inl begun ↦ ap (λ k. begins_item (take k bs)) (cond-true (begins_item (take (suc n) bs)) (suc n) (beginning_up_to n bs) begun) ∙ begun
@@ -70,15 +70,15 @@ up_to_next (suc n) bs h = elim (cases_Bool (begins_item (take (suc n) bs))) [
       ])
 ]
 
-next_not : (bs : List ℕ) → beginning bs < length bs → begins_item (take (beginning bs + 1) bs) ≡ false
+pub next_not : (bs : List ℕ) → beginning bs < length bs → begins_item (take (beginning bs + 1) bs) ≡ false
 next_not bs h = up_to_next (length bs) bs h
 
 -- ---- the three ways to cut
 
-long_le : (bs : List ℕ) → beginning bs ≤ length bs
+pub long_le : (bs : List ℕ) → beginning bs ≤ length bs
 long_le bs = up_to_le (length bs) bs
 
-item_not_empty : (k : ℕ) (bs : List ℕ) → is_item (take k bs) ≡ true → 1 ≤ k
+pub item_not_empty : (k : ℕ) (bs : List ℕ) → is_item (take k bs) ≡ true → 1 ≤ k
 item_not_empty zero bs h = absurd (cc h)
 item_not_empty (suc k) bs h = omega arith
 
@@ -100,7 +100,7 @@ same_beginning bs ys why =
 
 -- ---- as many cuts as there are bytes are enough
 
-drop_shorter : (k n : ℕ) (bs : List ℕ) → 1 ≤ k → length bs ≤ suc n → length (drop k bs) ≤ n
+pub drop_shorter : (k n : ℕ) (bs : List ℕ) → 1 ≤ k → length bs ≤ suc n → length (drop k bs) ≤ n
 drop_shorter k n bs l h = omega (arith, length-drop k bs)
 
 same_cuts : (n m b : ℕ) (bs : List ℕ) → length bs ≤ n → length bs ≤ m
@@ -129,7 +129,7 @@ enough (suc n) (suc m) (b ∷ bs) hn hm = same_cuts n m b bs (omega arith) (omeg
 
 -- ---- the three ways, on all of the input
 
-item_first : (bs : List ℕ) → is_item (take (beginning bs) bs) ≡ true
+pub item_first : (bs : List ℕ) → is_item (take (beginning bs) bs) ≡ true
     → decoding bs ≡ with_key (key_of (take (beginning bs) bs)) (decoding (drop (beginning bs) bs))
 item_first [] h = absurd (cc h)
 item_first (b ∷ bs) h =
@@ -139,13 +139,13 @@ item_first (b ∷ bs) h =
     cond-true (is_item (take long all)) (with_key (key_of (take long all)) (decoding_within (length bs) (drop long all))) _ h
     ∙ ap (with_key (key_of (take long all))) (enough (length bs) (length (drop long all)) (drop long all) shorter (omega arith))
 
-waits_first : (bs : List ℕ) → is_item (take (beginning bs) bs) ≡ false → beginning bs ≡ length bs → decoding bs ≡ record { keys = []; rest = bs }
+pub waits_first : (bs : List ℕ) → is_item (take (beginning bs) bs) ≡ false → beginning bs ≡ length bs → decoding bs ≡ record { keys = []; rest = bs }
 waits_first [] h e = refl
 waits_first (b ∷ bs) h e =
     let all : List ℕ = b ∷ bs in
     cond-false (is_item (take (beginning all) all)) _ _ h ∙ cond-true (nat_eq (beginning all) (length all)) _ _ (eq-eqb (beginning all) (length all) e)
 
-dropped_first : (bs : List ℕ) → is_item (take (beginning bs) bs) ≡ false → beginning bs < length bs → decoding bs ≡ decoding (drop (max 1 (beginning bs)) bs)
+pub dropped_first : (bs : List ℕ) → is_item (take (beginning bs) bs) ≡ false → beginning bs < length bs → decoding bs ≡ decoding (drop (max 1 (beginning bs)) bs)
 dropped_first [] h l = absurd (omega arith)
 dropped_first (b ∷ bs) h l =
     let all : List ℕ = b ∷ bs in
@@ -219,7 +219,7 @@ in_pieces bs ys = pieces_within (length bs) bs ys (omega arith)
 
 -- ---- the bytes that are left wait
 
-fate_waits : (bs : List ℕ) → is_item bs ≡ false → begins_item bs ≡ true → fate bs ≡ Waits
+pub fate_waits : (bs : List ℕ) → is_item bs ≡ false → begins_item bs ≡ true → fate bs ≡ Waits
 fate_waits bs h g = cond-false (is_item bs) _ _ h ∙ cond-true (begins_item bs) _ _ g
 
 left_waits : (n : ℕ) (bs : List ℕ) → length bs ≤ n → fate (decoding bs).rest ≡ Waits

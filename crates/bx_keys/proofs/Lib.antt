@@ -7,4 +7,5 @@ pub mod Feeding
 pub mod Characters
 pub mod Sequences
 pub mod Sizes
+pub mod PartsOfInput
 mod Examples

@@ -14,4 +14,4 @@ mod sequence;
 
 pub use decoder::Decoder;
 pub use key::Key;
-pub use laws::{in_any_pieces, items_are_apart, rests_wait};
+pub use laws::{in_any_pieces, input_has_parts, items_are_apart, rests_wait};
