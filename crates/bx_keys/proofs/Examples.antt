@@ -1,8 +1,15 @@
--- Keys of worked examples of input.
-use Rattle.std.proofs.Common.{◌≡◌, ℕ, List, [], ◌∷◌, ◌++◌, Some, None, refl}
+-- Keys of worked examples of input, and what each law gives of them.
+use Rattle.std.proofs.Common.{◌≡◌, ◌≢◌, ℕ, inl, inr, true, false, List, [], ◌∷◌, ◌++◌, Some, None, refl, ap, sym, ◌∙◌, arith}
+use Rattle.std.proofs.lemmas.Bool.{both_ways, cases_Bool}
 use Rattle.std.specs.Prelude.{codes, Option}
+use Rattle.std.specs.List.{concat}
 use Rattle.std.specs.Str.{chars}
-use Rattle.bx_keys.specs.Keys.{decoding, key_after, rest_after}
+use Rattle.bx_bytes.specs.Grammar.{BeginsByMore, NoneBeginsLonger}
+use Rattle.bx_bytes.specs.declared.fate.Fate.TheVariants.{Waits, Ends}
+use Rattle.bx_keys.specs.Items.{items, is_item, begins_item}
+use Rattle.bx_keys.specs.Keys.{Decoding, decoding, key_after, rest_after}
+use Rattle.bx_keys.specs.Laws.{RestsWait, ComesInPieces, HasParts, keys_of_items}
+use Rattle.bx_keys.specs.Waiting.{fate}
 use Rattle.bx_keys.specs.declared.key.Key.{Key}
 use Rattle.bx_keys.specs.declared.key.Key.TheVariants.{Insert, Erase, Delete, Up, Down, Right, Left, RowHome, RowEnd, PageUp, PageDown, Quit, Undo, Redo}
 use Rattle.bx_keys.specs.declared.key.Key.TheVariants.{Direction, Size}
@@ -61,3 +68,46 @@ dropped = refl
 -- ESC with intermediate bytes, and ESC with a final byte
 pub other_escapes_give_no_key : keys (codes "\u{1b}(Bx\u{1b} !0y\u{1b}Mz") ≡ Insert 0x78 ∷ Insert 0x79 ∷ Insert 0x7A ∷ []
 other_escapes_give_no_key = refl
+
+-- ---- what each law gives
+
+-- a size that is half read begins an item
+pub of_beginnings : BeginsByMore items → begins_item (codes "\u{1b}[8;24") ≡ true
+of_beginnings law = (law (codes "\u{1b}[8;24")).1 (codes ";80t", refl)
+
+-- FF begins none, whatever follows
+pub of_beginnings_none : BeginsByMore items → (more : List ℕ) → is_item (0xFF ∷ more) ≡ false
+of_beginnings_none law more = elim (cases_Bool (is_item (0xFF ∷ more))) [
+  | inl whole ↦ absurd (both_ways (begins_item (0xFF ∷ [])) refl ((law (0xFF ∷ [])).1 (more, whole)))
+  | inr other ↦ other
+]
+
+-- an arrow is over with its letter
+pub of_none_longer : NoneBeginsLonger items → (b : ℕ) (more : List ℕ) → begins_item (codes "\u{1b}[A" ++ b ∷ more) ≡ false
+of_none_longer law b more = law (codes "\u{1b}[A") b more refl
+
+-- a letter never waits
+pub of_rests_wait : RestsWait → (bs : List ℕ) → (decoding bs).rest ≢ codes "a"
+of_rests_wait law bs e = let same : Waits ≡ Ends = sym (law.left bs) ∙ ap fate e in cc same
+
+-- an arrow with Shift waits for its letter
+pub of_rests_same : RestsWait → decoding (codes "\u{1b}[1;2") ≡ record { keys = []; rest = codes "\u{1b}[1;2" }
+of_rests_same law = (law.same (codes "\u{1b}[1;2")).0 refl
+
+-- an arrow that comes in two pieces
+pub of_in_any_pieces : ComesInPieces → (bs : List ℕ) → (decoding bs).rest ≡ codes "\u{1b}["
+    → (decoding (bs ++ codes "Ax")).keys ≡ (decoding bs).keys ++ Up ∷ Insert 0x78 ∷ []
+of_in_any_pieces law bs e =
+    ap (λ (d : Decoding). d.keys) (law bs (codes "Ax")) ∙ ap (λ rest. (decoding bs).keys ++ (decoding (rest ++ codes "Ax")).keys) e
+
+-- a letter, a sequence that a line feed breaks, the line feed, a byte that begins nothing, and a lead byte that waits
+pub of_decoded : HasParts
+    → decoding (codes "a\u{1b}[3" ++ 0x0A ∷ 0xFF ∷ 0xD7 ∷ []) ≡ record { keys = Insert 0x61 ∷ Insert 0x0A ∷ []; rest = 0xD7 ∷ [] }
+of_decoded law =
+    law.decoded (codes "a" ∷ codes "\u{1b}[3" ∷ (0x0A ∷ []) ∷ (0xFF ∷ []) ∷ []) (0xD7 ∷ []) (tt, ((omega arith, refl), (tt, (refl, refl))))
+
+-- the keys of all input are those of the items that it is cut into
+pub of_cut : HasParts → (bs : List ℕ) → (parts : List (List ℕ)) × (concat parts ++ (decoding bs).rest ≡ bs) × ((decoding bs).keys ≡ keys_of_items parts)
+of_cut law bs =
+    let is = law.cut bs in
+    (is.0, is.1, ap (λ xs. (decoding xs).keys) (sym is.1) ∙ ap (λ (d : Decoding). d.keys) (law.decoded is.0 (decoding bs).rest is.2))
