@@ -11,7 +11,7 @@ use Rattle.bx_keys.specs.declared.key.Key.TheVariants.{Insert}
 pub no_escape : (a : ℕ) (bs : List ℕ) → (a ≡ 0x1B → ⊥) → fate (a ∷ bs) ≡ fate_in characters (a ∷ bs)
 no_escape a bs n = grind (arith, nat_tests)
 
-key_by_chars : (a b : ℕ) (bs : List ℕ) (c : ℕ) → (a ≡ 0x1B → ⊥) → chars (a ∷ b ∷ bs) ≡ c ∷ [] → key_of (a ∷ b ∷ bs) ≡ Some (Insert c)
+pub key_by_chars : (a b : ℕ) (bs : List ℕ) (c : ℕ) → (a ≡ 0x1B → ⊥) → chars (a ∷ b ∷ bs) ≡ c ∷ [] → key_of (a ∷ b ∷ bs) ≡ Some (Insert c)
 key_by_chars a b bs c n e =
     let other : nat_eq a 0x1B ≡ false = grind (arith, nat_tests) in
     rw (other, e) refl
