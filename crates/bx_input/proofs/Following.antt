@@ -1,7 +1,7 @@
 -- The editor's decoder behind the filter.
-use Rattle.std.proofs.Common.{◌≡◌, ◌≢◌, ℕ, ◌⊎◌, inl, inr, Bool, true, false, not, ◌&&◌, nat_eq, cond, List, [], ◌∷◌, ◌++◌, get_or, Option, Some, None, refl, ap, sym, ◌∙◌, append_assoc, subst, arith}
+use Rattle.std.proofs.Common.{◌≡◌, ◌≢◌, ℕ, ◌⊎◌, inl, inr, Bool, true, false, not, ◌&&◌, nat_eq, cond, List, [], ◌∷◌, ◌++◌, map, get_or, Option, Some, None, refl, ap, sym, ◌∙◌, append_assoc, subst, arith}
 use Rattle.std.specs.List.{AllByRecursion, list_all}
-use Rattle.std.specs.Str.{bytes_eq}
+use Rattle.std.specs.Str.{bytes_eq, chars, IsUtf8}
 use Rattle.std.proofs.lemmas.Bool.{cases_Bool, cases_eq, and_parts, and_cases, or_parts, eqb-false}
 use Rattle.std.proofs.lemmas.List.{append-nil}
 use Rattle.bx_bytes.specs.Pattern.{is_within}
@@ -11,6 +11,7 @@ use Rattle.bx_bytes.specs.declared.fate.Fate.TheVariants.{Waits, Ends, Breaks}
 use Rattle.bx_keys.specs.Items.{items}
 use Rattle.bx_keys.specs.Keys.{Decoding, decoding, rest_after}
 use Rattle.bx_keys.specs.Waiting as editor
+use Rattle.bx_keys.specs.declared.key.Key.TheVariants.{Insert}
 use Rattle.bx_keys.proofs.Cuts.{in_pieces, rest_waits}
 use Rattle.bx_keys.proofs.Feeding.{waits_decoding, feeds_waiting, feeds_end, feeds_break, feeds_alone}
 use Rattle.bx_input.specs.Table.{Row, rows, sequences, fate, row_of, paste_start, paste_end}
@@ -21,6 +22,7 @@ use Rattle.bx_input.proofs.Clean.{pastes_clean}
 use Rattle.bx_input.proofs.Decoding.{IsFree, IsOutside, anew, anew_in_text, after_can, alone_free, sequence_over, still_free, text_inserts, text_not_escape}
 use Rattle.bx_input.proofs.Firsts.{lacks_after_first, breaks_at}
 use Rattle.bx_input.proofs.Growth.{found}
+use Rattle.bx_input.proofs.Inserting.{utf8_inserts}
 use Rattle.bx_input.proofs.Keys.{rows_have_keys}
 use Rattle.bx_input.proofs.Passing.{is_open_after, rows_become}
 use Rattle.bx_input.proofs.Pastes.{pastes_text}
@@ -322,20 +324,31 @@ all_add (r ∷ rs) b k a =
 pub rows_add_keys : AllByRecursion AddsKey rows
 rows_add_keys = all_add rows rows_become rows_have_keys refl
 
+-- a CAN ends what is open, and behind it the text begins anew
+opened_text : (rest text : List ℕ) → editor.fate rest ≡ Waits → decoding (rest ++ (apart_from true [] ++ text)) ≡ decoding text
+opened_text rest text w = anew rest 0x18 text refl w ∙ after_can text
+
 opened_inserts : (opened : Bool) (rest text : List ℕ) → editor.fate rest ≡ Waits → (opened ≡ false → IsFree rest) → IsText text
     → list_all is_insert (decoding (rest ++ (apart_from opened [] ++ text))).keys ≡ true
 opened_inserts true rest text w free t =
-    ap (λ (d : Decoding). list_all is_insert d.keys) (anew rest 0x18 text refl w ∙ after_can text) ∙ text_inserts [] text refl nothing_free t
+    ap (λ (d : Decoding). list_all is_insert d.keys) (opened_text rest text w) ∙ text_inserts [] text refl nothing_free t
 opened_inserts false rest text w free t = text_inserts rest text w (free refl) t
+
+opened_characters : (opened : Bool) (rest text : List ℕ) → editor.fate rest ≡ Waits → (opened ≡ false → IsFree rest) → IsText text → IsUtf8 text
+    → (decoding (rest ++ (apart_from opened [] ++ text))).keys ≡ map Insert (chars text)
+opened_characters true rest text w free t u =
+    ap (λ (d : Decoding). d.keys) (opened_text rest text w) ∙ utf8_inserts [] text u t refl nothing_free
+opened_characters false rest text w free t u = utf8_inserts rest text u t w (free refl)
 
 pub pastes_insert : PastesInsert
 pastes_insert bs waiting is_open text at none =
     let opened : Bool = is_open_after waiting is_open in
     let sent : List ℕ = apart_from opened [] ++ pasted text in
+    let waits = rest_waits (filtered bs) in
+    let free = closed_before bs waiting is_open at in
     let out : filtered (bs ++ (paste_start ++ (text ++ paste_end))) ≡ filtered bs ++ sent =
     ap (λ (x : Step). x.output ++ at_end x.state) (pastes_text bs waiting is_open text at none) ∙ append-nil (filtered bs ++ sent) in (
-      (decoding ((decoding (filtered bs)).rest ++ sent)).keys,
       ap (λ xs. (decoding xs).keys) out ∙ ap (λ (d : Decoding). d.keys) (in_pieces (filtered bs) sent),
-      opened_inserts opened (decoding (filtered bs)).rest (pasted text) (rest_waits (filtered bs)) (closed_before bs waiting is_open at)
-          (pastes_clean.whole text),
+      opened_inserts opened (decoding (filtered bs)).rest (pasted text) waits free (pastes_clean.whole text),
+      opened_characters opened (decoding (filtered bs)).rest (pasted text) waits free (pastes_clean.whole text),
     )

@@ -1,8 +1,9 @@
 -- What holds of the filter, whatever its input.
-use Rattle.std.specs.Prelude.{◌≡◌, ◌≤◌, ℕ, ◌*◌, Bool, true, false, not, ◌||◌, ◌==◌, List, [], ◌∷◌, ◌++◌, length}
+use Rattle.std.specs.Prelude.{◌≡◌, ◌≤◌, ℕ, ◌*◌, Bool, true, false, not, ◌||◌, ◌==◌, List, [], ◌∷◌, ◌++◌, length, map}
 use Rattle.std.specs.List.{list_all}
+use Rattle.std.specs.Str.{chars, IsUtf8}
 use Rattle.bx_bytes.specs.Pattern.{Piece, matches_any}
-use Rattle.bx_keys.specs.Keys.{decoding}
+use Rattle.bx_keys.specs.Keys.{Decoding, decoding}
 use Rattle.bx_keys.specs.declared.key.Key.{Key}
 use Rattle.bx_keys.specs.declared.key.Key.TheVariants.{Insert}
 use Rattle.bx_input.specs.Table.{Row, sequences, exact, paste_start, paste_end}
@@ -77,10 +78,14 @@ abbrev pub is_insert : Key → Bool
 is_insert (Insert c) = true
 is_insert _ = false
 
--- the editor's keys for a paste put characters in, and do nothing else
+-- The editor's keys for a paste are those of its text behind what waits. Each puts a character in, and does nothing else. Where
+-- the text is UTF-8, these are its characters in order.
 abbrev pub PastesInsert : Type 0
 PastesInsert = (bs waiting : List ℕ) (is_open : Bool) (text : List ℕ) → (run start bs).state ≡ Outside waiting is_open
     → HasNone (exact paste_end ∷ []) text
-    → (keys : List Key)
-    × ((decoding (filtered (bs ++ (paste_start ++ (text ++ paste_end))))).keys ≡ (decoding (filtered bs)).keys ++ keys)
+    → let before : Decoding = decoding (filtered bs) in
+    let sent : List ℕ = apart_from (is_open || not (is_empty waiting)) [] ++ pasted text in
+    let keys : List Key = (decoding (before.rest ++ sent)).keys in
+    ((decoding (filtered (bs ++ (paste_start ++ (text ++ paste_end))))).keys ≡ before.keys ++ keys)
     × (list_all is_insert keys ≡ true)
+    × (IsUtf8 (pasted text) → keys ≡ map Insert (chars (pasted text)))
