@@ -1,7 +1,6 @@
 -- The editor's keys for text in UTF-8 are its characters.
-use Rattle.std.proofs.Common.{◌≡◌, ◌≢◌, ℕ, Bool, true, false, ◌&&◌, List, [], ◌∷◌, ◌++◌, Some, map, refl, ap, sym, ◌∙◌, subst, arith}
+use Rattle.std.proofs.Common.{◌≡◌, ◌≢◌, ℕ, true, List, [], ◌∷◌, ◌++◌, Some, map, refl, ap, sym, ◌∙◌, subst, arith}
 use Rattle.std.specs.Prelude.{option_to_list}
-use Rattle.std.specs.Char.{IsScalar, encode_utf8}
 use Rattle.std.specs.List.{list_all}
 use Rattle.std.specs.Str.{chars, IsUtf8}
 use Rattle.std.proofs.lemmas.Bool.{and_parts, both_ways}
@@ -11,14 +10,13 @@ use Rattle.std.proofs.lemmas.List.Folds.{list_all-append}
 use Rattle.std.proofs.lemmas.Str.{chars-encodes}
 use lib.Utf8.{scalar, scalars, encode, encodes}
 use Rattle.bx_bytes.specs.Utf8.{characters, is_character, begins_character}
-use Rattle.bx_bytes.specs.declared.fate.Fate.TheVariants.{Waits, Ends}
+use Rattle.bx_bytes.specs.declared.fate.Fate.TheVariants.{Waits}
 use Rattle.bx_bytes.proofs.Codes.{chars_of_one}
 use Rattle.bx_bytes.proofs.Encoded.{are_encodings, ends, ends_by}
 use Rattle.bx_bytes.proofs.Patterns.{begins_any_front, matches_any_begins}
 use Rattle.bx_keys.specs.Items.{is_item, begins_item}
 use Rattle.bx_keys.specs.Keys.{Decoding, decoding, key_of, single_key}
 use Rattle.bx_keys.specs.Waiting.{fate}
-use Rattle.bx_keys.specs.declared.key.Key.{Key}
 use Rattle.bx_keys.specs.declared.key.Key.TheVariants.{Insert}
 use Rattle.bx_keys.proofs.Characters.{no_escape, key_by_chars}
 use Rattle.bx_keys.proofs.Cuts.{in_pieces}

@@ -1,5 +1,5 @@
 -- The filter run from a reader to a writer.
-use Rattle.std.specs.Prelude.{◌≡◌, ℕ, List, Option}
+use Rattle.std.specs.Prelude.{◌≡◌, ◌⊎◌, ℕ, List, ◌++◌, Option}
 use Rattle.std.specs.Io.KnownBytes.{Appends, Consumes, IsAtEnd}
 use Rattle.bx_input.specs.Filter.{State, start, run, filtered}
 
@@ -14,3 +14,17 @@ pub record IsFiltered (reader reader' writer writer' : Option (List ℕ)) (bytes
   pub reads : Consumes reader reader' bytes
   pub ends : IsAtEnd reader'
   pub writes : Appends writer writer' (filtered bytes)
+
+-- a front of the bytes was written, and the rest was not
+pub record IsWritten (bytes : List ℕ) (writer writer' : Option (List ℕ)) (written rest : List ℕ) : Type 0 where
+  pub parts : bytes ≡ written ++ rest
+  pub appends : Appends writer writer' written
+
+-- some front of them was
+abbrev pub WritesFront : List ℕ → Option (List ℕ) → Option (List ℕ) → Type 0
+WritesFront bytes writer writer' = (written : List ℕ) × (rest : List ℕ) × IsWritten bytes writer writer' written rest
+
+-- These bytes were read, and a front of what goes out of them was written. What waits goes out only at the reader's end.
+pub record IsBrokenOff (reader reader' writer writer' : Option (List ℕ)) (bytes : List ℕ) : Type 0 where
+  pub reads : Consumes reader reader' bytes
+  pub writes : WritesFront (run start bytes).output writer writer' ⊎ (IsAtEnd reader' × WritesFront (filtered bytes) writer writer')

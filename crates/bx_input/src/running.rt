@@ -1,16 +1,17 @@
 //! The filter between a reader and a writer.
 
-ghost use Rattle.std.specs.Prelude.{◌≡◌, ◌++◌, List, ℕ, OnOk, OnErr};
-ghost use Rattle.std.specs.Io.KnownBytes.{Appends};
+ghost use Rattle.std.specs.Prelude.{◌≡◌, ◌⊎◌, ◌++◌, List, ℕ, IsErrOf, OnOk, OnErr};
+ghost use Rattle.std.specs.Io.KnownBytes.{Appends, WriteAppends};
+ghost use Rattle.std.specs.Io.{WritesAtMost};
 ghost use Rattle.bx_input.specs.Filter as spec;
 ghost use Rattle.bx_input.specs.Held.{bytes_of};
-ghost use Rattle.bx_input.specs.Running.{IsFiltered};
+ghost use Rattle.bx_input.specs.Running.{HasPassed, IsBrokenOff, IsFiltered, WritesFront};
 
 use crate::fault::FilterFault;
 use crate::filter::Filter;
 use crate::output::Output;
 use std::alloc::{AllocError, Global};
-use std::io::{Read, Write};
+use std::io::{ErrorKind, Read, Write};
 
 /// The most reads of a run.
 const READS: u64 = 1_000_000_000_000;
@@ -44,17 +45,51 @@ fn append(out: &mut Vec<u8>, output: Output) -> Result<(), AllocError>
     }
 }
 
-/// Writes the bytes in one write, as far as the writer takes them so, and flushes.
+/// One write, of as many of the bytes as the writer takes: none where it was interrupted. One that takes none is a fault.
+fn write_once<W: Write>(writer: &mut W, bytes: &[u8]) -> Result<usize, FilterFault>
+    ensures bound { WritesAtMost result bytes.now }
+    ensures bytes { WriteAppends (W.contents writer.old) (W.contents writer.new) result bytes.now }
+    ensures fault { OnErr result (result ≡ Err FilterFault.WriteFault) }
+{
+    match writer.write(bytes) {
+        Ok(0) => Err(FilterFault::WriteFault),
+        Ok(count) => Ok(count),
+        Err(error) if error.kind() == ErrorKind::Interrupted => Ok(0),
+        Err(_) => Err(FilterFault::WriteFault),
+    }
+}
+
+/// Writes the bytes in one write, as far as the writer takes them so.
+///
+/// Errors: `WriteFault`, where a front of them was written.
+fn write_all<W: Write>(writer: &mut W, bytes: &[u8]) -> Result<(), FilterFault>
+    ensures all { OnOk result (Appends (W.contents writer.old) (W.contents writer.new) bytes.now) }
+    ensures front { WritesFront bytes.now (W.contents writer.old) (W.contents writer.new) }
+    ensures fault { OnErr result (result ≡ Err FilterFault.WriteFault) }
+{
+    let mut rest = bytes;
+    'writes: for write in 0..u64::MAX {
+        if rest.is_empty() {
+            return Ok(());
+        }
+        let count = write_once(writer, rest)?;
+        rest = &rest[count..];
+    }
+    Err(FilterFault::WriteFault)
+}
+
+/// Writes the bytes, if there are any, and flushes.
+///
+/// Errors: `WriteFault`, where a front of them was written.
 fn send<W: Write>(writer: &mut W, bytes: &[u8]) -> Result<(), FilterFault>
-    ensures { OnOk result (Appends (W.contents writer.old) (W.contents writer.new) bytes.now) }
+    ensures all { OnOk result (Appends (W.contents writer.old) (W.contents writer.new) bytes.now) }
+    ensures front { WritesFront bytes.now (W.contents writer.old) (W.contents writer.new) }
+    ensures fault { OnErr result (result ≡ Err FilterFault.WriteFault) }
 {
     if bytes.is_empty() {
         return Ok(());
     }
-    match writer.write_all(bytes) {
-        Ok(()) => {}
-        Err(_) => return Err(FilterFault::WriteFault),
-    }
+    write_all(writer, bytes)?;
     match writer.flush() {
         Ok(()) => Ok(()),
         Err(_) => Err(FilterFault::WriteFault),
@@ -64,15 +99,19 @@ fn send<W: Write>(writer: &mut W, bytes: &[u8]) -> Result<(), FilterFault>
 /// Filters all of the reader's input: reads at most 256 bytes, and writes what goes out for them in one write, until the
 /// input is at its end.
 ///
-/// Errors: `ReadFault`, `WriteFault` and `OutOfMemory`, each at the first such fault; `ReadLimit` after
-/// 1,000,000,000,000 reads.
+/// Errors: `ReadFault`, and `ReadLimit` after 1,000,000,000,000 reads, where all that goes out of what was read was
+/// written; `WriteFault` and `OutOfMemory`, where a front of it was. Each comes at the first such fault.
 pub fn run<R: Read, W: Write>(
     alloc: Global,
     reader: &mut R,
     writer: &mut W,
 ) -> Result<(), FilterFault>
-    ensures { OnOk result ((bytes : List ℕ)
+    ensures filtered { OnOk result ((bytes : List ℕ)
         × IsFiltered (R.remaining reader.old) (R.remaining reader.new) (W.contents writer.old) (W.contents writer.new) bytes) }
+    ensures front { OnErr result ((bytes : List ℕ)
+        × IsBrokenOff (R.remaining reader.old) (R.remaining reader.new) (W.contents writer.old) (W.contents writer.new) bytes) }
+    ensures whole { IsErrOf result FilterFault.ReadFault ⊎ IsErrOf result FilterFault.ReadLimit → (bytes : List ℕ)
+        × HasPassed (R.remaining reader.old) (R.remaining reader.new) (W.contents writer.old) (W.contents writer.new) bytes (spec.run spec.start bytes).state }
 {
     let mut filter = Filter::new();
     let mut buffer = [0; 256];
@@ -90,6 +129,8 @@ pub fn run<R: Read, W: Write>(
 }
 
 /// Writes what goes out for these bytes.
+///
+/// Errors: `WriteFault` and `OutOfMemory`, where a front of it was written.
 fn pass<W: Write>(
     alloc: Global,
     filter: &mut Filter,
@@ -98,6 +139,8 @@ fn pass<W: Write>(
 ) -> Result<(), FilterFault>
     ensures state { OnOk result (filter.new ≡ (spec.run filter.old bytes.now).state) }
     ensures output { OnOk result (Appends (W.contents writer.old) (W.contents writer.new) (spec.run filter.old bytes.now).output) }
+    ensures front { WritesFront (spec.run filter.old bytes.now).output (W.contents writer.old) (W.contents writer.new) }
+    ensures fault { OnErr result ((result ≡ Err FilterFault.WriteFault) ⊎ (result ≡ Err FilterFault.OutOfMemory)) }
 {
     let mut out = Vec::new(alloc);
     match filter.feed_all(bytes, &mut out) {

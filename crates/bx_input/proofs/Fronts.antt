@@ -1,0 +1,61 @@
+-- What a writer took, write by write, and a run that broke off.
+use Rattle.std.proofs.Common.{◌≡◌, ℕ, ◌-◌, inl, inr, List, [], ◌++◌, length, take, drop, Option, Result, Ok, Err, refl, sym, ap, ◌∙◌, append_assoc, subst}
+use Rattle.std.proofs.lemmas.List.{append-nil, take-append-drop, take_rest}
+use Rattle.std.proofs.KnownBytes.{Appends-nil, Appends-trans, Consumes-trans}
+use Rattle.std.specs.Prelude.{OnErr}
+use Rattle.std.specs.Io.KnownBytes.{Appends, Consumes, IsAtEnd}
+use Rattle.bx_input.specs.Filter.{State, Step, start, run, at_end}
+use Rattle.bx_input.specs.Running.{IsWritten, WritesFront, HasPassed, IsBrokenOff}
+use Rattle.bx_input.proofs.Runs.{in_pieces}
+
+pub none_written : (bytes : List ℕ) (w : Option (List ℕ)) → IsWritten bytes w w [] bytes
+none_written bytes w = record { parts = refl; appends = Appends-nil w }
+
+-- one write more
+pub more_written : (bytes : List ℕ) (a b c : Option (List ℕ)) (written rest : List ℕ) (count : ℕ) → IsWritten bytes a b written rest
+    → Appends b c (take count rest) → IsWritten bytes a c (written ++ take count rest) (take (length rest - count) (drop count rest))
+more_written bytes a b c written rest count is next = record {
+  parts = is.parts ∙ ap (λ xs. written ++ xs) (sym (take-append-drop count rest)) ∙ sym (append_assoc written (take count rest) (drop count rest))
+      ∙ ap (λ xs. written ++ take count rest ++ xs) (sym (take_rest rest count));
+  appends = Appends-trans a b c written (take count rest) is.appends next;
+}
+
+-- a front of bytes behind others
+front_behind : (xs ys : List ℕ) (a b c : Option (List ℕ)) → Appends a b xs → WritesFront ys b c → WritesFront (xs ++ ys) a c
+front_behind xs ys a b c first h = (
+  xs ++ h.0,
+  h.1,
+  record {
+    parts = ap (λ zs. xs ++ zs) h.2.parts ∙ sym (append_assoc xs h.0 h.1);
+    appends = Appends-trans a b c xs h.0 first h.2.appends;
+  },
+)
+
+-- ---- a run that broke off
+
+-- in the bytes of a read
+pub broken_in : (r r1 r2 w w1 w2 : Option (List ℕ)) (bytes more : List ℕ) (s : State) → HasPassed r r1 w w1 bytes s → Consumes r1 r2 more
+    → WritesFront (run s more).output w1 w2 → IsBrokenOff r r2 w w2 (bytes ++ more)
+broken_in r r1 r2 w w1 w2 bytes more s h reads writes =
+    let there : WritesFront (run (run start bytes).state more).output w1 w2 = subst (λ x. WritesFront (run x more).output w1 w2) h.is_state writes in
+    record {
+      reads = Consumes-trans r r1 r2 bytes more h.reads reads;
+      writes = inl (subst (λ xs. WritesFront xs w w2) (sym (ap (λ (x : Step). x.output) (in_pieces start bytes more)))
+          (front_behind (run start bytes).output (run (run start bytes).state more).output w w1 w2 h.writes there));
+    }
+
+-- at the reader's end
+pub broken_at_end : (r r1 r2 w w1 w2 : Option (List ℕ)) (bytes : List ℕ) (s : State) (count : ℕ) (buf rest : List ℕ) → HasPassed r r1 w w1 bytes s
+    → count ≡ 0 → Consumes r1 r2 (take count buf) → IsAtEnd r2 → rest ≡ at_end s → WritesFront rest w1 w2 → IsBrokenOff r r2 w w2 bytes
+broken_at_end r r1 r2 w w1 w2 bytes s count buf rest h none reads ends is writes =
+    let empty : Consumes r1 r2 [] = subst (λ n. Consumes r1 r2 (take n buf)) none reads in
+    let there : WritesFront (at_end (run start bytes).state) w1 w2 =
+    subst (λ x. WritesFront (at_end x) w1 w2) h.is_state (subst (λ xs. WritesFront xs w1 w2) is writes) in
+    record {
+      reads = subst (Consumes r r2) (append-nil bytes) (Consumes-trans r r1 r2 bytes [] h.reads empty);
+      writes = inr (ends, front_behind (run start bytes).output (at_end (run start bytes).state) w w1 w2 h.writes there);
+    }
+
+pub on_err : {T E : Type 0} (r : Result T E) (P : Type 0) → P → OnErr r P
+on_err (Ok x) P p = tt
+on_err (Err e) P p = p
