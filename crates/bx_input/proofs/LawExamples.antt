@@ -1,0 +1,134 @@
+-- A row that follows from each law alone, and from what a run says.
+use Rattle.std.proofs.Common.{length-append, ◌≡◌, ◌≢◌, ℕ, ◌≤◌, inl, inr, Bool, true, false, not, ◌&&◌, ◌==◌, nat_eq, List, [], ◌∷◌, ◌++◌, length, Option, Some, None, refl, ap, sym, ◌∙◌, subst, arith}
+use Rattle.std.specs.Prelude.{codes}
+use Rattle.std.specs.List.{AllByRecursion, list_all}
+use Rattle.std.specs.Str.{chars}
+use Rattle.std.proofs.lemmas.Bool.{and_left, and_parts, both_ways, or_from}
+use Rattle.std.proofs.lemmas.Bool.Decides.{nat_tests}
+use Rattle.std.proofs.lemmas.List.{append-nil}
+use Rattle.std.proofs.lemmas.List.Folds.{list_all-append}
+use lib.Utf8.{encode}
+use Rattle.bx_bytes.specs.Pattern.{Piece, One, Many, is_within, matches, matches_any}
+use Rattle.bx_keys.specs.Keys.{decoding}
+use Rattle.bx_keys.specs.declared.key.Key.TheVariants.{Insert, Up}
+use Rattle.bx_input.specs.Table.{rows, sequences, exact, paste_start, paste_end}
+use Rattle.bx_input.specs.Paste.{pasted}
+use Rattle.bx_input.specs.Filter.{Outside, Within, Step, step_to, step, start, run, at_end, filtered}
+use Rattle.bx_input.specs.Laws.{ComesInPieces, WaitsForFive, waiting_in, BecomesRow, HasNone, OthersPass, PastesText, IsText, PastesAreClean, GrowsByThird, NoLongerWithoutQ}
+use Rattle.bx_input.specs.Laws.{HasKey, AddsKey, PastesInsert}
+use Rattle.bx_input.specs.Running.{HasPassed, IsBrokenOff, IsFiltered}
+
+-- ---- bytes without ESC have no sequence
+
+abbrev has_no_escape : List ℕ → Bool
+has_no_escape bs = list_all (λ b. not (b == 0x1B)) bs
+
+abbrev begins_by_escape : List Piece → Bool
+begins_by_escape (One low high ∷ ps) = low == 0x1B && high == 0x1B
+begins_by_escape _ = false
+
+not_first : (low high b : ℕ) → nat_eq low 0x1B && nat_eq high 0x1B ≡ true → not (nat_eq b 0x1B) ≡ true → is_within low high b ≡ false
+not_first low high b e n = grind (arith, nat_tests)
+
+one_not : (p : List Piece) (bs : List ℕ) → begins_by_escape p ≡ true → has_no_escape bs ≡ true → matches p bs ≡ false
+one_not [] bs e n = absurd (cc e)
+one_not (Many low high ∷ ps) bs e n = absurd (cc e)
+one_not (One low high ∷ ps) [] e n = refl
+one_not (One low high ∷ ps) (b ∷ bs) e n =
+    and_left (is_within low high b) (matches ps bs) (not_first low high b e (and_parts (not (nat_eq b 0x1B)) (has_no_escape bs) n).0)
+
+none_match : (ps : List (List Piece)) (bs : List ℕ) → list_all begins_by_escape ps ≡ true → has_no_escape bs ≡ true → matches_any ps bs ≡ false
+none_match [] bs e n = refl
+none_match (p ∷ ps) bs e n =
+    let each = and_parts (begins_by_escape p) (list_all begins_by_escape ps) e in
+    or_from (matches p bs) (matches_any ps bs) (one_not p bs each.0 n) (none_match ps bs each.1 n)
+
+no_sequence : (ps : List (List Piece)) (bs : List ℕ) → list_all begins_by_escape ps ≡ true → has_no_escape bs ≡ true → HasNone ps bs
+no_sequence ps bs e n front middle back cut =
+    let whole : has_no_escape (front ++ (middle ++ back)) ≡ true = ap has_no_escape (sym cut) ∙ n in
+    let behind = and_parts (has_no_escape front) (has_no_escape (middle ++ back)) (sym (list_all-append (λ b. not (nat_eq b 0x1B)) front (middle ++ back)) ∙ whole) in
+    let within = and_parts (has_no_escape middle) (has_no_escape back) (sym (list_all-append (λ b. not (nat_eq b 0x1B)) middle back) ∙ behind.1) in
+    none_match ps middle e within.0
+
+-- ---- the filter
+
+-- Shift and Up, of which the letter comes later
+pub of_in_any_pieces : ComesInPieces → (bs : List ℕ) → (run start bs).state ≡ Outside (codes "\u{1b}[1;2") false
+    → (run start (bs ++ codes "A")).output ≡ (run start bs).output ++ codes "\u{1b}[A"
+of_in_any_pieces law bs e =
+    ap (λ (x : Step). x.output) (law start bs (codes "A")) ∙ ap (λ s. (run start bs).output ++ (run s (codes "A")).output) e
+
+-- the whole mark that ends a paste never waits
+pub of_waits_for_five : WaitsForFive → (bs : List ℕ) → (run start bs).state ≢ Within paste_end false
+of_waits_for_five law bs e = let short : 6 ≤ 5 = subst (λ s. length (waiting_in s) ≤ 5) e (law bs) in omega (arith, short)
+
+-- a paste does not save: CTRL-S does not go out
+pub of_clean_byte : PastesAreClean → (waiting : List ℕ) (after_return : Bool) (b : ℕ) → (step (Within waiting after_return) b).output ≢ 0x13 ∷ []
+of_clean_byte law waiting after_return b e = both_ways _ refl (subst IsText e (law.each_byte waiting after_return b))
+
+-- what waits of a mark at the input's end goes out without its ESC
+pub of_clean_end : PastesAreClean → (waiting : List ℕ) (after_return : Bool) → at_end (Within waiting after_return) ≢ codes "\u{1b}[20"
+of_clean_end law waiting after_return e = both_ways _ refl (subst IsText e (law.input_ends waiting after_return))
+
+pub of_clean_text : PastesAreClean → (text : List ℕ) → pasted text ≢ codes "a\u{11}"
+of_clean_text law text e = both_ways _ refl (subst IsText e (law.whole text))
+
+-- Up in application mode
+pub of_rows_become : AllByRecursion BecomesRow rows → (bs : List ℕ) → (run start bs).state ≡ start
+    → run start (bs ++ codes "\u{1b}OA") ≡ step_to start (filtered bs ++ codes "\u{1b}[A")
+of_rows_become law bs e = law.0 bs [] false e
+
+-- input without ESC
+pub of_others_pass : OthersPass → (bs : List ℕ) → has_no_escape bs ≡ true → filtered bs ≡ bs
+of_others_pass law bs n = law bs (no_sequence sequences bs refl n)
+
+-- F2 in three bytes
+pub of_grows_by_third : GrowsByThird → (bs : List ℕ) → length bs ≡ 3 → length (filtered bs) ≤ 4
+of_grows_by_third law bs three = omega (arith, law bs, three)
+
+pub of_no_longer : NoLongerWithoutQ → length (filtered (codes "\u{1b}OA")) ≤ 3
+of_no_longer law = law (codes "\u{1b}OA") refl
+
+pub of_rows_have_keys : AllByRecursion HasKey rows → decoding (codes "\u{1b}[A") ≡ record { keys = Up ∷ []; rest = [] }
+of_rows_have_keys law = law.0
+
+pub of_rows_add_keys : AllByRecursion AddsKey rows → (bs : List ℕ) → (run start bs).state ≡ start
+    → (decoding (filtered (bs ++ codes "\u{1b}OA"))).keys ≡ (decoding (filtered bs)).keys ++ Up ∷ []
+of_rows_add_keys law bs e = law.0 bs [] false e
+
+-- a paste with CR LF, CTRL-S and a control character of C1
+pub of_pastes_become_text : PastesText → run start (paste_start ++ (codes "a\r\n\u{13}bÂ\u{85}" ++ paste_end)) ≡ step_to start (codes "a\nb")
+of_pastes_become_text law = law [] [] false (codes "a\r\n\u{13}bÂ\u{85}") refl (no_sequence (exact paste_end ∷ []) (codes "a\r\n\u{13}bÂ\u{85}") refl refl)
+
+pub of_pastes_insert : PastesInsert
+    → (decoding (filtered (paste_start ++ (codes "a\r\n\u{13}b" ++ paste_end)))).keys ≡ Insert 0x61 ∷ Insert 0x0A ∷ Insert 0x62 ∷ []
+unfolding chars encode
+of_pastes_insert law =
+    let is = law [] [] false (codes "a\r\n\u{13}b") refl (no_sequence (exact paste_end ∷ []) (codes "a\r\n\u{13}b") refl refl) in
+    is.0 ∙ is.2 (0x61 ∷ 0x0A ∷ 0x62 ∷ [], (refl, refl))
+
+-- ---- a run
+
+-- a reader of known bytes leaves exactly their filtered text
+pub of_filtered : (bytes : List ℕ) (reader' writer' : Option (List ℕ)) → IsFiltered (Some (codes "x\u{1b}OA")) reader' (Some []) writer' bytes
+    → writer' ≡ Some (codes "x\u{1b}[A")
+of_filtered bytes None writer' h = absurd h.reads
+of_filtered bytes (Some ys) None h = absurd h.writes
+of_filtered bytes (Some ys) (Some zs) h =
+    let all : codes "x\u{1b}OA" ≡ bytes = h.reads ∙ ap (λ xs. bytes ++ xs) h.ends ∙ append-nil bytes in
+    ap Some (h.writes ∙ ap filtered (sym all))
+
+-- a run that broke off behind two bytes wrote a front of them
+pub of_broken_off : (bytes zs : List ℕ) → IsBrokenOff (Some (codes "ab")) (Some []) (Some []) (Some zs) bytes → (rest : List ℕ) × (zs ++ rest ≡ codes "ab")
+of_broken_off bytes zs h =
+    let all : codes "ab" ≡ bytes = h.reads ∙ append-nil bytes in
+    elim h.writes [
+      | inl going ↦ (going.1, ap (λ xs. xs ++ going.1) going.2.appends ∙ sym going.2.parts ∙ ap (λ xs. (run start xs).output) (sym all))
+      | inr ended ↦ (ended.1.1, ap (λ xs. xs ++ ended.1.1) ended.1.2.appends ∙ sym ended.1.2.parts ∙ ap filtered (sym all))
+    ]
+
+-- and one that a read broke off wrote what goes out of the first of them
+pub of_passed : (bytes zs : List ℕ) → HasPassed (Some (codes "ab")) (Some (codes "b")) (Some []) (Some zs) bytes (run start bytes).state → zs ≡ codes "a"
+of_passed [] zs h = absurd (let same : codes "ab" ≡ codes "b" = h.reads in cc same)
+of_passed (x ∷ []) zs h = let one : 0x61 ≡ x = (let same : codes "ab" ≡ x ∷ codes "b" = h.reads in cc same) in h.writes ∙ ap (λ y. (run start (y ∷ [])).output) (sym one)
+of_passed (x ∷ y ∷ ys) zs h = absurd (let same : codes "ab" ≡ x ∷ y ∷ (ys ++ codes "b") = h.reads in omega (arith, ap length same, length-append ys (codes "b")))
