@@ -1,8 +1,8 @@
 -- A row that follows from each law alone, and from what a run says.
-use Rattle.std.proofs.Common.{length-append, ◌≡◌, ◌≢◌, ℕ, ◌≤◌, inl, inr, Bool, true, false, not, ◌&&◌, ◌==◌, nat_eq, List, [], ◌∷◌, ◌++◌, length, Option, Some, None, refl, ap, sym, ◌∙◌, subst, arith}
+use Rattle.std.proofs.Common.{◌≡◌, ◌≢◌, ℕ, ◌≤◌, inl, inr, Bool, true, false, not, ◌&&◌, ◌==◌, nat_eq, List, [], ◌∷◌, ◌++◌, length, length-append, Option, Some, None, refl, ap, sym, ◌∙◌, subst, arith}
 use Rattle.std.specs.Prelude.{codes}
 use Rattle.std.specs.List.{AllByRecursion, list_all}
-use Rattle.std.specs.Str.{chars}
+use Rattle.std.specs.Str.{chars, IsUtf8}
 use Rattle.std.proofs.lemmas.Bool.{and_left, and_parts, both_ways, or_from}
 use Rattle.std.proofs.lemmas.Bool.Decides.{nat_tests}
 use Rattle.std.proofs.lemmas.List.{append-nil}
@@ -12,10 +12,10 @@ use Rattle.bx_bytes.specs.Pattern.{Piece, One, Many, is_within, matches, matches
 use Rattle.bx_keys.specs.Keys.{decoding}
 use Rattle.bx_keys.specs.declared.key.Key.TheVariants.{Insert, Up}
 use Rattle.bx_input.specs.Table.{rows, sequences, exact, paste_start, paste_end}
-use Rattle.bx_input.specs.Paste.{pasted}
+use Rattle.bx_input.specs.Paste.{kept_characters, pasted}
 use Rattle.bx_input.specs.Filter.{Outside, Within, Step, step_to, step, start, run, at_end, filtered}
 use Rattle.bx_input.specs.Laws.{ComesInPieces, WaitsForFive, waiting_in, BecomesRow, HasNone, OthersPass, PastesText, IsText, PastesAreClean, GrowsByThird, NoLongerWithoutQ}
-use Rattle.bx_input.specs.Laws.{HasKey, AddsKey, PastesInsert}
+use Rattle.bx_input.specs.Laws.{HasKey, AddsKey, PastesInsert, PastesKeepCharacters}
 use Rattle.bx_input.specs.Running.{HasPassed, IsBrokenOff, IsFiltered}
 
 -- ---- bytes without ESC have no sequence
@@ -99,6 +99,11 @@ of_rows_add_keys law bs e = law.0 bs [] false e
 -- a paste with CR LF, CTRL-S and a control character of C1
 pub of_pastes_become_text : PastesText → run start (paste_start ++ (codes "a\r\n\u{13}bÂ\u{85}" ++ paste_end)) ≡ step_to start (codes "a\nb")
 of_pastes_become_text law = law [] [] false (codes "a\r\n\u{13}bÂ\u{85}") refl (no_sequence (exact paste_end ∷ []) (codes "a\r\n\u{13}bÂ\u{85}") refl refl)
+
+-- a, CR LF, NEXT LINE of C1 and a letter of two bytes
+pub of_pastes_keep_characters : PastesKeepCharacters → (text : List ℕ) → IsUtf8 text → chars text ≡ 0x61 ∷ 0x0D ∷ 0x0A ∷ 0x85 ∷ 0x5D0 ∷ []
+    → chars (pasted text) ≡ 0x61 ∷ 0x0A ∷ 0x5D0 ∷ []
+of_pastes_keep_characters law text u e = (law text u).1 ∙ ap kept_characters e
 
 pub of_pastes_insert : PastesInsert
     → (decoding (filtered (paste_start ++ (codes "a\r\n\u{13}b" ++ paste_end)))).keys ≡ Insert 0x61 ∷ Insert 0x0A ∷ Insert 0x62 ∷ []

@@ -7,7 +7,7 @@ use Rattle.bx_keys.specs.Keys.{Decoding, decoding}
 use Rattle.bx_keys.specs.declared.key.Key.{Key}
 use Rattle.bx_keys.specs.declared.key.Key.TheVariants.{Insert}
 use Rattle.bx_input.specs.Table.{Row, sequences, exact, paste_start, paste_end}
-use Rattle.bx_input.specs.Paste.{is_control_byte, pasted}
+use Rattle.bx_input.specs.Paste.{is_control_byte, kept_characters, pasted}
 use Rattle.bx_input.specs.Filter.{State, Outside, Within, Step, step_to, with_front, step, start, run, at_end, filtered, apart_from, is_empty}
 
 -- cut in two, input goes as its first part does, and then its second
@@ -43,6 +43,10 @@ PastesText = (bs waiting : List ℕ) (is_open : Bool) (text : List ℕ) → (run
     → HasNone (exact paste_end ∷ []) text
     → run start (bs ++ (paste_start ++ (text ++ paste_end)))
     ≡ step_to start (filtered bs ++ (apart_from (is_open || not (is_empty waiting)) [] ++ pasted text))
+
+-- A paste in UTF-8 becomes UTF-8: its characters in order, but the control characters that are no TAB and no new line.
+abbrev pub PastesKeepCharacters : Type 0
+PastesKeepCharacters = (text : List ℕ) → IsUtf8 text → IsUtf8 (pasted text) × (chars (pasted text) ≡ kept_characters (chars text))
 
 -- no control byte but TAB and LF
 abbrev pub is_text_byte : ℕ → Bool

@@ -33,6 +33,22 @@ pasted_after after_return (b ∷ c ∷ bs) =
 abbrev pub pasted : List ℕ → List ℕ
 pasted bs = pasted_after false bs
 
+-- The same character by character, where the bytes are UTF-8. The control characters are those of C0 and C1, and DELETE.
+abbrev pub kept_character : Bool → ℕ → List ℕ
+kept_character after_return c =
+    if c == 0x0D then 0x0A ∷ []
+    else if c == 0x0A then (if after_return then [] else 0x0A ∷ [])
+    else if c == 0x09 then 0x09 ∷ []
+    else if is_within 0x00 0x1F c || is_within 0x7F 0x9F c then []
+    else c ∷ []
+
+abbrev pub kept_after : Bool → List ℕ → List ℕ
+kept_after after_return [] = []
+kept_after after_return (c ∷ cs) = kept_character after_return c ++ kept_after (c == 0x0D) cs
+
+abbrev pub kept_characters : List ℕ → List ℕ
+kept_characters cs = kept_after false cs
+
 -- what more than one byte decides within a paste: its end, and the control characters of C1 in UTF-8
 abbrev pub paste_sequences : List (List Piece)
 paste_sequences = exact paste_end ∷ (One 0xC2 0xC2 ∷ One 0x80 0x9F ∷ []) ∷ []

@@ -1,7 +1,8 @@
 //! What holds of the filter, whatever its input. The functions do nothing: their contracts are the laws.
 
 ghost use Rattle.std.specs.List.{AllByRecursion};
-ghost use Rattle.bx_input.specs.Laws.{AddsKey, BecomesRow, ComesInPieces, GrowsByThird, HasKey, NoLongerWithoutQ, OthersPass, PastesAreClean, PastesInsert, PastesText, WaitsForFive};
+ghost use Rattle.bx_input.specs.Laws.{AddsKey, BecomesRow, ComesInPieces, GrowsByThird, HasKey, NoLongerWithoutQ, OthersPass, PastesAreClean, WaitsForFive};
+ghost use Rattle.bx_input.specs.Laws.{PastesInsert, PastesKeepCharacters, PastesText};
 ghost use Rattle.bx_input.specs.Table.{rows};
 
 /// However input is cut, what goes out is the same.
@@ -45,12 +46,17 @@ pub fn pastes_become_text()
     ensures { PastesText }
 {}
 
+/// The text of a paste in UTF-8 has the characters of the paste, but control characters.
+pub fn pastes_keep_characters()
+    ensures { PastesKeepCharacters }
+{}
+
 /// Whatever came before outside a paste, a sequence of the table is the editor's key that the table names, and no other.
 pub fn rows_add_keys()
     ensures { AllByRecursion AddsKey rows }
 {}
 
-/// Whatever came before outside it, a paste only inserts.
+/// Whatever came before outside it, a paste only inserts: the characters of its text in order, where that is UTF-8.
 pub fn pastes_insert()
     ensures { PastesInsert }
 {}

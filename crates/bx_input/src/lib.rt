@@ -20,7 +20,8 @@ pub use fault::FilterFault;
 pub use filter::Filter;
 pub use laws::{
     grows_by_third, in_any_pieces, others_pass, pastes_are_clean, pastes_become_text,
-    pastes_insert, rows_add_keys, rows_become, rows_have_keys, waits_for_five,
+    pastes_insert, pastes_keep_characters, rows_add_keys, rows_become, rows_have_keys,
+    waits_for_five,
 };
 pub use output::Output;
 pub use running::run;
