@@ -18,11 +18,11 @@ fresh h w = record { height = h; width = w; columns = replicate (h * w) Unknown;
 abbrev row : ℕ → List Col → Option (ℕ × ℕ) → Terminal
 row w columns position = record { height = 1; width = w; columns = columns; position = position; negative = Some false; run = []; half_read = [] }
 
-abbrev g : ℕ → Col
+abbrev pub g : ℕ → Col
 g b = Glyph (b ∷ []) 1 0 false
 
 -- U+4E16
-abbrev wide : List ℕ
+abbrev pub wide : List ℕ
 wide = 0xE4 ∷ 0xB8 ∷ 0x96 ∷ []
 
 pub opening : reads (fresh 1 5) (codes "\u{1b}[0m\u{1b}[2J\u{1b}[1;1Hab\u{1b}[1;1H") ≡ row 5 (g 0x61 ∷ g 0x62 ∷ replicate 3 blank) (Some (0, 0))
@@ -158,10 +158,10 @@ pub no_blank_there : AreBlank 1 1 (paste (replicate 4 blank) 0 (run_columns fals
 unfolding chars unicode_width
 no_blank_there h = cc h
 
-abbrev four : List Col → PictureState
+abbrev pub four : List Col → PictureState
 four columns = record { height = 1; width = 4; columns = columns; row = 0; column = 0 }
 
-abbrev wide_row : List Col
+abbrev pub wide_row : List Col
 wide_row = Glyph wide 2 0 false ∷ Glyph wide 2 1 false ∷ blank ∷ blank ∷ []
 
 pub wide_shown : Shows (reads (fresh 1 4) (codes "\u{1b}[0m\u{1b}[2J\u{1b}[1;1H" ++ (wide ++ codes "\u{1b}[1;1H"))) (four wide_row)

@@ -5,6 +5,7 @@ pub mod Halves
 pub mod Pushed
 pub mod Puts
 pub mod Examples
+mod LawExamples
 pub mod Plain
 pub mod Reading
 pub mod Grids
