@@ -45,7 +45,8 @@ fn print_paragraphs<D: BidiData, W: Write>(
 
 /// Writes the lines of a text's rows, with a line feed between two, and flushes.
 ///
-/// Errors: `TooLong` above 16,777,216 bytes; `WriteFault` and `OutOfMemory`, where a front of the lines was written.
+/// Errors: `TooLong` above 16,777,216 bytes, where nothing was written; `WriteFault` and `OutOfMemory`, where a front of
+/// the lines was written.
 pub fn print<D: BidiData, W: Write>(
     alloc: Global,
     text: String,
@@ -59,6 +60,7 @@ pub fn print<D: BidiData, W: Write>(
         (page (D.class_of tables.now) (D.bracket_of tables.now) (D.mirror_of tables.now) style.marks style.base style.columns (string_bytes text))
         (W.contents writer.old) (W.contents writer.new) }
     ensures too_long { IsErrOf result PrintError.TooLong ↔ (largest_text < length (string_bytes text)) }
+    ensures unwritten { IsErrOf result PrintError.TooLong → W.contents writer.new ≡ W.contents writer.old }
 {
     let text = match Text::open(alloc, text) {
         Ok(text) => text,
