@@ -1,11 +1,11 @@
 -- What a writer took, write by write, and a run that broke off.
-use Rattle.std.proofs.Common.{◌≡◌, ℕ, ◌-◌, inl, inr, List, [], ◌++◌, length, take, drop, Option, Result, Ok, Err, refl, sym, ap, ◌∙◌, append_assoc, subst}
+use Rattle.std.proofs.Common.{◌≡◌, ℕ, ◌-◌, ◌≤◌, inl, inr, List, [], ◌++◌, length, take, drop, Option, Result, Ok, Err, refl, sym, ap, ◌∙◌, append_assoc, subst, arith}
 use Rattle.std.proofs.lemmas.List.{append-nil, take-append-drop, take_rest}
-use Rattle.std.proofs.KnownBytes.{Appends-nil, Appends-trans, Consumes-trans}
+use Rattle.std.proofs.KnownBytes.{Appends-nil, Appends-trans, Consumes-kept, Consumes-trans}
 use Rattle.std.specs.Prelude.{OnErr}
-use Rattle.std.specs.Io.KnownBytes.{Appends, Consumes, IsAtEnd}
+use Rattle.std.specs.Io.KnownBytes.{Appends, Consumes, IsAtEnd, Keeps}
 use Rattle.bx_input.specs.Filter.{State, Step, start, run, at_end}
-use Rattle.bx_input.specs.Running.{IsWritten, WritesFront, HasPassed, IsBrokenOff}
+use Rattle.bx_input.specs.Running.{IsWritten, WritesFront, HasPassed, IsBrokenOff, IsOneReadLate}
 use Rattle.bx_input.proofs.Runs.{in_pieces}
 
 pub none_written : (bytes : List ℕ) (w : Option (List ℕ)) → IsWritten bytes w w [] bytes
@@ -33,15 +33,27 @@ front_behind xs ys a b c first h = (
 
 -- ---- a run that broke off
 
+late_by : (w w1 w2 : Option (List ℕ)) (before last : List ℕ) → Appends w w1 (run start before).output → length last ≤ 256 → (ys : List ℕ) → WritesFront ys w1 w2
+    → IsOneReadLate w w2 (before ++ last)
+late_by w w1 w2 before last first few ys h = record {
+  before = before;
+  last = last;
+  more = h.0;
+  parts = refl;
+  few = few;
+  appends = Appends-trans w w1 w2 (run start before).output h.0 first h.2.appends;
+}
+
 -- in the bytes of a read
 pub broken_in : (r r1 r2 w w1 w2 : Option (List ℕ)) (bytes more : List ℕ) (s : State) → HasPassed r r1 w w1 bytes s → Consumes r1 r2 more
-    → WritesFront (run s more).output w1 w2 → IsBrokenOff r r2 w w2 (bytes ++ more)
-broken_in r r1 r2 w w1 w2 bytes more s h reads writes =
+    → length more ≤ 256 → WritesFront (run s more).output w1 w2 → IsBrokenOff r r2 w w2 (bytes ++ more)
+broken_in r r1 r2 w w1 w2 bytes more s h reads few writes =
     let there : WritesFront (run (run start bytes).state more).output w1 w2 = subst (λ x. WritesFront (run x more).output w1 w2) h.is_state writes in
     record {
       reads = Consumes-trans r r1 r2 bytes more h.reads reads;
       writes = inl (subst (λ xs. WritesFront xs w w2) (sym (ap (λ (x : Step). x.output) (in_pieces start bytes more)))
           (front_behind (run start bytes).output (run (run start bytes).state more).output w w1 w2 h.writes there));
+      late = late_by w w1 w2 bytes more h.writes few (run s more).output writes;
     }
 
 -- at the reader's end
@@ -54,6 +66,19 @@ broken_at_end r r1 r2 w w1 w2 bytes s count buf rest h none reads ends is writes
     record {
       reads = subst (Consumes r r2) (append-nil bytes) (Consumes-trans r r1 r2 bytes [] h.reads empty);
       writes = inr (ends, front_behind (run start bytes).output (at_end (run start bytes).state) w w1 w2 h.writes there);
+      late = subst (IsOneReadLate w w2) (append-nil bytes) (late_by w w1 w2 bytes [] h.writes (omega arith) rest writes);
+    }
+
+-- where no byte came
+pub broken_between : (r r1 r2 w w1 : Option (List ℕ)) (bytes : List ℕ) (s : State) → HasPassed r r1 w w1 bytes s → Keeps r1 r2 → IsBrokenOff r r2 w w1 bytes
+broken_between r r1 r2 w w1 bytes s h kept =
+    let out : List ℕ = (run start bytes).output in
+    let all : WritesFront out w w1 = (out, [], record { parts = sym (append-nil out); appends = h.writes }) in
+    let none : WritesFront [] w1 w1 = ([], [], record { parts = refl; appends = Appends-nil w1 }) in
+    record {
+      reads = Consumes-kept r r1 r2 bytes h.reads kept;
+      writes = inl all;
+      late = subst (IsOneReadLate w w1) (append-nil bytes) (late_by w w1 w1 bytes [] h.writes (omega arith) [] none);
     }
 
 pub on_err : {T E : Type 0} (r : Result T E) (P : Type 0) → P → OnErr r P

@@ -1,11 +1,12 @@
 -- A row that follows from each law alone, and from what a run says.
-use Rattle.std.proofs.Common.{◌≡◌, ◌≢◌, ℕ, ◌≤◌, inl, inr, Bool, true, false, not, ◌&&◌, ◌==◌, nat_eq, List, [], ◌∷◌, ◌++◌, length, length-append, Option, Some, None, refl, ap, sym, ◌∙◌, subst, arith}
+use Rattle.std.proofs.Common.{◌≡◌, ◌≢◌, ℕ, ◌≤◌, inl, inr, Bool, true, false, not, ◌&&◌, ◌==◌, nat_eq, List, [], ◌∷◌, ◌++◌, length, length-append, take}
+use Rattle.std.proofs.Common.{Option, Some, None, refl, ap, sym, ◌∙◌, subst, arith}
 use Rattle.std.specs.Prelude.{codes}
 use Rattle.std.specs.List.{AllByRecursion, list_all}
 use Rattle.std.specs.Str.{chars, IsUtf8}
 use Rattle.std.proofs.lemmas.Bool.{and_left, and_parts, both_ways, or_from}
 use Rattle.std.proofs.lemmas.Bool.Decides.{nat_tests}
-use Rattle.std.proofs.lemmas.List.{append-nil}
+use Rattle.std.proofs.lemmas.List.{append-nil, take_at}
 use Rattle.std.proofs.lemmas.List.Folds.{list_all-append}
 use lib.Utf8.{encode}
 use Rattle.bx_bytes.specs.Pattern.{Piece, One, Many, is_within, matches, matches_any}
@@ -16,7 +17,7 @@ use Rattle.bx_input.specs.Paste.{kept_characters, pasted}
 use Rattle.bx_input.specs.Filter.{Outside, Within, Step, step_to, step, start, run, at_end, filtered}
 use Rattle.bx_input.specs.Laws.{ComesInPieces, WaitsForFive, waiting_in, BecomesRow, HasNone, OthersPass, PastesText, IsText, PastesAreClean, GrowsByThird, NoLongerWithoutQ}
 use Rattle.bx_input.specs.Laws.{HasKey, AddsKey, PastesInsert, PastesKeepCharacters}
-use Rattle.bx_input.specs.Running.{HasPassed, IsBrokenOff, IsFiltered}
+use Rattle.bx_input.specs.Running.{HasPassed, IsBrokenOff, IsFiltered, IsOneReadLate}
 
 -- ---- bytes without ESC have no sequence
 
@@ -137,3 +138,14 @@ pub of_passed : (bytes zs : List ℕ) → HasPassed (Some (codes "ab")) (Some (c
 of_passed [] zs h = absurd (let same : codes "ab" ≡ codes "b" = h.reads in cc same)
 of_passed (x ∷ []) zs h = let one : 0x61 ≡ x = (let same : codes "ab" ≡ x ∷ codes "b" = h.reads in cc same) in h.writes ∙ ap (λ y. (run start (y ∷ [])).output) (sym one)
 of_passed (x ∷ y ∷ ys) zs h = absurd (let same : codes "ab" ≡ x ∷ y ∷ (ys ++ codes "b") = h.reads in omega (arith, ap length same, length-append ys (codes "b")))
+
+-- behind 300 bytes that were read, what goes out of the first 44 or more was written
+pub of_late : (bytes zs : List ℕ) → length bytes ≡ 300 → IsOneReadLate (Some []) (Some zs) bytes
+    → (n : ℕ) × (more : List ℕ) × (44 ≤ n) × (zs ≡ (run start (take n bytes)).output ++ more)
+of_late bytes zs count h =
+    let front : take (length h.before) bytes ≡ h.before = ap (take (length h.before)) h.parts ∙ take_at h.before h.last (length h.before) refl in (
+      length h.before,
+      h.more,
+      omega (arith, count, ap length h.parts, length-append h.before h.last, h.few),
+      h.appends ∙ ap (λ xs. (run start xs).output ++ h.more) (sym front),
+    )

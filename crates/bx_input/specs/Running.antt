@@ -1,5 +1,5 @@
 -- The filter run from a reader to a writer.
-use Rattle.std.specs.Prelude.{◌≡◌, ◌⊎◌, ℕ, List, ◌++◌, Option}
+use Rattle.std.specs.Prelude.{◌≡◌, ◌≤◌, ◌⊎◌, ℕ, List, ◌++◌, Option, length}
 use Rattle.std.specs.Io.KnownBytes.{Appends, Consumes, IsAtEnd}
 use Rattle.bx_input.specs.Filter.{State, start, run, filtered}
 
@@ -24,7 +24,17 @@ pub record IsWritten (bytes : List ℕ) (writer writer' : Option (List ℕ)) (wr
 abbrev pub WritesFront : List ℕ → Option (List ℕ) → Option (List ℕ) → Type 0
 WritesFront bytes writer writer' = (written : List ℕ) × (rest : List ℕ) × IsWritten bytes writer writer' written rest
 
+-- all that goes out of these bytes was written, but for what goes out of the last 256 at most
+pub record IsOneReadLate (writer writer' : Option (List ℕ)) (bytes : List ℕ) : Type 0 where
+  pub before : List ℕ
+  pub last : List ℕ
+  pub more : List ℕ
+  pub parts : bytes ≡ before ++ last
+  pub few : length last ≤ 256
+  pub appends : Appends writer writer' ((run start before).output ++ more)
+
 -- These bytes were read, and a front of what goes out of them was written. What waits goes out only at the reader's end.
 pub record IsBrokenOff (reader reader' writer writer' : Option (List ℕ)) (bytes : List ℕ) : Type 0 where
   pub reads : Consumes reader reader' bytes
   pub writes : WritesFront (run start bytes).output writer writer' ⊎ (IsAtEnd reader' × WritesFront (filtered bytes) writer writer')
+  pub late : IsOneReadLate writer writer' bytes

@@ -100,7 +100,8 @@ fn send<W: Write>(writer: &mut W, bytes: &[u8]) -> Result<(), FilterFault>
 /// input is at its end.
 ///
 /// Errors: `ReadFault`, and `ReadLimit` after 1,000,000,000,000 reads, where all that goes out of what was read was
-/// written; `WriteFault` and `OutOfMemory`, where a front of it was. Each comes at the first such fault.
+/// written; `WriteFault` and `OutOfMemory`, where a front of it was, which lacks no more than what goes out of the last read.
+/// Each comes at the first such fault.
 pub fn run<R: Read, W: Write>(
     alloc: Global,
     reader: &mut R,

@@ -1,5 +1,7 @@
 use Rattle.std.proofs.Common.{[], ◌++◌, take, arith}
-use Rattle.bx_input.proofs.Fronts.{broken_in, broken_at_end, on_err}
+use Rattle.std.proofs.KnownBytes.{Keeps-refl}
+use Rattle.std.proofs.lemmas.List.{length-take}
+use Rattle.bx_input.proofs.Fronts.{broken_in, broken_at_end, broken_between, on_err}
 use Rattle.bx_input.proofs.Runs.{none_passed, more_passed, filtered_on_ok}
 use Rattle.bx_input.proofs.running.run.Goals as goal
 
@@ -35,5 +37,14 @@ returns-in_err-pass-clause-front g c =
     let before = c.reads.invariant in
     on_err c.from_residual.result _ (
       before.0 ++ take c.in-Ok.count c.read.new.buf,
-      broken_in _ _ _ _ _ _ before.0 (take c.in-Ok.count c.read.new.buf) c.reads.filter before.1 c.in-Ok.ensures.bytes.0 c.in_err-pass.ensures.front,
+      broken_in _ _ _ _ _ _ before.0 (take c.in-Ok.count c.read.new.buf) c.reads.filter before.1 c.in-Ok.ensures.bytes.0
+          (omega (arith, length-take c.in-Ok.count c.read.new.buf, c.read.auto.buf, c.reads.auto)) c.in_err-pass.ensures.front,
     )
+
+pub returns-in-Err-clause-front : goal.returns-in-Err-clause-front
+returns-in-Err-clause-front g c =
+    let before = c.reads.invariant in (before.0, broken_between _ _ _ _ _ before.0 c.reads.filter before.1 c.in-Err.ensures.bytes)
+
+pub returns-clause-front : goal.returns-clause-front
+returns-clause-front g c =
+    let before = c.reads.invariant in (before.0, broken_between _ _ _ _ _ before.0 c.reads.filter before.1 (Keeps-refl _))
