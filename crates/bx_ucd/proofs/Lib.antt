@@ -8,3 +8,4 @@ pub mod LawLemmas
 pub mod BoundLemmas
 pub mod SampleLines
 mod Examples
+mod LawExamples
