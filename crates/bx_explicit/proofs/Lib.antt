@@ -1,4 +1,5 @@
 mod Examples
+mod LawExamples
 pub mod Scan
 pub mod Rising
 pub mod Steps
