@@ -1,8 +1,10 @@
 -- What holds of the bracket pairs of every sequence.
-use Rattle.std.specs.Prelude.{◌<◌, ◌⊎◌, ℕ, List, Option, All, AllPairs}
+use Rattle.std.specs.Prelude.{◌≡◌, ◌<◌, ◌⊎◌, ℕ, ◌+◌, List, ◌∷◌, ◌++◌, length, Option, Some, All, AllPairs, Contains}
 use Rattle.bx_ucd.specs.declared.class.Class.{Class}
+use Rattle.bx_ucd.specs.declared.class.Class.TheVariants.{ON}
 use Rattle.bx_ucd.specs.declared.data.Side.{Side}
-use Rattle.bx_brackets.specs.Pairs.{pairs}
+use Rattle.bx_ucd.specs.declared.data.Side.TheVariants.{Opener, Closer}
+use Rattle.bx_brackets.specs.Pairs.{bracket_room, canonical, pairs}
 
 -- a pair opens before it closes
 abbrev pub OpensFirst : ℕ × ℕ → Type 0
@@ -25,3 +27,10 @@ pub record AreNested (ps : List (ℕ × ℕ)) : Type 0 where
 -- so are the pairs of any sequence
 abbrev pub PairsAreNested : Type 0
 PairsAreNested = (bracket : ℕ → Option (Side × ℕ)) (cs : List ℕ) (ts : List Class) → AreNested (pairs bracket cs ts)
+
+-- an opener and its closer that stand side by side, both of type ON, are a pair where fewer than 63 characters stand before them
+abbrev pub NeighboursArePaired : Type 0
+NeighboursArePaired = (bracket : ℕ → Option (Side × ℕ)) (before after : List ℕ) (opener closer paired back : ℕ) (us ts : List Class)
+    → length us ≡ length before → length before < bracket_room
+    → bracket opener ≡ Some (Opener, paired) → bracket closer ≡ Some (Closer, back) → canonical paired ≡ canonical closer
+    → Contains (pairs bracket (before ++ opener ∷ closer ∷ after) (us ++ ON ∷ ON ∷ ts)) (length before, length before + 1)

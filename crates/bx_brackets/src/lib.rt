@@ -8,7 +8,7 @@ mod resolve;
 mod search;
 
 pub use error::BracketError;
-pub use laws::pairs_are_nested;
+pub use laws::{neighbours_are_paired, pairs_are_nested};
 pub use pairs_of::pairs;
 pub use resolve::resolve_pairs;
 pub use search::PairSearch;
