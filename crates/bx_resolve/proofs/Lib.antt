@@ -1,4 +1,5 @@
 mod Examples
+mod LawExamples
 pub mod Run
 pub mod NoBrackets
 pub mod ReadOn
@@ -17,6 +18,7 @@ pub mod RightMarks
 pub mod RightLevels
 pub mod RightTypes
 pub mod PlainLevels
+pub mod LeftTexts
 pub mod Mapped
 pub mod EachOnce
 pub mod KeptLevels

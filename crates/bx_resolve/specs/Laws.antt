@@ -1,10 +1,14 @@
--- What holds of the isolating run sequences of every text.
-use Rattle.std.specs.Prelude.{◌≤◌, ℕ, List, [], ◌∷◌, ◌++◌}
+-- What holds of the isolating run sequences of every text, and of the levels of a text of class L.
+use Rattle.std.specs.Prelude.{◌≡◌, ◌≤◌, ℕ, List, [], ◌∷◌, ◌++◌, All, Option, Some, length, replicate}
 use Rattle.std.specs.List.Sorted.{IsPermutation}
 use Rattle.bx_ucd.specs.declared.class.Class.{Class}
+use Rattle.bx_ucd.specs.declared.class.Class.TheVariants.{L}
+use Rattle.bx_ucd.specs.declared.data.Side.{Side}
+use Rattle.bx_explicit.specs.declared.base.Base.{Base}
 use Rattle.bx_explicit.specs.Explicit.{explicit_levels}
 use Rattle.bx_explicit.specs.Runs.{kept_indexes}
 use Rattle.bx_explicit.specs.Sequences.{RunSequence, sequences}
+use Rattle.bx_resolve.specs.Levels.{paragraph_level_under, levels_under}
 
 -- the indexes of sequences, one sequence after another
 abbrev pub all_indexes : List RunSequence → List ℕ
@@ -15,3 +19,8 @@ all_indexes (s ∷ ss) = s.indexes ++ all_indexes ss
 abbrev pub HaveEachOnce : Type 0
 HaveEachOnce = (level : ℕ) (cs : List Class) → level ≤ 1
     → IsPermutation (kept_indexes 0 (explicit_levels level cs)) (all_indexes (sequences level cs (explicit_levels level cs)))
+
+-- under a base a text whose characters are all of class L has this paragraph level, and each of its characters this level
+abbrev pub LeftTextsHave : Base → ℕ → ℕ → Type 0
+LeftTextsHave base paragraph level = (class : ℕ → Class) (bracket : ℕ → Option (Side × ℕ)) (chars : List ℕ) → All (λ c. class c ≡ L) chars
+    → (paragraph_level_under class base chars ≡ paragraph) × (levels_under class bracket base chars ≡ replicate (length chars) (Some level))

@@ -1,5 +1,5 @@
 -- The levels of a paragraph: all rules, one after another.
-use Rattle.std.specs.Prelude.{◌≡◌, ℕ, ◌+◌, Bool, true, false, List, [], ◌∷◌, ◌++◌, Option, Some, None, drop, length, map, replicate, slice_index_or, slice_set}
+use Rattle.std.specs.Prelude.{ℕ, ◌+◌, Bool, true, false, List, [], ◌∷◌, Option, Some, None, length, map, replicate, slice_index_or, slice_set}
 use Rattle.bx_ucd.specs.declared.class.Class.{Class}
 use Rattle.bx_ucd.specs.declared.class.Class.TheVariants.{BN, LRE, LRO, ON, PDF, RLE, RLO}
 use Rattle.bx_ucd.specs.declared.data.Side.{Side}
@@ -11,7 +11,6 @@ use Rattle.bx_explicit.specs.Stack.{max_depth}
 use Rattle.bx_explicit.specs.Sequences.{RunSequence, sequences, direction}
 use Rattle.bx_brackets.specs.Pairs.{pairs}
 use Rattle.bx_brackets.specs.Resolve.{resolve_pairs}
-use Rattle.bx_brackets.specs.Search.{Progress, pairs_after}
 use Rattle.bx_resolve.specs.Weak.{weak, is_nsm}
 use Rattle.bx_resolve.specs.Neutral.{n1, n2, implicit}
 
@@ -48,10 +47,6 @@ with_levels [] ls each = each
 with_levels (p ∷ ps) [] each = each
 with_levels (p ∷ ps) (l ∷ ls) each = with_levels ps ls (slice_set each p (Some l))
 
--- levels are written at the indexes `ps`: what is left of them goes on from there
-abbrev pub WritesRun : List ℕ → List ℕ → List (Option ℕ) → List ℕ → List (Option ℕ) → Type 0
-WritesRun ps levels each left new_each = (rest : List ℕ) → with_levels (ps ++ rest) levels each ≡ with_levels rest left new_each
-
 -- those of all sequences
 abbrev pub with_sequences : (ℕ → Option (Side × ℕ)) → List ℕ → List (Option Kept) → List RunSequence → List (Option ℕ) → List (Option ℕ)
 with_sequences bracket chars kept [] each = each
@@ -84,8 +79,3 @@ is_kept _ = true
 -- the highest level: I1 and I2 raise the highest explicit one, which is odd, by one, and the one below it by two
 abbrev pub max_level : ℕ
 max_level = max_depth + 1
-
--- the characters at the indexes `ps` are handed to a search, which goes on from there
-abbrev pub MeetsRun : (ℕ → Option (Side × ℕ)) → List ℕ → List Class → List ℕ → Progress → ℕ → Progress → ℕ → Type 0
-MeetsRun bracket chars ts ps before met after new_met = (rest : List ℕ)
-    → pairs_after bracket before met (chars_at chars (ps ++ rest)) (drop met ts) ≡ pairs_after bracket after new_met (chars_at chars rest) (drop new_met ts)

@@ -4,6 +4,7 @@ pub mod Weak
 pub mod Turns
 pub mod Neutral
 pub mod Levels
+pub mod LevelRuns
 pub mod LevelBytes
 pub mod Plain
 pub mod Edited

@@ -5,7 +5,8 @@ ghost use Rattle.bx_brackets.specs.Pairs.{pairs};
 ghost use Rattle.bx_brackets.specs.Resolve.{resolve_pairs};
 ghost use Rattle.bx_brackets.specs.Search.{pairs_after};
 ghost use Rattle.bx_explicit.specs.LevelIndexes.{level_indexes, indexes_from};
-ghost use Rattle.bx_resolve.specs.Levels.{chars_at, MeetsRun};
+ghost use Rattle.bx_resolve.specs.Levels.{chars_at};
+ghost use Rattle.bx_resolve.specs.LevelRuns.{MeetsRun};
 
 use crate::body::{Body, first_char};
 use crate::error::ResolveError;

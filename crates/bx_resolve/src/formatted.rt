@@ -5,7 +5,7 @@ ghost use Rattle.bx_explicit.specs.LevelIndexes.{level_indexes, indexes_from};
 ghost use Rattle.bx_explicit.specs.Sequences.{sequences};
 ghost use Rattle.bx_resolve.specs.Neutral.{implicit};
 ghost use Rattle.bx_resolve.specs.Levels.{types_at, levels_in, with_levels, with_sequences, paragraph_levels};
-ghost use Rattle.bx_resolve.specs.Levels.{WritesRun};
+ghost use Rattle.bx_resolve.specs.LevelRuns.{WritesRun};
 
 use crate::body::Body;
 use crate::brackets::resolve_brackets_in;

@@ -1,0 +1,42 @@
+-- What the laws tell by themselves, of single texts.
+use Rattle.std.proofs.Common.{◌≡◌, ℕ, List, [], ◌∷◌, Some, refl, arith}
+use Rattle.std.specs.Prelude.{All}
+use Rattle.std.specs.List.Sorted.{IsPermutation}
+use Rattle.std.proofs.lemmas.List.Elements.{All-nil, All-cons}
+use Rattle.bx_ucd.specs.declared.class.Class.{Class}
+use Rattle.bx_ucd.specs.declared.class.Class.TheVariants.{L, R, RLE, PDF, RLI, PDI}
+use Rattle.bx_ucd.specs.SmallTables.{class, bracket}
+use Rattle.bx_explicit.specs.declared.base.Base.TheVariants.{Auto, Ltr, Rtl}
+use Rattle.bx_explicit.specs.Explicit.{explicit_levels}
+use Rattle.bx_explicit.specs.Sequences.{sequences}
+use Rattle.bx_resolve.specs.Levels.{levels_under, paragraph_level_under}
+use Rattle.bx_resolve.specs.Laws.{all_indexes, HaveEachOnce, LeftTextsHave}
+
+-- the indexes that the sequences of a text from left to right have between them
+abbrev in_sequences : List Class → List ℕ
+in_sequences cs = all_indexes (sequences 0 cs (explicit_levels 0 cs))
+
+-- a RLI B PDI c: each stands in a sequence, once
+isolate_in_sequences : HaveEachOnce → IsPermutation (0 ∷ 1 ∷ 2 ∷ 3 ∷ 4 ∷ []) (in_sequences (L ∷ RLI ∷ R ∷ PDI ∷ L ∷ []))
+isolate_in_sequences law = law 0 (L ∷ RLI ∷ R ∷ PDI ∷ L ∷ []) (omega arith)
+
+-- a RLE B PDF c: those that X9 removes stand in none
+embedding_in_sequences : HaveEachOnce → IsPermutation (0 ∷ 2 ∷ 4 ∷ []) (in_sequences (L ∷ RLE ∷ R ∷ PDF ∷ L ∷ []))
+embedding_in_sequences law = law 0 (L ∷ RLE ∷ R ∷ PDF ∷ L ∷ []) (omega arith)
+
+-- the characters of ab are of class L
+ab_is_left : All (λ c. class c ≡ L) (97 ∷ 98 ∷ [])
+ab_is_left = All-cons (λ c. class c ≡ L) 97 (98 ∷ []) refl (All-cons (λ c. class c ≡ L) 98 [] refl (All-nil (λ c. class c ≡ L)))
+
+-- ab, by its own direction and from right to left
+ab_levels : LeftTextsHave Auto 0 0 → levels_under class bracket Auto (97 ∷ 98 ∷ []) ≡ Some 0 ∷ Some 0 ∷ []
+ab_levels law = (law class bracket (97 ∷ 98 ∷ []) ab_is_left).1
+
+ab_levels_from_left : LeftTextsHave Ltr 0 0 → levels_under class bracket Ltr (97 ∷ 98 ∷ []) ≡ Some 0 ∷ Some 0 ∷ []
+ab_levels_from_left law = (law class bracket (97 ∷ 98 ∷ []) ab_is_left).1
+
+ab_levels_from_right : LeftTextsHave Rtl 1 2 → levels_under class bracket Rtl (97 ∷ 98 ∷ []) ≡ Some 2 ∷ Some 2 ∷ []
+ab_levels_from_right law = (law class bracket (97 ∷ 98 ∷ []) ab_is_left).1
+
+ab_paragraph : LeftTextsHave Auto 0 0 → paragraph_level_under class Auto (97 ∷ 98 ∷ []) ≡ 0
+ab_paragraph law = (law class bracket (97 ∷ 98 ∷ []) ab_is_left).0
