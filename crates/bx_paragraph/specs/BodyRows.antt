@@ -6,10 +6,9 @@ use Rattle.bx_explicit.specs.declared.base.Base.{Base}
 use Rattle.bx_resolve.specs.Levels.{paragraph_level_under, levels_under}
 use Rattle.bx_cells.specs.declared.unit.Unit.{Unit}
 use Rattle.bx_cells.specs.Units.{units}
-use Rattle.bx_rows.specs.Wrapping.{wrap, row_units}
+use Rattle.bx_rows.specs.Wrapping.{wrap, row_units, first_offset}
 use Rattle.bx_rows.specs.RowLevels.{row_levels}
 use Rattle.bx_rows.specs.RowPicture.{Glyph, draw}
-use Rattle.bx_rows.specs.RowStarts.{first_offset}
 
 -- a row: the body that it is of, the level of that paragraph, the row's units with their levels, and whether it is the
 -- paragraph's last row

@@ -6,11 +6,7 @@ use Rattle.bx_cells.specs.Units.{units}
 use Rattle.bx_rows.specs.declared.row.Row.{Row}
 use Rattle.bx_rows.specs.declared.start_search.RowStart.{RowStart}
 use Rattle.bx_rows.specs.Wrapping.{row_units, wrap}
-
--- the offset at which the first of these units begins
-abbrev pub first_offset : List Unit → ℕ
-first_offset [] = 0
-first_offset (u ∷ us) = u.start
+pub use Rattle.bx_rows.specs.Wrapping.{first_offset}
 
 -- where a row of a body's units begins: the offset of its first unit, and how many units and characters stand before it
 abbrev pub start_of : List ℕ → List Unit → Row → RowStart
