@@ -114,3 +114,7 @@ key_after rest b = first_key (decoding (rest ++ b ∷ [])).keys
 -- the bytes that wait then
 abbrev pub rest_after : List ℕ → ℕ → List ℕ
 rest_after rest b = (decoding (rest ++ b ∷ [])).rest
+
+-- what is kept of bytes that wait: the first twelve, since a sequence of which more wait gives no key, however it goes on
+abbrev pub head_of : List ℕ → List ℕ
+head_of rest = take 12 rest
