@@ -1,13 +1,11 @@
--- Rows of a document, and a grid that they are put into, one below another.
+-- The columns of rows of text, and a grid that they are put into, one below another.
 use Rattle.std.specs.Prelude.{ℕ, ◌+◌, ◌-◌, ◌*◌, ◌≤◌, ◌<◌, List, ◌++◌, flat_map, length, replicate}
 use Rattle.bx_grid.specs.Columns.{Col, blank, glyph_columns, paste}
 use Rattle.bx_grid.specs.Picture.{GridState}
 use Rattle.bx_paragraph.specs.BodyRows.{BodyRow, row_glyphs}
 use Rattle.bx_rows.specs.RowPicture.{Glyph}
 use Rattle.bx_view.specs.TextRows.{TextRow, row_of}
-use Rattle.bx_view.specs.Top.{shown_rows}
 use Rattle.bx_document.specs.Data.{Data}
-use Rattle.bx_document.specs.Document.{Document, rows}
 
 -- the columns of glyphs side by side
 abbrev pub side_by_side : List Glyph → List Col
@@ -25,18 +23,10 @@ row_columns d width r = body_row_columns d width r.row
 abbrev pub rows_columns : Data → ℕ → ℕ → List TextRow → List Col
 rows_columns d width count shown = flat_map (row_columns d width) shown ++ replicate ((count - length shown) * width) blank
 
--- those of `count` rows of a document, from the row on that the offset `top` falls in
-abbrev pub shown_columns : Data → Document → ℕ → ℕ → List Col
-shown_columns d t top count = rows_columns d t.w count (shown_rows (rows d t) top count)
-
 -- the row of a place is among `count` rows that are shown from the row on that the offset `top` falls in
 pub record IsAmong (rows : List TextRow) (top place count : ℕ) : Type 0 where
   pub above : row_of rows top ≤ row_of rows place
   pub below : row_of rows place < row_of rows top + count
-
--- how many rows stand above the one of a place, from the row on that the offset `top` falls in
-abbrev pub rows_above : Data → Document → ℕ → ℕ → ℕ
-rows_above d t top place = row_of (rows d t) place - row_of (rows d t) top
 
 -- the grid with these columns in the place of those from row number `row` on, counted from 0
 abbrev pub with_rows : GridState → ℕ → List Col → GridState

@@ -3,6 +3,6 @@ pub mod Cache
 pub mod Data
 pub mod Document
 pub mod Drawing
-pub mod Numbers
 pub mod Past
+pub mod Shown
 pub mod Touched

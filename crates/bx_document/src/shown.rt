@@ -3,7 +3,8 @@ ghost use Rattle.std.specs.Prelude.{◌≡◌, ◌<◌, ◌≤◌, ◌++◌, ◌
 ghost use Rattle.bx_view.specs.Position.{IsPosition};
 ghost use Rattle.bx_view.specs.Top.{follow};
 ghost use Rattle.bx_document.specs.Document.{rows};
-ghost use Rattle.bx_document.specs.Drawing.{IsAmong, rows_above, shown_columns};
+ghost use Rattle.bx_document.specs.Drawing.{IsAmong};
+ghost use Rattle.bx_document.specs.Shown.{rows_above, shown_columns};
 
 use crate::answers::Answers;
 use crate::document::Document;

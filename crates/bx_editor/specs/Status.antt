@@ -2,11 +2,11 @@
 use Rattle.std.specs.Prelude.{ℕ, ◌+◌, nat_le, List, [], ◌∷◌, ◌++◌, map, take, replicate, Option, Some, None, codes, decimal}
 use Rattle.std.specs.Prelude.{Bool, false, if◌then◌else◌}
 use Rattle.bx_explicit.specs.declared.base.Base.TheVariants.{Auto, Ltr, Rtl}
-pub use Rattle.bx_document.specs.Numbers.{paragraph_number, unit_number}
+pub use Rattle.bx_view.specs.Numbers.{paragraph_number, unit_number}
 use Rattle.bx_grid.specs.Columns.{Col, Glyph, blank}
 use Rattle.bx_editor.specs.declared.message.Message.{Message}
 use Rattle.bx_editor.specs.declared.message.Message.TheVariants.{Saved, SaveFailed, TextFull, NothingToUndo, NothingToRedo, Unsaved, Direction}
-use Rattle.bx_editor.specs.Data.{Data}
+use Rattle.bx_document.specs.Data.{Data}
 use Rattle.bx_editor.specs.Editor.{Editor}
 
 abbrev pub message_text : Message → List ℕ

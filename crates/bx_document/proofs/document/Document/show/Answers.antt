@@ -3,7 +3,8 @@ use Rattle.bx_view.specs.Position.{IsPosition}
 use Rattle.bx_view.proofs.Told.{side-some}
 use Rattle.bx_document.specs.Data.{Data}
 use Rattle.bx_document.specs.Document.{rows}
-use Rattle.bx_document.specs.Drawing.{IsAmong, rows_above, shown_columns}
+use Rattle.bx_document.specs.Drawing.{IsAmong}
+use Rattle.bx_document.specs.Shown.{rows_above, shown_columns}
 use Rattle.bx_document.proofs.CellColumns.{cell-inside}
 use Rattle.bx_document.proofs.ShownTop.{above-is, among, drawn-told}
 use Rattle.bx_document.proofs.document.Document.show.Goals as goal
