@@ -12,6 +12,9 @@ pub mod PictureSums
 pub mod Pieces
 pub mod FaceGlyphs
 pub mod NumbersBelow
+pub mod TurnedPairs
+pub mod LowestLevels
+pub mod UnitsShown
 pub mod PictureLaws
 pub mod RowsFit
 pub mod Scans

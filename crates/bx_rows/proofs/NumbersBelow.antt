@@ -15,7 +15,7 @@ all-either : (P : ℕ × ℕ → Type 0) (b : Bool) (xs ys : List (ℕ × ℕ)) 
 all-either P true xs ys h k = h
 all-either P false xs ys h k = k
 
-all-runs : (P : ℕ × ℕ → Type 0) (n : ℕ) (run us : List (ℕ × ℕ)) → All P run → All P us → All P (reverse_runs n run us)
+pub all-runs : (P : ℕ × ℕ → Type 0) (n : ℕ) (run us : List (ℕ × ℕ)) → All P run → All P us → All P (reverse_runs n run us)
 all-runs P n run [] r a = r
 all-runs P n run (u ∷ us) r a =
     let first : P u = a 0 u (omega arith) in

@@ -1,6 +1,5 @@
--- What holds of units, rows and orders, whatever the body.
-use Rattle.std.specs.Prelude.{◌≡◌, ◌+◌, ◌-◌, ◌<◌, ◌≤◌, ℕ, All, IsPermutation, IsUtf8, List, Some, drop, flat_map, length, map, slice_get}
-use Rattle.std.specs.List.{range_with_len}
+-- What holds of units and rows, whatever the body.
+use Rattle.std.specs.Prelude.{◌≡◌, ◌+◌, ◌-◌, ◌<◌, ◌≤◌, ℕ, All, IsUtf8, List, Some, drop, flat_map, length, map, slice_get}
 use Rattle.bx_ucd.specs.declared.class.Class.{Class}
 use Rattle.bx_cells.specs.declared.unit.Unit.{Unit}
 use Rattle.bx_cells.specs.Units.{units, unit_text}
@@ -8,7 +7,6 @@ use Rattle.bx_rows.specs.declared.row.Row.{Row}
 use Rattle.bx_rows.specs.declared.start_search.RowStart.{RowStart}
 use Rattle.bx_rows.specs.RowStarts.{row_starts}
 use Rattle.bx_rows.specs.Shown.{IsRowOf}
-use Rattle.bx_rows.specs.VisualOrder.{visual}
 use Rattle.bx_rows.specs.Wrapping.{FitsWindow, row_units, wrap}
 
 -- the units of a body joined are the body
@@ -30,10 +28,6 @@ pub record CutUnits (w : ℕ) (us : List Unit) (rows : List Row) : Type 0 where
 abbrev pub RowsCutUnits : Type 0
 RowsCutUnits = (class : ℕ → Class) (w : ℕ) (body : List ℕ) (us : List Unit) → 1 ≤ w → All (λ u. FitsWindow w u.face) us
     → CutUnits w us (wrap class w body us)
-
--- a visual order has the number of each unit once
-abbrev pub OrdersArePermutations : Type 0
-OrdersArePermutations = (levels : List ℕ) → IsPermutation (range_with_len 0 (length levels)) (visual levels)
 
 -- where a row begins in a body of which it is known where it begins in what is left from another row's start on
 abbrev pub behind : RowStart → RowStart → RowStart

@@ -1,6 +1,7 @@
-//! What holds of units, rows and orders, whatever the body. The functions do nothing: their contracts are the laws.
+//! What holds of units, rows, orders and pictures, whatever the body. The functions do nothing: their contracts are the laws.
 
-ghost use Rattle.bx_rows.specs.Laws.{OrdersArePermutations, RowsAreOfRest, RowsCutUnits, RowsMeetAgain, UnitsFitWindow, UnitsMakeBody};
+ghost use Rattle.bx_rows.specs.Laws.{RowsAreOfRest, RowsCutUnits, RowsMeetAgain, UnitsFitWindow, UnitsMakeBody};
+ghost use Rattle.bx_rows.specs.OrderLaws.{EqualLevelsOrder, LowestLevelsOrder, LowestStaysBetween, OrdersArePermutations, PicturesGoByLevels, PicturesShowUnits, StaysBetween};
 
 /// The units of a body joined are the body, and each fits in the window.
 pub fn units_make_body()
@@ -16,6 +17,23 @@ pub fn rows_cut_units()
 /// The visual order of a row's units has the number of each unit once.
 pub fn orders_are_permutations()
     ensures { OrdersArePermutations }
+{}
+
+/// Of two units, the one that comes first in the text stands left of the other exactly where the lowest level from the one to
+/// the other is even. So units of one level, with none lower between them, keep their order or turn it as that level says, and
+/// what stands between them stays there; so does what has the lowest level between two units.
+pub fn lowest_levels_order_units()
+    ensures lowest { LowestLevelsOrder }
+    ensures equal { EqualLevelsOrder }
+    ensures between { StaysBetween }
+    ensures lowest_between { LowestStaysBetween }
+{}
+
+/// A row's picture shows the glyphs of each of its units once, each unit's together, and else blanks. Of two units, the one that
+/// comes first in the text is shown left of the other exactly where the lowest level from the one to the other is even.
+pub fn pictures_show_units()
+    ensures once { PicturesShowUnits }
+    ensures order { PicturesGoByLevels }
 {}
 
 /// From any row on, the rows of a body are those of what is left, taken as a body of its own.

@@ -25,7 +25,8 @@ mod wrapping;
 
 pub use drawn::{Drawn, RowPicture};
 pub use laws::{
-    orders_are_permutations, rows_are_of_rest, rows_cut_units, rows_meet_again, units_make_body,
+    lowest_levels_order_units, orders_are_permutations, pictures_show_units, rows_are_of_rest,
+    rows_cut_units, rows_meet_again, units_make_body,
 };
 pub use numbered_row::row_picture;
 pub use one_row::has_one_row;
