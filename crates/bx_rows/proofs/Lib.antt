@@ -27,6 +27,7 @@ pub mod Leveled
 pub mod MirroredLetters
 pub mod PlainPictures
 mod Examples
+mod LawExamples
 pub mod Unmirrored
 pub mod PlainRows
 pub mod PlainDrawn

@@ -1,5 +1,5 @@
 -- What holds of units and rows, whatever the body.
-use Rattle.std.specs.Prelude.{◌≡◌, ◌+◌, ◌-◌, ◌<◌, ◌≤◌, ℕ, All, IsUtf8, List, Some, drop, flat_map, length, map, slice_get}
+use Rattle.std.specs.Prelude.{◌≡◌, ◌+◌, ◌-◌, ◌<◌, ◌≤◌, ℕ, All, IsUtf8, List, [], ◌∷◌, Some, drop, flat_map, length, map, slice_get}
 use Rattle.bx_ucd.specs.declared.class.Class.{Class}
 use Rattle.bx_cells.specs.declared.unit.Unit.{Unit}
 use Rattle.bx_cells.specs.Units.{units, unit_text}
@@ -13,16 +13,27 @@ use Rattle.bx_rows.specs.Wrapping.{FitsWindow, row_units, wrap}
 abbrev pub UnitsMakeBody : Type 0
 UnitsMakeBody = (class : ℕ → Class) (w : ℕ) (body : List ℕ) → IsUtf8 body → flat_map (unit_text body) (units class w body) ≡ body
 
+-- spans stand one behind another from one number to another, and each has something in it
+abbrev pub StandInTurn : ℕ → List (ℕ × ℕ) → ℕ → Type 0
+StandInTurn start [] stop = start ≡ stop
+StandInTurn start (s ∷ ss) stop = (s.0 ≡ start) × (start < s.1) × StandInTurn s.1 ss stop
+
+-- the units of a body stand in it one behind another, from its begin to its end
+abbrev pub UnitsStandInTurn : Type 0
+UnitsStandInTurn = (class : ℕ → Class) (w : ℕ) (body : List ℕ) → IsUtf8 body
+    → StandInTurn 0 (map (λ u. (u.start, u.stop)) (units class w body)) (length body)
+
 -- each unit of a body fits in the window
 abbrev pub UnitsFitWindow : Type 0
 UnitsFitWindow = (class : ℕ → Class) (w : ℕ) (body : List ℕ) → IsUtf8 body → All (λ u. FitsWindow w u.face) (units class w body)
 
--- Rows that cut units: joined they are the units, so none is lost, and none stands in two rows. Each row has a unit, where
--- there is one, and no more columns than the window.
+-- Rows that cut units: joined they are the units, so none is lost, and none stands in two rows. They stand one behind another, and
+-- each has a unit and no more columns than the window. No units have one row.
 pub record CutUnits (w : ℕ) (us : List Unit) (rows : List Row) : Type 0 where
   pub joined : flat_map (row_units us) rows ≡ us
-  pub some : 0 < length us → All (λ r. r.start < r.stop) rows
+  pub in_turn : 0 < length us → StandInTurn 0 (map (λ r. (r.start, r.stop)) rows) (length us)
   pub fit : All (IsRowOf w us) rows
+  pub one : length us ≡ 0 → length rows ≡ 1
 
 -- the rows of units that each fit in a window of some columns
 abbrev pub RowsCutUnits : Type 0

@@ -1,15 +1,16 @@
 //! What holds of units, rows, orders and pictures, whatever the body. The functions do nothing: their contracts are the laws.
 
-ghost use Rattle.bx_rows.specs.Laws.{RowsAreOfRest, RowsCutUnits, RowsMeetAgain, UnitsFitWindow, UnitsMakeBody};
+ghost use Rattle.bx_rows.specs.Laws.{RowsAreOfRest, RowsCutUnits, RowsMeetAgain, UnitsFitWindow, UnitsMakeBody, UnitsStandInTurn};
 ghost use Rattle.bx_rows.specs.OrderLaws.{EqualLevelsOrder, LowestLevelsOrder, LowestStaysBetween, OrdersArePermutations, PicturesGoByLevels, PicturesShowUnits, StaysBetween};
 
-/// The units of a body joined are the body, and each fits in the window.
+/// The units of a body joined are the body. They stand one behind another from its begin to its end, and each fits in the window.
 pub fn units_make_body()
     ensures joined { UnitsMakeBody }
+    ensures in_turn { UnitsStandInTurn }
     ensures fit { UnitsFitWindow }
 {}
 
-/// The rows of units joined are the units: none is lost, and none stands in two rows.
+/// The rows of units joined are the units: none is lost, and none stands in two rows. Each row begins where the one before ends.
 pub fn rows_cut_units()
     ensures { RowsCutUnits }
 {}

@@ -1,0 +1,232 @@
+-- Rows that follow from each law alone. Where the definition would compute, levels, classes or bodies are left open.
+use Rattle.std.proofs.Common.{◌≡◌, ◌⊎◌, ℕ, suc, ◌+◌, ◌%◌, ◌<◌, ◌≤◌, List, [], ◌∷◌, length, map, drop, get_or, slice_range, true, Option, All}
+use Rattle.std.proofs.Common.{refl, ap, ap₂, ◌∙◌, arith, inl, inr}
+use Rattle.std.specs.Prelude.{IsPermutation, codes, flat_map}
+use Rattle.std.specs.Str.{IsUtf8}
+use Rattle.std.proofs.lemmas.Bool.{cases_eq}
+use Rattle.std.proofs.lemmas.List.Elements.{All-cons, All-nil, All-weaker}
+use Rattle.std.proofs.lemmas.List.Sorted.{length_permutation, sum_by-IsPermutation}
+use Rattle.unicode_segmentation.proofs.Computing.{unicode_segmentation}
+use Rattle.unicode_width.proofs.Computing.{unicode_width}
+use Rattle.bx_ucd.specs.declared.class.Class.{Class}
+use Rattle.bx_cells.specs.declared.unit.Face.{Face}
+use Rattle.bx_cells.specs.declared.unit.Face.TheVariants.{Tab, Mark, Own}
+use Rattle.bx_cells.specs.declared.unit.Unit.{Unit}
+use Rattle.bx_cells.specs.Units.{unit_text, units}
+use Rattle.bx_rows.specs.declared.row.Row.{Row}
+use Rattle.bx_rows.specs.declared.start_search.RowStart.{RowStart}
+use Rattle.bx_rows.specs.Laws.{RowsAreOfRest, RowsCutUnits, RowsMeetAgain, StandInTurn, UnitsFitWindow, UnitsMakeBody, UnitsStandInTurn}
+use Rattle.bx_rows.specs.OrderLaws.{AreAtLevel, EqualLevelsOrder, IsLowest, LowestLevelsOrder, LowestStaysBetween, OrdersArePermutations, PicturesGoByLevels, PicturesShowUnits}
+use Rattle.bx_rows.specs.OrderLaws.{ShowsLeft, StandsBetween, StandsLeft, StaysBetween}
+use Rattle.bx_rows.specs.RowPicture.{Glyph, blank, columns_used, draw, glyph}
+use Rattle.bx_rows.specs.Shown.{IsRowOf}
+use Rattle.bx_rows.specs.RowStarts.{row_starts}
+use Rattle.bx_rows.specs.VisualOrder.{visual}
+use Rattle.bx_rows.specs.Wrapping.{FitsWindow, columns_at, row_units, wrap}
+
+-- ---- units
+
+ab : IsUtf8 (codes "ab")
+unfolding unicode_segmentation unicode_width
+ab = (codes "ab", (refl, refl))
+
+one-byte : IsUtf8 (codes "a")
+unfolding unicode_segmentation unicode_width
+one-byte = (codes "a", (refl, refl))
+
+goes-on : (start stop : ℕ) (ss : List (ℕ × ℕ)) → StandInTurn start ss stop → start ≤ stop
+goes-on start stop [] t = omega (arith, t)
+goes-on start stop (s ∷ ss) t = let some = t.1 in omega (arith, some, goes-on s.1 stop ss t.2)
+
+one-step : (ss : List (ℕ × ℕ)) → StandInTurn 0 ss 1 → ss ≡ (0, 1) ∷ []
+one-step [] t = absurd (omega (arith, t))
+one-step (s ∷ []) t = ap (λ x. (x, s.1) ∷ []) t.0 ∙ ap (λ x. (0, x) ∷ []) t.2
+one-step (s ∷ r ∷ ss) t = let some = t.1 in let more = t.2.1 in absurd (omega (arith, some, more, goes-on r.1 1 ss t.2.2))
+
+-- a body of one byte has one unit, from 0 to 1
+one-unit : UnitsStandInTurn → (class : ℕ → Class) (w : ℕ) → map {B = ℕ × ℕ} (λ u. (u.start, u.stop)) (units class w (codes "a")) ≡ (0, 1) ∷ []
+one-unit law class w = one-step (map {B = ℕ × ℕ} (λ u. (u.start, u.stop)) (units class w (codes "a"))) (law class w (codes "a") one-byte)
+
+some-unit : (us : List Unit) → flat_map (unit_text (codes "ab")) us ≡ codes "ab" → 0 < length us
+some-unit [] e = absurd cc
+some-unit (u ∷ us) e = omega arith
+
+-- a body that is not empty has a unit
+some-units : UnitsMakeBody → (class : ℕ → Class) (w : ℕ) → 0 < length (units class w (codes "ab"))
+some-units law class w = some-unit (units class w (codes "ab")) (law class w (codes "ab") ab)
+
+one-column : (f : Face) → FitsWindow 1 f → columns_at 1 0 f ≡ 1
+one-column Tab h = omega arith
+one-column (Mark x) h = refl
+one-column (Own n) h = omega (arith, h)
+
+-- in a window of one column each unit has one
+one-column-each : UnitsFitWindow → (class : ℕ → Class) → All (λ u. columns_at 1 0 u.face ≡ 1) (units class 1 (codes "ab"))
+one-column-each law class =
+    All-weaker (λ u. FitsWindow 1 u.face) (λ u. columns_at 1 0 u.face ≡ 1) (λ u h. one-column u.face h) (units class 1 (codes "ab")) (law class 1 (codes "ab") ab)
+
+-- ---- rows of units
+
+abbrev letter : ℕ → Unit
+letter k = record { start = k; stop = k + 1; face = Own 1 }
+
+abbrev letters : List Unit
+letters = letter 0 ∷ letter 1 ∷ []
+
+letters-fit : All (λ u. FitsWindow 1 u.face) letters
+letters-fit =
+    let fits : (k : ℕ) → FitsWindow 1 (letter k).face = λ k. (omega arith, omega arith) in
+    All-cons (λ u. FitsWindow 1 u.face) (letter 0) (letter 1 ∷ []) (fits 0)
+    (All-cons (λ u. FitsWindow 1 u.face) (letter 1) [] (fits 1) (All-nil (λ u. FitsWindow 1 u.face)))
+
+same-pair : (s : ℕ × ℕ) (x y : ℕ) → s.0 ≡ x → s.1 ≡ y → s ≡ (x, y)
+same-pair s x y e f = ap₂ (λ m n. (m, n)) e f
+
+two-steps : (ss : List (ℕ × ℕ)) → StandInTurn 0 ss 2 → (ss ≡ (0, 2) ∷ []) ⊎ (ss ≡ (0, 1) ∷ (1, 2) ∷ [])
+two-steps [] t = absurd (omega (arith, t))
+two-steps (s ∷ []) t = inl (ap (λ x. x ∷ []) (same-pair s 0 2 t.0 t.2))
+two-steps (s ∷ r ∷ []) t =
+    let one : s.1 ≡ 1 = (let some = t.1 in let more = t.2.1 in let end = t.2.2 in omega (arith, some, more, end)) in
+    inr (ap₂ (λ x y. x ∷ y ∷ []) (same-pair s 0 1 t.0 one) (same-pair r 1 2 (t.2.0 ∙ one) t.2.2))
+two-steps (s ∷ r ∷ q ∷ ss) t =
+    let some = t.1 in
+    let more = t.2.1 in
+    let most = t.2.2.1 in absurd (omega (arith, some, more, most, goes-on q.1 2 ss t.2.2.2))
+
+too-wide : (rows : List Row) → map {B = ℕ × ℕ} (λ r. (r.start, r.stop)) rows ≡ (0, 2) ∷ [] → All (IsRowOf 1 letters) rows → ⊥
+too-wide [] e a = cc
+too-wide (r ∷ rows) e a =
+    let start : r.start ≡ 0 = ap (λ (ss : List (ℕ × ℕ)). (get_or ss 0 (0, 0)).0) e in
+    let stop : r.stop ≡ 2 = ap (λ (ss : List (ℕ × ℕ)). (get_or ss 0 (0, 0)).1) e in
+    let wide : columns_used 1 (row_units letters r) ≡ 2 = ap₂ (λ x y. columns_used 1 (slice_range letters x y)) start stop in
+    let here = a 0 r (omega arith) in
+    let fits : columns_used 1 (row_units letters r) ≤ 1 = here.2 in omega (arith, wide, fits)
+
+-- in a window of one column two letters stand in two rows
+two-rows : RowsCutUnits → (class : ℕ → Class) (body : List ℕ) → map {B = ℕ × ℕ} (λ r. (r.start, r.stop)) (wrap class 1 body letters) ≡ (0, 1) ∷ (1, 2) ∷ []
+two-rows law class body =
+    let cut = law class 1 body letters (omega arith) letters-fit in
+    let rows = wrap class 1 body letters in
+    let spans : List (ℕ × ℕ) = map {B = ℕ × ℕ} (λ r. (r.start, r.stop)) rows in
+    elim (two-steps spans (cut.in_turn (omega arith))) as (λ _. spans ≡ (0, 1) ∷ (1, 2) ∷ []) [
+      | inl e ↦ absurd (too-wide rows e cut.fit)
+      | inr e ↦ e
+    ]
+
+-- no units have one row
+no-units : RowsCutUnits → (class : ℕ → Class) (w : ℕ) (body : List ℕ) → 1 ≤ w → length (wrap class w body []) ≡ 1
+no-units law class w body h = let cut = law class w body [] h (All-nil (λ u. FitsWindow w u.face)) in cut.one refl
+
+-- ---- rows of bodies
+
+abbrev small : ℕ → Class
+small = Rattle.bx_resolve.specs.TestTables.class
+
+abbrev start : ℕ → RowStart
+start n = record { offset = n; units = n; chars = n }
+
+words : IsUtf8 (codes "ab cd ef")
+unfolding unicode_segmentation unicode_width
+words = (codes "ab cd ef", (refl, refl))
+
+other-words : IsUtf8 (codes "b cd ef")
+unfolding unicode_segmentation unicode_width
+other-words = (codes "b cd ef", (refl, refl))
+
+-- behind `ab ` stand the rows of `cd ef`, three bytes further on
+rows-of-rest : RowsAreOfRest → drop 1 (row_starts small 3 (codes "ab cd ef")) ≡ start 3 ∷ start 6 ∷ []
+unfolding unicode_segmentation unicode_width
+rows-of-rest law = law small 3 (codes "ab cd ef") 1 (start 3) words refl
+
+-- behind `b ` stand the same rows as behind `ab `, a byte nearer
+rows-meet : RowsMeetAgain → drop 1 (row_starts small 3 (codes "b cd ef")) ≡ start 2 ∷ start 5 ∷ []
+unfolding unicode_segmentation unicode_width
+rows-meet law = law small 3 (codes "ab cd ef") (codes "b cd ef") 1 1 (start 3) (start 2) words other-words refl refl refl
+
+-- ---- orders
+
+either-order : (order : List ℕ) → IsPermutation (0 ∷ 1 ∷ []) order → (order ≡ 0 ∷ 1 ∷ []) ⊎ (order ≡ 1 ∷ 0 ∷ [])
+either-order [] p = let count : 0 ≡ 2 = length_permutation (0 ∷ 1 ∷ []) [] p in absurd (omega (arith, count))
+either-order (x ∷ []) p = let count : 1 ≡ 2 = length_permutation (0 ∷ 1 ∷ []) (x ∷ []) p in absurd (omega (arith, count))
+either-order (x ∷ y ∷ []) p =
+    let sum : 0 + x + y ≡ 1 = sum_by-IsPermutation (λ n. n) (0 ∷ 1 ∷ []) (x ∷ y ∷ []) p in
+    elim (cases_eq x 0) as (λ _. (x ∷ y ∷ [] ≡ 0 ∷ 1 ∷ []) ⊎ (x ∷ y ∷ [] ≡ 1 ∷ 0 ∷ [])) [
+      | inl e ↦ inl (ap₂ (λ m n. m ∷ n ∷ []) e (omega (arith, sum, e)))
+      | inr e ↦ inr (ap₂ (λ m n. m ∷ n ∷ []) (omega (arith, sum, e)) (omega (arith, sum, e)))
+    ]
+either-order (x ∷ y ∷ z ∷ zs) p =
+    let count : suc (suc (suc (length zs))) ≡ 2 = length_permutation (0 ∷ 1 ∷ []) (x ∷ y ∷ z ∷ zs) p in absurd (omega (arith, count))
+
+-- two units stand as in the text or the other way round, whatever their levels
+two-orders : OrdersArePermutations → (a b : ℕ) → (visual (a ∷ b ∷ []) ≡ 0 ∷ 1 ∷ []) ⊎ (visual (a ∷ b ∷ []) ≡ 1 ∷ 0 ∷ [])
+two-orders law a b = either-order (visual (a ∷ b ∷ [])) (law (a ∷ b ∷ []))
+
+and-least : (m l : ℕ) (ls : List ℕ) → m ≤ l → All (λ x. m ≤ x) ls → All (λ x. m ≤ x) (l ∷ ls)
+and-least m l ls h a = All-cons (λ x. m ≤ x) l ls h a
+
+first-lowest : (m : ℕ) (ls : List ℕ) → All (λ x. m ≤ x) ls → IsLowest m (m ∷ ls)
+first-lowest m ls a = record { one = (0, omega arith, refl); least = and-least m m ls (omega arith) a }
+
+last-lowest : IsLowest 0 (1 ∷ 0 ∷ [])
+last-lowest = record {
+  one = (1, omega arith, refl);
+  least = and-least 0 1 (0 ∷ []) (omega arith) (and-least 0 0 [] (omega arith) (All-nil (λ x. 0 ≤ x)));
+}
+
+abbrev levels : List ℕ
+levels = 0 ∷ 1 ∷ 1 ∷ 0 ∷ []
+
+-- units of the levels 0 1 1 0 stand in the order 0 2 1 3
+by-lowest-levels : LowestLevelsOrder → StandsLeft (visual levels) 0 2 × StandsLeft (visual levels) 2 1 × StandsLeft (visual levels) 1 3
+by-lowest-levels law =
+    let none : All (λ x. 0 ≤ x) [] = All-nil (λ x. 0 ≤ x) in
+    let low : IsLowest 0 (0 ∷ 1 ∷ 1 ∷ []) =
+    first-lowest 0 (1 ∷ 1 ∷ []) (and-least 0 1 (1 ∷ []) (omega arith) (and-least 0 1 [] (omega arith) none)) in
+    let odd : IsLowest 1 (1 ∷ 1 ∷ []) = first-lowest 1 (1 ∷ []) (and-least 1 1 [] (omega arith) (All-nil (λ x. 1 ≤ x))) in
+    let end : IsLowest 0 (1 ∷ 1 ∷ 0 ∷ []) =
+    record { one = (2, omega arith, refl); least = and-least 0 1 (1 ∷ 0 ∷ []) (omega arith) last-lowest.least } in
+    let a = law levels 0 2 0 (omega arith) (omega arith) low in
+    let b = law levels 1 2 1 (omega arith) (omega arith) odd in
+    let c = law levels 1 3 0 (omega arith) (omega arith) end in (a.even refl, b.odd refl, c.even refl)
+
+around : (m n : ℕ) → n ≤ m → AreAtLevel n (n ∷ m ∷ n ∷ []) 0 2
+around m n h = record {
+  one = λ d. refl;
+  other = λ d. refl;
+  least = and-least n n (m ∷ n ∷ []) (omega arith) (and-least n m (n ∷ []) h (and-least n n [] (omega arith) (All-nil (λ x. n ≤ x))));
+}
+
+-- two units of an odd level round one of a higher level change places
+by-equal-levels : EqualLevelsOrder → (m n : ℕ) → n ≤ m → n % 2 ≡ 1 → StandsLeft (visual (n ∷ m ∷ n ∷ [])) 2 0
+by-equal-levels law m n h e = let a = law (n ∷ m ∷ n ∷ []) 0 2 n (omega arith) (omega arith) (around m n h) in a.odd e
+
+-- the one of the higher level stays between them
+stays-inside : StaysBetween → (m n : ℕ) → n ≤ m → StandsBetween (visual (n ∷ m ∷ n ∷ [])) 0 1 2
+stays-inside law m n h = law (n ∷ m ∷ n ∷ []) 0 1 2 n (omega arith) (omega arith) (omega arith) (around m n h)
+
+-- so does one of a lower level
+lowest-stays-inside : LowestStaysBetween → (m n : ℕ) → n ≤ m → StandsBetween (visual (m ∷ n ∷ m ∷ [])) 0 1 2
+lowest-stays-inside law m n h =
+    law (m ∷ n ∷ m ∷ []) 0 1 2 n (omega arith) (omega arith) (omega arith) (λ d. refl)
+    (and-least n m (n ∷ m ∷ []) h (and-least n n (m ∷ []) (omega arith) (and-least n m [] h (All-nil (λ x. n ≤ x)))))
+
+-- ---- pictures
+
+abbrev mark : ℕ → Unit
+mark x = record { start = 0; stop = 0; face = Mark x }
+
+abbrev shown : ℕ → Glyph
+shown x = glyph (x ∷ []) 1 true
+
+-- three columns show two marks and one blank, whatever their levels
+marks-and-blank : PicturesShowUnits → (class : ℕ → Class) (mirror : ℕ → Option ℕ) (body : List ℕ) (paragraph x y a b : ℕ)
+    → IsPermutation (shown x ∷ shown y ∷ blank ∷ []) (draw class mirror 3 body paragraph (mark x ∷ mark y ∷ []) (a ∷ b ∷ []))
+marks-and-blank law class mirror body paragraph x y a b =
+    let s = law class mirror 3 body paragraph (mark x ∷ mark y ∷ []) (a ∷ b ∷ []) refl in s.glyphs
+
+-- at an odd level the second mark is shown left of the first
+marks-turned : PicturesGoByLevels → (class : ℕ → Class) (mirror : ℕ → Option ℕ) (body : List ℕ) (paragraph x y n : ℕ) → n % 2 ≡ 1
+    → ShowsLeft (draw class mirror 3 body paragraph (mark x ∷ mark y ∷ []) (n ∷ n ∷ [])) (shown y ∷ []) (shown x ∷ [])
+marks-turned law class mirror body paragraph x y n e =
+    let s = law class mirror 3 body paragraph (mark x ∷ mark y ∷ []) (n ∷ n ∷ []) 0 1 n refl (omega arith) (omega arith)
+    (first-lowest n (n ∷ []) (and-least n n [] (omega arith) (All-nil (λ x. n ≤ x)))) in s.odd e
