@@ -1,6 +1,6 @@
 -- Rows that follow from each law alone. Where the definition would compute, levels, classes or bodies are left open.
 use Rattle.std.proofs.Common.{◌≡◌, ◌⊎◌, ℕ, suc, ◌+◌, ◌%◌, ◌<◌, ◌≤◌, List, [], ◌∷◌, length, map, drop, get_or, slice_range, true, Option, All}
-use Rattle.std.proofs.Common.{refl, ap, ap₂, ◌∙◌, arith, inl, inr}
+use Rattle.std.proofs.Common.{refl, ap, ap₂, subst, ◌∙◌, arith, inl, inr}
 use Rattle.std.specs.Prelude.{IsPermutation, codes, flat_map}
 use Rattle.std.specs.Str.{IsUtf8}
 use Rattle.std.proofs.lemmas.Bool.{cases_eq}
@@ -15,7 +15,7 @@ use Rattle.bx_cells.specs.declared.unit.Unit.{Unit}
 use Rattle.bx_cells.specs.Units.{unit_text, units}
 use Rattle.bx_rows.specs.declared.row.Row.{Row}
 use Rattle.bx_rows.specs.declared.start_search.RowStart.{RowStart}
-use Rattle.bx_rows.specs.Laws.{RowsAreOfRest, RowsCutUnits, RowsMeetAgain, StandInTurn, UnitsFitWindow, UnitsMakeBody, UnitsStandInTurn}
+use Rattle.bx_rows.specs.Laws.{EndsWell, IsFull, RowsAreOfRest, RowsCutUnits, RowsEndWell, RowsMeetAgain, StandInTurn, UnitsFitWindow, UnitsMakeBody, UnitsStandInTurn}
 use Rattle.bx_rows.specs.OrderLaws.{AreAtLevel, EqualLevelsOrder, IsLowest, LowestLevelsOrder, LowestStaysBetween, OrdersArePermutations, PicturesGoByLevels, PicturesShowUnits}
 use Rattle.bx_rows.specs.OrderLaws.{ShowsLeft, StandsBetween, StandsLeft, StaysBetween}
 use Rattle.bx_rows.specs.RowPicture.{Glyph, blank, columns_used, draw, glyph}
@@ -79,6 +79,11 @@ letters-fit =
     All-cons (λ u. FitsWindow 1 u.face) (letter 0) (letter 1 ∷ []) (fits 0)
     (All-cons (λ u. FitsWindow 1 u.face) (letter 1) [] (fits 1) (All-nil (λ u. FitsWindow 1 u.face)))
 
+wider : (f : Face) → FitsWindow 1 f → FitsWindow 5 f
+wider Tab h = tt
+wider (Mark x) h = tt
+wider (Own n) h = (h.0, omega (arith, h))
+
 same-pair : (s : ℕ × ℕ) (x y : ℕ) → s.0 ≡ x → s.1 ≡ y → s ≡ (x, y)
 same-pair s x y e f = ap₂ (λ m n. (m, n)) e f
 
@@ -111,6 +116,31 @@ two-rows law class body =
     elim (two-steps spans (cut.in_turn (omega arith))) as (λ _. spans ≡ (0, 1) ∷ (1, 2) ∷ []) [
       | inl e ↦ absurd (too-wide rows e cut.fit)
       | inr e ↦ e
+    ]
+
+too-short : (class : ℕ → Class) (body : List ℕ) (rows : List Row) → map {B = ℕ × ℕ} (λ r. (r.start, r.stop)) rows ≡ (0, 1) ∷ (1, 2) ∷ []
+    → All (EndsWell class 5 body letters) rows → ⊥
+too-short class body [] e a = cc
+too-short class body (r ∷ rows) e a =
+    let start : r.start ≡ 0 = ap (λ (ss : List (ℕ × ℕ)). (get_or ss 0 (0, 0)).0) e in
+    let stop : r.stop ≡ 1 = ap (λ (ss : List (ℕ × ℕ)). (get_or ss 0 (0, 0)).1) e in
+    let here = a 0 r (omega arith) in
+    let full : IsFull 5 letters (record { start = 0; stop = 1 }) =
+    subst (λ k. IsFull 5 letters (record { start = k; stop = 1 })) start (here.longest 1 (omega (arith, stop)) (omega arith) (inl refl)) in
+    elim full as (λ _. ⊥) [ inl h ↦ omega (arith, h) | inr h ↦ omega (arith, h) ]
+
+-- in a window of five columns they stand in one row, wherever rows may end
+one-row : RowsCutUnits → RowsEndWell → (class : ℕ → Class) (body : List ℕ)
+    → map {B = ℕ × ℕ} (λ r. (r.start, r.stop)) (wrap class 5 body letters) ≡ (0, 2) ∷ []
+one-row cuts ends class body =
+    let fit : All (λ u. FitsWindow 5 u.face) letters =
+    All-weaker (λ u. FitsWindow 1 u.face) (λ u. FitsWindow 5 u.face) (λ u h. wider u.face h) letters letters-fit in
+    let cut = cuts class 5 body letters (omega arith) fit in
+    let rows = wrap class 5 body letters in
+    let spans : List (ℕ × ℕ) = map (λ r. (r.start, r.stop)) rows in
+    elim (two-steps spans (cut.in_turn (omega arith))) as (λ _. spans ≡ (0, 2) ∷ []) [
+      | inl e ↦ e
+      | inr e ↦ absurd (too-short class body rows e (ends class 5 body letters (omega arith) fit))
     ]
 
 -- no units have one row

@@ -33,4 +33,5 @@ pub mod PlainRows
 pub mod PlainDrawn
 pub mod Permutes
 pub mod Joined
+pub mod RowEnds
 pub mod RowsLeft

@@ -24,7 +24,7 @@ fit-length w c [] = omega arith
 fit-length w c (u ∷ us) = len-either (nat_lt c w && nat_le (c + columns_at w c u.face) w) (fit_count_from w (c + columns_at w c u.face) us) (length us)
     (fit-length w (c + columns_at w c u.face) us)
 
-abbrev total : ℕ → ℕ → List Unit → ℕ
+abbrev pub total : ℕ → ℕ → List Unit → ℕ
 total w c us = sum_by (λ m. m) (unit_columns w c us)
 
 fits-by : (w c n : ℕ) (u : Unit) (us : List Unit) (b : Bool) → (nat_lt c w && nat_le (c + columns_at w c u.face) w) ≡ b
@@ -61,7 +61,7 @@ pub last-length : (p : Unit → Bool) (us : List Unit) → up_to_last p us ≤ l
 last-length p [] = omega arith
 last-length p (u ∷ us) = last-step (p u) (up_to_last p us) (length us) (last-length p us)
 
-take-length : (n : ℕ) (us : List Unit) → length (take n us) ≤ n
+pub take-length : (n : ℕ) (us : List Unit) → length (take n us) ≤ n
 take-length zero us = omega arith
 take-length (suc n) [] = omega arith
 take-length (suc n) (u ∷ us) = omega (arith, take-length n us)

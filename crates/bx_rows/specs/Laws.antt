@@ -1,13 +1,14 @@
 -- What holds of units and rows, whatever the body.
-use Rattle.std.specs.Prelude.{◌≡◌, ◌+◌, ◌-◌, ◌<◌, ◌≤◌, ℕ, All, IsUtf8, List, [], ◌∷◌, Some, drop, flat_map, length, map, slice_get}
+use Rattle.std.specs.Prelude.{◌≡◌, ◌⊎◌, ◌+◌, ◌-◌, ◌<◌, ◌≤◌, ℕ, true, All, HoldsAt, IsUtf8, List, [], ◌∷◌, Some, drop, flat_map, length, map, slice_get}
 use Rattle.bx_ucd.specs.declared.class.Class.{Class}
 use Rattle.bx_cells.specs.declared.unit.Unit.{Unit}
 use Rattle.bx_cells.specs.Units.{units, unit_text}
 use Rattle.bx_rows.specs.declared.row.Row.{Row}
 use Rattle.bx_rows.specs.declared.start_search.RowStart.{RowStart}
+use Rattle.bx_rows.specs.RowPicture.{columns_used}
 use Rattle.bx_rows.specs.RowStarts.{row_starts}
 use Rattle.bx_rows.specs.Shown.{IsRowOf}
-use Rattle.bx_rows.specs.Wrapping.{FitsWindow, row_units, wrap}
+use Rattle.bx_rows.specs.Wrapping.{FitsWindow, is_break, row_units, wrap}
 
 -- the units of a body joined are the body
 abbrev pub UnitsMakeBody : Type 0
@@ -39,6 +40,22 @@ pub record CutUnits (w : ℕ) (us : List Unit) (rows : List Row) : Type 0 where
 abbrev pub RowsCutUnits : Type 0
 RowsCutUnits = (class : ℕ → Class) (w : ℕ) (body : List ℕ) (us : List Unit) → 1 ≤ w → All (λ u. FitsWindow w u.face) us
     → CutUnits w us (wrap class w body us)
+
+-- a row has all columns of the window, or would have more with one more unit
+abbrev pub IsFull : ℕ → List Unit → Row → Type 0
+IsFull w us r = (w ≤ columns_used w (row_units us r)) ⊎ (w < columns_used w (row_units us (record { start = r.start; stop = r.stop + 1 })))
+
+-- A row ends with the last unit, behind a unit after which a row may end, or where it is full. A longer one that ends in one of the
+-- first two ways would have more units than fit: it is full without its last.
+pub record EndsWell (class : ℕ → Class) (w : ℕ) (body : List ℕ) (us : List Unit) (r : Row) : Type 0 where
+  pub ends : (r.stop ≡ length us) ⊎ (HoldsAt (λ u. is_break class body u ≡ true) us (r.stop - 1) ⊎ IsFull w us r)
+  pub longest : (last : ℕ) → r.stop ≤ last → last < length us
+      → (last + 1 ≡ length us) ⊎ HoldsAt (λ u. is_break class body u ≡ true) us last → IsFull w us (record { start = r.start; stop = last })
+
+-- so ends each row of units that each fit in a window of some columns
+abbrev pub RowsEndWell : Type 0
+RowsEndWell = (class : ℕ → Class) (w : ℕ) (body : List ℕ) (us : List Unit) → 1 ≤ w → All (λ u. FitsWindow w u.face) us
+    → All (EndsWell class w body us) (wrap class w body us)
 
 -- where a row begins in a body of which it is known where it begins in what is left from another row's start on
 abbrev pub behind : RowStart → RowStart → RowStart

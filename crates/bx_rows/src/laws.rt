@@ -1,6 +1,6 @@
 //! What holds of units, rows, orders and pictures, whatever the body. The functions do nothing: their contracts are the laws.
 
-ghost use Rattle.bx_rows.specs.Laws.{RowsAreOfRest, RowsCutUnits, RowsMeetAgain, UnitsFitWindow, UnitsMakeBody, UnitsStandInTurn};
+ghost use Rattle.bx_rows.specs.Laws.{RowsAreOfRest, RowsCutUnits, RowsEndWell, RowsMeetAgain, UnitsFitWindow, UnitsMakeBody, UnitsStandInTurn};
 ghost use Rattle.bx_rows.specs.OrderLaws.{EqualLevelsOrder, LowestLevelsOrder, LowestStaysBetween, OrdersArePermutations, PicturesGoByLevels, PicturesShowUnits, StaysBetween};
 
 /// The units of a body joined are the body. They stand one behind another from its begin to its end, and each fits in the window.
@@ -11,8 +11,11 @@ pub fn units_make_body()
 {}
 
 /// The rows of units joined are the units: none is lost, and none stands in two rows. Each row begins where the one before ends.
+/// It ends with the last unit, behind a unit after which a row may end, or where no more units fit, and no longer one that ends in
+/// one of the first two ways would fit.
 pub fn rows_cut_units()
-    ensures { RowsCutUnits }
+    ensures cut { RowsCutUnits }
+    ensures ends { RowsEndWell }
 {}
 
 /// The visual order of a row's units has the number of each unit once.

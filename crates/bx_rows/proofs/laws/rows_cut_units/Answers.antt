@@ -1,5 +1,9 @@
 use Rattle.bx_rows.proofs.Joined.{rows-cut}
+use Rattle.bx_rows.proofs.RowEnds.{rows-end-well}
 use Rattle.bx_rows.proofs.laws.rows_cut_units.Goals as goal
 
-pub returns : goal.returns
-returns c = rows-cut
+pub returns-clause-cut : goal.returns-clause-cut
+returns-clause-cut c = rows-cut
+
+pub returns-clause-ends : goal.returns-clause-ends
+returns-clause-ends c = rows-end-well
