@@ -1,11 +1,14 @@
 -- The definitions, computed on small texts.
-use Rattle.std.proofs.Common.{◌≡◌, ℕ, List, [], ◌∷◌, refl, map, cond, eqb, ◌||◌}
+use Rattle.std.proofs.Common.{◌≡◌, ℕ, ◌<◌, List, [], ◌∷◌, All, IsUtf8, length, refl, sym, subst, map, cond, eqb, ◌||◌, inl, inr, arith}
+use Rattle.std.proofs.lemmas.List.Elements.{All-weaker}
 use Rattle.std.specs.Str.{chars}
 use Rattle.std.specs.Char.{encode_utf8}
 use Rattle.bx_ucd.specs.declared.class.Class.{Class}
 use Rattle.bx_ucd.specs.declared.class.Class.TheVariants.{B, L}
-use Rattle.bx_paras.specs.Paragraphs.{paragraphs, lengths}
+use Rattle.bx_paras.specs.Laws.{BodiesHaveNone, EachEnds, EndWithSeparators, IsSeparator, JoinToText, StandAtSpans, joined}
+use Rattle.bx_paras.specs.Paragraphs.{Paragraph, paragraphs, lengths}
 use Rattle.bx_paras.specs.Positions.{spans, separators, paragraph_of}
+use Rattle.bx_paras.specs.Scan.{HasNone}
 
 abbrev class : ℕ → Class
 class c = cond (eqb c 10 || eqb c 13 || eqb c 0x2029) B L
@@ -50,3 +53,49 @@ separator_of_three_bytes = refl
 lf_cr_are_two_separators : separators (lengths class (10 ∷ 13 ∷ 13 ∷ 10 ∷ [])) ≡ 1 ∷ 1 ∷ 2 ∷ 0 ∷ []
 unfolding chars encode_utf8
 lf_cr_are_two_separators = refl
+
+-- ---- rows that follow from each law alone
+
+line_ends_utf8 : IsUtf8 line_ends
+unfolding encode_utf8
+line_ends_utf8 = (line_ends, (refl, refl))
+
+some_paragraph : (ps : List Paragraph) → joined ps ≡ line_ends → 0 < length ps
+some_paragraph [] e = absurd cc
+some_paragraph (p ∷ ps) e = omega arith
+
+-- a text that is not empty has a paragraph, whatever separates
+text_has_paragraph : JoinToText → (separates : ℕ → Class) → 0 < length (paragraphs separates line_ends)
+text_has_paragraph law separates = some_paragraph (paragraphs separates line_ends) (law separates line_ends line_ends_utf8)
+
+-- where no character is a separator
+abbrev letters : ℕ → Class
+letters c = L
+
+no_separator : (bs : List ℕ) → IsSeparator letters bs → ⊥
+no_separator bs (inl s) = let e = s.1 in cc
+no_separator bs (inr s) = let e = s.0 in cc
+
+one_alone : (ps : List Paragraph) → EachEnds letters ps → length ps ≡ 1
+one_alone [] h = absurd h
+one_alone (p ∷ []) h = refl
+one_alone (p ∷ q ∷ ps) h = absurd (no_separator p.separator h.0)
+
+-- there each text is one paragraph
+one_paragraph : EndWithSeparators → (text : List ℕ) → length (paragraphs letters text) ≡ 1
+one_paragraph law text = one_alone (paragraphs letters text) (law letters text)
+
+-- the bodies between the line ends are 1, 2 and 3
+bodies_between : StandAtSpans → map (λ (p : Paragraph). p.body) (paragraphs class line_ends) ≡ (49 ∷ []) ∷ (50 ∷ []) ∷ (51 ∷ []) ∷ []
+unfolding chars encode_utf8
+bodies_between law = sym (law class line_ends line_ends_utf8)
+
+none_in_whole : (bs : List ℕ) → HasNone class (chars bs) → bs ≡ line_ends → ⊥
+unfolding chars
+none_in_whole bs h e = let all : HasNone class (chars line_ends) = subst (λ xs. HasNone class (chars xs)) e h in let second = all.1.0 in cc
+
+-- none of them is the whole text
+no_whole_body : BodiesHaveNone → All (λ (p : Paragraph). p.body ≡ line_ends → ⊥) (paragraphs class line_ends)
+no_whole_body law =
+    All-weaker (λ (p : Paragraph). HasNone class (chars p.body)) (λ (p : Paragraph). p.body ≡ line_ends → ⊥) (λ p h. none_in_whole p.body h)
+    (paragraphs class line_ends) (law class line_ends line_ends_utf8)
