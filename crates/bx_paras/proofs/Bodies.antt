@@ -6,12 +6,12 @@ use Rattle.std.proofs.lemmas.Bool.Decides.{nat_tests}
 use Rattle.std.proofs.lemmas.List.Elements.{All-nil, All-cons, All-head, All-tail}
 use Rattle.std.proofs.lemmas.Str.{chars-nil, chars-append, chars-encodes, encodes-chars, scalars-chars}
 use Rattle.std.proofs.Math.Seq.{drop-append_seam, take-append_seam}
-use lib.Utf8.{scalars}
+use lib.Utf8.{encode, scalars}
 use Rattle.bx_ucd.specs.declared.class.Class.{Class}
-use Rattle.bx_paras.specs.Paragraphs.{Paragraph, after_character, after_cr, bare, cut, paragraphs, lengths_of}
+use Rattle.bx_paras.specs.Paragraphs.{Paragraph, after_character, after_cr, bare, begins_with_lf, cut, paragraphs, lengths_of}
 use Rattle.bx_paras.specs.Positions.{spans_from}
 use Rattle.bx_paras.specs.Scan.{HasNone}
-use Rattle.bx_paras.specs.Laws.{joined, between, IsSeparator, EachEnds, JoinToText, StandAtSpans, BodiesHaveNone, EndWithSeparators}
+use Rattle.bx_paras.specs.Laws.{joined, between, IsSeparator, EachEnds, JoinToText, StandAtSpans, BodiesHaveNone, EndWithSeparators, KeepCrLf, KeepEachCrLf}
 use Rattle.bx_paras.proofs.Changes.{scalars_back}
 use Rattle.bx_paras.proofs.Cuts.{width_is_some, ends, is_paired}
 
@@ -68,7 +68,8 @@ module _ (class : ℕ → Class) where
       → P (c ∷ cs) (record p { body = encode_utf8 c ++ p.body } ∷ ps))
       (paired : (c d : ℕ) (cs : List ℕ) (ps : List Paragraph) → IsPair c d → P (d ∷ cs) (bare (encode_utf8 d) ∷ ps)
       → P (c ∷ d ∷ cs) (bare (encode_utf8 13 ++ encode_utf8 d) ∷ ps))
-      (ended : (c : ℕ) (cs : List ℕ) (ps : List Paragraph) → ends class c ≡ true → P cs ps → P (c ∷ cs) (bare (encode_utf8 c) ∷ ps)) where
+      (ended : (c : ℕ) (cs : List ℕ) (ps : List Paragraph) → ends class c ≡ true → is_paired class c cs ≡ false → P cs ps
+      → P (c ∷ cs) (bare (encode_utf8 c) ∷ ps)) where
     abbrev Holds : List ℕ → List Paragraph → Type 0
     Holds cs ps = HasFirst ps × P cs ps
 
@@ -91,7 +92,7 @@ module _ (class : ℕ → Class) where
     cut_at : (c : ℕ) (cs : List ℕ) (ended_here both : Bool) → ends class c ≡ ended_here → is_paired class c cs ≡ both → Holds cs (cut class cs)
         → Holds (c ∷ cs) (cut class (c ∷ cs))
     cut_at c cs false both e p h = subst (Holds (c ∷ cs)) (sym (cut_plain c cs e)) (plain_at c cs (cut class cs) e h)
-    cut_at c cs true false e p h = subst (Holds (c ∷ cs)) (sym (cut_ended c cs e p)) (omega arith, ended c cs (cut class cs) e h.1)
+    cut_at c cs true false e p h = subst (Holds (c ∷ cs)) (sym (cut_ended c cs e p)) (omega arith, ended c cs (cut class cs) e p h.1)
     cut_at c [] true true e p h = absurd (grind (arith, nat_tests))
     cut_at c (d ∷ cs) true true e p h = pair_at c d cs e p h
 
@@ -110,7 +111,7 @@ module _ (class : ℕ → Class) where
       (λ c xs p ps e h. append_assoc (encode_utf8 c) p.body (p.separator ++ joined ps) ∙ ap (λ bs. encode_utf8 c ++ bs) h)
       (λ c d xs ps pair h. append_assoc (encode_utf8 13) (encode_utf8 d) (joined ps) ∙ ap (λ bs. encode_utf8 13 ++ bs) h
       ∙ ap (λ n. encode_utf8 n ++ encode_utf8_all (d ∷ xs)) (sym pair.cr))
-      (λ c xs ps e h. ap (λ bs. encode_utf8 c ++ bs) h)
+      (λ c xs ps e alone h. ap (λ bs. encode_utf8 c ++ bs) h)
       cs
 
   pub join_text : (text : List ℕ) → IsUtf8 text → joined (paragraphs class text) ≡ text
@@ -144,7 +145,7 @@ module _ (class : ℕ → Class) where
       none_before
       (λ c d xs ps pair h s. All-cons HasNoneInside (bare (encode_utf8 13 ++ encode_utf8 d)) ps (none_in_nothing (encode_utf8 13 ++ encode_utf8 d))
       (All-tail HasNoneInside (bare (encode_utf8 d)) ps (h (scalars_back (c ∷ []) (d ∷ xs) s))))
-      (λ c xs ps e h s. All-cons HasNoneInside (bare (encode_utf8 c)) ps (none_in_nothing (encode_utf8 c)) (h (scalars_back (c ∷ []) xs s)))
+      (λ c xs ps e alone h s. All-cons HasNoneInside (bare (encode_utf8 c)) ps (none_in_nothing (encode_utf8 c)) (h (scalars_back (c ∷ []) xs s)))
       cs
 
   -- ---- each ends with one separator
@@ -174,8 +175,76 @@ module _ (class : ℕ → Class) where
       refl
       (λ c xs p ps e h. body_more c p ps h)
       (λ c d xs ps pair h. pair_ends c d ps pair h)
-      (λ c xs ps e h. ends_with (encode_utf8 c) ps (inl (c, e, refl)) h)
+      (λ c xs ps e alone h. ends_with (encode_utf8 c) ps (inl (c, e, refl)) h)
       cs
+
+-- ---- no CR LF is cut
+
+module _ (class : ℕ → Class) where
+  -- where the first paragraph is LF alone, the characters begin with it
+  abbrev HasLfFirst : List ℕ → List Paragraph → Type 0
+  HasLfFirst cs [] = Unit {0}
+  HasLfFirst cs (p ∷ ps) = p.body ≡ [] → p.separator ≡ encode_utf8 10 → begins_with_lf class cs ≡ true
+
+  abbrev KeepsCrLf : List ℕ → List Paragraph → Type 0
+  KeepsCrLf cs ps = scalars cs ≡ true → HasLfFirst cs ps × KeepCrLf ps
+
+  no_bytes : (separator : List ℕ) → separator ≡ [] → separator ≡ encode_utf8 10 → ⊥
+  no_bytes separator e f = omega (arith, width_is_some 10, ap length (sym e ∙ f))
+
+  same_code : (c d : ℕ) → scalars (c ∷ []) ≡ true → scalars (d ∷ []) ≡ true → encode_utf8 c ≡ encode_utf8 d → c ≡ d
+  same_code c d s t e =
+      let spelt : (x : ℕ) → encode_utf8_all (x ∷ []) ≡ encode_utf8 x = λ x. append-nil (encode_utf8 x) in
+      let same : c ∷ [] ≡ d ∷ [] = sym (chars-encodes (c ∷ []) s) ∙ ap chars (spelt c ∙ e ∙ sym (spelt d)) ∙ chars-encodes (d ∷ []) t in cc
+
+  more_kept : (c : ℕ) (p : Paragraph) (ps : List Paragraph) → KeepCrLf (p ∷ ps) → KeepCrLf (record p { body = encode_utf8 c ++ p.body } ∷ ps)
+  more_kept c p [] h = tt
+  more_kept c p (q ∷ ps) h = h
+
+  kept_plain : (c : ℕ) (cs : List ℕ) (p : Paragraph) (ps : List Paragraph) → ends class c ≡ false → KeepsCrLf cs (p ∷ ps)
+      → KeepsCrLf (c ∷ cs) (record p { body = encode_utf8 c ++ p.body } ∷ ps)
+  kept_plain c cs p ps e h s =
+      let k = h (scalars_back (c ∷ []) cs s) in
+      (λ none lf. absurd (omega (arith, width_is_some c, ap length none, length-append (encode_utf8 c) p.body)), more_kept c p ps k.1)
+
+  pair_kept : (d : ℕ) (ps : List Paragraph) → KeepCrLf (bare (encode_utf8 d) ∷ ps) → KeepCrLf (bare (encode_utf8 13 ++ encode_utf8 d) ∷ ps)
+  pair_kept d [] h = tt
+  pair_kept d (q ∷ ps) h =
+      (λ cr none lf. omega (arith, width_is_some d, ap length cr, length-append (encode_utf8 13) (encode_utf8 d)), h.1)
+
+  two_bytes : (d : ℕ) → encode_utf8 13 ++ encode_utf8 d ≡ encode_utf8 10 → ⊥
+  unfolding encode
+  two_bytes d e =
+      let one : length (encode_utf8 10) ≡ 1 = refl in
+      omega (arith, one, width_is_some 13, width_is_some d, ap length e, length-append (encode_utf8 13) (encode_utf8 d))
+
+  kept_pair : (c d : ℕ) (cs : List ℕ) (ps : List Paragraph) → IsPair class c d → KeepsCrLf (d ∷ cs) (bare (encode_utf8 d) ∷ ps)
+      → KeepsCrLf (c ∷ d ∷ cs) (bare (encode_utf8 13 ++ encode_utf8 d) ∷ ps)
+  kept_pair c d cs ps pair h s =
+      let k = h (scalars_back (c ∷ []) (d ∷ cs) s) in (λ none lf. absurd (two_bytes d lf), pair_kept d ps k.1)
+
+  kept_behind : (c : ℕ) (cs : List ℕ) (ps : List Paragraph) → scalars (c ∷ []) ≡ true → is_paired class c cs ≡ false → HasLfFirst cs ps → KeepCrLf ps
+      → KeepCrLf (bare (encode_utf8 c) ∷ ps)
+  kept_behind c cs [] s alone f k = tt
+  kept_behind c cs (q ∷ ps) s alone f k = (
+    λ cr none lf.
+        let same : c ≡ 13 = same_code c 13 s refl cr in
+        let begins : begins_with_lf class cs ≡ true = f none lf in grind (arith, nat_tests),
+    k,
+  )
+
+  kept_ended : (c : ℕ) (cs : List ℕ) (ps : List Paragraph) → ends class c ≡ true → is_paired class c cs ≡ false → KeepsCrLf cs ps
+      → KeepsCrLf (c ∷ cs) (bare (encode_utf8 c) ∷ ps)
+  kept_ended c cs ps e alone h s =
+      let one : scalars (c ∷ []) ≡ true = grind (arith, nat_tests) in
+      let k = h (scalars_back (c ∷ []) cs s) in
+      (λ none lf. let same : c ≡ 10 = same_code c 10 one refl lf in grind (arith, nat_tests), kept_behind c cs ps one alone k.0 k.1)
+
+  kept_cr_lf : (cs : List ℕ) → KeepsCrLf cs (cut class cs)
+  kept_cr_lf cs = of_cut class KeepsCrLf (λ s. (λ none lf. absurd (no_bytes [] refl lf), tt)) kept_plain kept_pair kept_ended cs
+
+pub keep_each_cr_lf : KeepEachCrLf
+keep_each_cr_lf class text utf8 = (kept_cr_lf class (chars text) (scalars-chars text utf8)).1
 
 pub end_with_separators : EndWithSeparators
 end_with_separators class text = each_ends class (chars text)

@@ -5,7 +5,7 @@ use Rattle.std.specs.Str.{chars}
 use Rattle.std.specs.Char.{encode_utf8}
 use Rattle.bx_ucd.specs.declared.class.Class.{Class}
 use Rattle.bx_ucd.specs.declared.class.Class.TheVariants.{B, L}
-use Rattle.bx_paras.specs.Laws.{BodiesHaveNone, EachEnds, EndWithSeparators, IsSeparator, JoinToText, StandAtSpans, joined}
+use Rattle.bx_paras.specs.Laws.{BodiesHaveNone, EachEnds, EndWithSeparators, IsSeparator, JoinToText, KeepCrLf, KeepEachCrLf, StandAtSpans, joined}
 use Rattle.bx_paras.specs.Paragraphs.{Paragraph, paragraphs, lengths}
 use Rattle.bx_paras.specs.Positions.{spans, separators, paragraph_of}
 use Rattle.bx_paras.specs.Scan.{HasNone}
@@ -67,6 +67,24 @@ some_paragraph (p ∷ ps) e = omega arith
 -- a text that is not empty has a paragraph, whatever separates
 text_has_paragraph : JoinToText → (separates : ℕ → Class) → 0 < length (paragraphs separates line_ends)
 text_has_paragraph law separates = some_paragraph (paragraphs separates line_ends) (law separates line_ends line_ends_utf8)
+
+abbrev cr_lf : List ℕ
+cr_lf = 13 ∷ 10 ∷ []
+
+cr_lf_utf8 : IsUtf8 cr_lf
+unfolding encode_utf8
+cr_lf_utf8 = (cr_lf, (refl, refl))
+
+abbrev empty_before : List ℕ → Paragraph
+empty_before separator = record { body = []; separator = separator }
+
+-- CR LF is not cut in two, whatever separates
+cr_lf_is_whole : KeepEachCrLf → (separates : ℕ → Class)
+    → paragraphs separates cr_lf ≡ empty_before (13 ∷ []) ∷ empty_before (10 ∷ []) ∷ empty_before [] ∷ [] → ⊥
+unfolding encode_utf8
+cr_lf_is_whole law separates e =
+    let kept : KeepCrLf (empty_before (13 ∷ []) ∷ empty_before (10 ∷ []) ∷ empty_before [] ∷ []) = subst KeepCrLf e (law separates cr_lf cr_lf_utf8) in
+    kept.0 refl refl refl
 
 -- where no character is a separator
 abbrev letters : ℕ → Class

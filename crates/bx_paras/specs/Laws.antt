@@ -40,3 +40,12 @@ EachEnds class (p ∷ q ∷ ps) = IsSeparator class p.separator × EachEnds clas
 
 abbrev pub EndWithSeparators : Type 0
 EndWithSeparators = (class : ℕ → Class) (text : List ℕ) → EachEnds class (paragraphs class text)
+
+-- no CR LF is cut: where a paragraph ends with CR alone, the one behind it is no LF alone
+abbrev pub KeepCrLf : List Paragraph → Type 0
+KeepCrLf [] = Unit {0}
+KeepCrLf (p ∷ []) = Unit {0}
+KeepCrLf (p ∷ q ∷ ps) = (p.separator ≡ encode_utf8 13 → q.body ≡ [] → q.separator ≡ encode_utf8 10 → ⊥) × KeepCrLf (q ∷ ps)
+
+abbrev pub KeepEachCrLf : Type 0
+KeepEachCrLf = (class : ℕ → Class) (text : List ℕ) → IsUtf8 text → KeepCrLf (paragraphs class text)
