@@ -1,10 +1,16 @@
 -- The rows of small bodies, their slots and columns, computed.
-use Rattle.std.proofs.Common.{◌≡◌, ℕ, List, [], ◌∷◌, ◌++◌, refl, map}
+use Rattle.std.proofs.Common.{◌≡◌, ℕ, List, [], ◌∷◌, ◌++◌, refl, map, take, arith}
 use Rattle.std.specs.Prelude.{codes, Some, None}
+use Rattle.std.specs.Str.{IsCharBoundary, IsUtf8}
+use Rattle.std.proofs.lemmas.Str.{IsCharBoundary-from_drop}
 use Rattle.unicode_segmentation.proofs.Computing.{unicode_segmentation}
 use Rattle.unicode_width.proofs.Computing.{unicode_width}
 use Rattle.bx_explicit.specs.declared.base.Base.TheVariants.{Ltr, Rtl}
 use Rattle.bx_paragraph.specs.declared.moves.Visual.TheVariants.{Right}
+use Rattle.bx_resolve.specs.TestTables.{class}
+use Rattle.bx_rows.specs.RowStarts.{row_starts}
+use Rattle.bx_rows.specs.declared.start_search.RowStart.{RowStart}
+use Rattle.bx_paragraph.specs.Laws.{RowsBeforeStay}
 use Rattle.bx_paragraph.specs.BodyRows.{first_of, last_of, offsets_of, row_at, row_of}
 use Rattle.bx_paragraph.specs.Slots.{beside, column_of, covering, entry, reading_order}
 use Rattle.bx_paragraph.proofs.Computed.{pictures, rows, rows_under, slots}
@@ -145,3 +151,23 @@ forced_right = refl
 entered_past_units : map (entry 6 (row_at (rows 6 (codes "d")) 0)) (1 ∷ 4 ∷ []) ≡ Some 0 ∷ Some 1 ∷ []
 unfolding unicode_segmentation unicode_width
 entered_past_units = refl
+
+-- ---- what follows from the law alone
+
+abbrev start : ℕ → RowStart
+start n = record { offset = n; units = n; chars = n }
+
+letters : IsUtf8 (codes "abcdef")
+unfolding unicode_segmentation unicode_width
+letters = (codes "abcdef", (refl, refl))
+
+before_last : IsCharBoundary (codes "abcdef") 5
+unfolding unicode_segmentation unicode_width
+before_last = IsCharBoundary-from_drop (codes "abcdef") 5 (omega arith) (codes "f", (refl, refl))
+
+-- in a window of one column the first two rows behind `abcde` are those of a and b, whatever comes behind
+rows_before_stay : RowsBeforeStay → (new : List ℕ) → IsUtf8 new → IsCharBoundary new 5 → codes "abcde" ≡ take 5 new
+    → take 2 (row_starts class 1 new) ≡ start 0 ∷ start 1 ∷ []
+unfolding unicode_segmentation unicode_width
+rows_before_stay law new valid boundary same =
+    law class 1 (codes "abcdef") new 5 1 4 (start 1) (start 4) (omega arith) letters valid before_last boundary same refl refl (omega arith) (omega arith)
