@@ -1,0 +1,119 @@
+-- Rows that follow from the laws alone, in every window, or of every text.
+use Rattle.std.proofs.Common.{◌≡◌, ◌⊎◌, ℕ, zero, suc, ◌+◌, ◌-◌, ◌<◌, ◌≤◌, true, List, [], ◌∷◌, length, get_or, Option, Some}
+use Rattle.std.proofs.Common.{refl, sym, ap₂, subst, arith, inl, inr}
+use Rattle.std.specs.Prelude.{Contains, IsUtf8, codes, slice_get}
+use Rattle.std.specs.List.Sorted.{IsStrictlyIncreasing}
+use Rattle.std.proofs.lemmas.Option.{get_or_from_slice_get}
+use Rattle.unicode_segmentation.proofs.Computing.{unicode_segmentation}
+use Rattle.unicode_width.proofs.Computing.{unicode_width}
+use Rattle.bx_terms.specs.Sizes.{is_side}
+use Rattle.bx_ucd.specs.declared.class.Class.{Class}
+use Rattle.bx_ucd.specs.declared.data.Side.{Side}
+use Rattle.bx_explicit.specs.declared.base.Base.{Base}
+use Rattle.bx_resolve.specs.TestTables.{class}
+use Rattle.bx_view.specs.declared.moves.Move.{Move}
+use Rattle.bx_view.specs.Cells.{HasCells, HasOneSlot, times}
+use Rattle.bx_view.specs.Laws.{InEachWindow, IsShownFrom, MovesKeep, MovesLeast, SpansText}
+use Rattle.bx_view.specs.Moves.{moved}
+use Rattle.bx_view.specs.Places.{IsTextPlace, text_places}
+use Rattle.bx_view.specs.TextRows.{TextRow, places, row_at, row_of, slots, text_rows}
+use Rattle.bx_view.specs.Top.{follow}
+
+ab : IsUtf8 (codes "ab")
+unfolding unicode_segmentation unicode_width
+ab = (codes "ab", (refl, refl))
+
+one_letter : IsUtf8 (codes "a")
+unfolding unicode_segmentation unicode_width
+one_letter = (codes "a", (refl, refl))
+
+-- the rows of the letter a
+abbrev rows_of_letter : (ℕ → Option (Side × ℕ)) → Base → ℕ → List TextRow
+rows_of_letter bracket base w = text_rows class bracket base w (codes "a")
+
+-- ---- places
+
+abbrev ArePlaces : Type 0
+ArePlaces = InEachWindow (λ class text w rows. places rows ≡ text_places class text)
+
+-- the places of `ab`
+places_of_ab : ArePlaces → (bracket : ℕ → Option (Side × ℕ)) (base : Base) (w : ℕ) → is_side w ≡ true
+    → places (text_rows class bracket base w (codes "ab")) ≡ 0 ∷ 1 ∷ 2 ∷ []
+unfolding unicode_segmentation unicode_width
+places_of_ab law bracket base w side = law class bracket base w (codes "ab") side ab
+
+places_of_a : ArePlaces → (bracket : ℕ → Option (Side × ℕ)) (base : Base) (w : ℕ) → is_side w ≡ true → places (rows_of_letter bracket base w) ≡ 0 ∷ 1 ∷ []
+unfolding unicode_segmentation unicode_width
+places_of_a law bracket base w side = law class bracket base w (codes "a") side one_letter
+
+above_number : (xs : List ℕ) (k : ℕ) → IsStrictlyIncreasing xs → k < length xs → k ≤ get_or xs k 0
+above_number xs zero rise h = omega arith
+above_number xs (suc k) rise h =
+    let one : k + 1 ≡ suc k = omega arith in
+    let more : get_or xs k 0 < get_or xs (k + 1) 0 = rise k (omega (arith, h)) in
+    let less = above_number xs k rise (omega (arith, h)) in
+    subst (λ n. suc k ≤ get_or xs n 0) one (omega (arith, more, less))
+
+from_0_to_1 : (xs : List ℕ) → IsStrictlyIncreasing xs → slice_get xs 0 ≡ Some 0 → slice_get xs (length xs - 1) ≡ Some 1 → xs ≡ 0 ∷ 1 ∷ []
+from_0_to_1 [] rise first last = absurd (cc)
+from_0_to_1 (x ∷ []) rise first last = let one : Some x ≡ Some 1 = last in absurd (cc)
+from_0_to_1 (x ∷ y ∷ []) rise first last =
+    let one : Some y ≡ Some 1 = last in
+    let a : x ≡ 0 = cc in
+    let b : y ≡ 1 = cc in ap₂ (λ m n. m ∷ n ∷ []) a b
+from_0_to_1 (x ∷ y ∷ z ∷ xs) rise first last =
+    let all : List ℕ = x ∷ y ∷ z ∷ xs in
+    let count : length all ≡ suc (suc (suc (length xs))) = refl in
+    absurd (omega (arith, count, get_or_from_slice_get all (length all - 1) 1 0 last, above_number all (length all - 1) rise (omega (arith, count))))
+
+-- a text of one byte has the places 0 and 1, whatever separates
+two_places : ((class : ℕ → Class) (text : List ℕ) → IsUtf8 text → SpansText class text) → (class : ℕ → Class) → text_places class (codes "a") ≡ 0 ∷ 1 ∷ []
+two_places law class = let s = law class (codes "a") one_letter in from_0_to_1 (text_places class (codes "a")) s.rise s.first s.last
+
+-- ---- moves
+
+either_place : (k x : ℕ) → k < 2 → get_or (0 ∷ 1 ∷ []) k x ≡ x → (x ≡ 0) ⊎ (x ≡ 1)
+either_place zero x h e = inl (sym e)
+either_place (suc zero) x h e = inr (sym e)
+either_place (suc (suc k)) x h e = absurd (omega (arith, h))
+
+-- each move from the begin of `a` leads to its begin or to its end
+moves_in_a : InEachWindow (λ class text w rows. MovesKeep w rows (IsTextPlace class text)) → (bracket : ℕ → Option (Side × ℕ)) (base : Base) (w : ℕ) (m : Move)
+    → is_side w ≡ true → (moved w (rows_of_letter bracket base w) m 0 ≡ 0) ⊎ (moved w (rows_of_letter bracket base w) m 0 ≡ 1)
+unfolding unicode_segmentation unicode_width
+moves_in_a law bracket base w m side =
+    let keep = law class bracket base w (codes "a") side one_letter in
+    let place = keep.moved m 0 (0, omega arith, refl) in either_place place.0 (moved w (rows_of_letter bracket base w) m 0) place.1 place.2
+
+-- ---- cells
+
+one_slot_at : (bracket : ℕ → Option (Side × ℕ)) (base : Base) (w : ℕ) → places (rows_of_letter bracket base w) ≡ 0 ∷ 1 ∷ []
+    → HasCells class w (rows_of_letter bracket base w) → HasOneSlot w (rows_of_letter bracket base w) 1
+one_slot_at bracket base w e cells = cells.one 1 (subst (λ xs. Contains xs 1) (sym e) (1, omega arith, refl))
+
+-- the end of `a` has one slot in its row, in every window (that it is a place of the rows is the law of places)
+one_slot_of_end : ArePlaces → InEachWindow (λ class text w rows. HasCells class w rows) → (bracket : ℕ → Option (Side × ℕ)) (base : Base) (w : ℕ)
+    → is_side w ≡ true → let rows = rows_of_letter bracket base w in times 1 (slots w (row_at rows (row_of rows 1))) ≡ 1
+one_slot_of_end are law bracket base w side =
+    let one = one_slot_at bracket base w (places_of_a are bracket base w side) (law class bracket base w (codes "a") side one_letter) in one.once
+
+-- ---- the top
+
+module _ (law : InEachWindow (λ class text w rows. MovesLeast rows)) (class : ℕ → Class) (bracket : ℕ → Option (Side × ℕ)) (base : Base) (w : ℕ) (text : List ℕ)
+    (side : is_side w ≡ true) (valid : IsUtf8 text) where
+  abbrev rows : List TextRow
+  rows = text_rows class bracket base w text
+
+  -- where one row is shown, it is that of the place
+  one_row_shown : (top place : ℕ) → row_of rows (follow rows top place 1) ≡ row_of rows place
+  one_row_shown top place =
+      let least = law class bracket base w text side valid in
+      let shown = least.shows top place 1 (omega arith) in
+      let above = shown.0 in
+      let below = shown.1 in omega (arith, above, below)
+
+  -- a top from which the place's row is shown stays
+  shown_top_stays : (top place t : ℕ) → 0 < t → IsShownFrom rows place t (row_of rows top) → row_of rows (follow rows top place t) ≡ row_of rows top
+  shown_top_stays top place t some shown =
+      let least = law class bracket base w text side valid in
+      let near = least.nearest top place t (row_of rows top) some shown in omega (arith, near)
