@@ -1,8 +1,8 @@
 //! What a session begins with.
 
-ghost use Rattle.std.specs.Prelude.{◌≡◌, None, OnOk, true};
+ghost use Rattle.std.specs.Prelude.{◌≡◌, ℕ, IfOk, Option, true};
 ghost use Rattle.bx_terms.specs.Sizes.{is_side};
-ghost use Rattle.bx_ucd.specs.Reading.{refusal};
+ghost use Rattle.bidi_edit.specs.Run.{AreOfFiles, IsOpened, bytes_of};
 
 use crate::fault::ProgramFault;
 use bx_command::start_of_line;
@@ -15,6 +15,8 @@ use std::alloc::Global;
 /// What a session begins with.
 #[derive(Drop)]
 pub struct Beginning<'a> {
+    /// Unicode's three files.
+    pub unicode: UnicodeFiles<'a>,
     /// The bytes of the text. A file that isn't there is an empty text.
     pub text: Option<Vec<u8>>,
     /// The window's rows and columns.
@@ -35,18 +37,18 @@ pub struct Beginning<'a> {
 /// Errors: those of the tables and of opening, in this order, and want of memory.
 pub fn open(
     alloc: Global,
-    unicode: UnicodeFiles<'_>,
     beginning: Beginning<'_>,
 ) -> Result<Session<Tables>, ProgramFault<'static>>
-    ensures { OnOk result (refusal unicode.entry.classes.now unicode.entry.brackets.now unicode.entry.mirroring.now ≡ None) }
+    ensures begins { IfOk result (λ s. (offset : Option ℕ)
+        × AreOfFiles (⟦<Tables as Answers>⟧.data s.tables) beginning.entry.unicode.classes.now beginning.entry.unicode.brackets.now beginning.entry.unicode.mirroring.now
+        × IsOpened (⟦<Tables as Answers>⟧.data s.tables) (bytes_of beginning.entry.text) beginning.entry.rows beginning.entry.cols beginning.entry.direction offset s.session) }
 {
-    let rows = beginning.rows;
-    let cols = beginning.cols;
-    let line = beginning.line;
+    let (rows, cols, direction) = (beginning.rows, beginning.cols, beginning.direction);
+    let unicode = beginning.unicode;
     let tables = Tables::read(alloc, unicode.classes, unicode.brackets, unicode.mirroring)?;
     let text = beginning.text.unwrap_or(Vec::new(alloc));
-    let start = line.map(|line| start_of_line(text.as_slice(), line));
-    let mut session = Session::open(alloc, text, tables, rows, cols, beginning.direction)?;
+    let start = beginning.line.map(|line| start_of_line(text.as_slice(), line));
+    let mut session = Session::open(alloc, text, tables, rows, cols, direction)?;
     if let Some(start) = start {
         session.go_to(start)?;
     }

@@ -1,15 +1,20 @@
 //! One run of the editor over a reader, a writer and a store.
 
-ghost use Rattle.std.specs.Prelude.{◌≡◌, None, OnOk};
-ghost use Rattle.bx_ucd.specs.Reading.{refusal};
+ghost use Rattle.std.specs.Prelude.{◌≡◌, false, IfOk, OnOk};
+ghost use Rattle.bx_session.specs.Laws.{after_replaying};
+ghost use Rattle.bx_session.specs.Painting.{QueuesPicture};
+ghost use Rattle.bx_session.specs.Running.{RunsRecorded};
+ghost use Rattle.bx_session.specs.Saving.{store_state};
+ghost use Rattle.bx_session.specs.Session.{with_painting};
+ghost use Rattle.bidi_edit.specs.Run.{Edits, begins_with, bytes_of};
 
 use crate::beginning::{Beginning, open};
 use crate::fault::ProgramFault;
 use crate::replaying::replay;
-use bx_session::{End, Session, run};
+use bx_document::Answers;
+use bx_session::{End, Journal, Recorder, Session, run_recorded};
 use bx_store::Store;
 use bx_ucd::Tables;
-use bx_words::UnicodeFiles;
 use std::alloc::Global;
 use std::io::{Read, Write};
 
@@ -23,16 +28,30 @@ pub enum Changes {
 }
 
 /// Replays keys, paints what came of them, and runs until Quit or the input's end.
-fn resume<R: Read, W: Write, S: Store>(
+fn resume<R: Read, J: Journal + Drop, W: Write, S: Store>(
     reader: &mut R,
+    recorder: &mut Recorder<J>,
     writer: &mut W,
     store: &mut S,
     session: &mut Session<Tables>,
     keys: &[u8],
-) -> Result<Changes, ProgramFault<'static>> {
+) -> Result<Changes, ProgramFault<'static>>
+    ensures tables { session.new.tables ≡ session.old.tables }
+    ensures paints { OnOk result (QueuesPicture (⟦<Tables as Answers>⟧.data session.old.tables)
+        (after_replaying (⟦<Tables as Answers>⟧.data session.old.tables) session.old.session keys.now).pending
+        (after_replaying (⟦<Tables as Answers>⟧.data session.old.tables) session.old.session keys.now).known
+        (with_painting (⟦<Tables as Answers>⟧.data session.old.tables)
+        (after_replaying (⟦<Tables as Answers>⟧.data session.old.tables) session.old.session keys.now))) }
+    ensures runs { OnOk result (RunsRecorded J.contents J.failure_count (⟦<Tables as Answers>⟧.data session.old.tables)
+        (with_painting (⟦<Tables as Answers>⟧.data session.old.tables)
+        (after_replaying (⟦<Tables as Answers>⟧.data session.old.tables) session.old.session keys.now)) session.new.session
+        (store_state S.contents S.failure_count store.old) (store_state S.contents S.failure_count store.new)
+        (R.remaining reader.old) (R.remaining reader.new) (W.contents writer.old) (W.contents writer.new) recorder.old recorder.new) }
+    ensures saved { result ≡ Ok Changes.Saved → session.new.session.editor.changed ≡ false }
+{
     replay(session, keys)?;
     session.paint()?;
-    let end = run(reader, writer, store, session)?;
+    let end = run_recorded(reader, recorder, writer, store, session)?;
     match (end, session.changed()) {
         (End::InputEnded { changed: true }, _) => Err(ProgramFault::Unsaved),
         (End::Quit, true) => Ok(Changes::Dropped),
@@ -45,19 +64,23 @@ fn resume<R: Read, W: Write, S: Store>(
 ///
 /// Errors: those of the tables, of opening, of replaying and of running, in this order, and `Unsaved` where the input ended
 /// with the text changed.
-pub fn edit<R: Read, W: Write, S: Store>(
+pub fn edit<R: Read, J: Journal + Drop, W: Write, S: Store>(
     alloc: Global,
     reader: &mut R,
+    recorder: &mut Recorder<J>,
     writer: &mut W,
     store: &mut S,
-    unicode: UnicodeFiles<'_>,
     beginning: Beginning<'_>,
 ) -> Result<Changes, ProgramFault<'static>>
-    ensures { OnOk result (refusal unicode.entry.classes.now unicode.entry.brackets.now unicode.entry.mirroring.now ≡ None) }
+    ensures edits { IfOk result (λ changes. Edits J.contents J.failure_count
+        (λ offset. begins_with (bytes_of beginning.entry.text) beginning.entry.rows beginning.entry.cols beginning.entry.direction offset beginning.entry.keys.now)
+        beginning.entry.unicode.classes.now beginning.entry.unicode.brackets.now beginning.entry.unicode.mirroring.now
+        (store_state S.contents S.failure_count store.old) (store_state S.contents S.failure_count store.new)
+        (R.remaining reader.old) (R.remaining reader.new) (W.contents writer.old) (W.contents writer.new) recorder.old recorder.new changes) }
 {
     let keys = beginning.keys;
-    let mut session = open(alloc, unicode, beginning)?;
-    let changes = resume(reader, writer, store, &mut session, keys);
+    let mut session = open(alloc, beginning)?;
+    let changes = resume(reader, recorder, writer, store, &mut session, keys);
     // Here, since each way out would be a proof of what is dropped there.
     drop(session);
     changes

@@ -14,7 +14,7 @@ mod replaying;
 
 use beginning::Beginning;
 use bx_command::{Files, JournalFile, Options, command_line, empty_journal};
-use bx_session::JournalReader;
+use bx_session::{Recorder, WrittenJournal};
 use bx_store::{FileStore, Store};
 use bx_words::{refuse, refuse_words, text_of};
 use edit::{Changes, edit};
@@ -32,22 +32,22 @@ const NAME: &str = "bidi_edit";
 fn edit_file<'a, R: Read + Drop, W: Write, S: Store>(
     rt: &HostRuntime,
     options: &Options<'a>,
-    files: &Files,
     beginning: Beginning<'_>,
-    reader: R,
+    mut reader: R,
     writer: &mut W,
     store: &mut S,
 ) -> Result<(), ProgramFault<'a>> {
-    let mut reader = JournalReader::new(reader, JournalFile::open(*rt, options.journal));
+    let journal = JournalFile::open(*rt, options.journal);
+    let mut recorder = Recorder::new(WrittenJournal::new(journal));
     let changes = edit(
         rt.alloc(),
         &mut reader,
+        &mut recorder,
         writer,
         store,
-        files.unicode(),
         beginning,
     );
-    if reader.has_failed() {
+    if recorder.has_failed() {
         tell_lost_journal(rt);
     }
     match (changes?, options.journal) {
@@ -61,19 +61,12 @@ fn edit_file<'a, R: Read + Drop, W: Write, S: Store>(
 fn recover_to<'a, W: Write, S: Store>(
     rt: &HostRuntime,
     options: &Options<'a>,
-    files: &Files,
     beginning: Beginning<'_>,
     writer: &mut W,
     store: &mut S,
 ) -> Result<(), ProgramFault<'a>> {
     let file = text_of(rt, options.file)?.unwrap_or(Vec::new(rt.alloc()));
-    let replayed = recover(
-        rt.alloc(),
-        store,
-        files.unicode(),
-        beginning,
-        file.as_slice(),
-    )?;
+    let replayed = recover(rt.alloc(), store, beginning, file.as_slice())?;
     match writeln!(writer, "{replayed}") {
         Ok(()) => Ok(()),
         Err(_) => Err(ProgramFault::Untold),
@@ -93,6 +86,7 @@ fn program<'a, R: Read + Drop, W: Write>(
     let mut files = Files::read(rt, options)?;
     let text = files.text.take();
     let beginning = Beginning {
+        unicode: files.unicode(),
         text,
         rows: options.rows,
         cols: options.cols,
@@ -101,8 +95,8 @@ fn program<'a, R: Read + Drop, W: Write>(
         keys: files.keys.as_slice(),
     };
     match options.to {
-        None => edit_file(rt, options, &files, beginning, reader, writer, &mut store),
-        Some(_) => recover_to(rt, options, &files, beginning, writer, &mut store),
+        None => edit_file(rt, options, beginning, reader, writer, &mut store),
+        Some(_) => recover_to(rt, options, beginning, writer, &mut store),
     }
 }
 

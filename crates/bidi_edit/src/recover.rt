@@ -1,15 +1,17 @@
 //! A text that is had from a journal, with no terminal.
 
-ghost use Rattle.std.specs.Prelude.{◌≡◌, None, OnOk};
-ghost use Rattle.bx_ucd.specs.Reading.{refusal};
+ghost use Rattle.std.specs.Prelude.{◌≡◌, OnOk};
+ghost use Rattle.bx_session.specs.Laws.{after_replaying};
+ghost use Rattle.bx_session.specs.Saving.{store_state, with_text};
+ghost use Rattle.bidi_edit.specs.Run.{Recovers, begins_with, bytes_of};
 
 use crate::beginning::{Beginning, open};
 use crate::fault::ProgramFault;
 use crate::replaying::{Replayed, replay_beside};
+use bx_document::Answers;
 use bx_session::Session;
 use bx_store::Store;
 use bx_ucd::Tables;
-use bx_words::UnicodeFiles;
 use std::alloc::Global;
 
 /// Replays keys beside the bytes that the file has now, and stores the text.
@@ -18,7 +20,11 @@ fn store_replayed<S: Store>(
     session: &mut Session<Tables>,
     keys: &[u8],
     file: &[u8],
-) -> Result<Replayed, ProgramFault<'static>> {
+) -> Result<Replayed, ProgramFault<'static>>
+    ensures stored { OnOk result (store_state S.contents S.failure_count store.new ≡ with_text
+        (after_replaying (⟦<Tables as Answers>⟧.data session.old.tables) session.old.session keys.now).editor.content.text
+        (store_state S.contents S.failure_count store.old)) }
+{
     let replayed = replay_beside(session, keys, file)?;
     match session.copy_to(store) {
         Ok(()) => Ok(replayed),
@@ -33,14 +39,16 @@ fn store_replayed<S: Store>(
 pub fn recover<S: Store>(
     alloc: Global,
     store: &mut S,
-    unicode: UnicodeFiles<'_>,
     beginning: Beginning<'_>,
     file: &[u8],
 ) -> Result<Replayed, ProgramFault<'static>>
-    ensures { OnOk result (refusal unicode.entry.classes.now unicode.entry.brackets.now unicode.entry.mirroring.now ≡ None) }
+    ensures recovers { OnOk result (Recovers
+        (λ offset. begins_with (bytes_of beginning.entry.text) beginning.entry.rows beginning.entry.cols beginning.entry.direction offset beginning.entry.keys.now)
+        beginning.entry.unicode.classes.now beginning.entry.unicode.brackets.now beginning.entry.unicode.mirroring.now
+        (store_state S.contents S.failure_count store.old) (store_state S.contents S.failure_count store.new)) }
 {
     let keys = beginning.keys;
-    let mut session = open(alloc, unicode, beginning)?;
+    let mut session = open(alloc, beginning)?;
     let replayed = store_replayed(store, &mut session, keys, file);
     // Here, since each way out would be a proof of what is dropped there.
     drop(session);

@@ -1,6 +1,10 @@
 //! Keys of a journal, replayed.
 
+ghost use Rattle.std.specs.Prelude.{◌≡◌, OnOk};
+ghost use Rattle.bx_session.specs.Laws.{after_replaying};
+
 use crate::fault::ProgramFault;
+use bx_document::Answers;
 use bx_keys::Key;
 use bx_session::Session;
 use bx_ucd::Tables;
@@ -38,7 +42,11 @@ impl fmt::Display for Replayed {
 /// Replays keys, and paints nothing.
 ///
 /// Errors: `OutOfMemory`: the keys up to one that there was no memory for were applied.
-pub fn replay(session: &mut Session<Tables>, keys: &[u8]) -> Result<(), ProgramFault<'static>> {
+pub fn replay(session: &mut Session<Tables>, keys: &[u8]) -> Result<(), ProgramFault<'static>>
+    ensures tables { session.new.tables ≡ session.old.tables }
+    ensures replays { OnOk result (session.new.session
+        ≡ after_replaying (⟦<Tables as Answers>⟧.data session.old.tables) session.old.session keys.now) }
+{
     for byte in keys {
         session.replay(*byte)?;
     }
@@ -52,7 +60,11 @@ pub fn replay_beside(
     session: &mut Session<Tables>,
     keys: &[u8],
     file: &[u8],
-) -> Result<Replayed, ProgramFault<'static>> {
+) -> Result<Replayed, ProgramFault<'static>>
+    ensures tables { session.new.tables ≡ session.old.tables }
+    ensures replays { OnOk result (session.new.session
+        ≡ after_replaying (⟦<Tables as Answers>⟧.data session.old.tables) session.old.session keys.now) }
+{
     let mut is_known = session.has_text(file);
     let mut count = 0u64;
     for byte in keys {

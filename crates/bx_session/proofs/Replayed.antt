@@ -1,5 +1,5 @@
 -- Bytes that are replayed apply their keys one after another.
-use Rattle.std.proofs.Common.{◌≡◌, ℕ, Bool, true, false, List, [], ◌∷◌, ◌++◌, Option, Some, None, refl, sym, ap, ◌∙◌, if◌then◌else◌}
+use Rattle.std.proofs.Common.{◌≡◌, ℕ, Bool, true, false, List, [], ◌∷◌, ◌++◌, Option, Some, None, refl, sym, ap, ◌∙◌, append_assoc, if◌then◌else◌}
 use Rattle.std.proofs.lemmas.List.Elements.{filter-append}
 use Rattle.std.specs.List.{filter}
 use Rattle.std.specs.Prelude.{option_to_list}
@@ -12,7 +12,7 @@ use Rattle.bx_text.specs.Edits.{Edit}
 use Rattle.bx_editor.specs.Data.{Data}
 use Rattle.bx_editor.specs.Editor.{Editor, after_undo, after_redo, without_message}
 use Rattle.bx_editor.specs.Keys.{after_key, after_keys}
-use Rattle.bx_session.specs.Laws.{keys_from, ReplaysKeys}
+use Rattle.bx_session.specs.Laws.{keys_from, after_replaying, ReplaysKeys}
 use Rattle.bx_session.specs.Session.{Session, after_replay, after_replayed_key, is_replayed, with_painting_owed}
 
 -- ---- a key that is replayed does not end the editor
@@ -54,7 +54,7 @@ goes_on d e (Size height width) r h = h
 -- ---- a byte
 
 -- what a byte leaves, where its key is given
-record Applies (d : Data) (old : Session) (rest : List ℕ) (keys : List Key) (new : Session) : Type 0 where
+pub record Applies (d : Data) (old : Session) (rest : List ℕ) (keys : List Key) (new : Session) : Type 0 where
   pub editor : new.editor ≡ after_keys d false old.editor (filter is_replayed keys)
   pub rest_is : new.rest ≡ rest
   pub goes_on : new.editor.ended ≡ false
@@ -81,7 +81,7 @@ applies_at false d s b e h =
     let each = applies_any d (record s { rest = head_of (rest_after s.rest b) }) (key_after s.rest b) e in
     record { editor = each.editor; rest_is = each.rest_is; goes_on = each.goes_on }
 
-applies : (d : Data) (s : Session) (b : ℕ) → s.editor.ended ≡ false
+pub applies : (d : Data) (s : Session) (b : ℕ) → s.editor.ended ≡ false
     → Applies d s (head_of (rest_after s.rest b)) (option_to_list (key_after s.rest b)) (after_replay d s b)
 applies d s b h = applies_at s.editor.ended d s b refl h
 
@@ -101,3 +101,26 @@ replays_keys d s (b ∷ bs) h =
     ∙ rw (each.rest_is, each.editor)
     (sym (ap (after_keys d false s.editor) (filter-append is_replayed (option_to_list key) others)
     ∙ keys_in_parts d s.editor (filter is_replayed (option_to_list key)) (filter is_replayed others)))
+
+-- ---- what waits behind bytes
+
+abbrev pub rest_from : List ℕ → List ℕ → List ℕ
+rest_from rest [] = rest
+rest_from rest (b ∷ bs) = rest_from (head_of (rest_after rest b)) bs
+
+pub keys_from_both : (rest bs more : List ℕ) → keys_from rest (bs ++ more) ≡ keys_from rest bs ++ keys_from (rest_from rest bs) more
+keys_from_both rest [] more = refl
+keys_from_both rest (b ∷ bs) more =
+    let next = head_of (rest_after rest b) in
+    ap (λ ks. option_to_list (key_after rest b) ++ ks) (keys_from_both next bs more)
+    ∙ sym (append_assoc (option_to_list (key_after rest b)) (keys_from next bs) (keys_from (rest_from next bs) more))
+
+pub replayed_rest : (d : Data) (s : Session) (bs : List ℕ) → s.editor.ended ≡ false → (after_replaying d s bs).rest ≡ rest_from s.rest bs
+replayed_rest d s [] h = refl
+replayed_rest d s (b ∷ bs) h =
+    let each = applies d s b h in
+    replayed_rest d (after_replay d s b) bs each.goes_on ∙ ap (λ rest. rest_from rest bs) each.rest_is
+
+pub replayed_more : (d : Data) (s : Session) (bs : List ℕ) (b : ℕ) → after_replaying d s (bs ++ b ∷ []) ≡ after_replay d (after_replaying d s bs) b
+replayed_more d s [] b = refl
+replayed_more d s (first ∷ bs) b = replayed_more d (after_replay d s first) bs b

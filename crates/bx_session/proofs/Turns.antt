@@ -18,7 +18,7 @@ use Rattle.bx_session.specs.Session.{unpainted_after_byte, is_idle}
 use Rattle.bx_session.specs.Painting.{FeedPaints, QueuesPicture}
 use Rattle.bx_session.specs.Saving.{StoreState, AfterByte, Feeds}
 use Rattle.bx_session.specs.Running.{ByteAnswer, bytes_of, FeedsAll, FedUntilEnd, HasRead, Sent, HasRun}
-use Rattle.bx_session.specs.Running.{Turn, TakesTurn, TakesTurns, fed_in, written_in}
+use Rattle.bx_session.specs.Running.{Turn, IsRead, TakesTurn, TakesTurns, read_in, read_size, fed_in, dropped_in, written_in}
 
 -- ---- what was pending before does not matter
 
@@ -175,23 +175,29 @@ sent_kept s s1 w w1 w2 written a k = record { writes = Appends-kept w w1 w2 writ
 
 -- one turn more
 turns_more : (d : Data) (old mid new all : Session) (store mid_store store' : StoreState) (turns : List Turn) (turn : Turn)
-    → TakesTurns d old store turns mid mid_store → TakesTurn d mid mid_store turn new store' all
+    → TakesTurns d old store turns mid mid_store → IsRead mid turn all → TakesTurn d mid mid_store turn new store' all
     → TakesTurns d old store (turns ++ turn ∷ []) new store'
-turns_more d old mid new all store mid_store store' [] turn before takes = (
+turns_more d old mid new all store mid_store store' [] turn before read takes = (
   new,
   store',
   all,
+  subst (λ (x : Session). IsRead x turn all) before.0 read,
   subst (λ (x : Session). TakesTurn d x store turn new store' all) before.0
       (subst (λ (x : StoreState). TakesTurn d mid x turn new store' all) before.1 takes),
   (refl, refl),
 )
-turns_more d old mid new all store mid_store store' (first ∷ turns) turn before takes =
-    (before.0, before.1, before.2, before.3, turns_more d before.0 mid new all before.1 mid_store store' turns turn before.4 takes)
+turns_more d old mid new all store mid_store store' (first ∷ turns) turn before read takes =
+    (before.0, before.1, before.2, before.3, before.4, turns_more d before.0 mid new all before.1 mid_store store' turns turn before.5 read takes)
 
 fed_more_turns : (turns : List Turn) (turn : Turn) → fed_in (turns ++ turn ∷ []) ≡ fed_in turns ++ turn.fed
 fed_more_turns [] turn = append-nil turn.fed
 fed_more_turns (first ∷ turns) turn =
     ap (λ xs. first.fed ++ xs) (fed_more_turns turns turn) ∙ sym (append_assoc first.fed (fed_in turns) turn.fed)
+
+dropped_more_turns : (turns : List Turn) (turn : Turn) → dropped_in (turns ++ turn ∷ []) ≡ dropped_in turns ++ turn.dropped
+dropped_more_turns [] turn = append-nil turn.dropped
+dropped_more_turns (first ∷ turns) turn =
+    ap (λ xs. first.dropped ++ xs) (dropped_more_turns turns turn) ∙ sym (append_assoc first.dropped (dropped_in turns) turn.dropped)
 
 wrote_more_turns : (turns : List Turn) (turn : Turn) → written_in (turns ++ turn ∷ []) ≡ written_in turns ++ turn.written
 wrote_more_turns [] turn = append-nil turn.written
@@ -204,13 +210,19 @@ started d s s1 store r w w1 written a = record {
   feeds = (refl, refl);
   reads = Consumes-nil r;
   drops = λ some. absurd (some refl);
+  few = omega arith;
   writes = a.writes;
   order = a.order;
   session = a.session;
   in_turns = record {
-    turns = record { fed = []; written = written } ∷ [];
-    takes = (s1, store, s, record { feeds = (refl, refl); order = a.order; session = a.session }, (refl, refl));
+    first = written;
+    begun = s1;
+    first_order = a.order;
+    begins = a.session;
+    turns = [];
+    takes = (refl, refl);
     fed = refl;
+    drops = refl;
     wrote = append-nil written;
   };
 }
@@ -219,44 +231,82 @@ none_dropped : (dropped : List ℕ) (ended : Bool) → (dropped ≢ [] → ended
 none_dropped [] ended h running = refl
 none_dropped (x ∷ dropped) ended h running = absurd (let e : ended ≡ true = h (λ q. absurd (cc q)) in cc e)
 
+-- the first byte of a read is fed, so fewer are dropped than a read gives
+few_dropped : (d : Data) (s s2 : Session) (store store2 : StoreState) (answered : List ByteAnswer) (dropped : List ℕ)
+    → FeedsAll d s store answered s2 store2 → s.editor.ended ≡ false → (dropped ≢ [] → s2.editor.ended ≡ true)
+    → length (bytes_of answered ++ dropped) ≤ read_size → length dropped < read_size
+few_dropped d s s2 store store2 [] dropped feeds running drops most =
+    let none : dropped ≡ [] = none_dropped dropped s2.editor.ended drops (ap (λ (x : Session). x.editor.ended) feeds.0 ∙ running) in
+    omega (arith, ap (λ (xs : List ℕ). length xs) none)
+few_dropped d s s2 store store2 (a ∷ answered) dropped feeds running drops most =
+    omega (arith, most, length-append (bytes_of answered) dropped)
+
+-- what was read so far, and a read more
+pub read_on : (s s2 : Session) (answered answered' : List ByteAnswer) (dropped dropped' bytes : List ℕ) → (dropped ≢ [] → s.editor.ended ≡ true)
+    → s.editor.ended ≡ false → bytes ≡ bytes_of answered' ++ dropped'
+    → (bytes_of answered ++ dropped) ++ bytes ≡ bytes_of (answered ++ answered') ++ dropped'
+read_on s s2 answered answered' dropped dropped' bytes drops running is =
+    ap (λ xs. (bytes_of answered ++ xs) ++ bytes) (none_dropped dropped s.editor.ended drops running)
+    ∙ ap (λ xs. xs ++ bytes) (append-nil (bytes_of answered))
+    ∙ ap (λ xs. bytes_of answered ++ xs) is
+    ∙ sym (append_assoc (bytes_of answered) (bytes_of answered') dropped')
+    ∙ ap (λ xs. xs ++ dropped') (sym (map-append (λ (x : ByteAnswer). x.0) answered answered'))
+
+-- what was dropped before, in a session that has not ended
+pub run_drops : (d : Data) (old s : Session) (store store1 : StoreState) (r r1 w w1 : Option (List ℕ)) (answered : List ByteAnswer)
+    (dropped written : List ℕ) (all : Session) → HasRun d old s store store1 r r1 w w1 answered dropped written all
+    → dropped ≢ [] → s.editor.ended ≡ true
+run_drops d old s store store1 r r1 w w1 answered dropped written all run some = ap (λ (x : Session). x.editor.ended) run.session ∙ run.drops some
+
 pub turned : {D : Type 0} (says : D → Data) (tables tables1 : D) (old s s2 s3 : Session) (store store1 store2 : StoreState) (r r1 r2 w w1 w2 : Option (List ℕ))
     (answered answered' : List ByteAnswer) (dropped dropped' written written' bytes : List ℕ) (all : Session)
     → HasRun (says tables) old s store store1 r r1 w w1 answered dropped written all → tables1 ≡ tables → s.pending ≡ []
-    → s.editor.ended ≡ false → Consumes r1 r2 bytes → FedUntilEnd (says tables1) s store1 bytes s2 store2 answered' dropped'
-    → Sent s2 s3 w1 w2 written'
+    → s.editor.ended ≡ false → 1 ≤ length bytes → length bytes ≤ read_size → Consumes r1 r2 bytes
+    → FedUntilEnd (says tables1) s store1 bytes s2 store2 answered' dropped' → Sent s2 s3 w1 w2 written'
     → HasRun (says tables) old s3 store store2 r r2 w w2 (answered ++ answered') dropped' (written ++ written') (prefixed all.pending s2)
 turned {D} says tables tables1 old s s2 s3 store store1 store2 r r1 r2 w w1 w2 answered answered' dropped dropped' written written' bytes all run stay empty
-    running reads feeds sends =
+    running some most reads feeds sends =
     let d = says tables in
     let fed : FeedsAll d s store1 answered' s2 store2 = subst (λ (t : D). FeedsAll (says t) s store1 answered' s2 store2) stay feeds.feeds in
     let same : prefixed all.pending s ≡ all =
     ap (prefixed all.pending) run.session ∙ ap (λ (q : List ℕ). record all { pending = all.pending ++ q }) empty
     ∙ ap (λ (q : List ℕ). record all { pending = q }) (append-nil all.pending) in
-    let none : dropped ≡ [] = none_dropped dropped s.editor.ended (λ some. ap (λ (x : Session). x.editor.ended) run.session ∙ run.drops some) running in
-    let read : (bytes_of answered ++ dropped) ++ bytes ≡ bytes_of (answered ++ answered') ++ dropped' =
-    ap (λ xs. (bytes_of answered ++ xs) ++ bytes) none
-    ∙ ap (λ xs. xs ++ bytes) (append-nil (bytes_of answered))
-    ∙ ap (λ xs. bytes_of answered ++ xs) feeds.all
-    ∙ sym (append_assoc (bytes_of answered) (bytes_of answered') dropped')
-    ∙ ap (λ xs. xs ++ dropped') (sym (map-append (λ (x : ByteAnswer). x.0) answered answered')) in
-    let turn : Turn = record { fed = answered'; written = written' } in
+    let drops = run_drops d old s store store1 r r1 w w1 answered dropped written all run in
+    let none : dropped ≡ [] = none_dropped dropped s.editor.ended drops running in
+    let turn : Turn = record { fed = answered'; dropped = dropped'; written = written' } in
     let before = run.in_turns in
     let kept : all.pending ≡ written = run.order ∙ ap (λ xs. written ++ xs) empty ∙ append-nil written in
-    record {
+    let count : length bytes ≡ length (read_in turn) = ap (λ (xs : List ℕ). length xs) feeds.all in
+    let read : IsRead s turn s2 = record {
+      goes_on = running;
+      sent = empty;
+      some = omega (arith, some, count);
+      most = omega (arith, most, count);
+      drops = feeds.drops;
+    } in record {
       feeds = FeedsAll-append d old store answered answered' all store1 (prefixed all.pending s2) store2 run.feeds
           (subst (λ (x : Session). FeedsAll d x store1 answered' (prefixed all.pending s2) store2) same
           (FeedsAll-prefixed d all.pending s store1 answered' s2 store2 fed));
-      reads = subst (Consumes r r2) read (Consumes-trans r r1 r2 (bytes_of answered ++ dropped) bytes run.reads reads);
+      reads = subst (Consumes r r2) (read_on s s2 answered answered' dropped dropped' bytes drops running feeds.all)
+          (Consumes-trans r r1 r2 (bytes_of answered ++ dropped) bytes run.reads reads);
       drops = feeds.drops;
+      few = few_dropped d s s2 store1 store2 answered' dropped' fed running feeds.drops read.most;
       writes = Appends-trans w w1 w2 written written' run.writes sends.writes;
       order = ap (λ xs. xs ++ s2.pending) kept ∙ ap (λ xs. written ++ xs) sends.order ∙ sym (append_assoc written written' s3.pending);
       session = sends.session;
       in_turns = record {
+        first = before.first;
+        begun = before.begun;
+        first_order = before.first_order;
+        begins = before.begins;
         turns = before.turns ++ turn ∷ [];
-        takes = turns_more d old s s3 s2 store store1 store2 before.turns turn before.takes
+        takes = turns_more d before.begun s s3 s2 store store1 store2 before.turns turn before.takes read
             (record { feeds = fed; order = sends.order; session = sends.session });
         fed = fed_more_turns before.turns turn ∙ ap (λ xs. xs ++ answered') before.fed;
-        wrote = wrote_more_turns before.turns turn ∙ ap (λ xs. xs ++ written') before.wrote;
+        drops = dropped_more_turns before.turns turn ∙ ap (λ xs. xs ++ dropped') (before.drops ∙ none);
+        wrote = ap (λ xs. before.first ++ xs) (wrote_more_turns before.turns turn)
+            ∙ sym (append_assoc before.first (written_in before.turns) written')
+            ∙ ap (λ xs. xs ++ written') before.wrote;
       };
     }
 
@@ -274,3 +324,21 @@ pub fewer : (s s1 : Session) (count : ℕ) → (count ≡ 0 → ⊥) → count �
     → length s1.pending < length s.pending
 fewer s s1 count some fits e =
     omega (arith, ap (λ (x : Session). length x.pending) e, length-drop count s.pending)
+
+-- a read that gave nothing
+pub read_nothing : (d : Data) (old s : Session) (store store1 : StoreState) (r r1 r2 w w1 : Option (List ℕ)) (answered : List ByteAnswer)
+    (dropped written : List ℕ) (all : Session) → HasRun d old s store store1 r r1 w w1 answered dropped written all → Consumes r1 r2 []
+    → HasRun d old s store store1 r r2 w w1 answered dropped written all
+read_nothing d old s store store1 r r1 r2 w w1 answered dropped written all run nothing = record {
+  feeds = run.feeds;
+  reads = subst (Consumes r r2) (append-nil (bytes_of answered ++ dropped)) (Consumes-trans r r1 r2 (bytes_of answered ++ dropped) [] run.reads nothing);
+  drops = run.drops;
+  few = run.few;
+  writes = run.writes;
+  order = run.order;
+  session = run.session;
+  in_turns = run.in_turns;
+}
+
+pub none_taken : (r r1 : Option (List ℕ)) (buffer : List ℕ) (count : ℕ) → count ≡ 0 → Consumes r r1 (take count buffer) → Consumes r r1 []
+none_taken r r1 buffer count none h = subst (λ n. Consumes r r1 (take n buffer)) none h

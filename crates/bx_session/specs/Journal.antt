@@ -1,19 +1,21 @@
--- A reader whose bytes are kept in a journal.
+-- A journal of what is read.
 use Rattle.std.specs.Prelude.{◌≡◌, ℕ, List, ◌++◌, Bool, true, false, Option}
 use Rattle.std.specs.Io.KnownBytes.{Appends}
+use Rattle.bx_store.specs.Stores.{one_more}
 
-pub record JournalState (R W : Type 0) : Type 0 where
-  pub reader : R
-  pub journal : W
-  -- a write or a flush of the journal failed
+-- a journal, and whether a call of it failed
+pub record RecorderState (J : Type 0) : Type 0 where
+  pub journal : J
   pub failed : Bool
 
--- the journal grew by bytes that were to stand in it: by all of them, or by their beginning where it failed; one that failed
--- before stays as it was
-pub record HasKept {R W : Type 0} (contents : W → Option (List ℕ)) (old new : JournalState R W) (bytes : List ℕ) : Type 0 where
+-- The journal grew by bytes that were to stand in it: by all of them, or by their beginning where it failed. It failed only where
+-- a call of it did. One that failed before stays as it was.
+pub record HasKept {J : Type 0} (contents : J → Option (List ℕ)) (failures : J → ℕ) (old new : RecorderState J) (bytes : List ℕ) : Type 0 where
   pub kept : List ℕ
   pub lost : List ℕ
   pub is_beginning : bytes ≡ kept ++ lost
   pub grows : Appends (contents old.journal) (contents new.journal) kept
   pub all : new.failed ≡ false → kept ≡ bytes
-  pub stays : old.failed ≡ true → new ≡ record old { reader = new.reader }
+  pub well : new.failed ≡ false → failures new.journal ≡ failures old.journal
+  pub fault : old.failed ≡ false → new.failed ≡ true → failures new.journal ≡ one_more (failures old.journal)
+  pub stays : old.failed ≡ true → new ≡ old

@@ -4,4 +4,5 @@ pub mod Painting
 pub mod Running
 pub mod Journal
 pub mod Laws
+pub mod Beginning
 pub mod Anew

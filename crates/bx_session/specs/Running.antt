@@ -1,5 +1,5 @@
 -- A session run over a reader, a writer and a store.
-use Rattle.std.specs.Prelude.{◌≡◌, ◌≢◌, ◌≤◌, length, ℕ, true, false, List, [], ◌∷◌, ◌++◌, map, Option, Result, Ok, Err, OnOk}
+use Rattle.std.specs.Prelude.{◌≡◌, ◌≢◌, ◌≤◌, ◌<◌, length, ℕ, true, false, List, [], ◌∷◌, ◌++◌, map, Option, Result, Ok, Err, OnOk}
 use Rattle.std.specs.Io.KnownBytes.{Appends, Consumes, IsAtEnd}
 use Rattle.bx_editor.specs.Data.{Data}
 use Rattle.bx_session.specs.declared.status.Status.{Status}
@@ -11,6 +11,7 @@ use Rattle.bx_session.specs.declared.end.RunFault.TheVariants.{ReadFault, WriteF
 use Rattle.bx_session.specs.Session.{Session, is_idle}
 use Rattle.bx_session.specs.Saving.{StoreState, Feeds}
 use Rattle.bx_session.specs.Painting.{FeedPaints}
+use Rattle.bx_session.specs.Journal.{RecorderState, HasKept}
 
 -- a byte, and what it was answered
 abbrev pub ByteAnswer : Type 0
@@ -40,10 +41,28 @@ pub record Sent (old new : Session) (writer writer' : Option (List ℕ)) (writte
   pub order : old.pending ≡ written ++ new.pending
   pub session : new ≡ record old { pending = new.pending }
 
--- a turn of a run: bytes that were fed, and then bytes that were written
+-- the most bytes that a read of a run asks for
+abbrev pub read_size : ℕ
+read_size = 256
+
+-- a turn of a run: the bytes of one read, which are fed until the session ends, and dropped from there on; and then bytes that
+-- were written
 pub record Turn : Type 0 where
   pub fed : List ByteAnswer
+  pub dropped : List ℕ
   pub written : List ℕ
+
+abbrev pub read_in : Turn → List ℕ
+read_in turn = bytes_of turn.fed ++ turn.dropped
+
+-- Where a turn begins: a read comes only where the session has not ended and all that was queued has gone out, and gives some
+-- bytes. They are dropped only behind the session's end.
+pub record IsRead (old : Session) (turn : Turn) (all : Session) : Type 0 where
+  pub goes_on : old.editor.ended ≡ false
+  pub sent : old.pending ≡ []
+  pub some : 1 ≤ length (read_in turn)
+  pub most : length (read_in turn) ≤ read_size
+  pub drops : turn.dropped ≢ [] → all.editor.ended ≡ true
 
 -- session and store after a turn, where the bytes fed leave the session `all`: a prefix of what is pending was written
 pub record TakesTurn (d : Data) (old : Session) (store : StoreState) (turn : Turn) (new : Session) (store' : StoreState) (all : Session)
@@ -56,23 +75,34 @@ pub record TakesTurn (d : Data) (old : Session) (store : StoreState) (turn : Tur
 abbrev pub TakesTurns : Data → Session → StoreState → List Turn → Session → StoreState → Type 0
 TakesTurns d old store [] new store' = (new ≡ old) × (store' ≡ store)
 TakesTurns d old store (turn ∷ more) new store' =
-    (mid : Session) × (mid_store : StoreState) × (all : Session) × TakesTurn d old store turn mid mid_store all
+    (mid : Session) × (mid_store : StoreState) × (all : Session) × IsRead old turn all × TakesTurn d old store turn mid mid_store all
     × TakesTurns d mid mid_store more new store'
 
 abbrev pub fed_in : List Turn → List ByteAnswer
 fed_in [] = []
 fed_in (turn ∷ more) = turn.fed ++ fed_in more
 
+abbrev pub dropped_in : List Turn → List ℕ
+dropped_in [] = []
+dropped_in (turn ∷ more) = turn.dropped ++ dropped_in more
+
 abbrev pub written_in : List Turn → List ℕ
 written_in [] = []
 written_in (turn ∷ more) = turn.written ++ written_in more
 
--- all that was fed and written, in turns
-pub record InTurns (d : Data) (old new : Session) (store store' : StoreState) (answered : List ByteAnswer) (written : List ℕ) : Type 0 where
+-- All that was fed, dropped and written. First a prefix of what was pending went out, which left the session `begun`; then came
+-- the turns.
+pub record InTurns (d : Data) (old new : Session) (store store' : StoreState) (answered : List ByteAnswer) (dropped written : List ℕ)
+    : Type 0 where
+  pub first : List ℕ
+  pub begun : Session
+  pub first_order : old.pending ≡ first ++ begun.pending
+  pub begins : begun ≡ record old { pending = begun.pending }
   pub turns : List Turn
-  pub takes : TakesTurns d old store turns new store'
+  pub takes : TakesTurns d begun store turns new store'
   pub fed : fed_in turns ≡ answered
-  pub wrote : written_in turns ≡ written
+  pub drops : dropped_in turns ≡ dropped
+  pub wrote : first ++ written_in turns ≡ written
 
 -- so many bytes at least were read
 abbrev pub HasRead : ℕ → Option (List ℕ) → Option (List ℕ) → Type 0
@@ -86,15 +116,24 @@ pub record HasRun (d : Data) (old new : Session) (store store' : StoreState) (re
   pub feeds : FeedsAll d old store answered all store'
   pub reads : Consumes reader reader' (bytes_of answered ++ dropped)
   pub drops : dropped ≢ [] → all.editor.ended ≡ true
+  pub few : length dropped < read_size
   pub writes : Appends writer writer' written
   pub order : all.pending ≡ written ++ new.pending
   pub session : new ≡ record all { pending = new.pending }
-  pub in_turns : InTurns d old new store store' answered written
+  pub in_turns : InTurns d old new store store' answered dropped written
 
 abbrev pub Runs : Data → Session → Session → StoreState → StoreState → Option (List ℕ) → Option (List ℕ) → Option (List ℕ) → Option (List ℕ) → Type 0
 Runs d old new store store' reader reader' writer writer' =
     (answered : List ByteAnswer) × (dropped : List ℕ) × (written : List ℕ) × (all : Session)
     × HasRun d old new store store' reader reader' writer writer' answered dropped written all
+
+-- a run of which what was read, the dropped bytes with it, is kept in a journal
+abbrev pub RunsRecorded : {J : Type 0} → (J → Option (List ℕ)) → (J → ℕ) → Data → Session → Session → StoreState → StoreState
+    → Option (List ℕ) → Option (List ℕ) → Option (List ℕ) → Option (List ℕ) → RecorderState J → RecorderState J → Type 0
+RunsRecorded contents failures d old new store store' reader reader' writer writer' journal journal' =
+    (answered : List ByteAnswer) × (dropped : List ℕ) × (written : List ℕ) × (all : Session)
+    × HasRun d old new store store' reader reader' writer writer' answered dropped written all
+    × HasKept contents failures journal journal' (bytes_of answered ++ dropped)
 
 -- what the answer of a run says of the session after it and of the bytes that the reader has left
 abbrev pub EndsWith : Result End RunFault → Session → Option (List ℕ) → Type 0

@@ -1,62 +1,139 @@
-//! A reader whose bytes are kept in a journal, from which they can be replayed.
+//! A journal of what is read, from which it can be replayed.
 
-ghost use Rattle.std.specs.Prelude.{◌≡◌, ◌++◌, ℕ, List, false, true, IfOk, OnErr, OnOk, take};
-ghost use Rattle.std.specs.Io.{ReadsAtMost};
-ghost use Rattle.std.specs.Io.KnownBytes.{Appends, ReadConsumes};
+ghost use Rattle.std.specs.Prelude.{◌≡◌, ◌++◌, ℕ, List, false, OnErr, OnOk};
+ghost use Rattle.std.specs.Io.KnownBytes.{Appends};
 
-use std::io::{self, ErrorKind, Read, Write};
+use std::io::{self, ErrorKind, Write};
 use std::marker::Model;
+use thiserror::Error;
+
+/// A call of a journal failed.
+#[derive(Clone, Copy, PartialEq, Eq, Debug, Error)]
+#[error("the journal failed")]
+pub struct JournalFault;
+
+/// Where what is read is kept. A call that answers a fault raises the count of failures by one, unless it is the greatest u64, and
+/// no other call does.
+pub trait Journal {
+    ghost use Rattle.std.specs.Prelude.{◌≡◌, ◌++◌, ℕ, List, Option, OnErr, OnOk};
+    ghost use Rattle.std.specs.Io.KnownBytes.{Appends};
+    ghost use Rattle.bx_store.specs.Stores.{one_more};
+
+    /// What stands in the journal, where it tells its bytes.
+    ghost contents: { Self → Option (List ℕ) };
+
+    /// How many calls answered a fault.
+    ghost failure_count: { Self → ℕ };
+
+    /// Appends bytes.
+    ///
+    /// Errors: `JournalFault`: a beginning of the bytes was appended.
+    fn append(&mut self, bytes: &[u8]) -> Result<(), JournalFault>
+        ensures all { OnOk result (Appends (contents self.old) (contents self.new) bytes.now) }
+        ensures part { (written : List ℕ) × (left : List ℕ) × (bytes.now ≡ written ++ left) × Appends (contents self.old) (contents self.new) written }
+        ensures no_failure { OnOk result (failure_count self.new ≡ failure_count self.old) }
+        ensures failure { OnErr result (failure_count self.new ≡ one_more (failure_count self.old)) };
+}
+
+/// A journal of which nothing is kept.
+#[derive(Drop, Clone, Copy, Debug)]
+pub struct NoJournal;
+
+impl Journal for NoJournal {
+    ghost use Rattle.std.specs.Prelude.{None};
+
+    ghost contents = { λ s. None };
+
+    ghost failure_count = { λ s. 0 };
+
+    fn append(&mut self, bytes: &[u8]) -> Result<(), JournalFault> {
+        let _ = bytes;
+        Ok(())
+    }
+}
+
+/// A journal that is written to a writer, and flushed at each call.
+#[derive(Drop)]
+pub struct WrittenJournal<W: Write + Drop> {
+    writer: W,
+    failures: u64,
+}
+
+impl<W: Write + Drop> WrittenJournal<W> {
+    /// A journal whose bytes go to a writer.
+    pub fn new(writer: W) -> WrittenJournal<W>
+        ensures { W.contents result.writer ≡ W.contents writer }
+    {
+        WrittenJournal {
+            writer,
+            failures: 0,
+        }
+    }
+}
+
+impl<W: Write + Drop> Journal for WrittenJournal<W> {
+    ghost contents = { λ s. W.contents s.writer };
+
+    ghost failure_count = { λ s. s.failures };
+
+    fn append(&mut self, bytes: &[u8]) -> Result<(), JournalFault> {
+        match write_out(&mut self.writer, bytes) {
+            Ok(()) => Ok(()),
+            Err(_) => {
+                self.failures = self.failures.saturating_add(1);
+                Err(JournalFault)
+            }
+        }
+    }
+}
 
 /// Writes all of the bytes, and flushes.
 ///
 /// Errors: those of the writer, and `WriteZero` where it takes no byte: a beginning of the bytes was written.
-fn append<W: Write>(journal: &mut W, bytes: &[u8]) -> io::Result<()>
-    ensures all { OnOk result (Appends (W.contents journal.old) (W.contents journal.new) bytes.now) }
-    ensures part { (written : List ℕ) × (left : List ℕ) × (bytes.now ≡ written ++ left) × Appends (W.contents journal.old) (W.contents journal.new) written }
+fn write_out<W: Write>(writer: &mut W, bytes: &[u8]) -> io::Result<()>
+    ensures all { OnOk result (Appends (W.contents writer.old) (W.contents writer.new) bytes.now) }
+    ensures part { (written : List ℕ) × (left : List ℕ) × (bytes.now ≡ written ++ left) × Appends (W.contents writer.old) (W.contents writer.new) written }
 {
     let mut rest = bytes;
     'writes: while !rest.is_empty() {
-        match journal.write(rest) {
+        match writer.write(rest) {
             Ok(0) => return Err(ErrorKind::WriteZero.into()),
             Ok(count) => rest = &rest[count..],
             Err(error) => return Err(error),
         }
     }
-    journal.flush()
+    writer.flush()
 }
 
-/// A reader that writes what it gives to a journal before it gives it. A journal that failed is left alone from then on, which
-/// changes nothing of what is read.
+/// Keeps what is read in a journal. A journal that failed is left alone from then on, which changes nothing of what is read.
 #[derive(Drop)]
-pub struct JournalReader<R: Read + Drop, W: Write + Drop> {
-    reader: R,
-    journal: W,
+pub struct Recorder<J: Journal + Drop> {
+    journal: J,
     failed: bool,
 }
 
-impl<R: Read + Drop, W: Write + Drop> Model for JournalReader<R, W> {
-    ghost use Rattle.bx_session.specs.Journal.{JournalState};
+impl<J: Journal + Drop> Model for Recorder<J> {
+    ghost use Rattle.bx_session.specs.Journal.{RecorderState};
 
-    ghost Value = { JournalState R W };
+    ghost Value = { RecorderState J };
 
-    ghost view = { λ s. record { reader = s.reader; journal = s.journal; failed = s.failed } };
+    ghost view = { λ s. record { journal = s.journal; failed = s.failed } };
 }
 
-impl<R: Read + Drop, W: Write + Drop> JournalReader<R, W> {
+impl<J: Journal + Drop> Recorder<J> {
     ghost use Rattle.bx_session.specs.Journal.{HasKept};
 
-    /// A reader with its journal, to which what is read is appended.
-    pub fn new(reader: R, journal: W) -> JournalReader<R, W>
-        ensures { result ≡ record { reader = reader; journal = journal; failed = false } }
+    /// A recorder that appends to a journal.
+    pub fn new(journal: J) -> Recorder<J>
+        ensures { result ≡ record { journal = journal; failed = false } }
     {
-        JournalReader {
-            reader,
+        Recorder {
             journal,
             failed: false,
         }
     }
 
-    /// Whether a write or a flush of the journal failed. No memory.
+    /// Whether a call of the journal failed. No memory.
     pub fn has_failed(&self) -> bool
         ensures { result ≡ self.now.failed }
     {
@@ -64,32 +141,11 @@ impl<R: Read + Drop, W: Write + Drop> JournalReader<R, W> {
     }
 
     /// Appends bytes to the journal, unless it has failed.
-    fn keep(&mut self, bytes: &[u8])
-        ensures reader { self.new.reader ≡ self.old.reader }
-        ensures keeps { HasKept W.contents self.old self.new bytes.now }
+    pub(crate) fn keep(&mut self, bytes: &[u8])
+        ensures keeps { HasKept J.contents J.failure_count self.old self.new bytes.now }
     {
         if !self.failed {
-            self.failed = append(&mut self.journal, bytes).is_err();
+            self.failed = self.journal.append(bytes).is_err();
         }
-    }
-}
-
-impl<R: Read + Drop, W: Write + Drop> Read for JournalReader<R, W> {
-    ghost use Rattle.bx_session.specs.Journal.{HasKept};
-
-    ghost remaining = { λ s. R.remaining s.reader };
-
-    /// Reads as the reader does. What it gives stands in the journal by then, unless the journal has failed.
-    ///
-    /// Errors: those of the reader: the journal is as before.
-    fn read(&mut self, buf: &mut [u8]) -> io::Result<usize>
-        ensures bound { ReadsAtMost result buf.new }
-        ensures bytes { ReadConsumes (R.remaining self.old.reader) (R.remaining self.new.reader) result buf.new }
-        ensures keeps { IfOk result (λ count. HasKept W.contents self.old self.new (take count buf.new)) }
-        ensures err { OnErr result (self.new ≡ record self.old { reader = self.new.reader }) }
-    {
-        let count = self.reader.read(buf)?;
-        self.keep(&buf[..count]);
-        Ok(count)
     }
 }

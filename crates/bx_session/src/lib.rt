@@ -18,10 +18,10 @@ mod status;
 pub use bx_editor::OpenError;
 pub use end::{End, RunFault};
 pub use error::Refused;
-pub use journal::JournalReader;
+pub use journal::{Journal, JournalFault, NoJournal, Recorder, WrittenJournal};
 pub use laws::{
     keys_are_those_of_input, painting_anew_sends_nothing, paintings_keep_up, replays_apply_keys,
 };
-pub use running::{run, run_within};
+pub use running::{run, run_recorded, run_within};
 pub use session::Session;
 pub use status::Status;

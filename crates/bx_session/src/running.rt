@@ -1,10 +1,13 @@
 //! A session run over a reader, a writer and a store.
 
-ghost use Rattle.std.specs.Prelude.{◌≡◌, ◌++◌, [], List, ℕ, OnOk, OnErr, IsErrOf};
-ghost use Rattle.bx_session.specs.Running.{ByteAnswer, FedUntilEnd, HasRead, Sent, Runs, EndsWith};
+ghost use Rattle.std.specs.Prelude.{◌≡◌, ◌≤◌, ◌++◌, [], List, ℕ, false, length, take, IfOk, OnOk, OnErr, IsErrOf};
+ghost use Rattle.std.specs.Io.KnownBytes.{ReadConsumes};
+ghost use Rattle.bx_session.specs.Journal.{HasKept};
+ghost use Rattle.bx_session.specs.Running.{ByteAnswer, FedUntilEnd, HasRead, Sent, Runs, RunsRecorded, EndsWith, read_size};
 ghost use Rattle.bx_session.specs.Saving.{store_state};
 
 use crate::end::{End, RunFault};
+use crate::journal::{Journal, NoJournal, Recorder};
 use crate::session::Session;
 use bx_document::Answers;
 use bx_store::Store;
@@ -52,6 +55,35 @@ fn feed_all<D: BidiData + Drop, S: Store>(session: &mut Session<D>, bytes: &[u8]
     }
 }
 
+/// Reads some keys, and keeps them in a journal. A read comes only where the session has not ended, and all that was queued has
+/// gone out.
+///
+/// Errors: `ReadFault`: the journal is as before.
+fn read_keys<D: BidiData + Drop, R: Read, J: Journal + Drop>(
+    reader: &mut R,
+    recorder: &mut Recorder<J>,
+    session: &Session<D>,
+    buffer: &mut [u8; 256],
+) -> Result<usize, RunFault>
+    requires goes_on { session.now.session.editor.ended ≡ false }
+    requires sent { session.now.session.pending ≡ [] }
+    ensures bound { IfOk result (λ count. count ≤ length buffer.new) }
+    ensures most { IfOk result (λ count. count ≤ read_size) }
+    ensures bytes { ReadConsumes (R.remaining reader.old) (R.remaining reader.new) result buffer.new }
+    ensures keeps { IfOk result (λ count. HasKept J.contents J.failure_count recorder.old recorder.new (take count buffer.new)) }
+    ensures err { OnErr result (recorder.new ≡ recorder.old) }
+    ensures fault { OnErr result (result ≡ Err RunFault.ReadFault) }
+{
+    let _ = session;
+    match reader.read(buffer) {
+        Ok(count) => {
+            recorder.keep(&buffer[..count]);
+            Ok(count)
+        }
+        Err(_) => Err(RunFault::ReadFault),
+    }
+}
+
 /// Runs a session: writes what is pending and flushes; then, until the end, reads at most 256 bytes,
 /// feeds each until the session ends, writes what is pending and flushes. Bytes after the end are
 /// dropped, and a refused byte does not end the run.
@@ -89,15 +121,53 @@ pub fn run_within<D: BidiData + Drop, R: Read, W: Write, S: Store>(
     ensures ends { EndsWith result session.new.session (R.remaining reader.new) }
     ensures limit { IsErrOf result RunFault.ReadLimit → HasRead limit (R.remaining reader.old) (R.remaining reader.new) }
 {
+    let mut recorder = Recorder::new(NoJournal);
+    run_turns(limit, reader, &mut recorder, writer, store, session)
+}
+
+/// Runs a session as [`run`] does, and keeps what each read gives in a journal before it is obeyed.
+pub fn run_recorded<D: BidiData + Drop, R: Read, J: Journal + Drop, W: Write, S: Store>(
+    reader: &mut R,
+    recorder: &mut Recorder<J>,
+    writer: &mut W,
+    store: &mut S,
+    session: &mut Session<D>,
+) -> Result<End, RunFault>
+    ensures runs { RunsRecorded J.contents J.failure_count (⟦<D as Answers>⟧.data session.old.tables) session.old.session session.new.session
+        (store_state S.contents S.failure_count store.old) (store_state S.contents S.failure_count store.new)
+        (R.remaining reader.old) (R.remaining reader.new) (W.contents writer.old) (W.contents writer.new) recorder.old recorder.new }
+    ensures tables { session.new.tables ≡ session.old.tables }
+    ensures ends { EndsWith result session.new.session (R.remaining reader.new) }
+    ensures limit { IsErrOf result RunFault.ReadLimit → HasRead 1000000000 (R.remaining reader.old) (R.remaining reader.new) }
+{
+    run_turns(READS, reader, recorder, writer, store, session)
+}
+
+/// Runs a session with a journal and so many reads at most.
+fn run_turns<D: BidiData + Drop, R: Read, J: Journal + Drop, W: Write, S: Store>(
+    limit: u64,
+    reader: &mut R,
+    recorder: &mut Recorder<J>,
+    writer: &mut W,
+    store: &mut S,
+    session: &mut Session<D>,
+) -> Result<End, RunFault>
+    ensures runs { RunsRecorded J.contents J.failure_count (⟦<D as Answers>⟧.data session.old.tables) session.old.session session.new.session
+        (store_state S.contents S.failure_count store.old) (store_state S.contents S.failure_count store.new)
+        (R.remaining reader.old) (R.remaining reader.new) (W.contents writer.old) (W.contents writer.new) recorder.old recorder.new }
+    ensures tables { session.new.tables ≡ session.old.tables }
+    ensures ends { EndsWith result session.new.session (R.remaining reader.new) }
+    ensures limit { IsErrOf result RunFault.ReadLimit → HasRead limit (R.remaining reader.old) (R.remaining reader.new) }
+{
     send(writer, session)?;
     let mut buffer = [0; 256];
     'reads: for read in 0..limit {
         if session.ended() {
             return Ok(End::Quit);
         }
-        let count = match reader.read(&mut buffer) {
+        let count = match read_keys(reader, recorder, session, &mut buffer) {
             Ok(count) => count,
-            Err(_) => return Err(RunFault::ReadFault),
+            Err(fault) => return Err(fault),
         };
         if count == 0 {
             let changed = session.changed();

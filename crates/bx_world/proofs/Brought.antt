@@ -17,6 +17,7 @@ use Rattle.bx_session.specs.Session.{Session, key_of_byte, after_spending, sessi
 use Rattle.bx_session.specs.Saving.{StoreState, StoreAfter, is_save_key, is_save_byte}
 use Rattle.bx_session.specs.Laws.{keys_from}
 use Rattle.bx_session.proofs.Input.{keys_of_input}
+use Rattle.bx_session.proofs.Replayed.{rest_from, keys_from_both}
 use Rattle.bx_world.specs.declared.step.Step.{Step}
 use Rattle.bx_world.specs.declared.step.Step.TheVariants.{Byte, Window, Told, Send, Read}
 use Rattle.bx_world.specs.declared.step.StepFault.{StepFault}
@@ -57,14 +58,19 @@ front_decoded rest (Input byte key applied saved ∷ front) back are =
     (are.0, front_decoded (head_of (rest_after rest byte)) front back are.1)
 front_decoded rest (Telling height width ∷ front) back are = front_decoded rest front back are
 
-pub decoded_as_whole : (events : List Event) → AreDecoded [] events → HasKeysOfAll events
-decoded_as_whole events are front back is =
-    decoded_keys [] front (front_decoded [] front back (subst (AreDecoded []) is are)) ∙ keys_of_input (input_of front)
+-- behind the bytes of a journal, of which this waits
+pub decoded_behind : (journal : List ℕ) (events : List Event) → AreDecoded (rest_from [] journal) events → HasKeysOfAll journal events
+decoded_behind journal events are front back is =
+    ap (λ ks. ks ++ keys_of front) (sym (keys_of_input journal))
+    ∙ ap (λ ks. keys_from [] journal ++ ks) (decoded_keys (rest_from [] journal) front (front_decoded (rest_from [] journal) front back
+    (subst (AreDecoded (rest_from [] journal)) is are)))
+    ∙ sym (keys_from_both [] journal (input_of front))
+    ∙ keys_of_input (journal ++ input_of front)
 
 -- ---- a byte
 
 -- what a byte leaves of the editor and of what waits
-record IsFed (d : Data) (applied saved : Bool) (s : Session) (b : ℕ) (new : Session) : Type 0 where
+pub record IsFed (d : Data) (applied saved : Bool) (s : Session) (b : ℕ) (new : Session) : Type 0 where
   pub editor : new.editor ≡ after_input d applied saved s.editor (key_of_byte s b)
   pub rest : new.rest ≡ (after_spending s b).rest
 
@@ -103,7 +109,7 @@ painted_fed d saved s b = by_idle (is_idle s b) refl where
   }
   by_idle false other = record { editor = unpainted_editor d saved s b; rest = unpainted_rest d saved s b }
 
-byte_fed : (d : Data) (saved : Bool) (old new : World) (b : ℕ) (answer : Result (Unit {0}) StepFault) → AfterByteStep d saved old b answer new
+pub byte_fed : (d : Data) (saved : Bool) (old new : World) (b : ℕ) (answer : Result (Unit {0}) StepFault) → AfterByteStep d saved old b answer new
     → IsFed d (is_applied answer) saved old.session b new.session
 byte_fed d saved old new b (Ok done) is =
     subst (λ (w : World). IsFed d true saved old.session b w.session) (sym is) (painted_fed d saved old.session b)
@@ -340,9 +346,9 @@ failed_are d e store (Input byte key applied saved ∷ more) low =
           below greatest store.failures (failed_saves more) _ (subst (λ n. n < greatest) count low) count
       by_save false saved others low = others store low
 
-pub follows : (d : Data) (old new : World) (store store' : StoreState) (all : List (Step × Result (Unit {0}) StepFault))
-    → PlaysTo d old store all new store' → (events : List Event) × Follows d old store all new store' events
-follows d old new store store' all played =
+pub follows_decoded : (d : Data) (old new : World) (store store' : StoreState) (all : List (Step × Result (Unit {0}) StepFault))
+    → PlaysTo d old store all new store' → (events : List Event) × Follows d old store all new store' events × AreDecoded old.session.rest events
+follows_decoded d old new store store' all played =
     let b = brought d old new store store' all played in
     let i = has_input d old.session.editor all b.events b.events_are in
     let failures : store'.failures < greatest → store'.failures ≡ store.failures + failed_saves b.events =
@@ -353,9 +359,14 @@ follows d old new store store' all played =
         events_are = b.events_are;
         input = (i.dropped, i.bytes, λ some. ap (λ (e : Editor). e.ended) b.editor ∙ i.drops some);
         keys = decoded_keys old.session.rest b.events b.decoded;
-        as_whole = λ none. decoded_as_whole b.events (subst (λ rest. AreDecoded rest b.events) none b.decoded);
+        as_whole = λ none. decoded_behind [] b.events (subst (λ rest. AreDecoded rest b.events) none b.decoded);
         editor = b.editor;
         stored = b.stored;
         failures = failures;
       },
+      b.decoded,
     )
+
+pub follows : (d : Data) (old new : World) (store store' : StoreState) (all : List (Step × Result (Unit {0}) StepFault))
+    → PlaysTo d old store all new store' → (events : List Event) × Follows d old store all new store' events
+follows d old new store store' all played = let f = follows_decoded d old new store store' all played in (f.0, f.1)

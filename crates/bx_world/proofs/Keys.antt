@@ -1,5 +1,5 @@
 -- What a key leaves of the window's size, of the mark of the last telling, and of what is known of the screen.
-use Rattle.std.proofs.Common.{◌≡◌, ℕ, Bool, true, false, List, [], ◌∷◌, Option, Some, None, refl, sym, subst, ◌∙◌, arith, if◌then◌else◌}
+use Rattle.std.proofs.Common.{◌≡◌, ℕ, Bool, true, false, List, [], ◌∷◌, ◌⊎◌, inl, inr, Option, Some, None, refl, sym, subst, ◌∙◌, arith, if◌then◌else◌}
 use Rattle.std.specs.Prelude.{IfSome, not, ◌||◌, ◌&&◌, ◌==◌, encode_utf8}
 use Rattle.std.proofs.lemmas.Bool.Decides.{nat_tests}
 use Rattle.bx_text.specs.Edits.{Edit, fits}
@@ -15,12 +15,12 @@ use Rattle.bx_editor.specs.Data.{Data}
 use Rattle.bx_editor.specs.Editor.{Editor, rows, after_insertion, after_removal, after_undo, after_redo, after_save, after_quit, without_message}
 use Rattle.bx_editor.specs.Keys.{after_key, after_pressing, asks_for_whole}
 use Rattle.bx_session.specs.Session.{Session, session_after_key, session_after_any, after_spending, key_of_byte, unpainted_after_byte}
-use Rattle.bx_world.specs.World.{World, told_after_key, is_window}
+use Rattle.bx_world.specs.World.{World, told_after, told_after_key, is_window}
 use Rattle.bx_world.specs.Showing.{FitsWindow}
 
 -- ---- the editor's size
 
-abbrev SameSize : Editor → Editor → Type 0
+abbrev pub SameSize : Editor → Editor → Type 0
 SameSize e f = FitsWindow e.height e.width f
 
 size_if : (g : Bool) (e a b : Editor) → SameSize e a → SameSize e b → SameSize e (if g then a else b)
@@ -70,6 +70,37 @@ pressing_size d saved again e Repaint = (refl, refl)
 pressing_size d saved again e Direction = (refl, refl)
 pressing_size d saved again e (Size height width) = (refl, refl)
 
+-- ---- kinds of keys
+
+-- a key that is no telling keeps the editor's size
+abbrev pub IsOther : Data → Bool → Editor → Key → Type 0
+IsOther d saved e key = SameSize e (after_key d saved e key) × ((height width : ℕ) (told : Bool) → told_after height width told (Some key) ≡ told)
+
+abbrev pub IsTelling : Key → Type 0
+IsTelling key = (height : ℕ) × (width : ℕ) × (key ≡ Size height width)
+
+pub kind_of_key : (d : Data) (saved : Bool) (e : Editor) (key : Key) → IsOther d saved e key ⊎ IsTelling key
+kind_of_key d saved e (Insert ch) = inl (pressing_size d saved e.quit_before (without_message e) (Insert ch), λ h w t. refl)
+kind_of_key d saved e Erase = inl (pressing_size d saved e.quit_before (without_message e) Erase, λ h w t. refl)
+kind_of_key d saved e Delete = inl (pressing_size d saved e.quit_before (without_message e) Delete, λ h w t. refl)
+kind_of_key d saved e Back = inl (pressing_size d saved e.quit_before (without_message e) Back, λ h w t. refl)
+kind_of_key d saved e Forward = inl (pressing_size d saved e.quit_before (without_message e) Forward, λ h w t. refl)
+kind_of_key d saved e Up = inl (pressing_size d saved e.quit_before (without_message e) Up, λ h w t. refl)
+kind_of_key d saved e Down = inl (pressing_size d saved e.quit_before (without_message e) Down, λ h w t. refl)
+kind_of_key d saved e Right = inl (pressing_size d saved e.quit_before (without_message e) Right, λ h w t. refl)
+kind_of_key d saved e Left = inl (pressing_size d saved e.quit_before (without_message e) Left, λ h w t. refl)
+kind_of_key d saved e RowHome = inl (pressing_size d saved e.quit_before (without_message e) RowHome, λ h w t. refl)
+kind_of_key d saved e RowEnd = inl (pressing_size d saved e.quit_before (without_message e) RowEnd, λ h w t. refl)
+kind_of_key d saved e PageUp = inl (pressing_size d saved e.quit_before (without_message e) PageUp, λ h w t. refl)
+kind_of_key d saved e PageDown = inl (pressing_size d saved e.quit_before (without_message e) PageDown, λ h w t. refl)
+kind_of_key d saved e Save = inl (pressing_size d saved e.quit_before (without_message e) Save, λ h w t. refl)
+kind_of_key d saved e Quit = inl (pressing_size d saved e.quit_before (without_message e) Quit, λ h w t. refl)
+kind_of_key d saved e Undo = inl (pressing_size d saved e.quit_before (without_message e) Undo, λ h w t. refl)
+kind_of_key d saved e Redo = inl (pressing_size d saved e.quit_before (without_message e) Redo, λ h w t. refl)
+kind_of_key d saved e Repaint = inl (pressing_size d saved e.quit_before (without_message e) Repaint, λ h w t. refl)
+kind_of_key d saved e Direction = inl (pressing_size d saved e.quit_before (without_message e) Direction, λ h w t. refl)
+kind_of_key d saved e (Size height width) = inr (height, width, refl)
+
 -- ---- what a key leaves of a world's marks
 
 -- of the session before the key's effect and the world before the byte: where the size still counts as told, the editor
@@ -109,26 +140,11 @@ size_key d saved w s height width = record {
 
 pub key_keeps : (d : Data) (saved : Bool) (w : World) (s : Session) (key : Key)
     → Keeps w s (session_after_key d saved s key) (told_after_key w (Some key))
-key_keeps d saved w s (Insert ch) = other_key d saved w s (Insert ch) (pressing_size d saved s.editor.quit_before (without_message s.editor) (Insert ch)) refl
-key_keeps d saved w s Erase = other_key d saved w s Erase (pressing_size d saved s.editor.quit_before (without_message s.editor) Erase) refl
-key_keeps d saved w s Delete = other_key d saved w s Delete (pressing_size d saved s.editor.quit_before (without_message s.editor) Delete) refl
-key_keeps d saved w s Back = other_key d saved w s Back (pressing_size d saved s.editor.quit_before (without_message s.editor) Back) refl
-key_keeps d saved w s Forward = other_key d saved w s Forward (pressing_size d saved s.editor.quit_before (without_message s.editor) Forward) refl
-key_keeps d saved w s Up = other_key d saved w s Up (pressing_size d saved s.editor.quit_before (without_message s.editor) Up) refl
-key_keeps d saved w s Down = other_key d saved w s Down (pressing_size d saved s.editor.quit_before (without_message s.editor) Down) refl
-key_keeps d saved w s Right = other_key d saved w s Right (pressing_size d saved s.editor.quit_before (without_message s.editor) Right) refl
-key_keeps d saved w s Left = other_key d saved w s Left (pressing_size d saved s.editor.quit_before (without_message s.editor) Left) refl
-key_keeps d saved w s RowHome = other_key d saved w s RowHome (pressing_size d saved s.editor.quit_before (without_message s.editor) RowHome) refl
-key_keeps d saved w s RowEnd = other_key d saved w s RowEnd (pressing_size d saved s.editor.quit_before (without_message s.editor) RowEnd) refl
-key_keeps d saved w s PageUp = other_key d saved w s PageUp (pressing_size d saved s.editor.quit_before (without_message s.editor) PageUp) refl
-key_keeps d saved w s PageDown = other_key d saved w s PageDown (pressing_size d saved s.editor.quit_before (without_message s.editor) PageDown) refl
-key_keeps d saved w s Save = other_key d saved w s Save (pressing_size d saved s.editor.quit_before (without_message s.editor) Save) refl
-key_keeps d saved w s Quit = other_key d saved w s Quit (pressing_size d saved s.editor.quit_before (without_message s.editor) Quit) refl
-key_keeps d saved w s Undo = other_key d saved w s Undo (pressing_size d saved s.editor.quit_before (without_message s.editor) Undo) refl
-key_keeps d saved w s Redo = other_key d saved w s Redo (pressing_size d saved s.editor.quit_before (without_message s.editor) Redo) refl
-key_keeps d saved w s Repaint = other_key d saved w s Repaint (pressing_size d saved s.editor.quit_before (without_message s.editor) Repaint) refl
-key_keeps d saved w s Direction = other_key d saved w s Direction (pressing_size d saved s.editor.quit_before (without_message s.editor) Direction) refl
-key_keeps d saved w s (Size height width) = size_key d saved w s height width
+key_keeps d saved w s key = by (kind_of_key d saved s.editor key) where
+  by : IsOther d saved s.editor key ⊎ IsTelling key → Keeps w s (session_after_key d saved s key) (told_after_key w (Some key))
+  by (inl other) = other_key d saved w s key other.0 (other.1 w.height w.width w.told)
+  by (inr size) =
+      subst (λ (k : Key). Keeps w s (session_after_key d saved s k) (told_after_key w (Some k))) (sym size.2) (size_key d saved w s size.0 size.1)
 
 any_keeps : (d : Data) (saved : Bool) (w : World) (s : Session) (key : Option Key) → Keeps w s (session_after_any d saved s key) (told_after_key w key)
 any_keeps d saved w s None = record { size = λ fits on. fits on; known = λ on. known_if false w.told s.known on }

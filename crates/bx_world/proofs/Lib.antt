@@ -7,4 +7,7 @@ pub mod Ended
 pub mod Brought
 pub mod Opened
 pub mod Sights
+pub mod Fits
+pub mod Begun
+pub mod Woven
 pub mod Runs

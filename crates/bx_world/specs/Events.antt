@@ -85,9 +85,11 @@ abbrev pub HasBytesUntilEnd : {A : Type 0} → List (Step × Result A StepFault)
 HasBytesUntilEnd schedule events e =
     (dropped : List ℕ) × (bytes_of_schedule schedule ≡ input_of events ++ dropped) × (dropped ≢ [] → e.ended ≡ true)
 
--- at every moment the keys are those that the input grammar gives for all bytes until then as a whole
-abbrev pub HasKeysOfAll : List Event → Type 0
-HasKeysOfAll events = (front back : List Event) → events ≡ front ++ back → keys_of front ≡ (decoding (input_of front)).keys
+-- at every moment the keys, after those of the bytes of a journal, if any, are those that the input grammar gives for all bytes
+-- until then as a whole
+abbrev pub HasKeysOfAll : List ℕ → List Event → Type 0
+HasKeysOfAll journal events = (front back : List Event) → events ≡ front ++ back
+    → (decoding journal).keys ++ keys_of front ≡ (decoding (journal ++ input_of front)).keys
 
 -- ---- the events of a schedule
 

@@ -23,33 +23,36 @@ pub record Follows {A : Type 0} (d : Data) (old : World) (store : StoreState) (s
   pub input : HasBytesUntilEnd schedule events new.session.editor
   -- the keys of the bytes, behind those that wait; where none wait, they are those of all bytes as a whole
   pub keys : keys_of events ≡ keys_from old.session.rest (input_of events)
-  pub as_whole : old.session.rest ≡ [] → HasKeysOfAll events
+  pub as_whole : old.session.rest ≡ [] → HasKeysOfAll [] events
   pub editor : new.session.editor ≡ after_events d old.session.editor events
   pub stored : store' ≡ stored_after_all d old.session.editor store events
   -- below the greatest number the store's failures rose by one for each save that failed
   pub failures : store'.failures < greatest → store'.failures ≡ store.failures + failed_saves events
 
--- The headline, of an editor as it was opened with a file. The events are the bytes up to the session's end and the tellings,
--- each as it was answered. Their keys are those that the input grammar gives for all these bytes as a whole. The state is what
--- the accepted keys make of the file, one after another, beside the tellings. Each save that succeeded stored the text of its
--- moment. When the window's last size was told since, the last call was not refused, and all bytes are read, the terminal
--- shows exactly the picture of that state. Until the session's end the cursor of that picture stands on the cell of its place.
-pub record Headline {A : Type 0} (d : Data) (start : Editor) (store : StoreState) (schedule : List (Step × Result A StepFault)) (new : World)
-    (store' : StoreState) (events : List Event) : Type 0 where
+-- The headline, of an editor as a session begins with it, after the bytes of a journal, if any. The events are the bytes up to the
+-- session's end and the tellings, each as it was answered. Their keys are those that the input grammar gives for all these bytes
+-- as a whole. The state is what the accepted keys make of the beginning, one after another, beside the tellings. Each save that
+-- succeeded stored the text of its moment. When the window's last size was told since, the last call was not refused, and all
+-- bytes are read, the terminal shows exactly the picture of that state. Until the session's end the cursor of that picture stands
+-- on the cell of its place.
+pub record Headline {A : Type 0} (d : Data) (start : Editor) (journal : List ℕ) (store : StoreState) (schedule : List (Step × Result A StepFault))
+    (new : World) (store' : StoreState) (events : List Event) : Type 0 where
   pub events_are : AreEvents d start schedule events
   pub input : HasBytesUntilEnd schedule events new.session.editor
-  pub keys : HasKeysOfAll events
+  pub keys : HasKeysOfAll journal events
   pub editor : new.session.editor ≡ after_events d start events
   pub stored : store' ≡ stored_after_all d start store events
   pub failures : store'.failures < greatest → store'.failures ≡ store.failures + failed_saves events
   pub shows : is_last_accepted true schedule ≡ true → new.told ≡ true → new.line ≡ [] → new.session.pending ≡ []
       → IfSome new.screen (λ t. Shows t (picture d (after_events d start events) new.session.top))
+  -- where the last call was not refused, no painting is owed; a key that was refused leaves it so
+  pub owes : is_last_accepted true schedule ≡ true → new.session.painting_owed ≡ false
   -- whatever was told, is unread or pending
-  pub cursor : is_last_accepted true schedule ≡ true → new.session.editor.ended ≡ false
+  pub cursor : new.session.painting_owed ≡ false → new.session.editor.ended ≡ false
       → StandsOnItsCell d (after_events d start events) new.session.top (picture d (after_events d start events) new.session.top)
 
 -- for every file, tables and schedule: from a world as it was opened
 abbrev pub HeadlineFromOpening : {A : Type 0} → Data → World → StoreState → List (Step × Result A StepFault) → World → StoreState → Type 0
 HeadlineFromOpening d old store schedule new store' =
     (text : List ℕ) (height width : ℕ) (base : Base) → old ≡ around (at_opening d text height width base) height width
-    → (events : List Event) × Headline d (at_start text height width base) store schedule new store' events
+    → (events : List Event) × Headline d (at_start text height width base) [] store schedule new store' events

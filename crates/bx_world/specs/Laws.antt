@@ -1,29 +1,22 @@
--- The program runs a session over a reader and a writer. What it does is a play of its session, in any world round that.
-use Rattle.std.specs.Prelude.{◌≡◌, ℕ, List, [], ◌∷◌, ◌++◌, length, map, Option, None, Result, Ok}
-use Rattle.bx_explicit.specs.declared.base.Base.{Base}
+-- What a run is to a world: a play of its session. So what holds of every play speaks of the program.
+use Rattle.std.specs.Prelude.{◌≡◌, ℕ, true, false, List, [], ◌∷◌, ◌++◌, length, Option, Ok}
+use Rattle.std.specs.List.{filter}
+use Rattle.bx_keys.specs.Keys.{decoding}
+use Rattle.bx_grid.specs.Picture.{IsIdle, Shows}
+use Rattle.bx_grid.specs.Terminal.{Terminal, reads}
 use Rattle.bx_editor.specs.Data.{Data}
-use Rattle.bx_editor.specs.Editor.{at_start}
-use Rattle.bx_session.specs.Session.{Session, at_opening}
+use Rattle.bx_editor.specs.Keys.{after_keys}
+use Rattle.bx_editor.specs.Picture.{picture}
+use Rattle.bx_session.specs.Session.{Session, is_replayed}
 use Rattle.bx_session.specs.Saving.{StoreState}
-use Rattle.bx_session.specs.Painting.{QueuesPicture}
 use Rattle.bx_session.specs.Running.{ByteAnswer, Turn, TakesTurn, HasRun}
-use Rattle.bx_world.specs.declared.step.Step.{Step}
-use Rattle.bx_world.specs.declared.step.Step.TheVariants.{Byte, Send, Read}
-use Rattle.bx_world.specs.declared.step.StepFault.{StepFault}
-use Rattle.bx_world.specs.Answers.{answer_of}
+use Rattle.bx_session.specs.Beginning.{Beginning, IsBegun, at_offset, unpainted_at, begun}
+use Rattle.bx_world.specs.declared.step.Step.TheVariants.{Read}
 use Rattle.bx_world.specs.World.{World}
-use Rattle.bx_world.specs.Steps.{PlaysTo}
+use Rattle.bx_world.specs.Steps.{PlaysTo, is_last_accepted}
 use Rattle.bx_world.specs.Showing.{IsInStep}
-use Rattle.bx_world.specs.Events.{Event}
-use Rattle.bx_world.specs.Headline.{Headline}
-
--- the bytes of a turn, each with its answer, and the sending of what was written then
-abbrev pub steps_of_turn : Turn → List (Step × Result (Unit {0}) StepFault)
-steps_of_turn turn = map (λ a. (Byte a.0, answer_of a.1)) turn.fed ++ (Send (length turn.written), Ok tt) ∷ []
-
-abbrev pub steps_of_turns : List Turn → List (Step × Result (Unit {0}) StepFault)
-steps_of_turns [] = []
-steps_of_turns (turn ∷ more) = steps_of_turn turn ++ steps_of_turns more
+use Rattle.bx_world.specs.Events.{after_events}
+use Rattle.bx_world.specs.Runs.{Schedule, steps_of_turn, steps_of_run, IsAmong, RunsInWindow}
 
 -- The world after these steps: the session is what the run left, the bytes that it wrote are on the line, and window and
 -- terminal are as they were. What every step keeps was kept.
@@ -48,14 +41,33 @@ RunsArePlays =
     (d : Data) (old : World) (s : Session) (store store' : StoreState) (reader reader' writer writer' : Option (List ℕ))
     (answered : List ByteAnswer) (dropped written : List ℕ) (all : Session)
     → (run : HasRun d old.session s store store' reader reader' writer writer' answered dropped written all)
-    → (new : World) × PlaysTo d old store (steps_of_turns run.in_turns.turns) new store' × IsAfterRun d old s written new
+    → (new : World) × PlaysTo d old store (steps_of_run run.in_turns) new store' × IsAfterRun d old s written new
 
--- the headline, of a session that was opened and run, as a terminal has read all that the run wrote
+-- ---- a run from its beginning on
+
+-- a session that goes on from a journal has what the journal's keys make of the text, without the Saves and Quits
+abbrev pub BeginsWithKeys : Type 0
+BeginsWithKeys = (d : Data) (b : Beginning)
+    → (unpainted_at d b).editor ≡ after_keys d false (at_offset d b).editor (filter is_replayed (decoding b.journal).keys)
+
+-- The headline, of a run in a window that changes while keys are read: whatever the terminal shows at first, and however steps of
+-- the window and the terminal come between the steps of the run.
+abbrev pub HeadlineInChangingWindows : Type 0
+HeadlineInChangingWindows =
+    (d : Data) (b : Beginning) (s : Session) (store store' : StoreState) (reader reader' writer writer' : Option (List ℕ))
+    (answered : List ByteAnswer) (dropped written : List ℕ) (all : Session)
+    → IsBegun d b → (run : HasRun d (begun d b) s store store' reader reader' writer writer' answered dropped written all)
+    → (t : Terminal) (schedule : Schedule) → IsIdle t → IsAmong (steps_of_run run.in_turns) schedule
+    → RunsInWindow d b (begun d b) s store store' t schedule
+
+-- The headline, of a run in a window that keeps its size: a terminal of the size that the session has, with nothing half read,
+-- that has read all that the run wrote shows the picture of what the accepted keys make of the beginning.
 abbrev pub HeadlineOfRuns : Type 0
 HeadlineOfRuns =
-    (d : Data) (text : List ℕ) (height width : ℕ) (base : Base) (s : Session) (store store' : StoreState)
-    (reader reader' writer writer' : Option (List ℕ)) (answered : List ByteAnswer) (dropped written : List ℕ) (all : Session)
-    → QueuesPicture d [] None (at_opening d text height width base)
-    → (run : HasRun d (at_opening d text height width base) s store store' reader reader' writer writer' answered dropped written all)
-    → (new : World) × (events : List Event) × (new.session ≡ s) × (new.line ≡ [])
-    × Headline d (at_start text height width base) store (steps_of_turns run.in_turns.turns ++ (Read (length written), Ok tt) ∷ []) new store' events
+    (d : Data) (b : Beginning) (s : Session) (store store' : StoreState) (reader reader' writer writer' : Option (List ℕ))
+    (answered : List ByteAnswer) (dropped written : List ℕ) (all : Session)
+    → IsBegun d b → (run : HasRun d (begun d b) s store store' reader reader' writer writer' answered dropped written all)
+    → (t : Terminal) → IsIdle t
+    → (found : RunsInWindow d b (begun d b) s store store' t (steps_of_run run.in_turns ++ (Read (length written), Ok tt) ∷ []))
+    × (is_last_accepted true (steps_of_run run.in_turns) ≡ true → s.pending ≡ [] → t.height ≡ s.editor.height → t.width ≡ s.editor.width
+    → Shows (reads t written) (picture d (after_events d (unpainted_at d b).editor found.events) s.top))

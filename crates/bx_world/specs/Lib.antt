@@ -5,4 +5,5 @@ pub mod Answers
 pub mod Events
 pub mod Headline
 pub mod Reading
+pub mod Runs
 pub mod Laws

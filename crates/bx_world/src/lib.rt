@@ -7,6 +7,9 @@ mod step;
 mod stepping;
 mod world;
 
-pub use laws::{runs_are_plays, runs_keep_headline, turns_are_plays};
+pub use laws::{
+    runs_are_plays, runs_begin_with_keys, runs_keep_headline, turns_are_plays,
+    windows_keep_headline,
+};
 pub use step::{Step, StepFault};
 pub use world::World;

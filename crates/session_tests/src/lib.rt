@@ -6,3 +6,5 @@
 mod faulty;
 #[cfg(test)]
 mod running;
+#[cfg(test)]
+mod turns;

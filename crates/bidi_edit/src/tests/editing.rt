@@ -5,7 +5,7 @@ use crate::edit::{Changes, edit};
 use crate::fault::ProgramFault;
 use crate::tests::small_files;
 use bx_explicit::Base;
-use bx_session::{OpenError, RunFault};
+use bx_session::{NoJournal, OpenError, Recorder, RunFault};
 use bx_store::MemoryStore;
 use bx_words::UnicodeFiles;
 use std::alloc::Global;
@@ -15,6 +15,7 @@ use std::test::Fail;
 /// A text in a window of one row of five columns, over which nothing is replayed.
 fn beginning(text: Option<Vec<u8>>) -> Beginning<'static> {
     Beginning {
+        unicode: small_files(),
         text,
         rows: 1,
         cols: 5,
@@ -34,9 +35,9 @@ fn run_over<R: Read, W: Write>(
     edit(
         alloc,
         reader,
+        &mut Recorder::new(NoJournal),
         writer,
         &mut MemoryStore::new(alloc, None),
-        small_files(),
         beginning(file),
     )
 }
@@ -63,10 +64,13 @@ fn line_of(
     let outcome = edit(
         alloc,
         &mut b"".as_slice(),
+        &mut Recorder::new(NoJournal),
         &mut Vec::new(alloc),
         &mut MemoryStore::new(alloc, None),
-        unicode,
-        beginning(file),
+        Beginning {
+            unicode,
+            ..beginning(file)
+        },
     );
     match outcome {
         Ok(_) => Ok(String::new(alloc)),

@@ -7,14 +7,16 @@ use crate::recover::recover;
 use crate::replaying::{Held, Replayed};
 use crate::tests::small_files;
 use bx_explicit::Base;
-use bx_session::JournalReader;
+use bx_session::{NoJournal, Recorder, Session, WrittenJournal, run_recorded};
 use bx_store::MemoryStore;
+use bx_ucd::sample_tables;
 use std::alloc::Global;
-use std::io::{self, ErrorKind, Read, Write};
+use std::io::{self, ErrorKind, Write};
 use std::test::Fail;
 
 fn beginning<'a>(alloc: Global, keys: &'a [u8]) -> Result<Beginning<'a>, Fail> {
     Ok(Beginning {
+        unicode: small_files(),
         text: Some(Vec::from_slice(alloc, b"ab")?),
         rows: 1,
         cols: 5,
@@ -31,7 +33,7 @@ fn recovered(
     keys: &[u8],
     file: &[u8],
 ) -> Result<Result<Replayed, ProgramFault<'static>>, Fail> {
-    Ok(recover(alloc, store, small_files(), beginning(alloc, keys)?, file))
+    Ok(recover(alloc, store, beginning(alloc, keys)?, file))
 }
 
 #[test]
@@ -63,9 +65,9 @@ fn resumed(alloc: Global, store: &mut MemoryStore, keys: &[u8]) -> Result<bool, 
     let changes = edit(
         alloc,
         &mut b"y\x13\x11".as_slice(),
+        &mut Recorder::new(NoJournal),
         &mut Vec::new(alloc),
         store,
-        small_files(),
         beginning(alloc, keys)?,
     );
     Ok(changes == Ok(Changes::Saved))
@@ -102,15 +104,15 @@ impl Write for Small {
     }
 }
 
-/// Reads `abcdef` in two reads, and answers whether each gave what it should and whether the journal failed.
-fn read_kept(journal: &mut Small) -> Result<(bool, bool), Fail> {
+/// Runs over the input `abcdef`, and answers whether all of it was typed and whether the journal failed.
+fn run_kept(alloc: Global, journal: &mut Small) -> Result<(bool, bool), Fail> {
+    let mut session = Session::open(alloc, Vec::new(alloc), sample_tables(alloc)?, 1, 9, Base::Auto)?;
+    let mut recorder = Recorder::new(WrittenJournal::new(journal));
     let mut input = b"abcdef".as_slice();
-    let mut reader = JournalReader::new(&mut input, journal);
-    let mut buffer = [0; 4];
-    let is_read = reader.read(&mut buffer)? == 4 && buffer.as_slice() == b"abcd".as_slice();
-    let is_rest = reader.read(&mut buffer)? == 2 && buffer.as_slice() == b"efcd".as_slice();
-    let failed = reader.has_failed();
-    Ok((is_read && is_rest, failed))
+    let mut output = Vec::new(alloc);
+    let mut store = MemoryStore::new(alloc, None);
+    let _ = run_recorded(&mut input, &mut recorder, &mut output, &mut store, &mut session);
+    Ok((session.has_text(b"abcdef"), recorder.has_failed()))
 }
 
 #[test]
@@ -123,7 +125,7 @@ fn a_journal_holds_what_was_read(rt: HostRuntime) -> Result<(), Fail> {
             bytes: Vec::new(rt.alloc()),
             room,
         };
-        assert_eq!(rt; read_kept(&mut journal)?, (true, fails));
+        assert_eq!(rt; run_kept(rt.alloc(), &mut journal)?, (true, fails));
         assert_eq!(rt; journal.bytes.as_slice(), kept);
     }
     Ok(())

@@ -5,6 +5,7 @@ use crate::edit::{Changes, edit};
 use crate::fault::ProgramFault;
 use crate::tests::small_files;
 use bx_explicit::Base;
+use bx_session::{NoJournal, Recorder};
 use bx_store::{FileStore, MemoryStore, Store};
 use std::alloc::Global;
 use std::test::Fail;
@@ -17,6 +18,7 @@ fn save<S: Store>(
     file: Option<Vec<u8>>,
 ) -> Result<Changes, ProgramFault<'static>> {
     let beginning = Beginning {
+        unicode: small_files(),
         text: file,
         rows: 1,
         cols: 5,
@@ -27,9 +29,9 @@ fn save<S: Store>(
     edit(
         alloc,
         &mut b"x\x13\x11".as_slice(),
+        &mut Recorder::new(NoJournal),
         &mut Vec::new(alloc),
         store,
-        small_files(),
         beginning,
     )
 }

@@ -9,6 +9,7 @@ use crate::beginning::Beginning;
 use crate::edit::edit;
 use crate::tests::small_files;
 use bx_explicit::Base;
+use bx_session::{NoJournal, Recorder};
 use bx_store::MemoryStore;
 use bx_terms::is_side;
 use std::alloc::Global;
@@ -86,6 +87,7 @@ impl Given {
         store: &mut MemoryStore,
     ) -> Result<String, Fail> {
         let beginning = Beginning {
+            unicode: small_files(),
             text: self.file,
             rows: self.rows,
             cols: self.cols,
@@ -96,9 +98,9 @@ impl Given {
         let outcome = edit(
             alloc,
             &mut self.keys.as_slice(),
+            &mut Recorder::new(NoJournal),
             written,
             store,
-            small_files(),
             beginning,
         );
         match outcome {

@@ -4,7 +4,7 @@ use Rattle.std.specs.Io.KnownBytes.{Appends}
 use Rattle.std.proofs.KnownBytes.{Appends-nil, Appends-trans, Appends-kept}
 use Rattle.std.proofs.lemmas.List.{take_rest}
 use Rattle.bx_session.proofs.Kept.{written_more, all_written}
-use Rattle.bx_session.proofs.journal.append.Goals as goal
+use Rattle.bx_session.proofs.journal.write_out.Goals as goal
 
 empty_is_nil : (xs : List ℕ) (b : Bool) → b ≡ (length xs == 0) → b ≡ true → xs ≡ []
 empty_is_nil [] b e h = refl
@@ -42,7 +42,7 @@ returns-in-Err-clause-part g c = let h = c.writes.invariant in (h.0, c.writes.re
 pub returns-clause-all : goal.returns-clause-all
 returns-clause-all g c =
     let h = c.writes.invariant in
-    let before = g.W.Write.contents c.args.journal.now in
+    let before = g.W.Write.contents c.args.writer.now in
     let after = g.W.Write.contents c.flush.new.self in
     let written : Appends before after h.0 = Appends-kept _ _ _ h.0 h.2 c.flush.ensures.bytes in
     let whole : h.0 ≡ c.args.bytes.now =

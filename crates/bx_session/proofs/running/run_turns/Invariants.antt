@@ -1,17 +1,17 @@
 use Rattle.std.proofs.Common.{◌≡◌, []}
-use Rattle.bx_session.specs.Running.{HasRead, Runs}
+use Rattle.bx_session.specs.Running.{HasRead, RunsRecorded}
 use Rattle.bx_session.specs.Saving.{store_state}
-use Rattle.bx_session.proofs.running.run_within.Given as goal
+use Rattle.bx_session.proofs.running.run_turns.Given as goal
 
 abbrev pub invariant-reads : goal.invariant-reads
 invariant-reads g l =
-    Runs (record {
+    RunsRecorded g.J.Journal.contents g.J.Journal.failure_count (record {
       class = g.D.BidiData.class_of l.fn.session.tables;
       bracket = g.D.BidiData.bracket_of l.fn.session.tables;
       mirror = g.D.BidiData.mirror_of l.fn.session.tables;
     }) l.fn.session.session l.session.session (store_state g.S.Store.contents g.S.Store.failure_count l.fn.store)
     (store_state g.S.Store.contents g.S.Store.failure_count l.store) (g.R.Read.remaining l.fn.reader) (g.R.Read.remaining l.reader)
-    (g.W.Write.contents l.fn.writer) (g.W.Write.contents l.writer)
+    (g.W.Write.contents l.fn.writer) (g.W.Write.contents l.writer) l.fn.recorder l.recorder
     × (l.session.session.pending ≡ [])
     × HasRead l.read (g.R.Read.remaining l.fn.reader) (g.R.Read.remaining l.reader)
     × (l.session.tables ≡ l.fn.session.tables)

@@ -1,0 +1,69 @@
+-- What a run of the program begins from, and what it leaves.
+use Rattle.std.specs.Global.{Vec}
+use Rattle.std.specs.Prelude.{◌≡◌, ℕ, false, List, [], Option, Some, None, vec_items}
+use Rattle.bx_explicit.specs.declared.base.Base.{Base}
+use Rattle.bx_ucd.specs.Reading.{refusal, class_in_file, bracket_in_file, mirror_in_file}
+use Rattle.bx_editor.specs.Data.{Data}
+use Rattle.bx_session.specs.Session.{Session, at_opening, with_painting}
+use Rattle.bx_session.specs.Saving.{StoreState, with_text}
+use Rattle.bx_session.specs.Painting.{QueuesPicture}
+use Rattle.bx_session.specs.Journal.{RecorderState}
+use Rattle.bx_session.specs.Laws.{after_replaying}
+use Rattle.bx_session.specs.Running.{RunsRecorded}
+use Rattle.bx_session.specs.Beginning.{Beginning, IsBegun, at_offset, unpainted_at, begun}
+use Rattle.bidi_edit.specs.declared.edit.Changes.{Changes}
+use Rattle.bidi_edit.specs.declared.edit.Changes.TheVariants.{Saved}
+
+-- the tables answer what Unicode's three files say, which have no bad line
+pub record AreOfFiles (d : Data) (classes brackets mirroring : List ℕ) : Type 0 where
+  pub accepted : refusal classes brackets mirroring ≡ None
+  pub classes_are : (code : ℕ) → d.class code ≡ class_in_file classes code
+  pub brackets_are : (code : ℕ) → d.bracket code ≡ bracket_in_file brackets code
+  pub mirrors_are : (code : ℕ) → d.mirror code ≡ mirror_in_file mirroring code
+
+-- a session that was opened with a text in a window, with the cursor sent to an offset, if any
+pub record IsOpened (d : Data) (text : List ℕ) (height width : ℕ) (base : Base) (offset : Option ℕ) (s : Session) : Type 0 where
+  pub session : s ≡ at_offset d (record {
+    text = text;
+    height = height;
+    width = width;
+    base = base;
+    offset = offset;
+    journal = [];
+  })
+  pub paints : QueuesPicture d [] None (at_opening d text height width base)
+
+-- a file that is not there is an empty text
+abbrev pub bytes_of : Option (Vec ℕ) → List ℕ
+bytes_of None = []
+bytes_of (Some bytes) = vec_items bytes
+
+-- what a session begins from, with the bytes of a journal
+abbrev pub begins_with : List ℕ → ℕ → ℕ → Base → Option ℕ → List ℕ → Beginning
+begins_with text height width base offset journal = record {
+  text = text;
+  height = height;
+  width = width;
+  base = base;
+  offset = offset;
+  journal = journal;
+}
+
+-- A run that ended well, of the session that begins so. It is said to be saved only where nothing is unsaved.
+pub record Edits {J : Type 0} (contents : J → Option (List ℕ)) (failures : J → ℕ) (b : Option ℕ → Beginning) (classes brackets mirroring : List ℕ)
+    (store store' : StoreState) (reader reader' writer writer' : Option (List ℕ)) (journal journal' : RecorderState J) (changes : Changes)
+    : Type 0 where
+  pub tables : Data
+  pub offset : Option ℕ
+  pub session : Session
+  pub answers : AreOfFiles tables classes brackets mirroring
+  pub begins : IsBegun tables (b offset)
+  pub runs : RunsRecorded contents failures tables (begun tables (b offset)) session store store' reader reader' writer writer' journal journal'
+  pub saved : changes ≡ Saved → session.editor.changed ≡ false
+
+-- the text that a journal makes of a session that begins so was stored
+pub record Recovers (b : Option ℕ → Beginning) (classes brackets mirroring : List ℕ) (store store' : StoreState) : Type 0 where
+  pub tables : Data
+  pub offset : Option ℕ
+  pub answers : AreOfFiles tables classes brackets mirroring
+  pub stored : store' ≡ with_text (unpainted_at tables (b offset)).editor.content.text store

@@ -1,0 +1,37 @@
+-- What a session begins from.
+use Rattle.std.specs.Prelude.{ℕ, List, [], Option, Some, None}
+use Rattle.bx_explicit.specs.declared.base.Base.{Base}
+use Rattle.bx_editor.specs.Data.{Data}
+use Rattle.bx_session.specs.Session.{Session, at_opening, after_going, with_painting}
+use Rattle.bx_session.specs.Painting.{QueuesPicture}
+use Rattle.bx_session.specs.Laws.{after_replaying}
+
+-- a text in a window, the offset that the cursor is sent to, if any, and the bytes of a journal, which may be none
+pub record Beginning : Type 0 where
+  pub text : List ℕ
+  pub height : ℕ
+  pub width : ℕ
+  pub base : Base
+  pub offset : Option ℕ
+  pub journal : List ℕ
+
+-- the text is opened, and the cursor sent to the offset
+abbrev pub after_going_to : Data → Session → Option ℕ → Session
+after_going_to d s None = s
+after_going_to d s (Some offset) = after_going d s offset
+
+abbrev pub at_offset : Data → Beginning → Session
+at_offset d b = after_going_to d (at_opening d b.text b.height b.width b.base) b.offset
+
+-- the journal's bytes are replayed, and not painted yet
+abbrev pub unpainted_at : Data → Beginning → Session
+unpainted_at d b = after_replaying d (at_offset d b) b.journal
+
+-- and painted: here a run begins
+abbrev pub begun : Data → Beginning → Session
+begun d b = with_painting d (unpainted_at d b)
+
+-- what the calls give that begin a run: the first picture was queued, and then the one after the journal's keys
+pub record IsBegun (d : Data) (b : Beginning) : Type 0 where
+  pub opened : QueuesPicture d [] None (at_opening d b.text b.height b.width b.base)
+  pub painted : QueuesPicture d (unpainted_at d b).pending (unpainted_at d b).known (begun d b)

@@ -1,0 +1,145 @@
+-- A session that begins a run is in step with its terminal: the painting that it owed made it so.
+use Rattle.std.proofs.Common.{◌≡◌, ℕ, Bool, true, false, List, [], ◌∷◌, ◌++◌, Option, Some, None, Result}
+use Rattle.std.proofs.Common.{refl, sym, ap, subst, ◌∙◌, if◌then◌else◌}
+use Rattle.std.specs.Prelude.{IfSome, ◌&&◌, ◌==◌}
+use Rattle.std.specs.List.{filter}
+use Rattle.bx_keys.specs.declared.key.Key.{Key}
+use Rattle.bx_keys.specs.Keys.{rest_after}
+use Rattle.bx_keys.specs.Waiting.{head_of}
+use Rattle.bx_grid.specs.Picture.{PictureState, IsIdle, Shows}
+use Rattle.bx_grid.specs.Terminal.{Terminal, reads}
+use Rattle.bx_editor.specs.Data.{Data}
+use Rattle.bx_editor.specs.Editor.{Editor}
+use Rattle.bx_editor.specs.Keys.{after_key, after_keys}
+use Rattle.bx_session.specs.Session.{Session, at_opening, after_going, after_replay, after_replayed_key, after_spending, is_replayed, key_of_byte, session_after_key}
+use Rattle.bx_session.specs.Painting.{QueuesPicture}
+use Rattle.bx_session.specs.Laws.{keys_from, after_replaying}
+use Rattle.bx_session.specs.Beginning.{Beginning, IsBegun, after_going_to, at_offset, unpainted_at, begun}
+use Rattle.bx_session.proofs.Input.{keys_of_input}
+use Rattle.bx_session.proofs.Pictures.{picture_height, picture_width}
+use Rattle.bx_session.proofs.Replayed.{replays_keys, rest_from, replayed_rest}
+use Rattle.bx_world.specs.World.{World}
+use Rattle.bx_world.specs.Showing.{FitsWindow, IsInStep, picture_of}
+use Rattle.bx_world.specs.Runs.{begins_at}
+use Rattle.bx_world.specs.Laws.{BeginsWithKeys}
+use Rattle.bx_world.proofs.Fits.{fits, key_fits}
+use Rattle.bx_world.proofs.Keys.{both, same_number, key_keeps}
+use Rattle.bx_world.proofs.Steps.{painted}
+
+-- ---- a session that was opened
+
+window_is : (height width : ℕ) (e : Editor) → fits height width e ≡ true → FitsWindow height width e
+window_is height width e on =
+    let each = both (height == e.height) (width == e.width) on in
+    (sym (same_number height e.height each.0), sym (same_number width e.width each.1))
+
+opened_at : (d : Data) (s : Session) (t : Terminal) → IsIdle t → QueuesPicture d [] None s → IsInStep d (begins_at s t)
+opened_at d s t idle queued =
+    let paints = queued.1 in
+    let p = picture_of d s in record {
+      state = λ owed. (paints.painted, paints.known);
+      cursor = λ owed. paints.cursor;
+      follows = λ on. (let window = window_is t.height t.width s.editor on in
+          subst (λ painted. IfSome painted (λ q. Shows (reads t s.pending) q)) (sym paints.known)
+          (subst (λ bytes. Shows (reads t bytes) p) (sym paints.appends)
+          (paints.leads t idle (sym window.0 ∙ sym (picture_height d s.editor s.top)) (sym window.1 ∙ sym (picture_width d s.editor s.top)))));
+      whole = subst (λ bytes. IsIdle (reads t bytes)) (sym paints.appends) (paints.tokens t idle);
+      screen = ((refl, refl), λ on. idle.no_run);
+      size = λ on. window_is t.height t.width s.editor on;
+    }
+
+-- ---- what a journal leaves of the queue and of what is known of the screen
+
+-- Nothing was queued. What is known, where the window still has the session's size, was known before, and the window had it then.
+record StaysKnown (t : Terminal) (old new : Session) : Type 0 where
+  pub pending : new.pending ≡ old.pending
+  pub known : fits t.height t.width new.editor ≡ true
+      → IfSome new.known (λ p. (fits t.height t.width old.editor ≡ true) × (old.known ≡ Some p))
+
+known_at : (told : Bool) (known : Option PictureState) → told ≡ true → IfSome known (λ p. (told ≡ true) × (known ≡ Some p))
+known_at told None on = tt
+known_at told (Some p) on = (on, refl)
+
+stays_at : (t : Terminal) (s : Session) → StaysKnown t s s
+stays_at t s = record { pending = refl; known = known_at (fits t.height t.width s.editor) s.known }
+
+known_on : (now mid : Option PictureState) (a b : Bool) (old : Option PictureState)
+    → IfSome now (λ p. (a ≡ true) × (mid ≡ Some p)) → (a ≡ true → IfSome mid (λ p. (b ≡ true) × (old ≡ Some p)))
+    → IfSome now (λ p. (b ≡ true) × (old ≡ Some p))
+known_on None mid a b old last first = tt
+known_on (Some p) mid a b old last first = subst (λ x. IfSome x (λ q. (b ≡ true) × (old ≡ Some q))) last.1 (first last.0)
+
+stays_on : (t : Terminal) (old mid new : Session) → StaysKnown t old mid → StaysKnown t mid new → StaysKnown t old new
+stays_on t old mid new first last = record {
+  pending = last.pending ∙ first.pending;
+  known = λ on. known_on new.known mid.known (fits t.height t.width mid.editor) (fits t.height t.width old.editor) old.known (last.known on) first.known;
+}
+
+spent_stays : (ended : Bool) (t : Terminal) (s : Session) (rest : List ℕ) → StaysKnown t s (if ended then s else record s { rest = rest })
+spent_stays true t s rest = stays_at t s
+spent_stays false t s rest = record { pending = refl; known = known_at (fits t.height t.width s.editor) s.known }
+
+key_stays : (replayed : Bool) (d : Data) (t : Terminal) (s : Session) (key : Key) → StaysKnown t s (if replayed then session_after_key d false s key else s)
+key_stays true d t s key = record {
+  pending = refl;
+  known = λ on. (key_keeps d false (begins_at s t) s key).known
+      (key_fits d false t.height t.width (fits t.height t.width s.editor) s.editor key refl ∙ on);
+}
+key_stays false d t s key = stays_at t s
+
+any_stays : (d : Data) (t : Terminal) (s : Session) (key : Option Key) → StaysKnown t s (after_replayed_key d s key)
+any_stays d t s None = stays_at t s
+any_stays d t s (Some key) = key_stays (is_replayed key) d t s key
+
+byte_stays : (d : Data) (t : Terminal) (s : Session) (b : ℕ) → StaysKnown t s (after_replay d s b)
+byte_stays d t s b =
+    let spent = after_spending s b in
+    let all = stays_on t s spent (after_replayed_key d spent (key_of_byte s b)) (spent_stays s.editor.ended t s (head_of (rest_after s.rest b)))
+    (any_stays d t spent (key_of_byte s b)) in
+    record { pending = all.pending; known = all.known }
+
+bytes_stay : (d : Data) (t : Terminal) (s : Session) (bs : List ℕ) → StaysKnown t s (after_replaying d s bs)
+bytes_stay d t s [] = stays_at t s
+bytes_stay d t s (b ∷ bs) =
+    stays_on t s (after_replay d s b) (after_replaying d (after_replay d s b) bs) (byte_stays d t s b) (bytes_stay d t (after_replay d s b) bs)
+
+going_stays : (d : Data) (t : Terminal) (s : Session) (offset : Option ℕ) → StaysKnown t s (after_going_to d s offset)
+going_stays d t s None = stays_at t s
+going_stays d t s (Some offset) = record { pending = refl; known = known_at (fits t.height t.width s.editor) s.known }
+
+-- ---- a session that begins a run
+
+pub begun_at : (d : Data) (b : Beginning) (t : Terminal) → IsIdle t → IsBegun d b → IsInStep d (begins_at (begun d b) t)
+begun_at d b t idle begins =
+    let s : Session = at_opening d b.text b.height b.width b.base in
+    let stays : StaysKnown t s (unpainted_at d b) =
+    stays_on t s (at_offset d b) (unpainted_at d b) (going_stays d t s b.offset) (bytes_stay d t (at_offset d b) b.journal) in
+    painted d (begins_at s t) (begun d b) (fits t.height t.width (begun d b).editor) (unpainted_at d b).known (opened_at d s t idle begins.opened)
+    (subst (λ (q : List ℕ). QueuesPicture d q (unpainted_at d b).known (begun d b)) stays.pending begins.painted)
+    stays.known (λ on. window_is t.height t.width (begun d b).editor on)
+
+-- ---- its keys
+
+going_goes_on : (d : Data) (s : Session) (offset : Option ℕ) → s.editor.ended ≡ false → (after_going_to d s offset).editor.ended ≡ false
+going_goes_on d s None on = on
+going_goes_on d s (Some offset) on = on
+
+going_rest : (d : Data) (s : Session) (offset : Option ℕ) → (after_going_to d s offset).rest ≡ s.rest
+going_rest d s None = refl
+going_rest d s (Some offset) = refl
+
+offset_goes_on : (d : Data) (b : Beginning) → (at_offset d b).editor.ended ≡ false
+offset_goes_on d b = going_goes_on d (at_opening d b.text b.height b.width b.base) b.offset refl
+
+offset_rest : (d : Data) (b : Beginning) → (at_offset d b).rest ≡ []
+offset_rest d b = going_rest d (at_opening d b.text b.height b.width b.base) b.offset
+
+pub begun_rest : (d : Data) (b : Beginning) → (begun d b).rest ≡ rest_from [] b.journal
+begun_rest d b =
+    replayed_rest d (at_offset d b) b.journal (offset_goes_on d b) ∙ ap (λ rest. rest_from rest b.journal) (offset_rest d b)
+
+pub begins_with_keys : BeginsWithKeys
+begins_with_keys d b =
+    replays_keys d (at_offset d b) b.journal (offset_goes_on d b)
+    ∙ ap (λ ks. after_keys d false (at_offset d b).editor (filter is_replayed ks))
+    (ap (λ rest. keys_from rest b.journal) (offset_rest d b) ∙ keys_of_input b.journal)

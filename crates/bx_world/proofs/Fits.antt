@@ -1,0 +1,111 @@
+-- In a window that keeps its size, the size counts as told exactly where it is the session's.
+use Rattle.std.proofs.Common.{◌≡◌, ℕ, Bool, true, false, List, [], ◌∷◌, ◌⊎◌, inl, inr, Option, Some, None, Result, Ok, Err, refl, sym, ap, subst, ◌∙◌}
+use Rattle.std.specs.Prelude.{◌&&◌, ◌==◌}
+use Rattle.std.specs.List.{AllByRecursion}
+use Rattle.bx_keys.specs.declared.key.Key.{Key}
+use Rattle.bx_keys.specs.declared.key.Key.TheVariants.{Size}
+use Rattle.bx_editor.specs.Data.{Data}
+use Rattle.bx_editor.specs.Editor.{Editor}
+use Rattle.bx_editor.specs.Keys.{after_key}
+use Rattle.bx_session.specs.declared.error.Refused.TheVariants as refused
+use Rattle.bx_session.specs.Saving.{StoreState}
+use Rattle.bx_session.specs.Session.{Session, key_of_byte, after_byte, owing_after_byte}
+use Rattle.bx_world.specs.declared.step.Step.{Step}
+use Rattle.bx_world.specs.declared.step.Step.TheVariants.{Byte, Window, Told, Send, Read}
+use Rattle.bx_world.specs.declared.step.StepFault.{StepFault}
+use Rattle.bx_world.specs.declared.step.StepFault.TheVariants as faults
+use Rattle.bx_world.specs.World.{World, told_after, told_after_key, with_byte, after_send, after_read}
+use Rattle.bx_world.specs.Steps.{AfterByteStep, AfterSendStep, AfterReadStep, StepsTo, PlaysTo}
+use Rattle.bx_world.specs.Events.{after_input}
+use Rattle.bx_world.specs.Runs.{Schedule}
+use Rattle.bx_grid.specs.declared.error.GridError.TheVariants as grid
+use Rattle.bx_world.proofs.Brought.{byte_fed}
+use Rattle.bx_world.proofs.Keys.{IsOther, IsTelling, kind_of_key, SameSize}
+
+-- the window has the editor's size
+abbrev pub fits : ℕ → ℕ → Editor → Bool
+fits height width e = (height == e.height) && (width == e.width)
+
+same_fits : (height width : ℕ) (e f : Editor) → SameSize e f → fits height width e ≡ fits height width f
+same_fits height width e f same = ap (λ h. (height == h) && (width == e.width)) (sym same.0) ∙ ap (λ w. (height == f.height) && (width == w)) (sym same.1)
+
+pub key_fits : (d : Data) (saved : Bool) (height width : ℕ) (told : Bool) (e : Editor) (key : Key) → told ≡ fits height width e
+    → told_after height width told (Some key) ≡ fits height width (after_key d saved e key)
+key_fits d saved height width told e key was = by (kind_of_key d saved e key) where
+  by : IsOther d saved e key ⊎ IsTelling key → told_after height width told (Some key) ≡ fits height width (after_key d saved e key)
+  by (inl other) = other.1 height width told ∙ was ∙ same_fits height width e (after_key d saved e key) other.0
+  by (inr size) =
+      subst (λ (k : Key). told_after height width told (Some k) ≡ fits height width (after_key d saved e k)) (sym size.2) refl
+
+input_fits : (d : Data) (saved : Bool) (height width : ℕ) (told : Bool) (e : Editor) (key : Option Key) → told ≡ fits height width e
+    → told_after height width told key ≡ fits height width (after_input d true saved e key)
+input_fits d saved height width told e None was = was
+input_fits d saved height width told e (Some key) was = key_fits d saved height width told e key was
+
+refused_fits : (d : Data) (saved : Bool) (e : Editor) (key : Option Key) → e ≡ after_input d false saved e key
+refused_fits d saved e None = refl
+refused_fits d saved e (Some key) = refl
+
+-- ---- steps that change no window and tell nothing
+
+abbrev pub Fits : World → Type 0
+Fits w = w.told ≡ fits w.height w.width w.session.editor
+
+fed_fits : (d : Data) (saved : Bool) (old : World) (b : ℕ) (s : Session) → Fits old
+    → s.editor ≡ after_input d true saved old.session.editor (key_of_byte old.session b) → Fits (with_byte old b s)
+fed_fits d saved old b s was is =
+    input_fits d saved old.height old.width old.told old.session.editor (key_of_byte old.session b) was
+    ∙ ap (λ (e : Editor). fits old.height old.width e) (sym is)
+
+byte_fits : (d : Data) (saved : Bool) (old new : World) (b : ℕ) (answer : Result (Unit {0}) StepFault) → AfterByteStep d saved old b answer new
+    → Fits old → Fits new
+byte_fits d saved old new b (Ok done) is was =
+    let fed = byte_fed d saved old new b (Ok done) is in
+    subst Fits (sym is) (fed_fits d saved old b (after_byte d saved old.session b) was (ap (λ (w : World). w.session.editor) (sym is) ∙ fed.editor))
+byte_fits d saved old new b (Err (faults.Session refused.Paint)) is was =
+    let fed = byte_fed d saved old new b (Err (faults.Session refused.Paint)) is in
+    subst Fits (sym is.0) (fed_fits d saved old b (owing_after_byte d saved old.session b) was (ap (λ (w : World). w.session.editor) (sym is.0) ∙ fed.editor))
+byte_fits d saved old new b (Err (faults.Session refused.Edit)) is was =
+    let fed = byte_fed d saved old new b (Err (faults.Session refused.Edit)) is in
+    let same : new.session.editor ≡ old.session.editor = fed.editor ∙ sym (refused_fits d saved old.session.editor (key_of_byte old.session b)) in
+    ap (λ (w : World). w.told) is.0 ∙ was
+    ∙ ap (λ (e : Editor). fits old.height old.width e) (sym same)
+    ∙ ap (λ (w : World). fits w.height w.width new.session.editor) (sym is.0)
+byte_fits d saved old new b (Err (faults.Session refused.Size)) is was = absurd is
+byte_fits d saved old new b (Err (faults.Screen fault)) is was = absurd is
+byte_fits d saved old new b (Err faults.Line) is was = absurd is
+
+send_fits : (old new : World) (count : ℕ) (answer : Result (Unit {0}) StepFault) → AfterSendStep old count answer new → Fits old → Fits new
+send_fits old new count (Ok done) is was = subst Fits (sym is) was
+send_fits old new count (Err faults.Line) is was = subst Fits (sym is) was
+send_fits old new count (Err (faults.Session fault)) is was = absurd is
+send_fits old new count (Err (faults.Screen fault)) is was = absurd is
+
+read_fits : (old new : World) (count : ℕ) (answer : Result (Unit {0}) StepFault) → AfterReadStep old count answer new → Fits old → Fits new
+read_fits old new count (Ok done) is was = subst Fits (sym is.1) was
+read_fits old new count (Err (faults.Screen grid.OutOfMemory)) is was = subst Fits (sym is.1) was
+read_fits old new count (Err (faults.Screen grid.SizeOutOfRange)) is was = absurd is
+read_fits old new count (Err (faults.Session fault)) is was = absurd is
+read_fits old new count (Err faults.Line) is was = absurd is
+
+-- no step changes the window or tells a size
+abbrev pub is_still : Step → Bool
+is_still (Window height width) = false
+is_still (Told height width) = false
+is_still (Byte b) = true
+is_still (Send count) = true
+is_still (Read count) = true
+
+step_fits : (d : Data) (old new : World) (store store' : StoreState) (step : Step) (answer : Result (Unit {0}) StepFault) → is_still step ≡ true
+    → StepsTo d old store step answer new store' → Fits old → Fits new
+step_fits d old new store store' (Byte b) answer still is was = byte_fits d is.0 old new b answer is.2 was
+step_fits d old new store store' (Send count) answer still is was = send_fits old new count answer is.0 was
+step_fits d old new store store' (Read count) answer still is was = read_fits old new count answer is.0 was
+step_fits d old new store store' (Window height width) answer still is was = absurd (cc still)
+step_fits d old new store store' (Told height width) answer still is was = absurd (cc still)
+
+pub plays_fit : (d : Data) (old new : World) (store store' : StoreState) (all : Schedule) → AllByRecursion (λ s. is_still s.0 ≡ true) all
+    → PlaysTo d old store all new store' → Fits old → Fits new
+plays_fit d old new store store' [] still plays was = subst Fits (sym plays.0) was
+plays_fit d old new store store' (s ∷ more) still plays was =
+    plays_fit d plays.0 new plays.1 store' more still.1 plays.3 (step_fits d old plays.0 store plays.1 s.0 s.1 still.0 plays.2 was)

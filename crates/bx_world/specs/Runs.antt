@@ -1,0 +1,91 @@
+-- The program runs a session over a reader and a writer, in a person's window: the steps of a run, and where others come between.
+use Rattle.std.specs.Prelude.{◌≡◌, ℕ, Bool, true, false, not, ◌&&◌, ◌==◌, List, [], ◌∷◌, ◌++◌, length, map, Some, Result, Ok, Err, if◌then◌else◌}
+use Rattle.std.specs.List.{AllByRecursion, filter}
+use Rattle.bx_grid.specs.Picture.{Shows, is_size}
+use Rattle.bx_grid.specs.Terminal.{Terminal}
+use Rattle.bx_grid.specs.declared.error.GridError.TheVariants as grid
+use Rattle.bx_editor.specs.Data.{Data}
+use Rattle.bx_editor.specs.Picture.{picture}
+use Rattle.bx_session.specs.Session.{Session}
+use Rattle.bx_session.specs.Saving.{StoreState}
+use Rattle.bx_session.specs.Running.{ByteAnswer, Turn, InTurns}
+use Rattle.bx_session.specs.Beginning.{Beginning, unpainted_at}
+use Rattle.bx_world.specs.declared.step.Step.{Step}
+use Rattle.bx_world.specs.declared.step.Step.TheVariants.{Byte, Window, Told, Send, Read}
+use Rattle.bx_world.specs.declared.step.StepFault.{StepFault}
+use Rattle.bx_world.specs.declared.step.StepFault.TheVariants as faults
+use Rattle.bx_world.specs.Answers.{answer_of}
+use Rattle.bx_world.specs.World.{World}
+use Rattle.bx_world.specs.Steps.{PlaysTo, is_last_accepted}
+use Rattle.bx_world.specs.Events.{Event, after_events}
+use Rattle.bx_world.specs.Headline.{Headline}
+
+-- steps with their answers
+abbrev pub Schedule : Type 0
+Schedule = List (Step × Result (Unit {0}) StepFault)
+
+-- ---- the steps of a run
+
+-- the bytes of a turn, each with its answer, and the sending of what was written then
+abbrev pub steps_of_turn : Turn → Schedule
+steps_of_turn turn = map (λ a. (Byte a.0, answer_of a.1)) turn.fed ++ (Send (length turn.written), Ok tt) ∷ []
+
+abbrev pub steps_of_turns : List Turn → Schedule
+steps_of_turns [] = []
+steps_of_turns (turn ∷ more) = steps_of_turn turn ++ steps_of_turns more
+
+-- what was pending goes out, and then come the turns
+abbrev pub steps_of_run : {d : Data} {old new : Session} {store store' : StoreState} {answered : List ByteAnswer} {dropped written : List ℕ}
+    → InTurns d old new store store' answered dropped written → Schedule
+steps_of_run run = (Send (length run.first), Ok tt) ∷ steps_of_turns run.turns
+
+-- ---- what a person and a terminal do meanwhile
+
+-- a step of the window or of the terminal
+abbrev pub is_outside : Step → Bool
+is_outside (Window height width) = true
+is_outside (Read count) = true
+is_outside (Byte b) = false
+is_outside (Told height width) = false
+is_outside (Send count) = false
+
+-- what a terminal that has memory answers to it
+abbrev pub outside_answer : Step → Result (Unit {0}) StepFault
+outside_answer (Window height width) = if is_size height width then Ok tt else Err (faults.Screen grid.SizeOutOfRange)
+outside_answer (Read count) = Ok tt
+outside_answer (Byte b) = Ok tt
+outside_answer (Told height width) = Ok tt
+outside_answer (Send count) = Ok tt
+
+-- A run's steps with steps of the window and the terminal anywhere among them: between turns, between the bytes of a turn, and
+-- between these and their sending.
+pub record IsAmong (run schedule : Schedule) : Type 0 where
+  pub own : filter (λ s. not (is_outside s.0)) schedule ≡ run
+  pub outside : AllByRecursion (λ s. is_outside s.0 ≡ true → s.1 ≡ outside_answer s.0) schedule
+
+-- ---- where a run begins
+
+-- a session at a terminal to which nothing was sent yet; its window's size counts as told where it is the session's
+abbrev pub begins_at : Session → Terminal → World
+begins_at s t = record {
+  session = s;
+  line = [];
+  height = t.height;
+  width = t.width;
+  screen = Some t;
+  told = (t.height == s.editor.height) && (t.width == s.editor.width);
+}
+
+-- A schedule from there on ends with this session, and the headline holds of it: where the window's last size was told, the last
+-- call was not refused and all is read, the terminal shows the picture of what the keys make of the beginning.
+pub record RunsInWindow (d : Data) (b : Beginning) (begun s : Session) (store store' : StoreState) (t : Terminal) (schedule : Schedule)
+    : Type 0 where
+  pub new : World
+  pub events : List Event
+  pub terminal : Terminal
+  pub plays : PlaysTo d (begins_at begun t) store schedule new store'
+  pub session : new.session ≡ s
+  pub screen : new.screen ≡ Some terminal
+  pub headline : Headline d (unpainted_at d b).editor b.journal store schedule new store' events
+  pub shows : is_last_accepted true schedule ≡ true → new.told ≡ true → new.line ≡ [] → s.pending ≡ []
+      → Shows terminal (picture d (after_events d (unpainted_at d b).editor events) s.top)

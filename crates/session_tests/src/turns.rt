@@ -1,0 +1,76 @@
+//! What has gone out by the time that a run reads.
+
+use bx_explicit::Base;
+use bx_session::{Session, run};
+use bx_store::MemoryStore;
+use bx_ucd::sample_tables;
+use std::cell::Cell;
+use std::io::{self, Read, Write};
+use std::test::Fail;
+
+/// A writer that tells how many bytes were flushed.
+struct Flushed<'a> {
+    written: usize,
+    flushed: &'a Cell<usize>,
+}
+
+impl Write for Flushed<'_> {
+    fn write(&mut self, buf: &[u8]) -> io::Result<usize> {
+        self.written = self.written.saturating_add(buf.len());
+        Ok(buf.len())
+    }
+
+    fn flush(&mut self) -> io::Result<()> {
+        self.flushed.set(self.written);
+        Ok(())
+    }
+}
+
+/// A reader of one byte a read, which notes at each how many bytes were flushed by then.
+struct Watcher<'a> {
+    keys: &'a [u8],
+    flushed: &'a Cell<usize>,
+    seen: Vec<usize>,
+}
+
+impl Read for Watcher<'_> {
+    fn read(&mut self, buf: &mut [u8]) -> io::Result<usize> {
+        self.seen.push(self.flushed.get())?;
+        match (self.keys.split_first(), buf.first_mut()) {
+            (Some((key, rest)), Some(place)) => {
+                *place = *key;
+                self.keys = rest;
+                Ok(1)
+            }
+            _ => Ok(0),
+        }
+    }
+}
+
+/// `ab` in a row of five columns takes 22 bytes to be painted whole, and `x` before it 15 more. A Quit of an unsaved text shows nothing
+/// in a window of one row, and the next one ends the run.
+#[test]
+fn what_a_turn_queued_is_flushed_before_the_next_read(rt: HostRuntime) -> Result<(), Fail> {
+    let alloc = rt.alloc();
+    let bytes = Vec::from_slice(alloc, b"ab")?;
+    let mut session = Session::open(alloc, bytes, sample_tables(alloc)?, 1, 5, Base::Auto)?;
+    let mut store = MemoryStore::new(alloc, None);
+    let flushed = Cell::new(0);
+    let mut writer = Flushed {
+        written: 0,
+        flushed: &flushed,
+    };
+    let mut reader = Watcher {
+        keys: b"x\x11\x11unread".as_slice(),
+        flushed: &flushed,
+        seen: Vec::new(alloc),
+    };
+    let _ = run(&mut reader, &mut writer, &mut store, &mut session);
+    assert_eq!(rt; reader.seen.as_slice(), [22, 37, 37].as_slice());
+    assert_eq!(rt;
+        reader.keys,
+        b"unread".as_slice(),
+        "nothing is read after the end"
+    );
+    Ok(())
+}
