@@ -2,3 +2,4 @@ mod PageParts
 mod Parts
 mod Trimmed
 mod Written
+mod ClauseExamples
