@@ -7,3 +7,4 @@ pub mod StatusRow
 pub mod TopOnce
 pub mod OnItsCell
 pub mod Begin
+pub mod TakenBack

@@ -14,5 +14,5 @@ mod status;
 
 pub use editor::Editor;
 pub use error::OpenError;
-pub use laws::top_stays;
+pub use laws::{redo_mirrors_undo, top_stays, undo_gives_back};
 pub use message::Message;

@@ -1,0 +1,146 @@
+-- What is undone and redone is had back: past and future are chains of versions that begin with the opened text.
+use Rattle.std.proofs.Common.{◌≡◌, ℕ, Bool, true, false, List, [], ◌∷◌, length, replicate, refl, sym, ap, subst, if◌then◌else◌}
+use Rattle.std.specs.Prelude.{◌≢◌, ◌+◌, ◌==◌, ◌||◌, not, encode_utf8, Some}
+use Rattle.bx_explicit.specs.declared.base.Base.{Base}
+use Rattle.bx_keys.specs.declared.key.Key.{Key}
+use Rattle.bx_keys.specs.declared.key.Key.TheVariants.{Insert, Erase, Delete, Back, Forward, Up, Down, Right, Left, RowHome, RowEnd, PageUp, PageDown, Save}
+use Rattle.bx_keys.specs.declared.key.Key.TheVariants.{Quit, Undo, Redo, Repaint, Direction, Size}
+use Rattle.bx_text.specs.Edits.{Edit, Edited, fits, inserted, removed, splice}
+use Rattle.bx_view.specs.Moves.{step_logical}
+use Rattle.bx_view.specs.declared.moves.Logical.TheVariants as logical
+use Rattle.bx_editor.specs.declared.message.Message.TheVariants.{TextFull, Unsaved}
+use Rattle.bx_editor.specs.Data.{Data}
+use Rattle.bx_editor.specs.Editor.{Editor, at_start, rows, place_after, after_insertion, after_removal, without_message}
+use Rattle.bx_editor.specs.Editor.{after_undo, after_redo, after_save, after_quit}
+use Rattle.bx_editor.specs.Keys.{after_key, after_keys}
+use Rattle.bx_editor.specs.Laws.{after_typing, IsBackAt, UndoGivesBack, RedoMirrorsUndo}
+
+-- ---- chains of versions
+
+-- the latest edit led to the text, from a text of which the others are the past; the opened text has none
+abbrev IsPastOf : List ℕ → List ℕ → List Edit → Type 0
+IsPastOf first text [] = text ≡ first
+IsPastOf first text (edit ∷ past) = (edit.after.text ≡ text) × IsPastOf first edit.before.text past
+
+-- the next edit leads on from the text, to one of which the others are the future
+abbrev IsFutureOf : List ℕ → List Edit → Type 0
+IsFutureOf text [] = Unit {0}
+IsFutureOf text (edit ∷ future) = (edit.before.text ≡ text) × IsFutureOf edit.after.text future
+
+record HasVersions (first : List ℕ) (t : Edited) : Type 0 where
+  pub past : IsPastOf first t.text t.past
+  pub future : IsFutureOf t.text t.future
+
+abbrev version : List ℕ → List Edit → List Edit → Edited
+version text past future = record { text = text; past = past; future = future }
+
+-- ---- a key keeps them
+
+either_has : (b : Bool) (first : List ℕ) (p q : Editor) → HasVersions first p.content → HasVersions first q.content
+    → HasVersions first (if b then p else q).content
+either_has true first p q h k = h
+either_has false first p q h k = k
+
+insertion_has : (first : List ℕ) (d : Data) (e : Editor) (new : List ℕ) → HasVersions first e.content
+    → HasVersions first (after_insertion d e new).content
+insertion_has first d e new h =
+    let after = place_after d e (splice e.content.text e.place e.place new) (e.place + length new) in
+    either_has (fits e.content.text e.place e.place new) first
+    (record e { content = inserted e.content e.place new e.place after; place = after; changed = true })
+    (record e { message = Some TextFull }) (record { past = (refl, h.past); future = tt }) h
+
+removal_has : (first : List ℕ) (d : Data) (e : Editor) (start stop : ℕ) → HasVersions first e.content
+    → HasVersions first (after_removal d e start stop).content
+removal_has first d e start stop h =
+    let after = place_after d e (splice e.content.text start stop []) start in
+    either_has (start == stop) first e (record e { content = removed e.content start stop e.place after; place = after; changed = true }) h
+    (record { past = (refl, h.past); future = tt })
+
+undo_has : (first : List ℕ) (e : Editor) (text : List ℕ) (past future : List Edit) → HasVersions first (version text past future)
+    → HasVersions first (after_undo (record e { content = version text past future }) past).content
+undo_has first e text [] future h = h
+undo_has first e text (edit ∷ past) future h = record {
+  past = h.past.1;
+  future = (refl, subst (λ t. IsFutureOf t future) (sym h.past.0) h.future);
+}
+
+redo_has : (first : List ℕ) (e : Editor) (text : List ℕ) (past future : List Edit) → HasVersions first (version text past future)
+    → HasVersions first (after_redo (record e { content = version text past future }) future).content
+redo_has first e text past [] h = h
+redo_has first e text past (edit ∷ future) h = record {
+  past = (refl, subst (λ t. IsPastOf first t past) (sym h.future.0) h.past);
+  future = h.future.1;
+}
+
+save_has : (first : List ℕ) (e : Editor) (saved : Bool) → HasVersions first e.content → HasVersions first (after_save e saved).content
+save_has first e true h = h
+save_has first e false h = h
+
+quit_has : (first : List ℕ) (e : Editor) (again : Bool) → HasVersions first e.content → HasVersions first (after_quit e again).content
+quit_has first e again h = either_has (not e.changed || again) first (record e { quit_before = true; ended = true })
+    (record e { quit_before = true; message = Some Unsaved }) h h
+
+key_has : (d : Data) (saved : Bool) (first : List ℕ) (e : Editor) (key : Key) → HasVersions first e.content
+    → HasVersions first (after_key d saved e key).content
+key_has d saved first e (Insert c) h = insertion_has first d (without_message e) (encode_utf8 c) h
+key_has d saved first e Erase h = removal_has first d (without_message e) (step_logical (rows d e) logical.Back e.place) e.place h
+key_has d saved first e Delete h = removal_has first d (without_message e) e.place (step_logical (rows d e) logical.Forward e.place) h
+key_has d saved first e Back h = h
+key_has d saved first e Forward h = h
+key_has d saved first e Up h = h
+key_has d saved first e Down h = h
+key_has d saved first e Right h = h
+key_has d saved first e Left h = h
+key_has d saved first e RowHome h = h
+key_has d saved first e RowEnd h = h
+key_has d saved first e PageUp h = h
+key_has d saved first e PageDown h = h
+key_has d saved first e Save h = save_has first (without_message e) saved h
+key_has d saved first e Quit h = quit_has first (without_message e) e.quit_before h
+key_has d saved first e Undo h = undo_has first (without_message e) e.content.text e.content.past e.content.future h
+key_has d saved first e Redo h = redo_has first (without_message e) e.content.text e.content.past e.content.future h
+key_has d saved first e Repaint h = h
+key_has d saved first e Direction h = h
+key_has d saved first e (Size height width) h = h
+
+typing_has : (d : Data) (first : List ℕ) (e : Editor) (typed : List (Key × Bool)) → HasVersions first e.content
+    → HasVersions first (after_typing d e typed).content
+typing_has d first e [] h = h
+typing_has d first e (key ∷ typed) h = typing_has d first (after_key d key.1 e key.0) typed (key_has d key.1 first e key.0 h)
+
+typed_has : (d : Data) (text : List ℕ) (height width : ℕ) (base : Base) (typed : List (Key × Bool))
+    → HasVersions text (after_typing d (at_start text height width base) typed).content
+typed_has d text height width base typed = typing_has d text (at_start text height width base) typed (record { past = refl; future = tt })
+
+-- ---- undo and redo
+
+all_back : (d : Data) (first : List ℕ) (e : Editor) (text : List ℕ) (past future : List Edit) → IsPastOf first text past
+    → IsBackAt first (after_keys d false (record e { content = version text past future }) (replicate (length past) Undo))
+all_back d first e text [] future h = record { text_is = h; past_is = refl }
+all_back d first e text (edit ∷ past) future h =
+    all_back d first (record (without_message e) { place = edit.before.place; changed = true }) edit.before.text past (edit ∷ future) h.1
+
+redo_back : (d : Data) (first : List ℕ) (e : Editor) (text : List ℕ) (past future : List Edit) → IsPastOf first text past → past ≢ []
+    → (after_keys d false (record e { content = version text past future }) (Undo ∷ Redo ∷ [])).content ≡ version text past future
+redo_back d first e text [] future h some = absurd (some refl)
+redo_back d first e text (edit ∷ past) future h some = ap (λ t. version t (edit ∷ past) future) h.0
+
+undo_back : (d : Data) (e : Editor) (text : List ℕ) (past future : List Edit) → IsFutureOf text future → future ≢ []
+    → (after_keys d false (record e { content = version text past future }) (Redo ∷ Undo ∷ [])).content ≡ version text past future
+undo_back d e text past [] h some = absurd (some refl)
+undo_back d e text past (edit ∷ future) h some = ap (λ t. version t past (edit ∷ future)) h.0
+
+pub undo_gives_back : UndoGivesBack
+undo_gives_back d text height width base typed =
+    let e = after_typing d (at_start text height width base) typed in
+    let has = typed_has d text height width base typed in
+    all_back d text e e.content.text e.content.past e.content.future has.past
+
+pub redo_mirrors_undo : RedoMirrorsUndo
+redo_mirrors_undo d text height width base typed =
+    let e = after_typing d (at_start text height width base) typed in
+    let has = typed_has d text height width base typed in
+    record {
+      redo = redo_back d text e e.content.text e.content.past e.content.future has.past;
+      undo = undo_back d e e.content.text e.content.past e.content.future has.future;
+    }
