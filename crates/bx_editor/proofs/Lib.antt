@@ -8,3 +8,4 @@ pub mod TopOnce
 pub mod OnItsCell
 pub mod Begin
 pub mod TakenBack
+pub mod LawExamples
