@@ -8,3 +8,4 @@ pub mod Replayed
 pub mod Examples
 pub mod Shown
 pub mod Turns
+pub mod Recovered

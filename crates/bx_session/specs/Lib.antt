@@ -6,3 +6,4 @@ pub mod Journal
 pub mod Laws
 pub mod Beginning
 pub mod Anew
+pub mod Recovery

@@ -1,0 +1,44 @@
+-- What a replay of a session's bytes gives back.
+use Rattle.std.specs.Prelude.{◌≡◌, ◌≢◌, ℕ, false, List, All, Err}
+use Rattle.std.specs.List.{filter}
+use Rattle.bx_explicit.specs.declared.base.Base.{Base}
+use Rattle.bx_keys.specs.Keys.{decoding}
+use Rattle.bx_editor.specs.Data.{Data}
+use Rattle.bx_editor.specs.Editor.{at_start}
+use Rattle.bx_editor.specs.Keys.{after_keys}
+use Rattle.bx_session.specs.declared.error.Refused.TheVariants as refused
+use Rattle.bx_session.specs.Laws.{after_replaying}
+use Rattle.bx_session.specs.Running.{ByteAnswer, FeedsAll, bytes_of}
+use Rattle.bx_session.specs.Saving.{StoreState}
+use Rattle.bx_session.specs.Session.{Session, at_opening, is_replayed}
+
+-- no key was refused for want of memory
+abbrev pub RefusesNoKey : List ByteAnswer → Type 0
+RefusesNoKey answered = All (λ (a : ByteAnswer). a.1 ≢ Err refused.Edit) answered
+
+-- a replayed session has what the other one had: the text with its past and future, the cursor's place, the direction, the
+-- window and the input that waits; and it has not ended
+pub record HasBack (had replayed : Session) : Type 0 where
+  pub content : replayed.editor.content ≡ had.editor.content
+  pub place : replayed.editor.place ≡ had.editor.place
+  pub base : replayed.editor.base ≡ had.editor.base
+  pub height : replayed.editor.height ≡ had.editor.height
+  pub width : replayed.editor.width ≡ had.editor.width
+  pub rest : replayed.rest ≡ had.rest
+  pub goes_on : replayed.editor.ended ≡ false
+
+-- what the bytes of a session give when they are replayed
+pub record RecoveryGivesBack : Type 0 where
+  -- over the text that it was opened with, where no key was refused: they give back what it had, wherever it saved and even if
+  -- it quit
+  pub gives_back : (d : Data) (text : List ℕ) (height width : ℕ) (base : Base) (store store' : StoreState) (answered : List ByteAnswer)
+      (new : Session) → FeedsAll d (at_opening d text height width base) store answered new store' → RefusesNoKey answered
+      → HasBack new (after_replaying d (at_opening d text height width base) (bytes_of answered))
+  -- So they do from any start where both have the same: after the cursor was sent to a line, or in a session that was
+  -- recovered before.
+  pub keeps_up : (d : Data) (old replayed : Session) (store store' : StoreState) (answered : List ByteAnswer) (new : Session) → HasBack old replayed
+      → FeedsAll d old store answered new store' → RefusesNoKey answered → HasBack new (after_replaying d replayed (bytes_of answered))
+  -- Whatever was answered, they apply all their keys but the Saves and the Quits, and so those too that the session refused.
+  pub applies_all : (d : Data) (text : List ℕ) (height width : ℕ) (base : Base) (bytes : List ℕ)
+      → (after_replaying d (at_opening d text height width base) bytes).editor
+      ≡ after_keys d false (at_start text height width base) (filter is_replayed (decoding bytes).keys)
