@@ -9,3 +9,4 @@ pub mod Examples
 pub mod Shown
 pub mod Turns
 pub mod Recovered
+pub mod LawExamples

@@ -1,0 +1,138 @@
+-- Worked rows, each of which follows from a law alone.
+use Rattle.std.proofs.Common.{◌≡◌, ℕ, true, List, [], ◌∷◌, Some, Result, Err, refl, sym, ap, ◌∙◌}
+use Rattle.std.specs.Prelude.{◌≢◌, codes}
+use Rattle.std.specs.Fmt.{digits}
+use Rattle.std.proofs.lemmas.List.Elements.{All-cons, All-nil}
+use Rattle.unicode_segmentation.proofs.Computing.{unicode_segmentation}
+use Rattle.unicode_width.proofs.Computing.{unicode_width}
+use Rattle.bx_explicit.specs.declared.base.Base.TheVariants.{Auto}
+use Rattle.bx_keys.specs.declared.key.Key.TheVariants.{Insert, Up}
+use Rattle.bx_text.specs.Edits.{Edited}
+use Rattle.bx_editor.specs.Editor.{Editor}
+use Rattle.bx_editor.specs.Laws.{HasRows}
+use Rattle.bx_editor.proofs.Computed.{tables, columns_of}
+use Rattle.bx_session.specs.declared.error.Refused.{Refused}
+use Rattle.bx_session.specs.declared.error.Refused.TheVariants.{Edit, Paint}
+use Rattle.bx_session.specs.declared.status.Status.{Status}
+use Rattle.bx_session.specs.Anew.{AlwaysStaysPainted}
+use Rattle.bx_session.specs.Laws.{AlwaysShowsState, HasKeysOfInput, ReplaysKeys, after_replaying, keys_from}
+use Rattle.bx_session.specs.Recovery.{HasBack, RefusesNoKey, RecoveryGivesBack}
+use Rattle.bx_session.specs.Running.{ByteAnswer, FeedsAll}
+use Rattle.bx_session.specs.Saving.{StoreState}
+use Rattle.bx_session.specs.Session.{Session, after_byte, after_sending, after_spending, owing_after_byte, with_painting}
+use Rattle.bx_session.proofs.Computed.{start, csi}
+
+abbrev opened : Session
+opened = start (codes "ab") 1 5
+
+pub the_letter_is_painted : AlwaysShowsState
+    → (after_byte tables true opened 0x78).painted ≡ Some (record { height = 1; width = 5; columns = columns_of (codes "xab  "); row = 0; column = 1 })
+unfolding unicode_segmentation unicode_width digits
+the_letter_is_painted law = (law.byte tables true opened 0x78 (law.opening tables (codes "ab") 1 5 Auto) refl).0
+
+-- all 22 bytes of the opening's painting have gone
+pub nothing_is_sent_anew : AlwaysStaysPainted → (with_painting tables (after_sending opened 22)).pending ≡ []
+unfolding unicode_segmentation unicode_width digits
+nothing_is_sent_anew law =
+    let has : HasRows opened.editor = record { text = (codes "ab", (refl, refl)); columns = refl } in
+    ap (λ (s : Session). s.pending) (law.sending tables opened 22 (law.opening tables (codes "ab") 1 5 Auto has) refl)
+
+pub a_letter_and_an_arrow : HasKeysOfInput → keys_from [] (0x61 ∷ csi (codes "A")) ≡ Insert 0x61 ∷ Up ∷ []
+a_letter_and_an_arrow law = law (0x61 ∷ csi (codes "A"))
+
+-- a, Save, Quit, b
+pub saves_and_quits_are_passed_over : ReplaysKeys
+    → (after_replaying tables (start (codes "x") 1 5) (0x61 ∷ 0x13 ∷ 0x11 ∷ 0x62 ∷ [])).editor.content.text ≡ codes "abx"
+unfolding unicode_segmentation unicode_width digits
+saves_and_quits_are_passed_over law = ap (λ (e : Editor). e.content.text) (law tables (start (codes "x") 1 5) (0x61 ∷ 0x13 ∷ 0x11 ∷ 0x62 ∷ []) refl)
+
+-- ---- recovery
+
+-- a, Save, b, Undo
+abbrev fed : Result Status Refused → Result Status Refused → Result Status Refused → Result Status Refused → List ByteAnswer
+fed a save b undo = (0x61, a) ∷ (0x13, save) ∷ (0x62, b) ∷ (0x1a, undo) ∷ []
+
+-- a session that was fed them, and refused no key, has the text that their replay has, whatever else was answered
+pub a_save_is_no_end_of_the_past : RecoveryGivesBack → (store store' : StoreState) (a save b undo : Result Status Refused) (new : Session)
+    → FeedsAll tables (start (codes "x") 1 5) store (fed a save b undo) new store' → RefusesNoKey (fed a save b undo)
+    → new.editor.content.text ≡ codes "ax"
+unfolding unicode_segmentation unicode_width digits
+a_save_is_no_end_of_the_past law store store' a save b undo new feeds none =
+    ap (λ (t : Edited). t.text) (sym (law.gives_back tables (codes "x") 1 5 Auto store store' (fed a save b undo) new feeds none).content)
+
+-- there is such a session: one of which each painting was refused
+abbrev unpainted : List ℕ → List ByteAnswer
+unpainted [] = []
+unpainted (b ∷ bs) = (b, Err Paint) ∷ unpainted bs
+
+none_refused : (bs : List ℕ) → RefusesNoKey (unpainted bs)
+none_refused [] = All-nil (λ (a : ByteAnswer). a.1 ≢ Err Edit)
+none_refused (b ∷ bs) = All-cons (λ (a : ByteAnswer). a.1 ≢ Err Edit) (b, Err Paint) (unpainted bs) (λ e. cc e) (none_refused bs)
+
+abbrev owing : List ℕ → Session → Session
+owing [] s = s
+owing (b ∷ bs) s = owing bs (owing_after_byte tables true s b)
+
+abbrev of_x : List ℕ → Session
+of_x bs = owing bs (start (codes "x") 1 5)
+
+abbrev storing : List ℕ → StoreState
+storing text = record { contents = Some text; failures = 0 }
+
+is_fed : FeedsAll tables (of_x []) (storing []) (unpainted (0x61 ∷ 0x13 ∷ 0x62 ∷ 0x1a ∷ [])) (of_x (0x61 ∷ 0x13 ∷ 0x62 ∷ 0x1a ∷ [])) (storing (codes "ax"))
+unfolding unicode_segmentation unicode_width digits
+is_fed = (
+  of_x (0x61 ∷ []),
+  storing [],
+  refl,
+  (true, refl, (refl, refl)),
+  (λ asks. tt),
+  (
+    of_x (0x61 ∷ 0x13 ∷ []),
+    storing (codes "ax"),
+    refl,
+    (true, refl, (refl, refl)),
+    (λ asks. tt),
+    (
+      of_x (0x61 ∷ 0x13 ∷ 0x62 ∷ []),
+      storing (codes "ax"),
+      refl,
+      (true, refl, (refl, refl)),
+      (λ asks. tt),
+      (of_x (0x61 ∷ 0x13 ∷ 0x62 ∷ 0x1a ∷ []), storing (codes "ax"), refl, (true, refl, (refl, refl)), (λ asks. tt), (refl, refl)),
+    ),
+  ),
+)
+
+pub its_replay_gives_the_text_back : RecoveryGivesBack
+    → (after_replaying tables (start (codes "x") 1 5) (0x61 ∷ 0x13 ∷ 0x62 ∷ 0x1a ∷ [])).editor.content.text ≡ codes "ax"
+unfolding unicode_segmentation unicode_width digits
+its_replay_gives_the_text_back law =
+    let input = 0x61 ∷ 0x13 ∷ 0x62 ∷ 0x1a ∷ [] in
+    let back = law.gives_back tables (codes "x") 1 5 Auto (storing []) (storing (codes "ax")) (unpainted input) (of_x input) is_fed (none_refused input) in
+    ap (λ (t : Edited). t.text) back.content
+
+-- a session of which b was refused for want of memory has the text ax, and its replay has abx
+pub a_refused_key_is_applied : RecoveryGivesBack → (store store' : StoreState) (new : Session)
+    → FeedsAll tables (start (codes "x") 1 5) store ((0x61, Err Paint) ∷ (0x62, Err Edit) ∷ []) new store'
+    → (new.editor.content.text ≡ codes "ax")
+    × ((after_replaying tables (start (codes "x") 1 5) (0x61 ∷ 0x62 ∷ [])).editor.content.text ≡ codes "abx")
+unfolding unicode_segmentation unicode_width digits
+a_refused_key_is_applied law store store' new feeds =
+    let others = feeds.5 in (
+      ap (λ (s : Session). s.editor.content.text) others.5.0 ∙ ap (λ (s : Session). s.editor.content.text) others.3.2.0
+          ∙ ap (λ (s : Session). (after_spending s 0x62).editor.content.text) feeds.3.2.0,
+      ap (λ (e : Editor). e.content.text) (law.applies_all tables (codes "x") 1 5 Auto (0x61 ∷ 0x62 ∷ [])),
+    )
+
+-- recovered after a, painted, and fed b
+pub a_recovered_session_goes_on : RecoveryGivesBack → (store store' : StoreState) (b : Result Status Refused) (new : Session)
+    → FeedsAll tables (with_painting tables (after_replaying tables (start (codes "x") 1 5) (0x61 ∷ []))) store ((0x62, b) ∷ []) new store'
+    → RefusesNoKey ((0x62, b) ∷ []) → new.editor.content.text ≡ codes "abx"
+unfolding unicode_segmentation unicode_width digits
+a_recovered_session_goes_on law store store' b new feeds none =
+    let replayed = after_replaying tables (start (codes "x") 1 5) (0x61 ∷ []) in
+    let same : HasBack (with_painting tables replayed) replayed =
+    record { content = refl; place = refl; base = refl; height = refl; width = refl; rest = refl; goes_on = refl } in
+    ap (λ (t : Edited). t.text)
+    (sym (law.keeps_up tables (with_painting tables replayed) replayed store store' ((0x62, b) ∷ []) new same feeds none).content)
