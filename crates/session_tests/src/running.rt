@@ -46,6 +46,14 @@ fn a_run_writes_all_and_tells_its_end(rt: HostRuntime) -> Result<(), Fail> {
     assert!(rt; ends(alloc, "ab", b"", none, &OPENED_AND_ENDED[..OPENED])?);
     assert!(rt; ends(alloc, "ab", b"x", some, edited)?);
     assert!(rt;
+        ends(alloc, "ab", b"x\x11", some, edited)?,
+        "a Quit asks again"
+    );
+    assert!(rt;
+        ends(alloc, "", b"x\x11\x11", End::Quit, dropped)?,
+        "two Quits"
+    );
+    assert!(rt;
         ends(alloc, "", b"x\x11\x11yy", End::Quit, dropped)?,
         "bytes after the end"
     );
