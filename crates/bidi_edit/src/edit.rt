@@ -3,7 +3,7 @@
 ghost use Rattle.std.specs.Prelude.{◌≡◌, false, IfOk, OnOk};
 ghost use Rattle.bx_session.specs.Laws.{after_replaying};
 ghost use Rattle.bx_session.specs.Painting.{QueuesPicture};
-ghost use Rattle.bx_session.specs.Running.{RunsRecorded};
+ghost use Rattle.bx_session.specs.Journal.{RunsRecorded};
 ghost use Rattle.bx_session.specs.Saving.{store_state};
 ghost use Rattle.bx_session.specs.Session.{with_painting};
 ghost use Rattle.bidi_edit.specs.Run.{Edits, begins_with, bytes_of};

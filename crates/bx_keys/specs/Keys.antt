@@ -118,3 +118,8 @@ rest_after rest b = (decoding (rest ++ b ∷ [])).rest
 -- what is kept of bytes that wait: the first twelve, since a sequence of which more wait gives no key, however it goes on
 abbrev pub head_of : List ℕ → List ℕ
 head_of rest = take 12 rest
+
+-- the keys that bytes end one after another, where of what waits only that head is kept
+abbrev pub keys_from : List ℕ → List ℕ → List Key
+keys_from rest [] = []
+keys_from rest (b ∷ bs) = option_to_list (key_after rest b) ++ keys_from (head_of (rest_after rest b)) bs

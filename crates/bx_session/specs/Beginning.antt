@@ -1,10 +1,9 @@
 -- What a session begins from.
 use Rattle.std.specs.Prelude.{ℕ, List, [], Option, Some, None}
 use Rattle.bx_explicit.specs.declared.base.Base.{Base}
-use Rattle.bx_editor.specs.Data.{Data}
-use Rattle.bx_session.specs.Session.{Session, at_opening, after_going, with_painting}
+use Rattle.bx_document.specs.Data.{Data}
+use Rattle.bx_session.specs.Session.{Session, at_opening, after_going, after_replaying, with_painting}
 use Rattle.bx_session.specs.Painting.{QueuesPicture}
-use Rattle.bx_session.specs.Laws.{after_replaying}
 
 -- a text in a window, the offset that the cursor is sent to, if any, and the bytes of a journal, which may be none
 pub record Beginning : Type 0 where

@@ -1,22 +1,17 @@
 -- What holds of sessions, whatever their input.
-use Rattle.std.specs.Prelude.{◌≡◌, ℕ, Bool, false, List, [], ◌∷◌, ◌++◌, Some, option_to_list}
+use Rattle.std.specs.Prelude.{◌≡◌, ℕ, Bool, false, List, []}
 use Rattle.std.specs.List.{filter}
 use Rattle.bx_explicit.specs.declared.base.Base.{Base}
-use Rattle.bx_keys.specs.declared.key.Key.{Key}
-use Rattle.bx_keys.specs.Keys.{decoding, key_after, rest_after}
-use Rattle.bx_keys.specs.Waiting.{head_of}
-use Rattle.bx_editor.specs.Data.{Data}
+use Rattle.bx_keys.specs.Keys.{decoding}
+pub use Rattle.bx_keys.specs.Keys.{keys_from}
+use Rattle.bx_document.specs.Data.{Data}
 use Rattle.bx_editor.specs.Keys.{after_keys}
-use Rattle.bx_editor.specs.Picture.{picture}
 use Rattle.bx_session.specs.Session.{Session, at_opening, after_spending, after_byte, owing_after_byte, after_told, owing_after_told, after_sending}
 use Rattle.bx_session.specs.Session.{after_going, after_replay, is_replayed}
+pub use Rattle.bx_session.specs.Session.{after_replaying}
+pub use Rattle.bx_session.specs.Painting.{ShowsState}
 
--- where no painting is owed, the picture last painted is that of the session's state, and the screen is taken to show it
-abbrev pub ShowsState : Data → Session → Type 0
-ShowsState d s =
-    s.painting_owed ≡ false → (s.painted ≡ Some (picture d s.editor s.top)) × (s.known ≡ Some (picture d s.editor s.top))
-
--- so it is at opening, and so it stays, whatever is answered
+-- what `ShowsState` says holds at opening, and stays, whatever is answered
 pub record AlwaysShowsState : Type 0 where
   pub opening : (d : Data) (text : List ℕ) (height width : ℕ) (base : Base) → ShowsState d (at_opening d text height width base)
   pub byte : (d : Data) (saved : Bool) (s : Session) (b : ℕ) → ShowsState d s → ShowsState d (after_byte d saved s b)
@@ -28,21 +23,11 @@ pub record AlwaysShowsState : Type 0 where
   pub going : (d : Data) (s : Session) (offset : ℕ) → ShowsState d (after_going d s offset)
   pub sending : (d : Data) (s : Session) (count : ℕ) → ShowsState d s → ShowsState d (after_sending s count)
 
--- the keys that bytes end one after another, of which a session keeps what waits as far as a key can still come of it
-abbrev pub keys_from : List ℕ → List ℕ → List Key
-keys_from rest [] = []
-keys_from rest (b ∷ bs) = option_to_list (key_after rest b) ++ keys_from (head_of (rest_after rest b)) bs
-
--- they are the keys of the bytes as a whole
+-- keys byte by byte are those of the bytes as a whole
 abbrev pub HasKeysOfInput : Type 0
 HasKeysOfInput = (bs : List ℕ) → keys_from [] bs ≡ (decoding bs).keys
 
--- the session after bytes of a journal
-abbrev pub after_replaying : Data → Session → List ℕ → Session
-after_replaying d s [] = s
-after_replaying d s (b ∷ bs) = after_replaying d (after_replay d s b) bs
-
--- they apply their keys one after another, but for the Saves and the Quits
+-- bytes of a journal apply their keys one after another, but for the Saves and the Quits
 abbrev pub ReplaysKeys : Type 0
 ReplaysKeys =
     (d : Data) (s : Session) (bs : List ℕ) → s.editor.ended ≡ false

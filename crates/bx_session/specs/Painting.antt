@@ -3,10 +3,15 @@ use Rattle.std.specs.Prelude.{◌≡◌, ℕ, true, false, List, ◌++◌, Optio
 use Rattle.bx_grid.specs.Picture.{PictureState, AreWholeTokens, IsIdle, IsPicture, Shows}
 use Rattle.bx_grid.specs.Terminal.{Terminal, reads}
 use Rattle.bx_grid.specs.Screens.{IfShown}
-use Rattle.bx_editor.specs.Data.{Data}
+use Rattle.bx_document.specs.Data.{Data}
 use Rattle.bx_editor.specs.Editor.{Editor}
 use Rattle.bx_editor.specs.Picture.{StandsOnItsCell, picture}
 use Rattle.bx_session.specs.Session.{Session, unpainted_after_byte}
+
+-- where no painting is owed, the picture last painted is that of the session's state, and the screen is taken to show it
+abbrev pub ShowsState : Data → Session → Type 0
+ShowsState d s =
+    s.painting_owed ≡ false → (s.painted ≡ Some (picture d s.editor s.top)) × (s.known ≡ Some (picture d s.editor s.top))
 
 -- bytes make a terminal that shows the old picture show the new one; where no old one is given, any terminal of the new
 -- one's size that has nothing half read

@@ -1,7 +1,7 @@
 -- A session run over a reader, a writer and a store.
 use Rattle.std.specs.Prelude.{◌≡◌, ◌≢◌, ◌≤◌, ◌<◌, length, ℕ, true, false, List, [], ◌∷◌, ◌++◌, map, Option, Result, Ok, Err, OnOk}
 use Rattle.std.specs.Io.KnownBytes.{Appends, Consumes, IsAtEnd}
-use Rattle.bx_editor.specs.Data.{Data}
+use Rattle.bx_document.specs.Data.{Data}
 use Rattle.bx_session.specs.declared.status.Status.{Status}
 use Rattle.bx_session.specs.declared.error.Refused.{Refused}
 use Rattle.bx_session.specs.declared.end.End.{End}
@@ -11,7 +11,6 @@ use Rattle.bx_session.specs.declared.end.RunFault.TheVariants.{ReadFault, WriteF
 use Rattle.bx_session.specs.Session.{Session, is_idle}
 use Rattle.bx_session.specs.Saving.{StoreState, Feeds}
 use Rattle.bx_session.specs.Painting.{FeedPaints}
-use Rattle.bx_session.specs.Journal.{RecorderState, HasKept}
 
 -- a byte, and what it was answered
 abbrev pub ByteAnswer : Type 0
@@ -126,14 +125,6 @@ abbrev pub Runs : Data → Session → Session → StoreState → StoreState →
 Runs d old new store store' reader reader' writer writer' =
     (answered : List ByteAnswer) × (dropped : List ℕ) × (written : List ℕ) × (all : Session)
     × HasRun d old new store store' reader reader' writer writer' answered dropped written all
-
--- a run of which what was read, the dropped bytes with it, is kept in a journal
-abbrev pub RunsRecorded : {J : Type 0} → (J → Option (List ℕ)) → (J → ℕ) → Data → Session → Session → StoreState → StoreState
-    → Option (List ℕ) → Option (List ℕ) → Option (List ℕ) → Option (List ℕ) → RecorderState J → RecorderState J → Type 0
-RunsRecorded contents failures d old new store store' reader reader' writer writer' journal journal' =
-    (answered : List ByteAnswer) × (dropped : List ℕ) × (written : List ℕ) × (all : Session)
-    × HasRun d old new store store' reader reader' writer writer' answered dropped written all
-    × HasKept contents failures journal journal' (bytes_of answered ++ dropped)
 
 -- what the answer of a run says of the session after it and of the bytes that the reader has left
 abbrev pub EndsWith : Result End RunFault → Session → Option (List ℕ) → Type 0

@@ -1,13 +1,12 @@
 -- The session's state, and what a byte and a told size make of it.
-use Rattle.std.specs.Prelude.{ℕ, Bool, true, false, not, ◌&&◌, ◌||◌, is_some, List, [], ◌++◌, drop, Option, Some, None, if◌then◌else◌}
+use Rattle.std.specs.Prelude.{ℕ, Bool, true, false, not, ◌&&◌, ◌||◌, is_some, List, [], ◌∷◌, ◌++◌, drop, Option, Some, None, if◌then◌else◌}
 use Rattle.bx_explicit.specs.declared.base.Base.{Base}
 use Rattle.bx_keys.specs.declared.key.Key.{Key}
 use Rattle.bx_keys.specs.declared.key.Key.TheVariants.{Quit, Save}
-use Rattle.bx_keys.specs.Keys.{key_after, rest_after}
-use Rattle.bx_keys.specs.Waiting.{head_of}
+use Rattle.bx_keys.specs.Keys.{head_of, key_after, rest_after}
 use Rattle.bx_grid.specs.Picture.{PictureState}
 use Rattle.bx_paint.specs.Painting.{whole_bytes, changes_bytes}
-use Rattle.bx_editor.specs.Data.{Data}
+use Rattle.bx_document.specs.Data.{Data}
 use Rattle.bx_view.specs.Moves.{place_from}
 use Rattle.bx_editor.specs.Editor.{Editor, at_start, rows, with_place, with_size, without_message}
 use Rattle.bx_editor.specs.Keys.{after_key, asks_for_whole}
@@ -137,6 +136,11 @@ after_replayed_key d s (Some key) = if is_replayed key then session_after_key d 
 -- the byte's key is applied, and a painting is owed
 abbrev pub after_replay : Data → Session → ℕ → Session
 after_replay d s b = with_painting_owed (after_replayed_key d (after_spending s b) (key_of_byte s b))
+
+-- the session after bytes of a journal
+abbrev pub after_replaying : Data → Session → List ℕ → Session
+after_replaying d s [] = s
+after_replaying d s (b ∷ bs) = after_replaying d (after_replay d s b) bs
 
 -- ---- an offset that the cursor is sent to
 

@@ -2,8 +2,8 @@
 
 ghost use Rattle.std.specs.Prelude.{◌≡◌, ◌≤◌, ◌++◌, [], List, ℕ, false, length, take, IfOk, OnOk, OnErr, IsErrOf};
 ghost use Rattle.std.specs.Io.KnownBytes.{ReadConsumes};
-ghost use Rattle.bx_session.specs.Journal.{HasKept};
-ghost use Rattle.bx_session.specs.Running.{ByteAnswer, FedUntilEnd, HasRead, Sent, Runs, RunsRecorded, EndsWith, read_size};
+ghost use Rattle.bx_session.specs.Journal.{HasKept, RunsRecorded};
+ghost use Rattle.bx_session.specs.Running.{ByteAnswer, FedUntilEnd, HasRead, Sent, Runs, EndsWith, read_size};
 ghost use Rattle.bx_session.specs.Saving.{store_state};
 
 use crate::end::{End, RunFault};

@@ -1,14 +1,14 @@
 -- What a schedule makes of a file: the keys that were typed, the text that they make, what is stored, and what is seen.
 use Rattle.std.specs.Prelude.{◌≡◌, ℕ, ◌+◌, ◌<◌, true, false, List, [], Result, IfSome}
 use Rattle.bx_explicit.specs.declared.base.Base.{Base}
+use Rattle.bx_keys.specs.Keys.{keys_from}
 use Rattle.bx_grid.specs.Picture.{Shows}
 use Rattle.bx_store.specs.Stores.{greatest}
-use Rattle.bx_editor.specs.Data.{Data}
+use Rattle.bx_document.specs.Data.{Data}
 use Rattle.bx_editor.specs.Editor.{Editor, at_start}
 use Rattle.bx_editor.specs.Picture.{StandsOnItsCell, picture}
 use Rattle.bx_session.specs.Session.{at_opening}
 use Rattle.bx_session.specs.Saving.{StoreState}
-use Rattle.bx_session.specs.Laws.{keys_from}
 use Rattle.bx_world.specs.declared.step.Step.{Step}
 use Rattle.bx_world.specs.declared.step.StepFault.{StepFault}
 use Rattle.bx_world.specs.World.{World, around}

@@ -2,11 +2,11 @@
 use Rattle.std.specs.Prelude.{◌≡◌, ℕ, Bool, true, false, List, [], ◌∷◌, ◌==◌, IfSome}
 use Rattle.bx_grid.specs.Picture.{PictureState, IsIdle, Shows}
 use Rattle.bx_grid.specs.Terminal.{Terminal, reads}
-use Rattle.bx_editor.specs.Data.{Data}
+use Rattle.bx_document.specs.Data.{Data}
 use Rattle.bx_editor.specs.Editor.{Editor}
 use Rattle.bx_editor.specs.Picture.{StandsOnItsCell, picture}
 use Rattle.bx_session.specs.Session.{Session}
-use Rattle.bx_session.specs.Laws.{ShowsState}
+use Rattle.bx_session.specs.Painting.{ShowsState}
 use Rattle.bx_world.specs.World.{World, unread}
 
 -- the picture of the state: the rows that the rules give for the text, and the cursor's cell

@@ -1,5 +1,6 @@
 use Rattle.std.proofs.Common.{◌≡◌, []}
-use Rattle.bx_session.specs.Running.{HasRead, RunsRecorded}
+use Rattle.bx_session.specs.Journal.{RunsRecorded}
+use Rattle.bx_session.specs.Running.{HasRead}
 use Rattle.bx_session.specs.Saving.{store_state}
 use Rattle.bx_session.proofs.running.run_turns.Given as goal
 
