@@ -75,4 +75,12 @@ impl Whole {
         let mut layout = Layout::of(self.alloc, self.w, self.base);
         Ok(layout.slots(&self.source(), place)?)
     }
+
+    pub(crate) fn follow(&self, top: usize, place: usize, t: usize) -> Result<usize, Fail> {
+        if t == 0 {
+            return Err(Fail::new("no rows"));
+        }
+        let mut layout = Layout::of(self.alloc, self.w, self.base);
+        Ok(layout.follow(&self.source(), top, place, t)?)
+    }
 }
