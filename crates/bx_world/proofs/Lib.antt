@@ -11,3 +11,4 @@ pub mod Fits
 pub mod Begun
 pub mod Woven
 pub mod Runs
+mod LawExamples

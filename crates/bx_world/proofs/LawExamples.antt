@@ -1,0 +1,229 @@
+-- Worked rows, each of which follows from a law, or a clause, alone.
+use Rattle.std.proofs.Common.{◌≡◌, ℕ, Bool, true, List, [], ◌∷◌, ◌++◌, length, Option, Some, None, Ok, refl, sym, ap, subst, ◌∙◌}
+use Rattle.std.specs.Prelude.{codes, option_to_list}
+use Rattle.std.specs.Fmt.{digits}
+use Rattle.std.proofs.lemmas.List.{append-nil}
+use Rattle.std.proofs.KnownBytes.{Appends-nil}
+use Rattle.unicode_segmentation.proofs.Computing.{unicode_segmentation}
+use Rattle.unicode_width.proofs.Computing.{unicode_width}
+use Rattle.bx_explicit.specs.declared.base.Base.TheVariants.{Auto}
+use Rattle.bx_keys.specs.declared.key.Key.{Key}
+use Rattle.bx_keys.specs.declared.key.Key.TheVariants.{Insert}
+use Rattle.bx_keys.specs.Keys.{decoding}
+use Rattle.bx_grid.specs.Picture.{PictureState}
+use Rattle.bx_grid.specs.Terminal.{Terminal, reads}
+use Rattle.bx_editor.specs.Editor.{Editor}
+use Rattle.bx_editor.specs.Picture.{picture}
+use Rattle.bx_editor.proofs.Computed.{tables, columns_of}
+use Rattle.bx_session.specs.declared.status.Status.TheVariants.{Running}
+use Rattle.bx_session.specs.Beginning.{Beginning, IsBegun, begun, unpainted_at}
+use Rattle.bx_session.specs.Running.{ByteAnswer, Turn, InTurns, HasRun}
+use Rattle.bx_session.specs.Saving.{StoreState}
+use Rattle.bx_session.specs.Session.{Session, after_byte}
+use Rattle.bx_session.proofs.Computed.{start}
+use Rattle.bx_session.proofs.Turns.{started}
+use Rattle.bx_world.specs.declared.step.Step.TheVariants.{Byte, Send, Read}
+use Rattle.bx_world.specs.Events.{Event, Input, after_events, input_of, keys_of}
+use Rattle.bx_world.specs.Headline.{HeadlineFromOpening}
+use Rattle.bx_world.specs.Laws.{BeginsWithKeys, HeadlineInChangingWindows, HeadlineOfRuns, RunsArePlays, TurnsArePlays}
+use Rattle.bx_world.specs.Runs.{IsAmong, Schedule, RunsInWindow, begins_at, steps_of_run, steps_of_turns}
+use Rattle.bx_world.specs.Steps.{PlaysTo, is_last_accepted}
+use Rattle.bx_world.specs.World.{World, after_read, after_send, around, unknown_terminal, with_byte}
+use Rattle.bx_world.proofs.Woven.{ok}
+
+-- ---- where a run begins
+
+-- a, Save, b, Quit in the journal of a session over `x`
+abbrev left : Beginning
+left = record {
+  text = codes "x";
+  height = 1;
+  width = 5;
+  base = Auto;
+  offset = None;
+  journal = 0x61 ∷ 0x13 ∷ 0x62 ∷ 0x11 ∷ [];
+}
+
+pub a_run_goes_on_from_its_journal : BeginsWithKeys → (unpainted_at tables left).editor.content.text ≡ codes "abx"
+unfolding unicode_segmentation unicode_width digits
+a_run_goes_on_from_its_journal law = ap (λ (e : Editor). e.content.text) (law tables left)
+
+-- ---- `ab` is typed into an empty file in a window of one row of five columns
+
+abbrev empty : Beginning
+empty = record { text = []; height = 1; width = 5; base = Auto; offset = None; journal = [] }
+
+abbrev fed : List ByteAnswer
+fed = (0x61, Ok Running) ∷ (0x62, Ok Running) ∷ []
+
+abbrev typed : List ℕ → List Turn
+typed written = record { fed = fed; dropped = []; written = written } ∷ []
+
+abbrev window : Terminal
+window = unknown_terminal 1 5
+
+-- what they leave, however the terminal read meanwhile
+abbrev typed_in : World → Bool → World
+typed_in w saved = with_byte w 0x61 (after_byte tables saved w.session 0x61)
+
+abbrev typed_on : World → Bool → World
+typed_on w saved = with_byte w 0x62 (after_byte tables saved w.session 0x62)
+
+abbrev in_one_turn : ℕ → ℕ → ℕ → Schedule
+in_one_turn n m k = (Send n, ok) ∷ (Byte 0x61, ok) ∷ (Byte 0x62, ok) ∷ (Send m, ok) ∷ (Read k, ok) ∷ []
+
+-- the session and what it shows
+record ShowsBoth (s : Session) : Type 0 where
+  pub height : s.editor.height ≡ 1
+  pub width : s.editor.width ≡ 5
+  pub columns : (picture tables s.editor s.top).columns ≡ columns_of (codes "ab   ")
+
+played_both : (n m k : ℕ) (saved saved' : Bool)
+    → ShowsBoth (after_read (after_send (typed_on (typed_in (after_send (begins_at (begun tables empty) window) n) saved) saved') m) k).session
+unfolding unicode_segmentation unicode_width digits
+played_both n m k saved saved' = record { height = refl; width = refl; columns = refl }
+
+both_shown : (n m k : ℕ) (store store' : StoreState) (new : World)
+    → PlaysTo tables (begins_at (begun tables empty) window) store (in_one_turn n m k) new store' → ShowsBoth new.session
+both_shown n m k store store' new p =
+    let q = p.3 in
+    let r = q.3 in
+    let u = r.3 in
+    let v = u.3 in
+    let saved = q.2.0 in
+    let saved' = r.2.0 in
+    let first : q.0 ≡ typed_in p.0 saved = q.2.2 in
+    let second : r.0 ≡ typed_on q.0 saved' = r.2.2 in
+    let is : new ≡ after_read (after_send (typed_on (typed_in (after_send (begins_at (begun tables empty) window) n) saved) saved') m) k =
+    v.3.0 ∙ v.2.0.1
+    ∙ ap (λ (w : World). after_read w k) (u.2.0 ∙ ap (λ (w : World). after_send w m)
+    (second ∙ ap (λ (w : World). typed_on w saved') (first ∙ ap (λ (w : World). typed_in w saved) p.2.0))) in
+    subst (λ (w : World). ShowsBoth w.session) (sym is) (played_both n m k saved saved')
+
+pub typed_letters_are_shown : HeadlineOfRuns
+    → (s : Session) (store store' : StoreState) (reader reader' writer writer' : Option (List ℕ)) (written last : List ℕ) (all : Session)
+    → IsBegun tables empty
+    → (run : HasRun tables (begun tables empty) s store store' reader reader' writer writer' fed [] written all)
+    → run.in_turns.turns ≡ typed last → s.pending ≡ [] → (reads window written).columns ≡ columns_of (codes "ab   ")
+typed_letters_are_shown law s store store' reader reader' writer writer' written last all begins run turns sent =
+    let found = law tables empty s store store' reader reader' writer writer' fed [] written all begins run window (record { no_run = refl; no_token = refl }) in
+    let n = length run.in_turns.first in
+    let m = length last in
+    let k = length written in
+    let seen = found.0 in
+    let plays : PlaysTo tables (begins_at (begun tables empty) window) store (in_one_turn n m k) seen.new store' =
+    subst (λ (ts : List Turn). PlaysTo tables (begins_at (begun tables empty) window) store
+    ((Send n, ok) ∷ (steps_of_turns ts ++ (Read k, ok) ∷ [])) seen.new store') turns seen.plays in
+    let both : ShowsBoth s = subst ShowsBoth seen.session (both_shown n m k store store' seen.new plays) in
+    let accepted : is_last_accepted true (steps_of_run run.in_turns) ≡ true =
+    subst (λ (ts : List Turn). is_last_accepted true ((Send n, ok) ∷ steps_of_turns ts) ≡ true) (sym turns) refl in
+    let editor : s.editor ≡ after_events tables (unpainted_at tables empty).editor seen.events =
+    ap (λ (x : Session). x.editor) (sym seen.session) ∙ seen.headline.editor in
+    (found.1 accepted sent (sym both.height) (sym both.width)).same_columns
+    ∙ ap (λ (e : Editor). (picture tables e s.top).columns) (sym editor) ∙ both.columns
+
+-- ---- a run's steps
+
+-- a session of which these bytes are pending, at a terminal
+abbrev pending : List ℕ → World
+pending bytes = begins_at (record (start [] 1 5) { pending = bytes }) window
+
+pub a_turn_is_on_the_line : TurnsArePlays → (store : StoreState) → (new : World) × (new.line ≡ codes "ab") × (new.session.pending ≡ codes "c")
+a_turn_is_on_the_line law store =
+    let turn : Turn = record { fed = []; dropped = []; written = codes "ab" } in
+    let after = (pending (codes "c")).session in
+    let found = law tables (pending (codes "abc")) after store store turn (pending (codes "abc")).session
+    (record { feeds = (refl, refl); order = refl; session = refl }) in
+    (found.0, found.2.line, ap (λ (s : Session). s.pending) found.2.session)
+
+pub a_run_is_on_the_line : RunsArePlays → (store : StoreState) → (new : World) × (new.line ≡ codes "abc") × (new.session.pending ≡ [])
+a_run_is_on_the_line law store =
+    let before = (pending (codes "abc")).session in
+    let after = (pending []).session in
+    let run = started tables before after store None None None (codes "abc") (record { writes = tt; order = refl; session = refl }) in
+    let found = law tables (pending (codes "abc")) after store store None None None None [] [] (codes "abc") before run in
+    (found.0, found.2.line, ap (λ (s : Session). s.pending) found.2.session)
+
+-- ---- a schedule from an opening
+
+insert_only : (key : Option Key) (c : ℕ) → option_to_list key ++ [] ≡ Insert c ∷ [] → key ≡ Some (Insert c)
+insert_only None c is = absurd (cc is)
+insert_only (Some key) c is = cc is
+
+pub a_byte_is_its_letter : (store store' : StoreState) (new : World)
+    → HeadlineFromOpening tables (around (start [] 1 5) 1 5) store ((Byte 0x61, ok) ∷ []) new store' → new.session.editor.content.text ≡ codes "a"
+unfolding unicode_segmentation unicode_width digits
+a_byte_is_its_letter store store' new clause =
+    let found = clause [] 1 5 Auto refl in
+    let events = found.0 in
+    let are = found.1.events_are in
+    let one = are.3 in
+    let is : events ≡ Input 0x61 one.0 true one.1 ∷ [] = are.2 ∙ ap (λ (xs : List Event). xs ++ are.1) one.2
+    ∙ ap (λ (xs : List Event). Input 0x61 one.0 true one.1 ∷ xs) are.4 in
+    let whole : keys_of events ≡ (decoding (input_of events)).keys = found.1.keys events [] (sym (append-nil events)) in
+    let key : one.0 ≡ Some (Insert 0x61) =
+    insert_only one.0 0x61 (subst (λ (xs : List Event). keys_of xs ≡ (decoding (input_of xs)).keys) is whole) in
+    ap (λ (e : Editor). e.content.text) found.1.editor
+    ∙ ap (λ (xs : List Event). (after_events tables (unpainted_at tables empty).editor xs).content.text) is
+    ∙ ap (λ (k : Option Key). (after_events tables (unpainted_at tables empty).editor (Input 0x61 k true one.1 ∷ [])).content.text) key
+
+-- ---- the same letters in a window that changes
+
+-- the terminal reads as it likes, between the letters too
+abbrev read_between : ℕ → ℕ → ℕ → Schedule
+read_between n m k = (Send n, ok) ∷ (Byte 0x61, ok) ∷ (Read 3, ok) ∷ (Byte 0x62, ok) ∷ (Send m, ok) ∷ (Read k, ok) ∷ []
+
+abbrev read_first : World → World
+read_first w = after_read w 3
+
+record ShowsTold (w : World) : Type 0 where
+  pub both : ShowsBoth w.session
+  pub told : w.told ≡ true
+
+played_between : (n m k : ℕ) (saved saved' : Bool)
+    → ShowsTold (after_read (after_send (typed_on (read_first (typed_in (after_send (begins_at (begun tables empty) window) n) saved)) saved') m) k)
+unfolding unicode_segmentation unicode_width digits
+played_between n m k saved saved' = record { both = record { height = refl; width = refl; columns = refl }; told = refl }
+
+told_shown : (n m k : ℕ) (store store' : StoreState) (new : World)
+    → PlaysTo tables (begins_at (begun tables empty) window) store (read_between n m k) new store' → ShowsTold new
+told_shown n m k store store' new p =
+    let q = p.3 in
+    let a = q.3 in
+    let r = a.3 in
+    let u = r.3 in
+    let v = u.3 in
+    let saved = q.2.0 in
+    let saved' = r.2.0 in
+    let first : q.0 ≡ typed_in p.0 saved = q.2.2 in
+    let second : r.0 ≡ typed_on a.0 saved' = r.2.2 in
+    let is : new ≡ after_read (after_send (typed_on (read_first (typed_in (after_send (begins_at (begun tables empty) window) n) saved)) saved') m) k =
+    v.3.0 ∙ v.2.0.1
+    ∙ ap (λ (w : World). after_read w k) (u.2.0 ∙ ap (λ (w : World). after_send w m)
+    (second ∙ ap (λ (w : World). typed_on w saved') (a.2.0.1 ∙ ap read_first (first ∙ ap (λ (w : World). typed_in w saved) p.2.0)))) in
+    subst ShowsTold (sym is) (played_between n m k saved saved')
+
+pub letters_are_shown_as_they_are_read : HeadlineInChangingWindows
+    → (s : Session) (store store' : StoreState) (reader reader' writer writer' : Option (List ℕ)) (written last : List ℕ) (all : Session) (k : ℕ)
+    → IsBegun tables empty
+    → (run : HasRun tables (begun tables empty) s store store' reader reader' writer writer' fed [] written all)
+    → run.in_turns.turns ≡ typed last → s.pending ≡ []
+    → (found : RunsInWindow tables empty (begun tables empty) s store store' window (read_between (length run.in_turns.first) (length last) k))
+    × (found.new.line ≡ [] → found.terminal.columns ≡ columns_of (codes "ab   "))
+letters_are_shown_as_they_are_read law s store store' reader reader' writer writer' written last all k begins run turns sent =
+    let n = length run.in_turns.first in
+    let m = length last in
+    let among : IsAmong (steps_of_run run.in_turns) (read_between n m k) = record {
+      own = ap (λ (ts : List Turn). (Send n, ok) ∷ steps_of_turns ts) (sym turns);
+      outside = ((λ e. absurd (cc e)), ((λ e. absurd (cc e)), ((λ e. refl), ((λ e. absurd (cc e)), ((λ e. absurd (cc e)), ((λ e. refl), tt))))));
+    } in
+    let found = law tables empty s store store' reader reader' writer writer' fed [] written all begins run window (read_between n m k)
+    (record { no_run = refl; no_token = refl }) among in
+    let seen = told_shown n m k store store' found.new found.plays in
+    let both : ShowsBoth s = subst ShowsBoth found.session seen.both in
+    let editor : s.editor ≡ after_events tables (unpainted_at tables empty).editor found.events =
+    ap (λ (x : Session). x.editor) (sym found.session) ∙ found.headline.editor in (
+      found,
+      λ read. (found.shows refl seen.told read sent).same_columns
+          ∙ ap (λ (e : Editor). (picture tables e s.top).columns) (sym editor) ∙ both.columns,
+    )
