@@ -1,14 +1,16 @@
 //! What a session begins with.
 
-ghost use Rattle.std.specs.Prelude.{◌≡◌, ℕ, IfOk, Option, true};
+ghost use Rattle.std.specs.Prelude.{◌≡◌, ℕ, IfOk, OnOk, Option, true};
 ghost use Rattle.bx_terms.specs.Sizes.{is_side};
+ghost use Rattle.bx_session.specs.Beginning.{after_going_to};
 ghost use Rattle.bidi_edit.specs.Run.{AreOfFiles, IsOpened, bytes_of};
 
 use crate::fault::ProgramFault;
 use bx_command::start_of_line;
+use bx_document::Answers;
 use bx_explicit::Base;
 use bx_session::Session;
-use bx_ucd::Tables;
+use bx_ucd::{BidiData, Tables};
 use bx_words::UnicodeFiles;
 use std::alloc::Global;
 
@@ -47,10 +49,25 @@ pub fn open(
     let unicode = beginning.unicode;
     let tables = Tables::read(alloc, unicode.classes, unicode.brackets, unicode.mirroring)?;
     let text = beginning.text.unwrap_or(Vec::new(alloc));
-    let start = beginning.line.map(|line| start_of_line(text.as_slice(), line));
+    let start = beginning
+        .line
+        .map(|line| start_of_line(text.as_slice(), line));
     let mut session = Session::open(alloc, text, tables, rows, cols, direction)?;
-    if let Some(start) = start {
-        session.go_to(start)?;
-    }
+    go_to(&mut session, start)?;
     Ok(session)
+}
+
+/// Sends the cursor to an offset, if there is one.
+fn go_to<D: BidiData + Drop>(
+    session: &mut Session<D>,
+    offset: Option<usize>,
+) -> Result<(), ProgramFault<'static>>
+    ensures { OnOk result (session.new ≡ record session.old {
+      session = after_going_to (⟦<D as Answers>⟧.data session.old.tables) session.old.session offset;
+    }) }
+{
+    match offset {
+        Some(offset) => Ok(session.go_to(offset)?),
+        None => Ok(()),
+    }
 }

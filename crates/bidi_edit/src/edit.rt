@@ -14,7 +14,7 @@ use crate::replaying::replay;
 use bx_document::Answers;
 use bx_session::{End, Journal, Recorder, Session, run_recorded};
 use bx_store::Store;
-use bx_ucd::Tables;
+use bx_ucd::BidiData;
 use std::alloc::Global;
 use std::io::{Read, Write};
 
@@ -28,23 +28,23 @@ pub enum Changes {
 }
 
 /// Replays keys, paints what came of them, and runs until Quit or the input's end.
-fn resume<R: Read, J: Journal + Drop, W: Write, S: Store>(
+fn resume<D: BidiData + Drop, R: Read, J: Journal + Drop, W: Write, S: Store>(
     reader: &mut R,
     recorder: &mut Recorder<J>,
     writer: &mut W,
     store: &mut S,
-    session: &mut Session<Tables>,
+    session: &mut Session<D>,
     keys: &[u8],
 ) -> Result<Changes, ProgramFault<'static>>
     ensures tables { session.new.tables ≡ session.old.tables }
-    ensures paints { OnOk result (QueuesPicture (⟦<Tables as Answers>⟧.data session.old.tables)
-        (after_replaying (⟦<Tables as Answers>⟧.data session.old.tables) session.old.session keys.now).pending
-        (after_replaying (⟦<Tables as Answers>⟧.data session.old.tables) session.old.session keys.now).known
-        (with_painting (⟦<Tables as Answers>⟧.data session.old.tables)
-        (after_replaying (⟦<Tables as Answers>⟧.data session.old.tables) session.old.session keys.now))) }
-    ensures runs { OnOk result (RunsRecorded J.contents J.failure_count (⟦<Tables as Answers>⟧.data session.old.tables)
-        (with_painting (⟦<Tables as Answers>⟧.data session.old.tables)
-        (after_replaying (⟦<Tables as Answers>⟧.data session.old.tables) session.old.session keys.now)) session.new.session
+    ensures paints { OnOk result (QueuesPicture (⟦<D as Answers>⟧.data session.old.tables)
+        (after_replaying (⟦<D as Answers>⟧.data session.old.tables) session.old.session keys.now).pending
+        (after_replaying (⟦<D as Answers>⟧.data session.old.tables) session.old.session keys.now).known
+        (with_painting (⟦<D as Answers>⟧.data session.old.tables)
+        (after_replaying (⟦<D as Answers>⟧.data session.old.tables) session.old.session keys.now))) }
+    ensures runs { OnOk result (RunsRecorded J.contents J.failure_count (⟦<D as Answers>⟧.data session.old.tables)
+        (with_painting (⟦<D as Answers>⟧.data session.old.tables)
+        (after_replaying (⟦<D as Answers>⟧.data session.old.tables) session.old.session keys.now)) session.new.session
         (store_state S.contents S.failure_count store.old) (store_state S.contents S.failure_count store.new)
         (R.remaining reader.old) (R.remaining reader.new) (W.contents writer.old) (W.contents writer.new) recorder.old recorder.new) }
     ensures saved { result ≡ Ok Changes.Saved → session.new.session.editor.changed ≡ false }
@@ -52,11 +52,22 @@ fn resume<R: Read, J: Journal + Drop, W: Write, S: Store>(
     replay(session, keys)?;
     session.paint()?;
     let end = run_recorded(reader, recorder, writer, store, session)?;
-    match (end, session.changed()) {
-        (End::InputEnded { changed: true }, _) => Err(ProgramFault::Unsaved),
-        (End::Quit, true) => Ok(Changes::Dropped),
-        (End::InputEnded { changed: false } | End::Quit, _) => Ok(Changes::Saved),
+    told(end, session.changed())
+}
+
+/// What became of the changes, by how a run ended and whether the text has changed then.
+///
+/// Errors: `Unsaved` where the input ended with the text changed.
+fn told(end: End, changed: bool) -> Result<Changes, ProgramFault<'static>>
+    ensures { result ≡ Ok Changes.Saved → changed ≡ false }
+{
+    if end == (End::InputEnded { changed: true }) {
+        return Err(ProgramFault::Unsaved);
     }
+    if changed {
+        return Ok(Changes::Dropped);
+    }
+    Ok(Changes::Saved)
 }
 
 /// Reads Unicode's three files, opens a text, replays keys, and runs until Quit or the input's end. Ok is exit status 0, and a

@@ -11,18 +11,18 @@ use crate::replaying::{Replayed, replay_beside};
 use bx_document::Answers;
 use bx_session::Session;
 use bx_store::Store;
-use bx_ucd::Tables;
+use bx_ucd::BidiData;
 use std::alloc::Global;
 
 /// Replays keys beside the bytes that the file has now, and stores the text.
-fn store_replayed<S: Store>(
+fn store_replayed<D: BidiData + Drop, S: Store>(
     store: &mut S,
-    session: &mut Session<Tables>,
+    session: &mut Session<D>,
     keys: &[u8],
     file: &[u8],
 ) -> Result<Replayed, ProgramFault<'static>>
     ensures stored { OnOk result (store_state S.contents S.failure_count store.new ≡ with_text
-        (after_replaying (⟦<Tables as Answers>⟧.data session.old.tables) session.old.session keys.now).editor.content.text
+        (after_replaying (⟦<D as Answers>⟧.data session.old.tables) session.old.session keys.now).editor.content.text
         (store_state S.contents S.failure_count store.old)) }
 {
     let replayed = replay_beside(session, keys, file)?;

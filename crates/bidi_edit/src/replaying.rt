@@ -7,7 +7,7 @@ use crate::fault::ProgramFault;
 use bx_document::Answers;
 use bx_keys::Key;
 use bx_session::Session;
-use bx_ucd::Tables;
+use bx_ucd::BidiData;
 use std::fmt;
 
 /// What a file holds, seen from a session that was replayed over what the file held once.
@@ -42,10 +42,13 @@ impl fmt::Display for Replayed {
 /// Replays keys, and paints nothing.
 ///
 /// Errors: `OutOfMemory`: the keys up to one that there was no memory for were applied.
-pub fn replay(session: &mut Session<Tables>, keys: &[u8]) -> Result<(), ProgramFault<'static>>
+pub fn replay<D: BidiData + Drop>(
+    session: &mut Session<D>,
+    keys: &[u8],
+) -> Result<(), ProgramFault<'static>>
     ensures tables { session.new.tables ≡ session.old.tables }
     ensures replays { OnOk result (session.new.session
-        ≡ after_replaying (⟦<Tables as Answers>⟧.data session.old.tables) session.old.session keys.now) }
+        ≡ after_replaying (⟦<D as Answers>⟧.data session.old.tables) session.old.session keys.now) }
 {
     for byte in keys {
         session.replay(*byte)?;
@@ -56,14 +59,14 @@ pub fn replay(session: &mut Session<Tables>, keys: &[u8]) -> Result<(), ProgramF
 /// Replays keys over the text that was opened, and tells what a file that has these bytes now holds.
 ///
 /// Errors: `OutOfMemory`, as in [`replay`].
-pub fn replay_beside(
-    session: &mut Session<Tables>,
+pub fn replay_beside<D: BidiData + Drop>(
+    session: &mut Session<D>,
     keys: &[u8],
     file: &[u8],
 ) -> Result<Replayed, ProgramFault<'static>>
     ensures tables { session.new.tables ≡ session.old.tables }
     ensures replays { OnOk result (session.new.session
-        ≡ after_replaying (⟦<Tables as Answers>⟧.data session.old.tables) session.old.session keys.now) }
+        ≡ after_replaying (⟦<D as Answers>⟧.data session.old.tables) session.old.session keys.now) }
 {
     let mut is_known = session.has_text(file);
     let mut count = 0u64;

@@ -106,12 +106,25 @@ impl Write for Small {
 
 /// Runs over the input `abcdef`, and answers whether all of it was typed and whether the journal failed.
 fn run_kept(alloc: Global, journal: &mut Small) -> Result<(bool, bool), Fail> {
-    let mut session = Session::open(alloc, Vec::new(alloc), sample_tables(alloc)?, 1, 9, Base::Auto)?;
+    let mut session = Session::open(
+        alloc,
+        Vec::new(alloc),
+        sample_tables(alloc)?,
+        1,
+        9,
+        Base::Auto,
+    )?;
     let mut recorder = Recorder::new(WrittenJournal::new(journal));
     let mut input = b"abcdef".as_slice();
     let mut output = Vec::new(alloc);
     let mut store = MemoryStore::new(alloc, None);
-    let _ = run_recorded(&mut input, &mut recorder, &mut output, &mut store, &mut session);
+    let _ = run_recorded(
+        &mut input,
+        &mut recorder,
+        &mut output,
+        &mut store,
+        &mut session,
+    );
     Ok((session.has_text(b"abcdef"), recorder.has_failed()))
 }
 

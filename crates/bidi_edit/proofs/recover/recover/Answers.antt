@@ -1,0 +1,19 @@
+use Rattle.bx_document.specs.Data.{Data}
+use Rattle.bx_ucd.specs.ClassTable.{class_in_table}
+use Rattle.bx_ucd.specs.CodeMap.{value_in}
+use Rattle.bx_ucd.specs.declared.tables.Tables.{Tables}
+use Rattle.bidi_edit.proofs.Edited.{recovers_of}
+use Rattle.bidi_edit.specs.Run.{bytes_of}
+use Rattle.bidi_edit.proofs.recover.recover.Goals as goal
+
+pub returns : goal.returns
+returns g c =
+    let says : Tables → Data = λ t. record {
+      class = class_in_table t.classes;
+      bracket = value_in t.brackets;
+      mirror = value_in t.mirrors;
+    } in
+    let b = c.args.beginning in record {
+      recovers = recovers_of (says c.in_ok-session.session.tables) (bytes_of b.text) b.rows b.cols b.direction b.keys.now _ _ _
+          c.in_ok-session.session.session _ _ c.store_replayed-replayed.result c.in_ok-session.ensures.begins c.store_replayed-replayed.ensures.stored;
+    }

@@ -1,0 +1,12 @@
+use Rattle.std.proofs.Common.{◌≡◌, take}
+use Rattle.bx_session.specs.Session.{after_replaying}
+use Rattle.bidi_edit.proofs.replaying.replay.Given as goal
+
+abbrev pub invariant-loop-byte : goal.invariant-loop-byte
+invariant-loop-byte g l =
+    (l.session.session ≡ after_replaying (record {
+      class = g.D.BidiData.class_of l.fn.session.tables;
+      bracket = g.D.BidiData.bracket_of l.fn.session.tables;
+      mirror = g.D.BidiData.mirror_of l.fn.session.tables;
+    }) l.fn.session.session (take l.byte-index l.keys))
+    × (l.session.tables ≡ l.fn.session.tables)
