@@ -9,6 +9,7 @@ use std::io::{self, Read, Write};
 use std::test::Fail;
 
 /// A writer that tells how many bytes were flushed.
+#[derive(Drop)]
 struct Flushed<'a> {
     written: usize,
     flushed: &'a Cell<usize>,
@@ -27,6 +28,7 @@ impl Write for Flushed<'_> {
 }
 
 /// A reader of one byte a read, which notes at each how many bytes were flushed by then.
+#[derive(Drop)]
 struct Watcher<'a> {
     keys: &'a [u8],
     flushed: &'a Cell<usize>,

@@ -14,8 +14,13 @@ use std::test::Fail;
 
 /// A text in a window of one row of five columns, over which nothing is replayed.
 fn beginning(text: Option<Vec<u8>>) -> Beginning<'static> {
+    beginning_with(small_files(), text)
+}
+
+/// The same by other files.
+fn beginning_with<'a>(unicode: UnicodeFiles<'a>, text: Option<Vec<u8>>) -> Beginning<'a> {
     Beginning {
-        unicode: small_files(),
+        unicode,
         text,
         rows: 1,
         cols: 5,
@@ -67,10 +72,7 @@ fn line_of(
         &mut Recorder::new(NoJournal),
         &mut Vec::new(alloc),
         &mut MemoryStore::new(alloc, None),
-        Beginning {
-            unicode,
-            ..beginning(file)
-        },
+        beginning_with(unicode, file),
     );
     match outcome {
         Ok(_) => Ok(String::new(alloc)),
