@@ -10,3 +10,4 @@ pub mod Shown
 pub mod Turns
 pub mod Recovered
 pub mod LawExamples
+mod ClauseExamples
