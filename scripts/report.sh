@@ -1,15 +1,15 @@
 # shellcheck shell=sh
 # shellcheck disable=SC2034 # words that the scripts give and take
 # What a check says of each point, for scripts that count in `passed` and `failed`, and a wait that has an end. One that goes through
-# several shells names the one at work in `shell`.
+# several shells or users names those at work in `shell` and `who`.
 
 report() { # NAME STATUS DETAIL
     if [ "$2" = 0 ]; then
         passed=$((passed + 1))
-        echo "ok ${shell:+$shell }$1"
+        echo "ok ${shell:+$shell }${who:+$who }$1"
     else
         failed=$((failed + 1))
-        echo "FAILS ${shell:+$shell }$1: $3"
+        echo "FAILS ${shell:+$shell }${who:+$who }$1: $3"
     fi
 }
 

@@ -17,7 +17,7 @@ has() { # NAME TEXT PART
 
 skip() { # NAME WHY
     skipped=$((skipped + 1))
-    echo "skipped $shell $1: $2"
+    echo "skipped ${shell:+$shell }${who:+$who }$1: $2"
 }
 
 # Whether the checks of this name are asked for.
@@ -68,7 +68,8 @@ has_ended() {
 # ---- a session
 
 # A session in which a launcher runs with these words, between two looks at the terminal's settings, with nothing kept of sessions
-# before. `setup` and `cleanup` are lines of the shell before and behind it, `redirection` stands behind its words.
+# before. `setup` and `cleanup` are lines of the shell before and behind it, `redirection` stands behind its words, and `as` before
+# the shell, as words that make it another user's.
 start() { # ROWS COLS LAUNCHER WORD..
     rows=$1 cols=$2
     shift 2
@@ -80,7 +81,7 @@ start() { # ROWS COLS LAUNCHER WORD..
         echo "echo as before"
         echo "stty -g >'$folder/before'"
         echo "$setup"
-        printf '%s' "$shell"
+        printf '%s' "${as:+$as }$shell"
         for word in "$@"; do printf " '%s'" "$word"; done
         printf " 2>'%s' %s\n" "$folder/errors" "$redirection"
         echo "echo \$? >'$folder/status'"

@@ -1,0 +1,75 @@
+#!/bin/sh
+# Runs the launcher where it shares a system: beside other users and their files, beside a second start, in a second process
+# namespace, on a small disk, and while signals come together. Each part of scripts/shared_system runs under dash and bash, as root
+# and as a plain user (setpriv), in tmux. As a plain user only what needs no root is checked. With names after it only the parts and
+# checks run whose names begin so. The last line counts; the status is 1 where one failed, and 77 where tmux, setpriv or the built
+# programs are missing.
+set -u
+
+export LC_ALL=C.UTF-8
+top=$(CDPATH='' cd -- "$(dirname "$0")/.." && pwd)
+# shellcheck source=scripts/report.sh
+. "$top/scripts/report.sh"
+
+lacks() { # CAUSE
+    echo "nothing was checked: $1"
+    exit 77
+}
+
+command -v tmux >/dev/null || lacks 'there is no tmux'
+command -v setpriv >/dev/null || lacks 'there is no setpriv'
+for program in bidi_edit bidi_input; do
+    [ -x "$top/crates/$program/out/$program" ] || lacks "$program is not built (./bidi-edit FILE builds it)"
+done
+
+# shellcheck disable=SC2034
+wanted="$*"
+passed=0 failed=0 skipped=0
+room=$(mktemp -d) || exit 1
+chmod 755 "$room"
+socket=bidi-edit-$$
+mounted=''
+clean_up() {
+    tmux -L "$socket" kill-server 2>/dev/null
+    for each in $mounted; do umount "$each"; done
+    rm -rf -- "$room"
+}
+trap clean_up EXIT
+trap 'exit 1' HUP INT TERM
+
+# What a check sets for its own sessions; scripts/launcher/person.sh says how.
+# shellcheck disable=SC2034
+tables='' setup='' cleanup='' redirection='' is_flooded='' lines_told=1
+# shellcheck disable=SC2034
+key_reader='.*\(dd bs=512\|bidi_input\)'
+# shellcheck source=scripts/launcher/person.sh
+. "$top/scripts/launcher/person.sh"
+# shellcheck source=scripts/launcher/recorder.sh
+. "$top/scripts/launcher/recorder.sh"
+# shellcheck source=scripts/shared_system/rounds.sh
+. "$top/scripts/shared_system/rounds.sh"
+parts=''
+for file in "$top"/scripts/shared_system/*.sh; do
+    # shellcheck source=/dev/null
+    . "$file"
+    part=$(basename "$file" .sh)
+    [ "$part" = rounds ] || parts="$parts $part"
+done
+
+install_copy
+terminal -f /dev/null new-session -d -s keep -x 80 -y 24 'sleep 36000'
+for shell in dash bash; do
+    if ! command -v "$shell" >/dev/null; then
+        skip "$shell" 'it is not installed'
+        continue
+    fi
+    if [ "$(id -u)" = 0 ]; then
+        run_round 0 61001
+        run_round 61001 61002
+    else
+        run_round "$(id -u)" ''
+    fi
+done
+echo "$passed passed, $failed failed, $skipped skipped"
+[ "$failed" = 0 ] || exit 1
+[ "$passed" -gt 0 ] || exit 77
