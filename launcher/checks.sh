@@ -16,35 +16,6 @@ take_terminal() {
     fi
 }
 
-# ---- names
-
-# A name as a shell takes it, so that one with blanks can be copied and one with control bytes shows them.
-shown() { # NAME
-    case $1 in
-    *[!A-Za-z0-9_./+,@%:=-]*) ;;
-    *)
-        printf '%s' "$1"
-        return
-        ;;
-    esac
-    # 047 is a quote, 134 a backslash, and 302 begins the control characters from 80 to 9F
-    LC_ALL=C awk 'BEGIN {
-        name = ARGV[1]
-        if (name !~ /[\001-\037\177]|\302[\200-\237]/) {
-            gsub(/\047/, "\047\134\047\047", name)
-            printf "\047%s\047", name
-            exit
-        }
-        for (i = 1; i < 256; i++) code[sprintf("%c", i)] = sprintf("\134%03o", i)
-        for (i = 1; i <= length(name); i += width) {
-            width = substr(name, i, 2) ~ /\302[\200-\237]/ ? 2 : 1
-            byte = substr(name, i, 1)
-            text = text (width == 2 ? code[byte] code[substr(name, i + 1, 1)] : byte ~ /[\001-\037\177\047\\]/ ? code[byte] : byte)
-        }
-        printf "$\047%s\047", text
-    }' "$1"
-}
-
 refuse_file() { # NAME CAUSE
     fail "$(shown "$1") $2"
 }
@@ -66,7 +37,7 @@ find_tables() {
         take_tables "$BIDI_EDIT_DATA" ||
             fail "BIDI_EDIT_DATA names $(shown "$BIDI_EDIT_DATA"), which lacks DerivedBidiClass.txt, BidiBrackets.txt or BidiMirroring.txt"
     else
-        take_tables /usr/share/unicode || take_tables "$own_tables" || fail "$own_tables lacks Unicode's three files"
+        take_tables /usr/share/unicode || take_tables "$own_tables" || fail "$(shown "$own_tables") lacks Unicode's three files"
     fi
 }
 
@@ -133,8 +104,8 @@ check_access() {
 }
 
 check_text() {
-    [ -r "$file" ] || refuse_file "$file" 'cannot be read by you: chmod u+r lets its owner read it'
-    size=$(wc -c <"$file")
+    # the shell itself would tell a name as it is
+    { [ -r "$file" ] && size=$(wc -c <"$file"); } 2>/dev/null || refuse_file "$file" 'cannot be read by you: chmod u+r lets its owner read it'
     [ "$size" -le 16777216 ] ||
         refuse_file "$file" "has $((size)) bytes, and 16777216 are the most: split -C 16M cuts it at line ends"
     ! command -v iconv >/dev/null || iconv -f UTF-8 -t UTF-8 <"$file" >/dev/null 2>&1 || refuse_bytes
@@ -143,7 +114,7 @@ check_text() {
 # The lines before the first byte that is not UTF-8 are those that can be converted.
 refuse_bytes() {
     number=$(($(iconv -f UTF-8 -t UTF-8 <"$file" 2>/dev/null | wc -l) + 1))
-    case $(head -c 2 -- "$file" | od -An -tx1) in
+    case $(head -c 2 -- "$file" 2>/dev/null | od -An -tx1) in
     ' ff fe' | ' fe ff') refuse_file "$file" "is UTF-16 and not UTF-8: iconv -f UTF-16 -t UTF-8 may help" ;;
     esac
     refuse_file "$file" "is not UTF-8 in line $number: iconv -f CP1255 -t UTF-8 may help if it is in Windows' Hebrew (CP1256: Arabic)"

@@ -76,6 +76,8 @@ read_print_words() { # WORD..
 check_print_file() {
     [ ! -d "$file" ] || refuse_file "$file" 'is a folder: name a file in it'
     [ -e "$file" ] || refuse_file "$file" 'is not there'
+    [ ! -S "$file" ] || refuse_file "$file" 'is a socket, which has no text'
+    [ -r "$file" ] || refuse_file "$file" 'cannot be read by you: chmod u+r lets its owner read it'
     [ ! -f "$file" ] || check_text
 }
 

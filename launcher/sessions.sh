@@ -15,9 +15,9 @@ find_sessions_folder() {
     [ -z "$sessions" ] || sessions=$sessions/bidi_edit
 }
 
-# FILE's absolute path, where saves go. The x keeps a folder's own last line end.
+# FILE's absolute path, where saves go, also where its folder is gone. The x keeps a folder's own last line end.
 find_path() {
-    path=$(CDPATH='' cd -- "$place_folder" && pwd -P && echo x)
+    path=$({ { CDPATH='' cd -- "$place_folder" && pwd -P; } 2>/dev/null || readlink -m -- "$place_folder"; } && echo x)
     path=${path%??}
     path=${path%/}/$place_name
 }

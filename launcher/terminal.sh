@@ -22,17 +22,6 @@ keeps_titles() {
     [ -n "${XTERM_VERSION:-}${VTE_VERSION:-}" ]
 }
 
-# FILE's name, without the control bytes, which would end a title or begin something else.
-take_title() {
-    title=${file##*/}
-    case $title in
-    *[!\ -~]*)
-        title=$(printf '%s' "$title" | LC_ALL=C tr '\n' '\001' |
-            LC_ALL=C sed "s/$(printf '\302')[$(printf '\200')-$(printf '\237')]//g" | LC_ALL=C tr -d '\001-\037\177')
-        ;;
-    esac
-}
-
 # The terminal that tmux shows this one in, if it can be written. It may reorder what tmux hands on. A client in control mode is a
 # program that reads tmux's own protocol there.
 find_outer() {
@@ -63,8 +52,7 @@ show() {
     set_terminal 1049
     if keeps_titles; then
         has_title=1
-        take_title
-        printf '\033[22;0t\033]2;%s - ^S save ^Q quit\a' "$title"
+        printf '\033[22;0t\033]2;%s - ^S save ^Q quit\a' "$(shown "${file##*/}")"
     fi
 }
 
@@ -116,7 +104,7 @@ end_processes() {
 
 # What the program said, and after a fault where the typed text is kept, if it is.
 tell_end() {
-    [ ! -s "$folder/fault" ] || cat "$folder/fault" >&7
+    [ ! -s "$folder/fault" ] || shown_lines <"$folder/fault" >&7
     [ "$status" = 0 ] || tell_kept
     tell_line_ends
 }

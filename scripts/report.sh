@@ -9,7 +9,7 @@ report() { # NAME STATUS DETAIL
         echo "ok ${shell:+$shell }${who:+$who }$1"
     else
         failed=$((failed + 1))
-        echo "FAILS ${shell:+$shell }${who:+$who }$1: $3"
+        printf '%s\n' "FAILS ${shell:+$shell }${who:+$who }$1: $3"
     fi
 }
 

@@ -10,10 +10,8 @@
 set -u
 
 parts=$(CDPATH='' cd -- "${0%/*}" && pwd)
-top=$(CDPATH='' cd -- "$1" && pwd) || exit 1
-shift
-programs=$*
-room=$top/out/proving
+# shellcheck source=launcher/names.sh
+. "$parts/../names.sh"
 
 say() { # WORDS
     printf 'bidi-edit: %s\n' "$1" >&2
@@ -132,7 +130,7 @@ find_already() {
 make_plan() {
     find "$top/crates" -path '*/src/*' -name '*.rt' -exec wc -l {} + |
         awk -v programs="$programs" -v already="$(find_already | tr '\n' ' ')" -f "$parts/plan.awk" "$top/crates.txt" - >"$room/plan"
-    [ -s "$room/plan" ] || fail "$top/crates.txt names no crate $programs"
+    [ -s "$room/plan" ] || fail "$(shown "$top/crates.txt") names no crate $programs"
 }
 
 # What a start that was killed left: its trees hold work.
@@ -266,7 +264,7 @@ stop_at() { # CRATE
     log=${TMPDIR:-/tmp}/bidi-edit-$1.log
     cp "$room/$1.log" "$log"
     leave_room
-    fail "$1 could not be proved, and $log tells why; what is proved is kept"
+    fail "$1 could not be proved, and $(shown "$log") tells why; what is proved is kept"
 }
 
 stop_by() { # SIGNAL NUMBER
@@ -278,6 +276,10 @@ stop_by() { # SIGNAL NUMBER
     exit $((128 + $2))
 }
 
+top=$(CDPATH='' cd -- "$1" 2>/dev/null && pwd) || fail "$(shown "$1") is no folder that can be entered"
+shift
+programs=$*
+room=$top/out/proving
 command -v rt >/dev/null || fail "the editor is not built, and there is no rt to build it with (an installed package needs none)"
 is_terminal=''
 [ ! -t 2 ] || is_terminal=1

@@ -89,7 +89,7 @@ check_refused_names() {
     refused 'checks, a name of 253 bytes, forced' "$no_terminal" --force "$long"
     refused 'checks, control bytes in a name' "1 bidi-edit: \$'no\\012ne\\033' is a folder that is not there: mkdir -p \$'no\\012ne\\033' makes it" "$(printf 'no\nne\033/f')"
     refused 'checks, blanks in a name' "1 bidi-edit: 'no one'\\''s' is a folder that is not there: mkdir -p 'no one'\\''s' makes it" "no one's/f"
-    refused 'checks, a name that is not UTF-8' "1 bidi-edit: 'f$(printf '\377')' has a name that is not UTF-8: mv gives it another" "f$(printf '\377')"
+    refused 'checks, a name that is not UTF-8' "1 bidi-edit: \$'f\\377' has a name that is not UTF-8: mv gives it another" "f$(printf '\377')"
 }
 
 check_refused_texts() {

@@ -1,0 +1,70 @@
+# shellcheck shell=sh
+# How names are told: as a shell takes them, so that they can be copied, and with nothing in them that a terminal obeys or hides.
+
+# In awk, for bytes: `told` of a text is that text with a number for each byte of what is no UTF-8 or is hidden, and `has_numbers`
+# says whether there are any. Hidden are control characters, separators of lines, what turns directions, tags, and other format
+# characters that show nothing; but not the two joiners, which Persian and Indic words are spelt with. 047 is a quote, 134 a backslash.
+# shellcheck disable=SC2016
+telling='
+    BEGIN {
+        for (i = 1; i < 256; i++) value[sprintf("%c", i)] = i
+        bounds = split("0 31 127 159 173 173 1564 1564 6158 6158 8203 8203 8206 8207 8232 8238 8288 8303 65279 65279 65529 65531 " \
+            "78896 78911 113824 113827 119155 119162 917504 921599", bound)
+    }
+    function is_hidden(code,    i) {
+        for (i = 1; i < bounds; i += 2) if (code >= bound[i] + 0 && code <= bound[i + 1] + 0) return 1
+        return 0
+    }
+    # How many bytes the character has that begins there, whose number goes to `code`; 0 where none does.
+    function width_at(text, at,    first, width, i, byte) {
+        code = first = value[substr(text, at, 1)]
+        if (first < 128) return 1
+        width = first < 194 || first > 244 ? 0 : first < 224 ? 2 : first < 240 ? 3 : 4
+        code = first % (width == 2 ? 32 : width == 3 ? 16 : 8)
+        for (i = 1; i < width; i++) {
+            byte = value[substr(text, at + i, 1)] + 0
+            if (byte < 128 || byte > 191) return 0
+            code = code * 64 + byte - 128
+        }
+        return (width == 3 && (code < 2048 || code >= 55296 && code < 57344)) || (width == 4 && (code < 65536 || code > 1114111)) ? 0 : width
+    }
+    function told(text, others,    at, width, is_numbered, i, byte, result) {
+        has_numbers = 0
+        for (at = 1; at <= length(text); at += width) {
+            width = width_at(text, at)
+            is_numbered = !width || is_hidden(code)
+            has_numbers = has_numbers || is_numbered
+            if (!width) width = 1
+            for (i = at; i < at + width; i++) {
+                byte = substr(text, i, 1)
+                result = result (is_numbered || index(others, byte) ? sprintf("\134%03o", value[byte]) : byte)
+            }
+        }
+        return result
+    }'
+
+shown() { # NAME
+    case $1 in
+    *[!A-Za-z0-9_./+,@%:=-]*) ;;
+    *)
+        printf '%s' "$1"
+        return
+        ;;
+    esac
+    LC_ALL=C awk "$telling"'
+        BEGIN {
+            numbered = told(ARGV[1], "\047\134")
+            if (has_numbers) {
+                printf "$\047%s\047", numbered
+            } else {
+                gsub(/\047/, "\047\134\047\047", ARGV[1])
+                printf "\047%s\047", ARGV[1]
+            }
+            exit
+        }' "$1"
+}
+
+# What a program says, with what it tells of names.
+shown_lines() {
+    LC_ALL=C awk "$telling"' { print told($0, "") }'
+}

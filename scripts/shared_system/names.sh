@@ -1,0 +1,160 @@
+# shellcheck shell=sh
+# shellcheck disable=SC2034,SC2154 # words that other parts give and take
+# Names of files in messages and titles: as a shell takes them, with no byte that a terminal obeys and none that hides what they are.
+
+# What no terminal should get in a name: a word for it and its bytes as printf and a shell take them.
+hidden_bytes() {
+    cat <<'END'
+escape \033[31m
+line-end \012
+delete \177
+control-of-two-bytes \302\233
+lone-9B \233
+lone-lead \327
+cut-letter \342\200
+long-form \300\257
+surrogate \355\240\200
+past-the-last \364\220\200\200
+override \342\200\256
+isolate \342\201\246
+mark \342\200\217
+letter-mark \330\234
+separator \342\200\250
+tag \363\240\201\201
+no-width \342\200\213
+order-mark \357\273\277
+END
+}
+
+# All of them in one name.
+all_hidden() {
+    hidden_bytes | sed 's/.* //' | paste -s -d ''
+}
+
+# The name that is told as $'TOLD'.
+name_of_told() { # TOLD
+    # shellcheck disable=SC2059 # the name has escapes
+    name=$(printf "$1" && echo x)
+    name=${name%x}
+}
+
+is_harmless() { # FILE
+    iconv -f UTF-8 -t UTF-8 <"$1" >"$folder/letters" 2>/dev/null && perl -CSD -ne '
+        exit 1 if /[\x00-\x09\x0b-\x1f\x7f-\x9f\x{ad}\x{61c}\x{200b}\x{200e}\x{200f}\x{2028}-\x{202e}\x{2060}-\x{206f}\x{feff}\x{e0000}-\x{e0fff}]/
+    ' "$folder/letters"
+}
+
+# The launcher's words where there is no terminal, in `told`, which have this name as a shell takes it and nothing else that is hidden.
+tells() { # CHECK TOLD WORD..
+    checked=$1 told_as=$2
+    shift 2
+    as_user timeout -s KILL 20 setsid -w "$shell" "$launcher" "$@" </dev/null >"$folder/told" 2>&1
+    is_harmless "$folder/told"
+    report "names, $checked: nothing hidden" $? "$(cat -v "$folder/told")"
+    has "names, $checked: the name" "$(cat "$folder/told")" "$told_as"
+}
+
+# One name in the messages of the launcher.
+check_messages() { # WORD TOLD
+    word=$1 as_told="\$'$2'"
+    name_of_told "$2"
+    tells "$word, not there" "$as_told is not there" --print "$name"
+    tells "$word, a missing folder" "$as_told is a folder that is not there: mkdir -p $as_told makes it" "$name/f"
+    tells "$word, a missing folder, recovered" "there is no session of \$'$2/f' to recover" --recover --to other "$name/f"
+    tells "$word, no session" "there is no session of $as_told to recover" --recover --to other "$name"
+    tells "$word, an option" "there is no option \$'-$2'" "-$name"
+    tells "$word, a direction" "auto, ltr or rtl, not $as_told" --direction "$name" f
+    tells "$word, a line" "a number, not $as_told" --line "$name" f
+    tells "$word, columns" "from 1 to 500, not $as_told" --print f --cols "$name"
+    as_user mkdir "$name"
+    tells "$word, a folder" "$as_told is a folder" "$name"
+    BIDI_EDIT_DATA=$name tells "$word, tables" "BIDI_EDIT_DATA names $as_told, which lacks" f
+    as_user rmdir "$name"
+    as_user mkfifo "$name"
+    tells "$word, a pipe" "$as_told is no plain file" "$name"
+    as_user rm "$name"
+    # shellcheck disable=SC2016
+    as_user sh -c 'printf "\377" >"$1"; : >"$1.bx"' sh "$name"
+    tells "$word, bytes" "$as_told is not UTF-8 in line 1" --print "$name"
+    as_user cp /dev/null "$name"
+    # a name that is not UTF-8 is refused before, but for what iconv takes
+    case $word in
+    lone-* | cut-* | long-* | surrogate) tells "$word, not UTF-8" "$as_told has a name that is not UTF-8" "$name" ;;
+    *) tells "$word, a draft" "what is not wanted: \$'$2.bx'" "$name" ;;
+    esac
+    as_user rm "$name" "$name.bx"
+}
+
+# The launcher itself in a folder of that name, without the tables that come with it.
+check_own_tables() { # TOLD
+    [ ! -r /usr/share/unicode/BidiBrackets.txt ] || {
+        skip 'names, its own tables' "Debian's are there"
+        return
+    }
+    name_of_told "$1"
+    mkdir "$folder/$name"
+    cp -R "$installed/bin" "$installed/lib" "$folder/$name/"
+    chmod -R go+rX "$folder/$name"
+    was=$launcher launcher=$folder/$name/bin/bidi-edit
+    tells 'its own tables' "\$'$folder/$1/bin/../share/bidi_edit' lacks" f
+    launcher=$was
+    rm -rf "${folder:?}/$name"
+}
+
+# What the first start tells of the repository's name.
+check_building_names() { # TOLD
+    name_of_told "$1"
+    mkdir "$folder/$name"
+    for each in "a folder that is not there:\$'$folder/$1/none' is no folder:$folder/$name/none" \
+        "no crates:\$'$folder/$1/crates.txt' names no crate x:$folder/$name"; do
+        : >"$folder/$name/crates.txt"
+        mkdir -p "$folder/$name/crates/x"
+        rest=${each#*:}
+        PATH=$folder/bin:$PATH "$shell" "$top/launcher/proving/prove.sh" "${rest#*:}" x >"$folder/told" 2>&1
+        is_harmless "$folder/told"
+        report "names, building, ${each%%:*}: nothing hidden" $? "$(cat -v "$folder/told")"
+        has "names, building, ${each%%:*}: the name" "$(cat "$folder/told")" "${rest%%:*}"
+    done
+    rm -rf "${folder:?}/$name"
+}
+
+# The title, and what the program says of a name as it is.
+check_title_and_fault() { # TOLD
+    name_of_told "$1"
+    program=$folder/recorder/lib/bidi_edit/bidi_edit
+    mv "$program" "$program.was"
+    # shellcheck disable=SC2016
+    printf '%s\n' '#!/bin/sh' 'for file; do :; done' 'printf "bidi_edit: cannot read %s\n" "$file" >&2' 'sleep 0.3' 'exit 1' >"$program"
+    chmod 755 "$program"
+    start 8 60 "$recorder" "$name"
+    wait_for 50 has_ended
+    # shellcheck disable=SC2020
+    same 'names, the title' "$(LC_ALL=C tr '\033\007' '\n\n' <"$folder/output" | LC_ALL=C grep -a '^]2;' | head -n 1)" "]2;\$'$1' - ^S save ^Q quit"
+    is_harmless "$folder/errors"
+    report 'names, what the program says: nothing hidden' $? "$(cat -v "$folder/errors")"
+    has 'names, what the program says' "$(cat "$folder/errors")" "bidi_edit: cannot read $(printf '%s' "$1" | sed 's/\\012/|/' | tr '|' '\n')"
+    terminal kill-session -t person
+    mv "$program.was" "$program"
+}
+
+check_names() {
+    asked names || return 0
+    command -v perl >/dev/null || {
+        skip names 'there is no perl'
+        return
+    }
+    hidden_bytes >"$folder/bytes"
+    while read -r word bytes; do
+        check_messages "$word" "x${bytes}y" </dev/null
+    done <"$folder/bytes"
+    tells 'letters of all scripts' "'שלום عالم é' is not there" --print 'שלום عالم é'
+    # the joiners are letters of Persian words and of pictures
+    tells 'joiners' "'می‌خواهم' is not there" --print 'می‌خواهم'
+    mkdir "$folder/bin"
+    printf '#!/bin/sh\nexit 1\n' >"$folder/bin/rt"
+    chmod 755 "$folder/bin/rt"
+    check_building_names "x$(all_hidden | sed 's/\\364\\220\\200\\200//')y"
+    check_own_tables "x$(all_hidden)y"
+    # a name that is not UTF-8 is refused before there is a title
+    check_title_and_fault "x$(hidden_bytes | grep -v -e '^lone' -e '^cut' -e '^long' -e '^surrogate' -e '^past' | sed 's/.* //' | paste -s -d '')y"
+}
