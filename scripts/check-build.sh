@@ -118,7 +118,7 @@ before() { # NAME LINE LINE
 }
 
 nothing_left() { # NAME
-    same "$1, nothing stays beside the work" "$(find "$folder/tree" -name '*.tree' -o -path "$folder/tree/out")" ''
+    same "$1, nothing stays beside the work" "$(find "$folder/tree" -name '*.tree' -o -path "$folder/tree/out/proving")" ''
 }
 
 processes() {
@@ -188,7 +188,7 @@ check_failure() {
     log=$(sed -n 's/.*c could not be proved, and \(.*\) tells why; what is proved is kept$/\1/p' "$folder/said")
     grep -q 'fn x: not proved' "$log" 2>/dev/null
     report 'failure, the log that it names' $? "$(tail -n 1 "$folder/said")"
-    rm -f "$log"
+    same 'failure, where that log is' "$log" "$folder/tree/out/proving.log"
     same 'failure, no program' "$(grep -c 'begin d' "$folder/told/log")" 0
     test -f "$folder/tree/crates/a/out/rlib/stamp"
     report 'failure, the others are kept' $? "$(ls "$folder/tree/crates/a")"
@@ -208,7 +208,7 @@ check_killed() {
     run
     same 'second start, status' "$status" 1
     like 'second start, the words' "$(cat "$folder/said")" 'bidi-edit: process [0-9]* is building the editor already: wait for it'
-    kill -s KILL "$(cat "$folder/tree/out/proving/process")"
+    kill -s KILL "$(cat "$folder/tree/out/proving.lock")"
     wait_for 20 is_over
     rm -f "$folder/told/slow"
     tmux -L "$socket" kill-session -t person
@@ -245,9 +245,7 @@ check_launcher() {
     start_launcher
     wait_for 100 is_over
     same 'launcher, not built' "$(cat "$folder/status" 2>/dev/null)" 1
-    screen >"$folder/words"
     tmux -L "$socket" kill-session -t person
-    rm -f "$(sed -n 's/.* could not be proved, and \(.*\) tells why; .*/\1/p' "$folder/words")"
     make_rt
 }
 

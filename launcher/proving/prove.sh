@@ -93,7 +93,7 @@ prove_one() { # CRATE JOBS NICENESS
     crate=$1 tree=$room/$1.tree child=''
     trap '' HUP INT QUIT
     trap give_up TERM
-    exec 8<"$top/crates/$crate"
+    exec 8<"$top/crates/$crate" 9>&-
     ! command -v flock >/dev/null || await flock 8
     make_tree
     prove "$2" "$3" 8<&-
@@ -133,11 +133,19 @@ make_plan() {
     [ -s "$room/plan" ] || fail "$(shown "$top/crates.txt") names no crate $programs"
 }
 
+# One start at a time builds here. What this one starts does not hold the lock, so that it ends with it.
+take_lock() {
+    command -v flock >/dev/null || fail 'the editor is not built, and there is no flock to keep other starts away meanwhile: util-linux has it'
+    { mkdir -p -- "$top/out" && true >>"$room.lock"; } 2>/dev/null ||
+        fail "the editor is not built, and nothing can be written in $(shown "$top") to build it: build it in a copy of your own"
+    exec 9<>"$room.lock"
+    flock -n 9 || fail "process $(cat "$room.lock") is building the editor already: wait for it"
+    echo $$ >"$room.lock"
+    rm -f -- "$room.log"
+}
+
 # What a start that was killed left: its trees hold work.
 take_room() {
-    if [ -f "$room/process" ] && kill -0 "$(cat "$room/process")" 2>/dev/null; then
-        fail "process $(cat "$room/process") is building the editor already: wait for it"
-    fi
     for tree in "$room"/*.tree; do
         [ -d "$tree" ] || continue
         crate=$(basename "$tree" .tree)
@@ -147,12 +155,10 @@ take_room() {
     done
     rm -rf "$room"
     mkdir -p "$room" || exit 1
-    echo $$ >"$room/process"
 }
 
 leave_room() {
     rm -rf "$room"
-    rmdir "$top/out" 2>/dev/null || :
 }
 
 is_ready() { # CRATE THAT IT STANDS ON ..
@@ -261,10 +267,9 @@ end_all() {
 
 stop_at() { # CRATE
     end_all
-    log=${TMPDIR:-/tmp}/bidi-edit-$1.log
-    cp "$room/$1.log" "$log"
+    mv -f "$room/$1.log" "$room.log"
     leave_room
-    fail "$1 could not be proved, and $(shown "$log") tells why; what is proved is kept"
+    fail "$1 could not be proved, and $(shown "$room.log") tells why; what is proved is kept"
 }
 
 stop_by() { # SIGNAL NUMBER
@@ -283,6 +288,7 @@ room=$top/out/proving
 command -v rt >/dev/null || fail "the editor is not built, and there is no rt to build it with (an installed package needs none)"
 is_terminal=''
 [ ! -t 2 ] || is_terminal=1
+take_lock
 take_room
 trap 'stop_by HUP 1' HUP
 trap 'stop_by INT 2' INT
@@ -298,7 +304,7 @@ while :; do
     start_ready
     [ -n "$running" ] || break
     tell
-    sleep 1
+    sleep 1 9>&-
     collect
 done
 clear_line

@@ -1,0 +1,239 @@
+# shellcheck shell=sh
+# shellcheck disable=SC2034,SC2154 # words that other parts give and take
+# Folders that cannot be used, and the first start where others can write or nothing can be written: its log, its lock.
+
+# ---- folders that the environment names
+
+# Before what a check sets for its session.
+own_folders() {
+    echo "export HOME='$folder/home' XDG_STATE_HOME='$folder/state'"
+}
+
+# The private folder of the launcher at work, by the pipes that it has open.
+private_folder() {
+    for each in /proc/"$(process_of "$shell .*bin/bidi-edit")"/fd/*; do
+        readlink "$each"
+    done | sed -n 's|^\(.*/bidi-edit\.[A-Za-z0-9]*\)/.*|\1|p' | head -n 1
+}
+
+# A session with such a TMPDIR goes on elsewhere, after one line.
+passes_over() { # NAME TMPDIR
+    setup="$(own_folders) TMPDIR='$2'"
+    start 8 60 "$recorder" f
+    wait_for 50 test -e "$folder/record"
+    at=$(private_folder)
+    same "places, $1: the folder taken" "${at%/*}" /tmp
+    type_keys C-q
+    finish "places, $1" 7 50
+    same "places, $1: what is told" "$(paste -s -d '|' "$folder/errors")" "bidi-edit: TMPDIR names $2, where nothing can be made: /tmp is taken|bidi_edit: a fault"
+    same "places, $1: what stays" "$(ls -d "$at" 2>/dev/null)" ''
+    setup=''
+}
+
+check_temporary() {
+    passes_over 'TMPDIR, not there' "$folder/none"
+    : >"$folder/plain"
+    passes_over 'TMPDIR, a file' "$folder/plain"
+    if [ "$who" = plain ]; then
+        mkdir "$folder/closed"
+        chmod 555 "$folder/closed"
+        passes_over 'TMPDIR, not to be written' "$folder/closed"
+    fi
+    if mount_small nr_inodes=1,mode=777; then
+        passes_over 'TMPDIR, full' "$folder/small"
+        unmount_small
+    fi
+    if mount_small ro,mode=777; then
+        passes_over 'TMPDIR, read-only' "$folder/small"
+        unmount_small
+    fi
+}
+
+mount_small() { # OPTIONS
+    mkdir "$folder/small"
+    if [ "$(id -u)" = 0 ] && mount -t tmpfs -o "$1" tmpfs "$folder/small" 2>/dev/null; then
+        mounted="$mounted $folder/small"
+        return 0
+    fi
+    skip "places, a small disk ($1)" 'nothing can be mounted'
+    rmdir "$folder/small"
+    return 1
+}
+
+unmount_small() {
+    umount "$folder/small"
+    mounted=${mounted% *}
+    rmdir "$folder/small"
+}
+
+check_state_home() {
+    setup="$(own_folders) XDG_STATE_HOME=relative"
+    start 8 60 "$recorder" f
+    wait_for 50 test -e "$folder/record"
+    same 'places, a relative state folder: none there' "$(ls -d "$folder/files/relative" 2>/dev/null)" ''
+    same 'places, a relative state folder: where the session is' "$(find "$folder/home/.local/state/bidi_edit" -mindepth 1 -maxdepth 1 | wc -l)" 1
+    type_keys C-q
+    finish 'places, a relative state folder' 7 50
+    same 'places, a relative state folder: what is told' "$(paste -s -d '|' "$folder/errors")" \
+        'bidi-edit: XDG_STATE_HOME names relative, which is not absolute: ~/.local/state is taken|bidi_edit: a fault'
+    setup=''
+    rm -rf "$folder/home/.local"
+}
+
+# ---- the first start
+
+# A repository of two programs of a few lines, and a command that stands in for rt: it goes on until no file `slow` is there, and
+# fails where one `bad` is.
+make_clone() {
+    clone=$folder/clone kit=$folder/kit
+    mkdir -p "$clone" "$kit"
+    cp -R "$top/bidi-edit" "$top/launcher" "$top/data" "$clone/"
+    for name in bidi_edit bidi_input; do
+        mkdir -p "$clone/crates/$name/src"
+        echo '// a line' >"$clone/crates/$name/src/main.rt"
+        echo "$name:" >>"$clone/crates.txt"
+    done
+    cat >"$kit/rt" <<'END'
+#!/bin/sh
+: >"$PWD/begun"
+while [ -f "${0%/*}/slow" ]; do sleep 0.1; done
+[ ! -f "${0%/*}/bad" ] || exit 1
+name=$(basename "$PWD")
+mkdir -p out
+printf '#!/bin/sh\nexit 0\n' >"out/$name"
+chmod 755 "out/$name"
+echo stamp >"out/$name.stamp"
+END
+    chmod 755 "$kit/rt"
+    chmod -R go+rX "$clone" "$kit"
+    [ "$user" = "$(id -u)" ] || chown -R "$user:$user" "$clone" "$kit"
+}
+
+# Builds as the first start does, with what it says in `said` and its status in `status`. Words before it run it elsewhere.
+prove() { # WORD..
+    as_user "$@" env PATH="$kit:$PATH" TMPDIR="$folder/private" timeout 60 "$shell" "$clone/launcher/proving/prove.sh" "$clone" bidi_edit \
+        >"$folder/said" 2>&1
+    status=$?
+}
+
+last_said() {
+    tail -n 1 "$folder/said"
+}
+
+# What another user put where the log was to be written.
+check_log() {
+    make_clone
+    echo mine >"$folder/victim"
+    [ "$user" = "$(id -u)" ] || chown "$user" "$folder/victim"
+    ln -s "$folder/victim" "$folder/private/bidi-edit-bidi_edit.log"
+    as_user touch "$kit/bad"
+    prove
+    same 'places, a log: status' "$status" 1
+    same 'places, a log: what another put there' "$(cat "$folder/victim")" mine
+    same 'places, a log: where it is' "$(last_said)" "bidi-edit: bidi_edit could not be proved, and $clone/out/proving.log tells why; what is proved is kept"
+    same 'places, a log: it is there' "$(ls "$clone/out/proving.log")" "$clone/out/proving.log"
+    rm -f "$folder/private/bidi-edit-bidi_edit.log" "$kit/bad"
+    prove
+    same 'places, a log: gone after the next start' "$status $(ls "$clone/out/proving.log" 2>/dev/null)" '0 '
+    rm -rf "$clone" "$kit" "$folder/victim"
+}
+
+has_begun() {
+    [ -n "$(find "$clone" -name begun)" ]
+}
+
+# Two starts beside one another, the second in a process namespace of its own, where the first has no number.
+check_lock() {
+    make_clone
+    as_user touch "$kit/slow"
+    as_user env PATH="$kit:$PATH" "$shell" "$clone/launcher/proving/prove.sh" "$clone" bidi_edit >"$folder/first" 2>&1 &
+    first=$!
+    wait_for 50 has_begun
+    prove
+    same 'places, a second start' "$status" 1
+    has 'places, a second start: what is told' "$(last_said)" ' is building the editor already: wait for it'
+    if can_unshare; then
+        # shellcheck disable=SC2086 # words
+        prove $unshared
+        same 'places, a second start in another namespace' "$status" 1
+        has 'places, a second start in another namespace: what is told' "$(last_said)" ' is building the editor already: wait for it'
+    fi
+    rm -f "$kit/slow"
+    wait "$first"
+    same 'places, the first start ends well' "$? $([ -x "$clone/crates/bidi_edit/out/bidi_edit" ] && echo built)" '0 built'
+    rm -rf "$clone" "$kit"
+}
+
+can_unshare() {
+    for unshared in 'unshare --pid --fork --mount-proc' 'unshare --map-root-user --pid --fork --mount-proc'; do
+        # shellcheck disable=SC2086 # words
+        ! as_user $unshared true 2>/dev/null || return 0
+    done
+    skip 'places, another namespace' 'none can be made'
+    return 1
+}
+
+# A number that a killed start left, which is another process's by now.
+check_stale_number() {
+    make_clone
+    as_user mkdir -p "$clone/out/proving"
+    # shellcheck disable=SC2016
+    as_user sh -c 'for file; do echo $$ >"$file"; done; exec sleep 60' sh "$clone/out/proving/process" "$clone/out/proving.lock" &
+    job=$!
+    wait_for 20 test -s "$clone/out/proving.lock"
+    other=$(cat "$clone/out/proving.lock")
+    prove
+    same 'places, a number that another process has' "$status" 0
+    { kill "$other" && wait "$job"; } 2>/dev/null
+    rm -rf "$clone" "$kit"
+}
+
+# ---- a repository that cannot be written
+
+# The launcher there, in a terminal, with what stands in for rt before the others.
+start_there() { # NAME STATUS
+    setup="$(own_folders) PATH='$kit':\$PATH"
+    start 8 100 "$clone/bidi-edit" f
+    finish "places, $1" "$2" 50
+    setup=''
+}
+
+check_read_only() { # NAME
+    start_there "$1, not built" 1
+    same "places, $1, not built: what is told" "$(cat "$folder/errors")" \
+        "bidi-edit: the editor is not built, and nothing can be written in $clone to build it: build it in a copy of your own"
+}
+
+check_closed_clone() {
+    make_clone
+    chown -R "$(id -u)" "$clone"
+    if [ "$who" = plain ] && [ "$(id -u)" = 0 ]; then check_read_only 'a repository of root'; fi
+    if [ "$(id -u)" = 0 ] && mount --bind "$clone" "$clone" 2>/dev/null; then
+        mounted="$mounted $clone"
+        mount -o remount,bind,ro "$clone"
+        check_read_only 'a read-only repository'
+        umount "$clone"
+        mounted=${mounted% *}
+    else
+        skip 'places, a read-only repository' 'nothing can be mounted'
+    fi
+    for name in bidi_edit bidi_input; do
+        mkdir -p "$clone/crates/$name/out"
+        printf '#!/bin/sh\nexit 0\n' >"$clone/crates/$name/out/$name"
+    done
+    chmod -R go-w,a+rX "$clone"
+    chmod 755 "$clone"/crates/*/out/*
+    start_there 'a repository that is built and not to be written' 0
+    same 'places, a repository that is built: what is told' "$(cat "$folder/errors")" ''
+    rm -rf "$clone" "$kit"
+}
+
+check_places() {
+    asked places || return 0
+    check_temporary
+    check_state_home
+    check_log
+    check_lock
+    check_stale_number
+    check_closed_clone
+}
