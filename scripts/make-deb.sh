@@ -1,9 +1,10 @@
 #!/bin/sh
 # make-deb.sh [FOLDER]: makes bidi-edit_VERSION_amd64.deb and bidi-edit_VERSION_amd64.tar.gz, with the same tree, in FOLDER (out/ at the
 # top of the repository unless named): for those who have no toolchain. It refuses where one of the three programs is not built and
-# proved. Then it tries both: lintian and the readers of manuals find no fault, the package is installed in a clean root folder, used
-# there in tmux and removed, and the tree of the tar file is used too. The last line counts; the status is 1 where a check failed, and
-# 77 where a tool is missing.
+# proved, and of tools that not every Debian has it wants dpkg-deb alone; the status is 77 where that is missing. Then it tries both:
+# lintian and the readers of manuals find no fault, the package is installed in a clean root folder, where it offers itself as
+# `editor`, used there in tmux and removed, and the tree of the tar file is used too. A check whose tool is missing is passed over. The
+# last line counts; the status is 1 where a check failed.
 set -eu
 
 top=$(cd "$(dirname "$0")/.." && pwd)
@@ -13,7 +14,7 @@ version=$(sed -n 's/^version=//p' "$top/launcher/words.sh")
 name=bidi-edit_${version}_amd64
 folder=$(mktemp -d)
 socket="bd$$"
-passed=0 failed=0
+passed=0 failed=0 skipped=0
 trap 'tmux -L "$socket" kill-server 2>/dev/null || :; rm -rf "$folder"' EXIT
 trap 'exit 1' HUP INT TERM
 umask 022
@@ -24,13 +25,12 @@ refuse() { # CAUSE
     exit 1
 }
 
-need_tools() {
-    for tool in dpkg-deb dpkg lintian tmux gzip sha256sum; do
-        command -v "$tool" >/dev/null || {
-            echo "skipped: there is no $tool"
-            exit 77
-        }
-    done
+# Whether a tool of the checks is there.
+has_tool() { # NAME TOOL
+    ! command -v "$2" >/dev/null || return 0
+    skipped=$((skipped + 1))
+    echo "skipped $1: there is no $2"
+    return 1
 }
 
 # A program with the stamp that the toolchain writes behind a proved build, which ends with the program's sum.
@@ -48,6 +48,8 @@ need_proved() { # PROGRAM
 # As install.sh lays it out, the manual pressed together as Debian has it.
 make_tree() { # FOLDER
     sh "$top/scripts/install.sh" "$1" >/dev/null
+    # dpkg has a record of its own, and what is unpacked from the tar file is one folder
+    rm "$1/lib/bidi_edit/installed"
     gzip -9n "$1/share/man/man1/bidi_edit.1"
     rm "$1/share/man/man1/bidi-edit.1"
     ln -s bidi_edit.1.gz "$1/share/man/man1/bidi-edit.1.gz"
@@ -102,6 +104,25 @@ bidi-edit: unstripped-binary-or-object
 END
 }
 
+# The package is one of those that can be `editor`, below those that most people know by that name.
+make_scripts() { # FOLDER
+    cat >"$1/DEBIAN/postinst" <<'END'
+#!/bin/sh
+set -e
+if [ "$1" = configure ] || [ "$1" = abort-upgrade ] || [ "$1" = abort-remove ] || [ "$1" = abort-deconfigure ]; then
+    update-alternatives --install /usr/bin/editor editor /usr/bin/bidi-edit 20 \
+        --slave /usr/share/man/man1/editor.1.gz editor.1.gz /usr/share/man/man1/bidi-edit.1.gz
+fi
+END
+    cat >"$1/DEBIAN/prerm" <<'END'
+#!/bin/sh
+set -e
+if [ "$1" = remove ] || [ "$1" = deconfigure ]; then
+    update-alternatives --remove editor /usr/bin/bidi-edit
+fi
+END
+}
+
 make_package() {
     package=$folder/package
     maintainer=$(git -C "$top" log -1 --format='%an <%ae>' 2>/dev/null) || maintainer='bidi_edit maintainers <root@localhost>'
@@ -110,7 +131,9 @@ make_package() {
     make_documents "$package" "$maintainer"
     make_overrides "$package"
     make_control "$package" "$maintainer"
+    make_scripts "$package"
     chmod -R u=rwX,go=rX "$package"
+    chmod 755 "$package/DEBIAN/postinst" "$package/DEBIAN/prerm"
     dpkg-deb --root-owner-group --build "$package" "$target/$name.deb" >/dev/null
 }
 
@@ -138,6 +161,7 @@ type_keys() {
 
 # Opens a text in the editor of this tree, types a letter before it, saves and quits. Only the tree's own tables are there.
 use() { # NAME FOLDER
+    has_tool "$1, used" tmux || return 0
     printf 'שלום world\n' >"$folder/note"
     printf 'אשלום world\n' >"$folder/wanted"
     rm -f "$folder/status"
@@ -158,10 +182,14 @@ END
     cmp "$folder/note" "$folder/wanted" >"$folder/differs" 2>&1 && found=0 || found=1
     report "$1, used: the saved text" "$found" "$(cat "$folder/differs")"
     tmux -L "$socket" kill-session -t person
+}
+
+tell_version() { # NAME FOLDER
     same "$1, the version" "$(BIDI_EDIT_DATA="$2/share/bidi_edit" "$2/bin/bidi-edit" --version | head -n 1)" "bidi-edit $version"
 }
 
 check_lintian() {
+    has_tool lintian lintian || return 0
     lintian --allow-root "$target/$name.deb" >"$folder/lintian" 2>&1 || :
     same 'lintian, errors' "$(grep -c -e '^E:' -e '^lintian: ' "$folder/lintian")" 0
     cat "$folder/lintian"
@@ -170,22 +198,28 @@ check_lintian() {
 # What the two readers of manuals have against it, where they are there.
 check_manual() {
     manual=$top/docs/bidi_edit.1
-    ! command -v man >/dev/null || same 'manual, man' "$(man --warnings -l "$manual" 2>&1 >/dev/null)" ''
-    ! command -v mandoc >/dev/null || same 'manual, mandoc' "$(mandoc -T lint "$manual" 2>&1)" ''
+    ! has_tool 'manual, man' man || same 'manual, man' "$(man --warnings -l "$manual" 2>&1 >/dev/null)" ''
+    ! has_tool 'manual, mandoc' mandoc || same 'manual, mandoc' "$(mandoc -T lint "$manual" 2>&1)" ''
     same 'manual, its version' "$(sed -n '1s/.*"bidi_edit \([^"]*\)".*/\1/p' "$manual")" "$version"
 }
 
 # A root folder with nothing but dpkg's own list, which lacks the C library.
 in_root() { # WORD..
-    dpkg --root="$folder/tree" --force-not-root --force-depends --force-script-chrootless --log=/dev/null "$@" >"$folder/dpkg" 2>&1
+    PATH=$PATH:/usr/sbin:/sbin dpkg --root="$folder/tree" --force-not-root --force-depends --force-script-chrootless --log=/dev/null "$@" >"$folder/dpkg" 2>&1
 }
 
 check_package() {
-    mkdir -p "$folder/tree/var/lib/dpkg/info" "$folder/tree/var/lib/dpkg/updates"
+    has_tool 'package, installed' dpkg && has_tool 'package, installed' update-alternatives || return 0
+    for each in var/lib/dpkg/info var/lib/dpkg/updates var/lib/dpkg/alternatives etc/alternatives var/log; do mkdir -p "$folder/tree/$each"; done
     : >"$folder/tree/var/lib/dpkg/status"
     in_root --install "$target/$name.deb" && found=0 || found=1
     report 'package, installed' "$found" "$(cat "$folder/dpkg")"
     same 'package, as dpkg tells' "$(in_root --status bidi-edit && sed -n 's/^Status: //p' "$folder/dpkg")" 'install ok installed'
+    same 'package, as editor' "$(readlink "$folder/tree/usr/bin/editor" "$folder/tree/etc/alternatives/editor" | paste -s -d ' ')" \
+        '/etc/alternatives/editor /usr/bin/bidi-edit'
+    same 'package, as editor: its manual' "$(readlink "$folder/tree/usr/share/man/man1/editor.1.gz" "$folder/tree/etc/alternatives/editor.1.gz" | paste -s -d ' ')" \
+        '/etc/alternatives/editor.1.gz /usr/share/man/man1/bidi-edit.1.gz'
+    tell_version package "$folder/tree/usr"
     use package "$folder/tree/usr"
     in_root --purge bidi-edit && found=0 || found=1
     report 'package, removed' "$found" "$(cat "$folder/dpkg")"
@@ -195,13 +229,17 @@ check_package() {
 check_tar() {
     mkdir "$folder/unpacked"
     tar -C "$folder/unpacked" -xzf "$target/$name.tar.gz"
+    tell_version tar "$folder/unpacked/bidi-edit-$version"
     use tar "$folder/unpacked/bidi-edit-$version"
     same 'tar, the same tree' "$(cd "$folder/unpacked/bidi-edit-$version" && find . ! -type d | sort)" \
         "$(cd "$package/usr" && find . ! -type d ! -path '*/lintian/*' | sort)"
     rm -rf "$folder/unpacked"
 }
 
-need_tools
+command -v dpkg-deb >/dev/null || {
+    echo 'skipped: there is no dpkg-deb'
+    exit 77
+}
 for main in "$top"/crates/bidi_*/src/main.rt; do need_proved "$(basename "${main%/src/main.rt}")"; done
 target=${1:-$top/out}
 mkdir -p "$target"
@@ -212,5 +250,5 @@ check_lintian
 check_package
 check_tar
 ls -l "$target/$name.deb" "$target/$name.tar.gz"
-echo "$passed passed, $failed failed"
+echo "$passed passed, $failed failed, $skipped skipped"
 [ "$failed" = 0 ]

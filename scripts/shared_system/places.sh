@@ -178,7 +178,7 @@ check_stale_number() {
     make_clone
     as_user mkdir -p "$clone/out/proving"
     # shellcheck disable=SC2016
-    as_user sh -c 'for file; do echo $$ >"$file"; done; exec sleep 60' sh "$clone/out/proving/process" "$clone/out/proving.lock" &
+    as_user sh -c 'for file; do echo $$ >"$file"; done; exec sleep 60' sh "$clone/out/proving/process" "$clone/out/proving.lock" 2>/dev/null &
     job=$!
     wait_for 20 test -s "$clone/out/proving.lock"
     other=$(cat "$clone/out/proving.lock")

@@ -1,0 +1,155 @@
+# shellcheck shell=sh
+# shellcheck disable=SC2016,SC2034,SC2154 # words of another shell; words that other parts give and take
+# The installation beside what is there already, under any umask and while others start the editor, and the package without the tools
+# of its checks.
+
+# A repository of the user's own, with programs that stand in for the built ones.
+make_source() {
+    source=$folder/source prefix=$folder/prefix
+    mkdir "$source"
+    cp -R "$top/bidi-edit" "$top/launcher" "$top/data" "$top/scripts" "$top/docs" "$source/"
+    for name in bidi_edit bidi_input bidi_print; do
+        mkdir -p "$source/crates/$name/src" "$source/crates/$name/out"
+        : >"$source/crates/$name/src/main.rt"
+        built=$source/crates/$name/out/$name
+        printf '#!/bin/sh\n# GLIBC_2.34\nexit 0\n' >"$built"
+        chmod 755 "$built"
+        printf 'a stamp %s' "$(sha256sum <"$built" | cut -c 1-64)" >"$built.stamp"
+    done
+    [ "$user" = "$(id -u)" ] || chown -R "$user:$user" "$source"
+}
+
+# Runs the script, with what it says in `said` and its status in `status`.
+installs() { # WORD..
+    as_user "$shell" "$source/scripts/install.sh" "$@" >"$folder/said" 2>&1
+    status=$?
+}
+
+# What stands in a folder: each path with its kind, permissions and sum.
+tree_of() { # FOLDER
+    (cd "$1" && find . -mindepth 1 -type f -exec sha256sum {} + && find . -mindepth 1 -printf '%y %m %p %l\n') | sort
+}
+
+check_modes_there() {
+    as_user chmod 600 "$source/data/BidiBrackets.txt" "$source/docs/bidi_edit.1"
+    as_user chmod 777 "$source/launcher/words.sh"
+    for mask in 077 000 022; do
+        # shellcheck disable=SC2016
+        as_user sh -c 'umask "$1"; exec "$2" "$3" "$4"' sh "$mask" "$shell" "$source/scripts/install.sh" "$prefix" >/dev/null
+        same "packages, umask $mask: folders" "$(find "$prefix" -type d ! -perm 755)" ''
+        same "packages, umask $mask: files" "$(find "$prefix" -type f ! -perm 644 ! -perm 755)" ''
+        same "packages, umask $mask: programs" "$(cd "$prefix" && find . -type f -perm 755 | sort | paste -s -d ' ')" \
+            './bin/bidi-edit ./lib/bidi_edit/bidi_edit ./lib/bidi_edit/bidi_input ./lib/bidi_edit/bidi_print'
+        rm -rf "$prefix"
+    done
+}
+
+# A copy that fails in its midst.
+check_failed_copy() {
+    installs "$prefix"
+    same 'packages, installed' "$status" 0
+    before=$(tree_of "$prefix")
+    as_user mkdir "$source/launcher/zz.sh"
+    as_user sh -c 'echo "# newer" >>"$1"' sh "$source/launcher/words.sh"
+    installs "$prefix"
+    same 'packages, a copy that fails: status' "$status" 1
+    same 'packages, a copy that fails: what is there' "$(tree_of "$prefix")" "$before"
+    as_user rmdir "$source/launcher/zz.sh"
+    rm -rf "$prefix"
+}
+
+# Starts beside installations of the same version.
+check_starts_meanwhile() {
+    installs "$prefix"
+    as_user sh -c 'for i in 1 2 3 4 5 6 7 8 9 10 11 12; do "$1" "$2" "$3"; done' sh "$shell" "$source/scripts/install.sh" "$prefix" >/dev/null &
+    job=$!
+    starts=0 refused=0
+    while kill -s 0 "$job" 2>/dev/null; do
+        as_user "$shell" "$prefix/bin/bidi-edit" --version >"$folder/said" 2>&1 || refused=$((refused + 1))
+        starts=$((starts + 1))
+    done
+    wait "$job"
+    same 'packages, starts while it is installed: refused' "$refused" 0
+    test "$starts" -gt 5
+    report 'packages, starts while it is installed: some' $? "$starts"
+    rm -rf "$prefix"
+}
+
+# What was there before and what others put there stays.
+check_removal() {
+    as_user mkdir -p "$prefix/bin" "$prefix/lib" "$prefix/share/man/man1" "$prefix/share/bidi_edit"
+    as_user sh -c 'echo mine >"$1"' sh "$prefix/share/bidi_edit/mine"
+    before=$(tree_of "$prefix")
+    installs "$prefix"
+    installs --uninstall "$prefix"
+    same 'packages, taken away: status' "$status" 0
+    same 'packages, taken away: all is as before' "$(tree_of "$prefix")" "$before"
+    installs --uninstall "$prefix"
+    same 'packages, taken away twice: status' "$status" 1
+    same 'packages, taken away twice: all is as before' "$(tree_of "$prefix")" "$before"
+    installs "$prefix"
+    as_user sh -c 'echo other >"$1"; echo other >"$2"' sh "$prefix/bin/bidi-edit" "$prefix/lib/bidi_edit/mine"
+    installs --uninstall "$prefix"
+    has 'packages, a file that was changed: what is told' "$(cat "$folder/said")" "$prefix/bin/bidi-edit was changed since, and stays"
+    same 'packages, a file that was changed stays, and one of others' "$(cat "$prefix/bin/bidi-edit" "$prefix/lib/bidi_edit/mine" 2>/dev/null | paste -s)" 'other	other'
+    same 'packages, nothing else stays' "$(cd "$prefix" && find . -type f | sort | paste -s -d ' ')" './bin/bidi-edit ./lib/bidi_edit/mine ./share/bidi_edit/mine'
+    before=$(tree_of "$prefix")
+    installs "$prefix"
+    same "packages, another's file in its place: status" "$status" 1
+    has "packages, another's file in its place: what is told" "$(cat "$folder/said")" "$prefix/bin/bidi-edit is there, and no installation put it there"
+    same "packages, another's file in its place: all is as before" "$(tree_of "$prefix")" "$before"
+    rm -rf "$prefix"
+}
+
+check_newer_version() {
+    as_user sh -c ': >"$1"' sh "$source/launcher/gone.sh"
+    installs "$prefix"
+    as_user rm "$source/launcher/gone.sh"
+    installs "$prefix"
+    same 'packages, a part that a version no longer has' "$(ls "$prefix/lib/bidi_edit/launcher/gone.sh" 2>/dev/null)" ''
+    # as an installation leaves it that made no record
+    rm -f "$prefix/lib/bidi_edit/installed"
+    installs "$prefix"
+    same 'packages, over one without a record' "$status" 0
+    installs --uninstall "$prefix"
+    same 'packages, over one without a record: taken away' "$(find "$prefix" -name '*bidi*')" ''
+    rm -rf "$prefix"
+}
+
+# All commands of the system but those that serve only the checks of make-deb.sh.
+make_commands() {
+    mkdir "$folder/commands"
+    for place in /usr/bin /bin /usr/sbin /sbin; do ln -s "$place"/* "$folder/commands/" 2>/dev/null; done
+    rm -f "$folder/commands/lintian" "$folder/commands/tmux"
+}
+
+check_deb() {
+    command -v dpkg-deb >/dev/null || {
+        skip 'packages, deb' 'there is no dpkg-deb'
+        return
+    }
+    make_commands
+    as_user mkdir "$folder/made" 2>/dev/null
+    as_user env PATH="$folder/commands" TMPDIR="$folder/private" "$shell" "$source/scripts/make-deb.sh" "$folder/made" >"$folder/said" 2>&1
+    same 'packages, deb: status' "$?" 0
+    has 'packages, deb: its own checks' "$(tail -n 1 "$folder/said")" ' 0 failed, '
+    same 'packages, deb: what is made' "$(cd "$folder/made" && echo *)" "bidi-edit_${version}_amd64.deb bidi-edit_${version}_amd64.tar.gz"
+    same 'packages, deb: what stays' "$(ls -A "$folder/private")" ''
+    dpkg-deb -e "$folder/made/bidi-edit_${version}_amd64.deb" "$folder/control" 2>/dev/null
+    same 'packages, deb: editor' "$(grep -c -e 'update-alternatives --install /usr/bin/editor editor /usr/bin/bidi-edit' -e '--slave .*/bidi-edit.1.gz$' "$folder/control/postinst" 2>/dev/null)" 2
+    same 'packages, deb: no longer editor' "$(grep -c 'update-alternatives --remove editor /usr/bin/bidi-edit' "$folder/control/prerm" 2>/dev/null)" 1
+    rm -rf "$folder/made" "$folder/control" "$folder/commands"
+}
+
+check_packages() {
+    asked packages || return 0
+    version=$(sed -n 's/^version=//p' "$top/launcher/words.sh")
+    make_source
+    check_modes_there
+    check_failed_copy
+    check_starts_meanwhile
+    check_removal
+    check_newer_version
+    check_deb
+    rm -rf "$source"
+}
