@@ -1,5 +1,5 @@
 # shellcheck shell=sh
-# shellcheck disable=SC2034,SC2154 # words that other parts give and take
+# shellcheck disable=SC2016,SC2034,SC2154 # words of another shell; words that other parts give and take
 # Names of files in messages and titles: as a shell takes them, with no byte that a terminal obeys and none that hides what they are.
 
 # What no terminal should get in a name: a word for it and its bytes as printf and a shell take them.
@@ -73,7 +73,6 @@ check_messages() { # WORD TOLD
     as_user mkfifo "$name"
     tells "$word, a pipe" "$as_told is no plain file" "$name"
     as_user rm "$name"
-    # shellcheck disable=SC2016
     as_user sh -c 'printf "\377" >"$1"; : >"$1.bx"' sh "$name"
     tells "$word, bytes" "$as_told is not UTF-8 in line 1" --print "$name"
     as_user cp /dev/null "$name"
@@ -83,6 +82,20 @@ check_messages() { # WORD TOLD
     *) tells "$word, a draft" "what is not wanted: \$'$2.bx'" "$name" ;;
     esac
     as_user rm "$name" "$name.bx"
+}
+
+# What cannot be printed.
+check_printing_messages() { # WORD TOLD
+    as_told="\$'$2'"
+    name_of_told "$2"
+    as_user perl -MSocket -e 'socket(S, PF_UNIX, SOCK_STREAM, 0) && bind(S, sockaddr_un($ARGV[0]))' "$name"
+    tells "$1, a socket, printed" "$as_told is a socket, which has no text" --print "$name"
+    as_user rm -f "$name"
+    [ "$who" = plain ] || return 0
+    as_user mkfifo "$name"
+    as_user chmod 000 "$name"
+    tells "$1, closed, printed" "$as_told cannot be read by you" --print "$name"
+    as_user rm -f "$name"
 }
 
 # The launcher itself in a folder of that name, without the tables that come with it.
@@ -123,7 +136,6 @@ check_title_and_fault() { # TOLD
     name_of_told "$1"
     program=$folder/recorder/lib/bidi_edit/bidi_edit
     mv "$program" "$program.was"
-    # shellcheck disable=SC2016
     printf '%s\n' '#!/bin/sh' 'for file; do :; done' 'printf "bidi_edit: cannot read %s\n" "$file" >&2' 'sleep 0.3' 'exit 1' >"$program"
     chmod 755 "$program"
     start 8 60 "$recorder" "$name"
@@ -146,6 +158,7 @@ check_names() {
     hidden_bytes >"$folder/bytes"
     while read -r word bytes; do
         check_messages "$word" "x${bytes}y" </dev/null
+        check_printing_messages "$word" "x${bytes}y" </dev/null
     done <"$folder/bytes"
     tells 'letters of all scripts' "'שלום عالم é' is not there" --print 'שלום عالم é'
     # the joiners are letters of Persian words and of pictures
