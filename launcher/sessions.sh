@@ -69,7 +69,7 @@ forget_session() {
 
 # The window is what it is now, once the keys are replayed in the one that the session began in.
 resume_session() {
-    printf '\033[8;%d;%dt' "$rows" "$cols" >>"$kept/journal" || echo >&8
+    printf '\033[8;%d;%dt' "$rows" "$cols" >>"$kept/journal"
     read_begin "$kept"
 }
 

@@ -2,7 +2,9 @@
 # shellcheck disable=SC2034,SC2154,SC2317 # words that other parts give and take; traps call functions
 # The terminal of a session, and its way back.
 
-folder='' program='' keys='' sizes='' outer='' is_running='' is_shown='' has_title=''
+folder='' program='' keys='' sizes='' watcher='' outer='' is_running='' is_shown='' has_title='' end_signal=''
+# For how many seconds a terminal may take nothing at the end: a slow line has much to take, and a signal wants an end.
+patience=10
 
 # ---- what the terminal is told
 
@@ -56,22 +58,18 @@ show() {
     fi
 }
 
+# A terminal that takes nothing keeps nobody waiting. TTOU is ignored so that the terminal can be set from outside the job that has it.
+# shellcheck disable=SC2016
+within_patience() { # COMMAND..
+    timeout --foreground -s KILL "$patience" sh -c 'trap "" TTOU; exec "$@"' sh "$@"
+}
+
 hide() {
     [ -n "$is_shown" ] || return 0
     is_shown=''
-    [ -z "$filter" ] || printf '\033[?2004l'
-    printf '%b' "$end_modes"
-    [ -z "$has_title" ] || printf '\033[23;0t'
-    printf '\033[?1049l'
-    stty "$settings"
+    within_patience printf '%b' "${filter:+\033[?2004l}$end_modes${has_title:+\033[23;0t}\033[?1049l"
+    within_patience stty "$settings"
     tell_outer '\033[8h'
-}
-
-# After a stop: the terminal as the editor needs it, and a told size, which has all painted anew.
-resume() {
-    [ -n "$is_shown" ] || return 0
-    set_terminal 1047
-    echo >&8
 }
 
 # ---- the end
@@ -98,8 +96,13 @@ end_processes() {
         kill -s KILL "$process"
         wait "$process"
     done
-    exec 4<&- 5>&- 6<&- 8<&- 9<&-
+    exec 4<&- 5>&- 6<&-
     [ -z "$program" ] || end_program
+}
+
+end_watcher() {
+    [ -z "$watcher" ] || kill -s KILL "$watcher"
+    watcher=''
 }
 
 # What the program said, and after a fault where the typed text is kept, if it is.
@@ -109,14 +112,24 @@ tell_end() {
     tell_line_ends
 }
 
+tell_signal() {
+    [ -n "$end_signal" ] || [ "$status" -le 128 ] ||
+        printf 'bidi-edit: the editor was ended by the signal %s\n' "$(kill -l "$status")" >&7
+}
+
 # Whatever stands of the session ends, and the terminal is as it was. A second signal changes nothing then.
 put_back() {
-    trap '' HUP INT QUIT TERM WINCH CONT TTOU
+    trap '' HUP INT QUIT TERM TTOU
     end_processes
     hide
     if [ -n "$folder" ]; then
-        tell_end
-        end_session
+        {
+            tell_end
+            end_session
+            tell_signal
+        } 7>"$folder/said"
+        within_patience cat "$folder/said" >&7
+        end_watcher
         rm -rf -- "$folder"
         folder=''
     fi
@@ -124,6 +137,7 @@ put_back() {
 
 # Ends by the signal of this name and number, so that who started this script sees it. bash does not end by QUIT.
 end_by() { # SIGNAL NUMBER
+    end_signal=$1 patience=1
     put_back
     trap - EXIT "$1"
     kill -s "$1" $$
@@ -143,13 +157,58 @@ measure() {
     [ "$cols" -le 500 ] || cols=500
 }
 
-# For each change that is told puts the window's size, as it is by then, among the keys in one write.
-send_sizes() {
-    exec <&9 4<&- 5>&- 6<&- 7>&- 8<&- 9<&-
+# Opened so that it waits for no reader, and written so that it does not outlive the last one.
+# shellcheck disable=SC2094
+send_size() {
+    { printf '\033[8;%d;%dt' "$rows" "$cols" >&5; } 6<>"$folder/keys" 5>"$folder/keys" 6<&-
+}
+
+# Puts the window's size among the keys in one write, for each line that is read, and at first where it is another by now.
+send_sizes() { # SIZE
+    exec <&9 8>&- 9<&-
+    measure
+    [ "$rows $cols" = "$1" ] || send_size
     while read -r _; do
         measure
-        printf '\033[8;%d;%dt' "$rows" "$cols" >"$folder/keys"
+        send_size
     done
+}
+
+# After a stop: the terminal as the editor needs it, and a told size, which has all painted anew.
+take_up() {
+    set_terminal 1047
+    echo >&8
+}
+
+# Has a size sent for each change and each end of a stop, which the terminal and the shell tell to the whole job. The launcher itself
+# has no trap for these: bash loses an end that comes beside them to a shell that waits.
+follow_window() { # SIZE
+    # shellcheck disable=SC2094
+    exec 4<&- 5>&- 6<&- 7>&- 9<&- 8<>"$folder/changes" 9<"$folder/changes"
+    trap 'echo >&8' WINCH
+    trap take_up CONT
+    send_sizes "$1" &
+    exec 9<&-
+    while kill -s 0 $!; do wait $!; done
+}
+
+# Ends what this launcher started, if the launcher is gone without having done so. It reads their numbers, the program's first, until
+# nobody is left who could write one.
+watch() {
+    trap '' HUP INT QUIT TERM
+    exec 0<&- 3<&- 5>&- 6<&- 7>&- 8>&- 9<&-
+    program='' others=''
+    while read -r process <&4; do
+        if [ -z "$program" ]; then program=$process; else others="$others $process"; fi
+    done
+    for process in $others; do kill -s KILL "$process"; done
+    tries=60
+    while [ -n "$program" ] && [ "$tries" -gt 0 ] && kill -s 0 "$program"; do
+        sleep 0.05
+        tries=$((tries - 1))
+    done
+    [ -z "$program" ] || kill -s KILL "$program"
+    rm -rf -- "$folder"
 }
 
 # Whatever ends this script from here on puts the terminal back.
@@ -163,17 +222,31 @@ guard() {
     trap 'end_by TERM 15' TERM
 }
 
+# Takes away the folders of launchers that were killed. One that lives has a lock on its pipe, or is younger than its lock may be.
+sweep_folders() { # FOLDER FOR TEMPORARY FILES
+    for left in "$1"/bidi-edit.??????; do
+        [ -p "$left/life" ] || continue
+        [ -n "$(find "$left" -prune -type d -user "$(id -u)" -mmin +1)" ] || continue
+        ! (flock -n 4) 4<>"$left/life" || rm -rf -- "$left"
+    done
+}
+
 # Both ends of the pipes are open before anyone uses one, so no opening waits: 3 the terminal, 4 to 6 the keys, 7 the shell's
-# standard error, 8 and 9 the changes of the window. From here on the shell's own remarks are no one's concern.
+# standard error, 8 what tells the watcher that this script lives, and, where a session is kept, 9 its lock. From here on the shell's
+# own remarks are no one's concern.
 open_pipes() {
     folder=$(mktemp -d "${TMPDIR:-/tmp}/bidi-edit.XXXXXX") || exit 1
     : >"$folder/fault"
-    mkfifo "$folder/keys" "$folder/changes" || exit 1
+    mkfifo "$folder/keys" "$folder/changes" "$folder/life" || exit 1
     # shellcheck disable=SC2094
-    exec 3<&0 4<>"$folder/keys" 5>"$folder/keys" 6<"$folder/keys" 7>&2 8<>"$folder/changes" 9<"$folder/changes" 2>/dev/null
-    # The trap starts no process: one that a second signal met at its start would run the trap too.
-    trap 'echo >&8' WINCH
-    trap resume CONT
+    exec 7>&2 8<>"$folder/life" 4<"$folder/life" 2>/dev/null
+    flock -n 8
+    # no child of this script: bash may wait for one where it was told to wait for another
+    (watch & echo $! >"$folder/watcher")
+    read -r watcher <"$folder/watcher"
+    # shellcheck disable=SC2094
+    exec 3<&0 4<>"$folder/keys" 5>"$folder/keys" 6<"$folder/keys"
+    sweep_folders "${folder%/*}"
 }
 
 # What is typed: what terminals send for keys, as the editor takes it, and pastes as text; where the filter is not there, as it comes.
@@ -183,44 +256,34 @@ hand_on_keys() {
     exec dd bs=512
 }
 
-# The program, what hands it the keys, and what tells it sizes. A closed terminal tells all of them so, and the program is to end by
-# the end of its input.
-start_processes() {
-    is_running=1
-    measure
-    begin_session
+# The program. It holds the session's lock too, so that no session is taken while it writes there.
+start_program() {
     {
         trap '' HUP
         set -- "$file"
         [ -z "$kept" ] || set -- --text "$kept/text" --journal "$kept/journal" ${is_resumed:+--replay "$kept/journal"} "$@"
         exec "$editor" --rows "$rows" --cols "$cols" --direction "$direction" ${line:+--line "$line"} --classes "$classes" \
             --brackets "$brackets" --mirroring "$mirroring" "$@"
-    } <&6 2>"$folder/fault" 3<&- 4<&- 5>&- 6<&- 7>&- 8<&- 9<&- &
+    } <&6 2>"$folder/fault" 3<&- 4<&- 5>&- 6<&- 7>&- 8>&- &
     program=$!
-    hand_on_keys <&3 >&5 3<&- 4<&- 5>&- 6<&- 7>&- 8<&- 9<&- &
+    echo "$program" >&8
+}
+
+# The program, what hands it the keys, and what tells it sizes. A closed terminal tells all of them so, and the program is to end by
+# the end of its input.
+start_processes() {
+    is_running=1
+    measure
+    size="$rows $cols"
+    begin_session
+    start_program
+    hand_on_keys <&3 >&5 3<&- 4<&- 5>&- 6<&- 7>&- 8>&- 9<&- &
     keys=$!
-    send_sizes &
+    echo "$keys" >&8
+    follow_window "$size" &
     sizes=$!
-    exec 4<&- 5>&- 6<&- 9<&-
-}
-
-# Whether a wait's status says that this signal ended it, whose number is not the same everywhere.
-is_woken_by() { # SIGNAL NUMBER..
-    for number in $2 $3; do
-        [ "$status" != "$((128 + number))" ] || [ "$(kill -l "$number")" != "$1" ] || return 0
-    done
-    return 1
-}
-
-# The program's end, in `status`. A wait ends also where the window changed and where a stop was over.
-await_program() {
-    wait "$program"
-    status=$?
-    while is_woken_by WINCH 28 20 || is_woken_by CONT 18 25; do
-        wait "$program"
-        status=$?
-    done
-    program=''
+    echo "$sizes" >&8
+    exec 4<&- 5>&- 6<&-
 }
 
 # Edits `file` until the program ends, and ends with its status.
@@ -230,8 +293,9 @@ edit() {
     open_pipes
     show
     start_processes
-    await_program
+    wait "$program"
+    status=$?
+    program=''
     put_back
-    [ "$status" -le 128 ] || printf 'bidi-edit: the editor was ended by the signal %s\n' "$(kill -l "$status")" >&7
     exit "$status"
 }

@@ -75,6 +75,7 @@ start() { # ROWS COLS LAUNCHER WORD..
     shift 2
     for file in line ended status before after record words go output state; do rm -rf "${folder:?}/$file"; done
     {
+        echo "export HOME='$HOME' XDG_STATE_HOME='$XDG_STATE_HOME'"
         echo "export BIDI_EDIT_DATA='$tables' TMPDIR='$folder/private' BX_RECORD='$folder/record' BX_WORDS='$folder/words'"
         echo "cd '$folder/files'"
         echo "while ! [ -e '$folder/go' ]; do sleep 0.05; done"

@@ -1,0 +1,98 @@
+# shellcheck shell=sh
+# shellcheck disable=SC2034,SC2154 # words that other parts give and take
+# Signals that come together, as a window's change and the end of its terminal do, and a terminal that takes no output.
+
+launcher_of_person() {
+    process_of "$shell .*bin/bidi-edit"
+}
+
+# All processes of the launcher that a check started, of which none may stay.
+processes_of_check() {
+    pgrep -f "$folder/recorder/" | tr '\n' ' '
+}
+
+has_no_process() {
+    [ -z "$(processes_of_check)" ]
+}
+
+kill_what_stays() {
+    for process in $(processes_of_check); do kill -s KILL "$process" 2>/dev/null; done
+    rm -rf "$folder"/private/*
+}
+
+open_recorder() {
+    start 24 80 "$recorder" f
+    wait_for 50 test -e "$folder/record"
+    process=$(launcher_of_person)
+    group=$(ps -o pgid= -p "$process" | tr -d ' ')
+}
+
+# Ends each of so many sessions by a signal that comes with others to the whole job, as a terminal and a shell send them.
+end_with_others() { # NAME RUNS SIGNAL OTHER..
+    name=$1 runs=$2 signal=$3 lost=0
+    shift 3
+    for run in $(seq "$runs"); do
+        open_recorder
+        for other; do kill -s "$other" -- "-$group"; done
+        kill -s "$signal" "$process"
+        wait_for 30 has_ended || { lost=$((lost + 1)) && kill_what_stays; }
+        terminal kill-session -t person 2>/dev/null
+        wait_for 20 has_no_process
+    done
+    same "$name, of $runs runs those that go on" "$lost" 0
+}
+
+close_with_size() { # RUNS
+    lost=0
+    for run in $(seq "$1"); do
+        open_recorder
+        resize 20 $((run + 60))
+        terminal kill-session -t person
+        wait_for 40 has_no_process || { lost=$((lost + 1)) && kill_what_stays; }
+    done
+    same "signals, a size and the terminal's end, of $1 runs those that go on" "$lost" 0
+}
+
+# Many changes in a short time: the last one counts.
+check_burst() {
+    open_recorder
+    for side in 31 32 33 34 35 36 37 38 39 40; do resize "$side" "1$side"; done
+    sleep 0.5
+    type_keys C-q
+    wait_for 30 has_ended
+    same 'signals, the last of many sizes' "$(grep -a -o '\[8;[0-9]*;[0-9]*t' "$folder/record" | tail -n 1)" '[8;40;140t'
+    terminal kill-session -t person
+}
+
+# A TERM to the program as soon as it is one.
+end_young_program() { # RUNS
+    lost=0
+    for run in $(seq "$1"); do
+        start 24 80 "$recorder" f &
+        starter=$!
+        wait_for 50 has_program
+        kill -s TERM "$(program_process)"
+        wait "$starter"
+        wait_for 30 has_ended || { lost=$((lost + 1)) && kill_what_stays; }
+        terminal kill-session -t person
+        wait_for 20 has_no_process
+    done
+    same "signals, a young program, of $1 runs those that go on" "$lost" 0
+}
+
+program_process() {
+    pgrep -f "$folder/recorder/.*bidi_edit --rows" | head -n 1
+}
+
+has_program() {
+    [ -n "$(program_process)" ]
+}
+
+check_signals() {
+    asked signals || return 0
+    end_with_others 'signals, TERM with a size' 12 TERM WINCH
+    end_with_others 'signals, HUP with a size and a CONT' 12 HUP WINCH CONT
+    close_with_size 12
+    check_burst
+    end_young_program 6
+}
