@@ -2,21 +2,27 @@
 # shellcheck disable=SC2034,SC2154 # words that other parts give and take
 # Folders that the environment names: one that cannot be used is told, and what serves in its place is taken.
 
-# Whether a folder of our own can be made there, and a pipe in it: a disk may be full, or know no pipes.
-takes_pipes() { # FOLDER
-    tried=$(mktemp -d "$1/bidi-edit.XXXXXX" 2>/dev/null) || return 1
-    made=''
-    ! mkfifo -- "$tried/pipe" 2>/dev/null || made=1
-    rm -rf -- "$tried"
-    [ -n "$made" ]
+# Makes a folder of our own there, in `folder`, with these pipes in it: a disk may be full, or know no pipes.
+try_folder() { # PLACE PIPE..
+    folder=$(mktemp -d "$1/bidi-edit.XXXXXX" 2>/dev/null) || return 1
+    shift
+    for pipe; do
+        mkfifo "$folder/$pipe" 2>/dev/null && continue
+        rm -rf -- "$folder"
+        folder=''
+        return 1
+    done
 }
 
-settle_temporary() {
-    if [ -n "${TMPDIR:-}" ] && ! takes_pipes "$TMPDIR"; then
+# The same in the folder for temporary files, which is /tmp from then on where TMPDIR's takes none.
+make_folder() { # PIPE..
+    ! try_folder "${TMPDIR:-/tmp}" "$@" || return 0
+    if [ "${TMPDIR:-/tmp}" != /tmp ]; then
         printf 'bidi-edit: TMPDIR names %s, where nothing can be made: /tmp is taken\n' "$(shown "$TMPDIR")" >&2
         TMPDIR=/tmp
+        ! try_folder /tmp "$@" || return 0
     fi
-    [ "${TMPDIR:-/tmp}" != /tmp ] || { [ -w /tmp ] && [ -x /tmp ]; } || fail 'nothing can be made in /tmp: TMPDIR can name another folder'
+    fail 'nothing can be made in /tmp: TMPDIR can name another folder'
 }
 
 # The standard of these folders has a relative one passed over.
@@ -28,9 +34,4 @@ settle_state() {
         XDG_STATE_HOME=''
         ;;
     esac
-}
-
-settle_places() {
-    settle_temporary
-    settle_state
 }

@@ -235,9 +235,8 @@ sweep_folders() { # FOLDER FOR TEMPORARY FILES
 # standard error, 8 what tells the watcher that this script lives, and, where a session is kept, 9 its lock. From here on the shell's
 # own remarks are no one's concern.
 open_pipes() {
-    folder=$(mktemp -d "${TMPDIR:-/tmp}/bidi-edit.XXXXXX") || exit 1
+    make_folder keys changes life
     : >"$folder/fault"
-    mkfifo "$folder/keys" "$folder/changes" "$folder/life" || exit 1
     # shellcheck disable=SC2094
     exec 7>&2 8<>"$folder/life" 4<"$folder/life" 2>/dev/null
     flock -n 8
