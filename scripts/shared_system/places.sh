@@ -96,6 +96,7 @@ make_clone() {
     cat >"$kit/rt" <<'END'
 #!/bin/sh
 : >"$PWD/begun"
+echo "$TMPDIR" >"${0%/*}/temporary"
 while [ -f "${0%/*}/slow" ]; do sleep 0.1; done
 [ ! -f "${0%/*}/bad" ] || exit 1
 name=$(basename "$PWD")
@@ -173,6 +174,15 @@ can_unshare() {
     return 1
 }
 
+# The toolchain gets a folder that it can use.
+check_first_start_elsewhere() {
+    make_clone
+    start_there 'a first start with such a TMPDIR' 0 "TMPDIR='$folder/none'"
+    has 'places, a first start with such a TMPDIR: what is told' "$(cat "$folder/errors")" "bidi-edit: TMPDIR names $folder/none, where nothing can be made: /tmp is taken"
+    same 'places, a first start with such a TMPDIR: what the toolchain gets' "$(cat "$kit/temporary")" /tmp
+    rm -rf "$clone" "$kit"
+}
+
 # A number that a killed start left, which is another process's by now.
 check_stale_number() {
     make_clone
@@ -191,8 +201,8 @@ check_stale_number() {
 # ---- a repository that cannot be written
 
 # The launcher there, in a terminal, with what stands in for rt before the others.
-start_there() { # NAME STATUS
-    setup="$(own_folders) PATH='$kit':\$PATH"
+start_there() { # NAME STATUS VARIABLE..
+    setup="$(own_folders) PATH='$kit':\$PATH ${3:-}"
     start 8 100 "$clone/bidi-edit" f
     finish "places, $1" "$2" 50
     setup=''
@@ -234,6 +244,7 @@ check_places() {
     check_state_home
     check_log
     check_lock
+    check_first_start_elsewhere
     check_stale_number
     check_closed_clone
 }
