@@ -7,7 +7,7 @@
 # lib/bidi_edit/installed, has the sum of each file and the folders that were made: only these are taken away again.
 set -eu
 umask 022
-export LC_ALL=C
+export LC_ALL=C CDPATH=''
 
 top=$(CDPATH='' cd -- "$(dirname -- "$0")/.." && pwd)
 # shellcheck source=launcher/names.sh

@@ -178,7 +178,7 @@ check_install() {
     type_keys C-q
     finish install 0 50
     sh "$top/scripts/install.sh" --uninstall "$folder/prefix" >/dev/null
-    same 'install, taken away' "$(find "$folder/prefix" -type f -o -type l)" ''
+    same 'install, taken away' "$(ls -d "$folder/prefix" 2>/dev/null)" ''
 }
 
 check_editor() {
