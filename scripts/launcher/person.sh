@@ -148,9 +148,14 @@ modes_of() { # SESSION
 
 # ---- processes and signals
 
-# The process of this terminal whose words fit.
+# The process of this terminal whose words fit: of a script and its parts, which have the same words, the script. Numbers start anew at
+# some time, so they tell no order.
 process_of() { # PATTERN
-    ps -t "${tty#/dev/}" -o pid=,args= | sed 's/^ *//' | grep -e "^[0-9]* $1" | awk 'NR == 1 { print $1 }'
+    ps -t "${tty#/dev/}" -o pid=,ppid=,args= | sed 's/^ *\([0-9]*\) *\([0-9]*\) */\1 \2 /' | grep -e "^[0-9]* [0-9]* $1" | first_parent
+}
+
+first_parent() {
+    awk '{ parent[$1] = $2 } END { for (each in parent) if (!(parent[each] in parent)) { print each; exit } }'
 }
 
 is_there() {

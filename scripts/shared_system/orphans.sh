@@ -66,7 +66,7 @@ check_left_folders() {
     open_recorder
     type_keys C-q
     wait_for 30 has_ended
-    same 'orphans, the next start sweeps' "$(echo "$(ls "$folder/private")" | tr '\n' ' ')" "$wanted_left "
+    same 'orphans, the next start sweeps' "$(for left in "$folder"/private/*; do printf '%s ' "${left##*/}"; done)" "$wanted_left "
     kill -s KILL "$holder"
     terminal kill-session -t person
     rm -rf "$folder"/private/*
