@@ -194,9 +194,10 @@ has_row() { # NAME ROW
     [ "$(terminal capture-pane -p -t "$1" 2>/dev/null | sed -n '24s/ *$//p')" = "$2" ]
 }
 
+# One that tmux has not asked for yet has ended too: it has no memory and no files any more, and its number is still taken.
 has_ended() { # PROCESS..
     for process; do
-        ! kill -s 0 "$process" 2>/dev/null || return 1
+        case $(ps -o stat= -p "$process") in '' | Z*) ;; *) return 1 ;; esac
     done
 }
 
