@@ -64,6 +64,20 @@ check_burst() {
     terminal kill-session -t person
 }
 
+check_many_sizes() { # COUNT
+    open_recorder
+    for side in $(seq "$1"); do resize $((20 + side % 9)) $((70 + side % 31)); done
+    sleep 0.5
+    type_keys C-q
+    wait_for 50 has_ended
+    report "signals, $1 sizes: the end" $? 'it goes on'
+    wait_for 20 has_no_process
+    same "signals, $1 sizes: processes that stay" "$(processes_of_check)" ''
+    same "signals, $1 sizes: the last one" "$(grep -a -o '\[8;[0-9]*;[0-9]*t' "$folder/record" | tail -n 1)" "[8;$((20 + $1 % 9));$((70 + $1 % 31))t"
+    kill_what_stays
+    terminal kill-session -t person
+}
+
 # A TERM to the program as soon as it is one.
 end_young_program() { # RUNS
     lost=0
@@ -94,5 +108,6 @@ check_signals() {
     end_with_others 'signals, HUP with a size and a CONT' 12 HUP WINCH CONT
     close_with_size 12
     check_burst
+    check_many_sizes 300
     end_young_program 6
 }
