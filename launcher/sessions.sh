@@ -1,18 +1,75 @@
 # shellcheck shell=sh
 # shellcheck disable=SC2034,SC2154 # words that other parts give and take
-# The sessions that are kept until nothing of them is unsaved, and how what was typed in one is had back.
+# The sessions that are kept until nothing of them is unsaved: their folders, and who may use one.
 #
-# A session has a folder of its own: text is FILE as it was opened, and is not there where FILE was not; path is FILE's; begin has
-# the rows, the columns, the direction and the line (- for none) that it began with; process has the number of its launcher, and
-# when that began; journal has the bytes that the program read. A file dropped says that Quit let the changes go.
+# A session has a folder of its own: text is FILE as it was opened; path is FILE's, and beside that of the file where a recovery beside
+# FILE is saved; begin has the rows, the columns, the direction and the line (- for none) that it began with; process has the number of
+# its launcher, and the machine; mode has FILE's permissions, and is not there where FILE was not; versions tell what obeyed the keys;
+# journal has the bytes that the program read; lock is held while the session goes on. A file dropped says that Quit let the changes go,
+# cut that the journal lacks the end, and snapshot is the text where the session was left.
 
-kept='' is_resumed=''
+kept='' forgotten='' is_resumed='' unkept='' session_mode='' limit='' found_for='-'
 
-# ---- a session's folder
+# ---- where sessions are
 
-find_sessions_folder() {
+# The nearest folder that is there, in `at`: what is not there yet will be where that is.
+find_there() { # FOLDER
+    at=$1
+    while ! [ -d "$at" ]; do
+        case $at in
+        ?*/*) at=${at%/*} ;;
+        *) at=/ ;;
+        esac
+    done
+}
+
+# What a folder is in that does not last, in `where`: memory, or a folder for temporary files, which is named.
+find_where() { # FOLDER KIND OF ITS FILE SYSTEM
+    where=memory
+    case $2 in tmpfs | ramfs) return ;; esac
+    for where in "${TMPDIR:-/tmp}" /tmp /var/tmp ''; do
+        where=${where%/}
+        case $1/ in "$where"/*) return ;; esac
+    done
+}
+
+# A folder in memory for the sessions of a FILE there.
+find_memory_folder() { # FOLDER OF FILE
+    for root in "$(stat -c %m -- "$1")" "${XDG_RUNTIME_DIR:-/dev/shm}" /dev/shm; do
+        case $(stat -f -c %T -- "$root" 2>/dev/null) in tmpfs | ramfs) ;; *) continue ;; esac
+        if [ -w "$root" ]; then
+            sessions=${root%/}/bidi_edit.$(id -u)
+            return
+        fi
+    done
+    sessions=''
+}
+
+find_state_folder() {
     sessions=${XDG_STATE_HOME:-${HOME:+$HOME/.local/state}}
     [ -z "$sessions" ] || sessions=$sessions/bidi_edit
+}
+
+# The state folder, unless FILE does not last as long as what is there.
+find_sessions_folder() {
+    folder_of_file=${path%/*}
+    [ "$folder_of_file" != "$found_for" ] || return 0
+    found_for=$folder_of_file
+    find_state_folder
+    find_there "$sessions"
+    of_state=$at
+    find_there "$folder_of_file"
+    # a line for each
+    kinds=$(stat -f -c %T -- "$at" "$of_state" 2>/dev/null)
+    find_where "$of_state" "${kinds##*[!a-z0-9]}"
+    state_where=$where
+    find_where "$at" "${kinds%%[!a-z0-9]*}"
+    case $where in
+    '' | "$state_where") ;;
+    memory) find_memory_folder "$folder_of_file" ;;
+    *) [ -n "$state_where" ] || sessions=$where/bidi_edit.$(id -u) ;;
+    esac
+    check_sessions_folder
 }
 
 # FILE's absolute path, where saves go, also where its folder is gone. The x keeps a folder's own last line end.
@@ -22,58 +79,195 @@ find_path() {
     path=${path%/}/$place_name
 }
 
-# When a process began, where the system tells that: its number alone comes again.
-began() { # PROCESS
-    read -r read_stat 2>/dev/null <"/proc/$1/stat" || return 0
-    # behind the command's name, which ends with the last bracket
-    # shellcheck disable=SC2086
-    set -- ${read_stat##*)}
-    echo "${20}"
+# Finds what of a folder is not as it must be, in `distrusted`: it is of who runs the editor, who alone may write it, and no one else
+# but root can put another in its place.
+# shellcheck disable=SC3067 # dash and bash have -O
+find_distrusted() { # FOLDER
+    distrusted=$1
+    [ ! -L "$1" ] && [ -d "$1" ] && [ -O "$1" ] || return 0
+    above=$(CDPATH='' cd -P -- "${1%/*}/" && pwd && echo x)
+    above=${above%??}
+    set -- "$1" /
+    while [ -n "${above#/}" ]; do
+        set -- "$@" "$above"
+        above=${above%/*}
+    done
+    looks=$(stat -c '%u:%f' -- "$@" 2>/dev/null)
+    user=''
+    for look in $looks; do
+        is_closed "${look%:*}" "0x${look#*:}" || break
+        shift
+    done
+    distrusted=${1:-}
+}
+
+# Whether no other user may change a folder of this owner and mode: the first that is asked about is the user's alone, and others may be
+# root's, or sticky.
+is_closed() { # OWNER MODE
+    if [ -z "$user" ]; then
+        user=$1
+        [ $(($2 & 022)) = 0 ]
+    else
+        [ $(($2 & 01002)) != 2 ] && { [ "$1" = 0 ] || [ "$1" = "$user" ]; }
+    fi
+}
+
+# A folder of sessions that others could have filled is not used.
+check_sessions_folder() {
+    unkept=''
+    if ! command -v flock >/dev/null; then
+        unkept='there is no flock, which is in util-linux'
+        sessions=''
+    elif [ -z "$sessions" ]; then
+        unkept='there is no folder for it'
+    elif [ -e "$sessions" ] || [ -L "$sessions" ]; then
+        find_distrusted "$sessions"
+        [ -n "$distrusted" ] || return 0
+        unkept="$(shown "$distrusted") belongs to another user, or others may write there"
+        sessions=''
+    fi
+}
+
+# Whether all of a session is its user's alone, and none of it leads elsewhere. In a folder that is closed its files may have any modes.
+is_own() { # SESSION
+    [ -d "$1" ] && [ -z "$(find "$1" \( ! -user "$(id -u)" -o -type d -perm /022 -o ! -type d ! -type f \) -print 2>&1)" ]
+}
+
+# ---- who has a session
+
+# The lock of a session, which is this script's from here on, and its program's. One that was taken away meanwhile has no path, and one
+# that begins has none yet.
+lock_session() { # SESSION [PART THAT IT HAS]
+    { command exec 9<>"$1/lock"; } 2>/dev/null || return 1
+    if flock -w 1 9 && [ -f "$1/${2-path}" ]; then return 0; fi
+    unlock_session
+    return 1
+}
+
+unlock_session() {
+    exec 9<&-
+}
+
+is_live() { # SESSION
+    ! flock -s -n "$1/lock" true
+}
+
+# This machine, by its name and by when it started: containers on one have names of their own.
+find_machine() {
+    this_host='' this_start=''
+    read -r this_host 2>/dev/null </proc/sys/kernel/hostname || this_host=$(uname -n)
+    read -r this_start 2>/dev/null </proc/sys/kernel/random/boot_id || this_start=-
 }
 
 note_process() { # SESSION
-    echo "$$ $(began $$)" >"$1/process"
+    find_machine
+    echo "$$ $this_host $this_start" >"$1/process"
 }
 
-# Whether the launcher of a session runs.
-is_live() { # SESSION
-    process='' start=''
-    read -r process start 2>/dev/null <"$1/process" || return 1
-    kill -s 0 "$process" 2>/dev/null && [ "$start" = "$(began "$process")" ]
+# The launcher of a session, in `process` and `host`.
+read_process() { # SESSION
+    process='' host='' start=''
+    read -r process host start 2>/dev/null <"$1/process" || :
+    [ -n "$start" ] || host=unknown
 }
+
+# Whether a session began on another machine, where it may go on: its lock may not reach this one.
+may_go_on_elsewhere() { # SESSION
+    read_process "$1"
+    find_machine
+    [ "$host" != "$this_host" ] || [ -z "$start" ] || return 1
+    [ "$start" != "$this_start" ] || [ "$start" = - ]
+}
+
+# Takes a session away that no one has by now.
+drop_session() { # SESSION
+    (lock_session "$1" && rm -rf -- "$1")
+}
+
+# ---- a session begins
 
 copy_text() { # TO
-    [ -e "$file" ] || return 0
+    if ! [ -e "$file" ]; then
+        : >"$1"
+        return
+    fi
     cp --reflink=auto -- "$file" "$1" 2>/dev/null || cp -- "$file" "$1"
 }
 
-fill_session() { # SESSION
-    copy_text "$1/text" && printf '%s' "$path" >"$1/path" && echo "$rows $cols $direction ${line:--}" >"$1/begin" && note_process "$1"
+# What makes of the same keys the same text: the launcher's version, the program and the tables.
+tell_versions() {
+    echo "bidi-edit $version"
+    cksum -- "$editor" "$classes" "$brackets" "$mirroring"
 }
 
-# Makes the folder of a new session, in `kept`. Where that cannot be, the editor runs without.
+# Room for some keys is tried, since a full disk takes the folder and then no key.
+fill_session() { # SESSION
+    copy_text "$1/text" && echo "$rows $cols $direction ${line:--}" >"$1/begin" &&
+        note_process "$1" && tell_versions >"$1/versions" && head -c 65536 /dev/zero >"$1/lock" && : >"$1/lock" &&
+        { [ ! -e "$file" ] || stat -c %a -- "$file" >"$1/mode"; }
+} 2>/dev/null
+
+# Takes away what a launcher that was killed had only begun.
+sweep_sessions() {
+    for left in "$sessions"/[0-9]* "$sessions"/.replay.*; do
+        [ -d "$left" ] && ! [ -e "$left/path" ] || continue
+        [ -z "$(find "$left" -prune -mmin +60)" ] || rm -rf -- "$left"
+    done
+}
+
+# Makes a session's folder, in `new`.
+make_folder_of_session() {
+    new=$(mktemp -d "$sessions/$(date +%Y%m%d%H%M%S).XXXXXX" 2>/dev/null)
+}
+
+# What is noted last in a session that begins: nobody finds it before it has its lock.
+note_path() { # SESSION PATH
+    lock_session "$1" begin && printf '%s' "$2" >"$1/path"
+}
+
+# Makes the folder of a new session, in `kept`. Where that cannot be, `unkept` says why.
 make_session() {
     kept=''
-    find_path
-    if [ -n "$sessions" ]; then
-        kept=$(umask 077 && { [ -d "$sessions" ] || mkdir -p -- "$sessions"; } && mktemp -d "$sessions/$(date +%Y%m%d%H%M%S).XXXXXX")
-        [ -z "$kept" ] || (umask 077 && fill_session "$kept") || forget_session
+    if [ -n "$is_unkept" ]; then
+        unkept='-n asks for that'
+        return
     fi
-    [ -n "$kept" ] || printf 'bidi-edit: unsaved text is not kept, since nothing can be written in %s\n' "$(shown "${sessions:-HOME}")" >&7
+    [ -z "$unkept" ] || return 0
+    if ! [ -d "$sessions" ] && (umask 077 && mkdir -p -- "$sessions") 2>/dev/null; then
+        check_sessions_folder
+        [ -z "$unkept" ] || return 0
+    fi
+    sweep_sessions
+    if ! make_folder_of_session; then
+        unkept="nothing can be written in $(shown "$sessions")"
+    elif fill_session "$new" && note_path "$new" "$path"; then
+        kept=$new
+    else
+        unkept="$(shown "$sessions") has no room for it"
+        rm -rf -- "$new"
+    fi
 }
 
+# At the end, with all else that goes then.
 forget_session() {
-    rm -rf -- "$kept"
+    forgotten=$kept
     kept=''
+}
+
+# Told where it is seen: before the screen changes, for a second where it was not asked for.
+tell_unkept() {
+    [ -n "$unkept" ] || return 0
+    printf 'bidi-edit: unsaved text is not kept, since %s\n' "$unkept" >&7
+    [ -n "$is_unkept" ] || { printf '\a' >&7 && sleep 1; }
 }
 
 # The window is what it is now, once the keys are replayed in the one that the session began in.
 resume_session() {
-    printf '\033[8;%d;%dt' "$rows" "$cols" >>"$kept/journal"
+    printf '\033[8;%d;%dt' "$rows" "$cols" >>"$kept/journal" || unkept="$(shown "$sessions") has no room for it"
     read_begin "$kept"
 }
 
-# Before the program starts, whose window has these `rows` and `cols`.
+# Before the screen changes, in a window of these `rows` and `cols`.
 begin_session() {
     # what ends this script before the program does leaves it unfinished
     status=1
@@ -82,163 +276,52 @@ begin_session() {
     else
         make_session
     fi
+    tell_unkept
 }
 
-# After the program's end. It leaves nothing in the journal where nothing is unsaved; of the sessions whose changes were dropped
-# the last one is kept.
-end_session() {
+# Puts what a replay needs on the disk before a key is obeyed. A disk may take its time, and signals go on meanwhile.
+sync_session() {
     [ -n "$kept" ] || return 0
-    if ! [ -s "$kept/journal" ]; then
-        forget_session
-    elif [ "$status" = 0 ]; then
-        for session in "$sessions"/*/dropped; do
-            [ ! -e "$session" ] || rm -rf -- "${session%/dropped}"
-        done
-        : >"$kept/dropped"
-        printf 'bidi-edit: what was dropped can be had back: bidi-edit --recover %s\n' "$(shown "$file")" >&7
-    fi
+    sync -- "$kept"/* "$kept" "$sessions" 3<&- 4<&- 5>&- 6<&- 7>&- 8>&- 9<&- &
+    wait $!
 }
-
-# After an end that no Quit made.
-tell_kept() {
-    [ -z "$kept" ] || ! [ -s "$kept/journal" ] ||
-        printf 'bidi-edit: what was typed is kept: bidi-edit --recover %s gets it back\n' "$(shown "$file")" >&7
-}
-
-# ---- the sessions of FILE
 
 read_begin() { # SESSION
     read -r rows cols direction line <"$1/begin"
     [ "$line" != - ] || line=''
 }
 
-is_of_file() { # SESSION
-    [ -f "$1/path" ] && [ "$(cat "$1/path" && echo x)" = "${path}x" ]
+# ---- a session ends
+
+# The text where the session is left, for an editor of another version.
+leave_snapshot() {
+    held='' limit=20
+    told=$(run_replay "$kept" "$kept/snapshot" 2>/dev/null) && held=${told%% *}
 }
 
-# FILE's newest sessions of each kind: `live`, `unfinished` and `dropped`. One that no key was typed in is nobody's loss.
-find_sessions() {
-    live='' unfinished='' dropped=''
-    find_sessions_folder
-    find_path
-    [ -n "$sessions" ] || return 0
-    for session in "$sessions"/*; do
-        is_of_file "$session" || continue
-        if is_live "$session"; then
-            live=$session
-        elif ! [ -s "$session/journal" ]; then
-            rm -rf -- "$session"
-        elif [ -e "$session/dropped" ]; then
-            dropped=$session
-        else
-            unfinished=$session
-        fi
-    done
-}
-
-# Replays a session, and stores its text. `held` tells what FILE holds now: same, the text of the session; known, what it began with
-# or a save of it; foreign, something else. `count` is how many keys were typed.
-replay_session() { # SESSION TO
-    replayed=$(
-        read_begin "$1"
-        exec "$editor" --rows "$rows" --cols "$cols" --direction "$direction" ${line:+--line "$line"} --classes "$classes" \
-            --brackets "$brackets" --mirroring "$mirroring" --text "$1/text" --replay "$1/journal" --to "$2" "$file"
-    ) || fail "the session of $(shown "$file") in $(shown "$1") could not be replayed, and is left as it is"
-    held=${replayed%% *}
-    count=${replayed##* }
-}
-
-ask() { # QUESTION
-    printf '%s ' "$1"
-    answer=''
-    read -r answer || echo
-}
-
-ask_beside_live() {
-    printf 'bidi-edit: %s is open in another editor, of process %s. What one of them saves the other may overwrite.\n' "$(shown "$file")" "$process"
-    ask 'Edit it all the same (yes, no)?'
-    case $answer in
-    y | yes) ;;
-    *) exit 2 ;;
-    esac
-}
-
-# A session goes on: over FILE, or beside it where FILE is there and is not what the session knew.
-take_session() { # SESSION
-    if [ "$held" = foreign ] && [ -e "$file" ]; then
-        take_free_name
-        printf 'bidi-edit: another program has changed %s since; what was typed is recovered as %s\n' "$(shown "$file")" "$(shown "$free")"
-        file=$free
-        find_place
-        find_path
-        printf '%s' "$path" >"$1/path"
+# After the program's end. It leaves nothing in the journal where nothing is unsaved; of the sessions whose changes were dropped the
+# last one is kept.
+end_session() {
+    [ -n "$kept" ] || return 0
+    if ! [ -s "$kept/journal" ]; then
+        forget_session
+        return
     fi
-    kept=$1 is_resumed=1
-    rm -f -- "$kept/dropped"
-    note_process "$kept"
-}
-
-# The first free one of FILE.recovered, FILE.recovered1 and so on.
-take_free_name() {
-    free=$file.recovered
-    number=0
-    while [ -e "$free" ] || [ -L "$free" ]; do
-        number=$((number + 1))
-        free=$file.recovered$number
-    done
-}
-
-# Of a session that is replayed: it ends here where FILE holds all of it.
-end_where_same() { # SESSION
-    [ "$held" = same ] || return 1
-    printf 'bidi-edit: %s holds all that was typed in its last session\n' "$(shown "$file")"
-    rm -rf -- "$1"
-}
-
-ask_what_to_do() { # SESSION
-    printf 'bidi-edit: %s has an unfinished session of %s (keys typed: %s)\n' "$(shown "$file")" "$(date -r "$1/journal" '+%Y-%m-%d %H:%M')" "$count"
-    ask 'recover it, discard it, or leave it as it is?'
-    case $answer in
-    r | recover) take_session "$1" ;;
-    d | discard) rm -rf -- "$1" ;;
-    l | leave) ;;
-    *) exit 2 ;;
-    esac
-}
-
-# Before FILE is opened: what other sessions it has.
-meet_sessions() {
-    find_sessions
-    [ -z "$live" ] || ask_beside_live
-    [ -n "$unfinished" ] || return 0
-    replay_session "$unfinished" "$unfinished/replayed"
-    rm -f -- "$unfinished/replayed"
-    end_where_same "$unfinished" || ask_what_to_do "$unfinished"
-}
-
-# The session that --recover means: an unfinished one, else one whose changes were dropped.
-find_recoverable() {
-    check_kind
-    find_place
-    find_sessions
-    [ -n "$unfinished" ] || unfinished=$dropped
-    [ -n "$unfinished" ] || fail "there is no session of $(shown "$file") to recover"
-}
-
-# Takes FILE's session without a question.
-recover() {
-    find_recoverable
-    [ -z "$live" ] || ask_beside_live
-    replay_session "$unfinished" "$unfinished/replayed"
-    rm -f -- "$unfinished/replayed"
-    end_where_same "$unfinished" || take_session "$unfinished"
-}
-
-# Stores the text of FILE's session elsewhere, and ends. The session stays.
-recover_elsewhere() { # OTHER
-    find_recoverable
-    [ ! -e "$1" ] || fail "$(shown "$1") is there already: name a new file"
-    replay_session "$unfinished" "$1"
-    printf 'bidi-edit: the text of %s with what was typed (keys: %s) is in %s\n' "$(shown "$file")" "$count" "$(shown "$1")"
-    exit 0
+    part=''
+    if grep -q 'the journal could not be written' "$folder/fault"; then
+        : >"$kept/cut"
+        part=' up to where its journal could not be written'
+    fi
+    leave_snapshot
+    if [ "$status" = 0 ]; then
+        for session in "$sessions"/*/dropped; do
+            [ ! -e "$session" ] || [ "$session" = "$kept/dropped" ] || drop_session "${session%/dropped}"
+        done
+        : >"$kept/dropped"
+        printf 'bidi-edit: what was dropped can be had back%s: bidi-edit --recover %s\n' "$part" "$(shown "$file")" >&7
+    elif [ "$held" = same ]; then
+        forget_session
+    else
+        printf 'bidi-edit: what was typed is kept%s: bidi-edit --recover %s gets it back\n' "$part" "$(shown "$file")" >&7
+    fi
 }

@@ -2,7 +2,7 @@
 # shellcheck disable=SC2034,SC2154,SC2317 # words that other parts give and take; traps call functions
 # The terminal of a session, and its way back.
 
-folder='' program='' keys='' sizes='' watcher='' outer='' is_running='' is_shown='' has_title='' end_signal=''
+folder='' program='' keys='' attendant='' watcher='' outer='' is_running='' is_shown='' has_title='' end_signal=''
 # For how many seconds a terminal may take nothing at the end: a slow line has much to take, and a signal wants an end.
 patience=10
 
@@ -24,6 +24,10 @@ keeps_titles() {
     [ -n "${XTERM_VERSION:-}${VTE_VERSION:-}" ]
 }
 
+show_title() { # NOTE
+    printf '\033]2;%s - ^S save ^Q quit%s\a' "$(shown "${file##*/}")" "${1:+ $1}"
+}
+
 # The terminal that tmux shows this one in, if it can be written. It may reorder what tmux hands on. A client in control mode is a
 # program that reads tmux's own protocol there.
 find_outer() {
@@ -40,7 +44,7 @@ tell_outer() { # SEQUENCE
 
 # Raw, on the alternate screen, with the painter's modes. xterm's 1049 also keeps the cursor, 1047 leaves the one that is kept.
 set_terminal() { # SCREEN
-    stty raw -echo -iexten
+    stty raw -echo -iexten <&3
     printf '%b' "\033[?$1h$modes"
     # pastes come between marks, which only the filter knows
     [ -z "$filter" ] || printf '\033[?2004h'
@@ -54,21 +58,30 @@ show() {
     set_terminal 1049
     if keeps_titles; then
         has_title=1
-        printf '\033[22;0t\033]2;%s - ^S save ^Q quit\a' "$(shown "${file##*/}")"
+        printf '\033[22;0t'
+        show_title "${unkept:+(unsaved text is not kept)}"
     fi
 }
 
 # A terminal that takes nothing keeps nobody waiting. TTOU is ignored so that the terminal can be set from outside the job that has it.
-# shellcheck disable=SC2016
-within_patience() { # COMMAND..
-    timeout --foreground -s KILL "$patience" sh -c 'trap "" TTOU; exec "$@"' sh "$@"
+within_patience() { # COMMANDS WORD..
+    commands=$1
+    shift
+    timeout --foreground -s KILL "$patience" sh -c "trap '' TTOU; $commands" "$@"
 }
 
+# Where Quit ended the program its terminal has just taken all.
+# shellcheck disable=SC2016
 hide() {
     [ -n "$is_shown" ] || return 0
     is_shown=''
-    within_patience printf '%b' "${filter:+\033[?2004l}$end_modes${has_title:+\033[23;0t}\033[?1049l"
-    within_patience stty "$settings"
+    ending="${filter:+\033[?2004l}$end_modes${has_title:+\033[23;0t}\033[?1049l"
+    if [ "$status$end_signal" = 0 ]; then
+        printf '%b' "$ending"
+        stty "$settings"
+    else
+        within_patience 'printf "%b" "$0"; exec stty "$1"' "$ending" "$settings"
+    fi
     tell_outer '\033[8h'
 }
 
@@ -82,22 +95,31 @@ end_program() {
         tries=$((tries - 1))
     done
     kill -s KILL "$program"
+    end_watcher
     wait "$program"
     status=$?
     program=''
 }
 
-# The last process that was started may have no name yet.
+# The last process that was started may have no name yet. All are waited for once none lives: bash, told in a trap to wait for one that
+# ended, may wait for another.
 end_processes() {
     [ -n "$is_running" ] || return 0
     is_running=''
-    for process in $sizes $keys ${!:-}; do
-        [ "$process" != "$program" ] || continue
-        kill -s KILL "$process"
-        wait "$process"
+    # The attendant ends its own, by the signal or by this file within a second. Where the program ended at once it may have none yet.
+    tries=100
+    while [ -n "$attendant" ] && [ "$tries" -gt 0 ] && ! [ -e "$folder/attended" ]; do
+        sleep 0.01
+        tries=$((tries - 1))
     done
+    : >"$folder/over"
+    [ -z "$attendant" ] || kill -s TERM "$attendant"
+    [ -z "$keys" ] || kill -s KILL "$keys"
+    case ${!:-} in "$program" | "$keys" | "$attendant" | "$watcher") ;; *) kill -s KILL $! ;; esac
     exec 4<&- 5>&- 6<&-
     [ -z "$program" ] || end_program
+    end_watcher
+    wait
 }
 
 end_watcher() {
@@ -105,10 +127,9 @@ end_watcher() {
     watcher=''
 }
 
-# What the program said, and after a fault where the typed text is kept, if it is.
+# What the program said.
 tell_end() {
     [ ! -s "$folder/fault" ] || shown_lines <"$folder/fault" >&7
-    [ "$status" = 0 ] || tell_kept
     tell_line_ends
 }
 
@@ -118,6 +139,7 @@ tell_signal() {
 }
 
 # Whatever stands of the session ends, and the terminal is as it was. A second signal changes nothing then.
+# shellcheck disable=SC2016
 put_back() {
     trap '' HUP INT QUIT TERM TTOU
     end_processes
@@ -128,9 +150,8 @@ put_back() {
             end_session
             tell_signal
         } 7>"$folder/said"
-        within_patience cat "$folder/said" >&7
-        end_watcher
-        rm -rf -- "$folder"
+        [ ! -s "$folder/said" ] || within_patience 'exec cat "$0"' "$folder/said" >&7
+        rm -rf -- "$folder" ${forgotten:+"$forgotten"}
         folder=''
     fi
 }
@@ -148,67 +169,14 @@ end_by() { # SIGNAL NUMBER
 
 # The window's sides, of which the editor takes 1 to 500; a terminal that knows none says 0.
 measure() {
-    size=$(stty size <&3) || size='0 0'
+    is_measured=1
+    size=$(stty size <&3) || size='0 0' is_measured=''
     rows=${size% *}
     cols=${size#* }
     [ "$rows" -gt 0 ] || rows=24
     [ "$cols" -gt 0 ] || cols=80
     [ "$rows" -le 500 ] || rows=500
     [ "$cols" -le 500 ] || cols=500
-}
-
-# Opened so that it waits for no reader, and written so that it does not outlive the last one.
-# shellcheck disable=SC2094
-send_size() {
-    { printf '\033[8;%d;%dt' "$rows" "$cols" >&5; } 6<>"$folder/keys" 5>"$folder/keys" 6<&-
-}
-
-# Puts the window's size among the keys in one write, for each line that is read, and at first where it is another by now.
-send_sizes() { # SIZE
-    exec <&9 8>&- 9<&-
-    measure
-    [ "$rows $cols" = "$1" ] || send_size
-    while read -r _; do
-        measure
-        send_size
-    done
-}
-
-# After a stop: the terminal as the editor needs it, and a told size, which has all painted anew.
-take_up() {
-    set_terminal 1047
-    echo >&8
-}
-
-# Has a size sent for each change and each end of a stop, which the terminal and the shell tell to the whole job. The launcher itself
-# has no trap for these: bash loses an end that comes beside them to a shell that waits.
-follow_window() { # SIZE
-    # shellcheck disable=SC2094
-    exec 4<&- 5>&- 6<&- 7>&- 9<&- 8<>"$folder/changes" 9<"$folder/changes"
-    trap 'echo >&8' WINCH
-    trap take_up CONT
-    send_sizes "$1" &
-    exec 9<&-
-    while kill -s 0 $!; do wait $!; done
-}
-
-# Ends what this launcher started, if the launcher is gone without having done so. It reads their numbers, the program's first, until
-# nobody is left who could write one.
-watch() {
-    trap '' HUP INT QUIT TERM
-    exec 0<&- 3<&- 5>&- 6<&- 7>&- 8>&- 9<&-
-    program='' others=''
-    while read -r process <&4; do
-        if [ -z "$program" ]; then program=$process; else others="$others $process"; fi
-    done
-    for process in $others; do kill -s KILL "$process"; done
-    tries=60
-    while [ -n "$program" ] && [ "$tries" -gt 0 ] && kill -s 0 "$program"; do
-        sleep 0.05
-        tries=$((tries - 1))
-    done
-    [ -z "$program" ] || kill -s KILL "$program"
-    rm -rf -- "$folder"
 }
 
 # Whatever ends this script from here on puts the terminal back.
@@ -222,13 +190,26 @@ guard() {
     trap 'end_by TERM 15' TERM
 }
 
-# Takes away the folders of launchers that were killed. One that lives has a lock on its pipe, or is younger than its lock may be.
+# Takes away the folders of launchers that were killed. One that lives has a lock, on its session or else on its pipe, or is younger than
+# its lock may be.
 sweep_folders() { # FOLDER FOR TEMPORARY FILES
     for left in "$1"/bidi-edit.??????; do
-        [ -p "$left/life" ] || continue
+        [ -p "$left/life" ] && [ "$left" != "$folder" ] || continue
         [ -n "$(find "$left" -prune -type d -user "$(id -u)" -mmin +1)" ] || continue
+        session=''
+        [ ! -f "$left/session" ] || session=$(cat "$left/session")
+        if [ -f "$session/lock" ] && is_live "$session"; then continue; fi
         ! (flock -n 4) 4<>"$left/life" || rm -rf -- "$left"
     done
+}
+
+# By what the folder of this launcher is seen to live.
+note_life() {
+    if [ -n "$kept" ]; then
+        echo "$kept" >"$folder/session"
+    else
+        flock -n 8
+    fi
 }
 
 # Both ends of the pipes are open before anyone uses one, so no opening waits: 3 the terminal, 4 to 6 the keys, 7 the shell's
@@ -239,10 +220,8 @@ open_pipes() {
     : >"$folder/fault"
     # shellcheck disable=SC2094
     exec 7>&2 8<>"$folder/life" 4<"$folder/life" 2>/dev/null
-    flock -n 8
-    # no child of this script: bash may wait for one where it was told to wait for another
-    (watch & echo $! >"$folder/watcher")
-    read -r watcher <"$folder/watcher"
+    watch &
+    watcher=$!
     # shellcheck disable=SC2094
     exec 3<&0 4<>"$folder/keys" 5>"$folder/keys" 6<"$folder/keys"
     sweep_folders "${folder%/*}"
@@ -260,6 +239,7 @@ start_program() {
     {
         trap '' HUP
         set -- "$file"
+        [ -z "$is_resumed" ] || [ -e "$file" ] || umask "$(printf %03o $((0777 & ~0$session_mode)))"
         [ -z "$kept" ] || set -- --text "$kept/text" --journal "$kept/journal" ${is_resumed:+--replay "$kept/journal"} "$@"
         exec "$editor" --rows "$rows" --cols "$cols" --direction "$direction" ${line:+--line "$line"} --classes "$classes" \
             --brackets "$brackets" --mirroring "$mirroring" "$@"
@@ -272,16 +252,14 @@ start_program() {
 # the end of its input.
 start_processes() {
     is_running=1
-    measure
-    size="$rows $cols"
-    begin_session
     start_program
+    sync_session
     hand_on_keys <&3 >&5 3<&- 4<&- 5>&- 6<&- 7>&- 8>&- 9<&- &
     keys=$!
     echo "$keys" >&8
-    follow_window "$size" &
-    sizes=$!
-    echo "$sizes" >&8
+    attend "$size" &
+    attendant=$!
+    echo "$attendant" >&8
     exec 4<&- 5>&- 6<&-
 }
 
@@ -290,6 +268,10 @@ edit() {
     [ -x "$filter" ] || filter=''
     guard
     open_pipes
+    measure
+    size="$rows $cols"
+    begin_session
+    note_life
     show
     start_processes
     wait "$program"

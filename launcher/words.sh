@@ -4,15 +4,15 @@
 
 version=0.1.0
 usage='usage: bidi-edit [--direction auto|ltr|rtl] [--line N | +N] [--force] FILE
-       bidi-edit --recover [--to OTHER] FILE'
+       bidi-edit --recover [[--to OTHER] FILE]'
 
 help() {
     echo "$usage"
     cat <<'TEXT'
        bidi-edit --print FILE [--cols N] [--marks]: its rows to standard output
 Edits a text of any scripts, each paragraph in its own direction, from line N.
---force opens also what cannot be saved, --version tells what this is made of.
---recover has back what was typed and not saved; --to only stores it as OTHER.
+--force opens what cannot be saved, -n keeps no session, --version tells more.
+--recover has back what was typed and not saved, or lists it; --to stores it.
 
   Left Right Up Down    CSI D C A B   move as the screen shows
   Ctrl-B Ctrl-F         02 06         move back, forward as the text is stored
@@ -86,9 +86,9 @@ take_place() { # WORD
     esac
 }
 
-# Reads the command line into `direction`, `line`, `is_forced`, `is_recovery`, `other` and `file`.
+# Reads the command line into `direction`, `line`, `is_forced`, `is_unkept`, `is_recovery`, `is_list`, `other` and `file`.
 read_words() { # WORD..
-    direction=auto line='' is_forced='' is_recovery='' other=''
+    direction=auto line='' is_forced='' is_recovery='' is_list='' is_unkept='' other=''
     while [ $# -gt 0 ]; do
         case $1 in
         -h | --help)
@@ -111,8 +111,10 @@ read_words() { # WORD..
         --direction=* | --line=* | --to=*) take_option "${1%%=*}" "${1#*=}" ;;
         --force) is_forced=1 ;;
         --recover) is_recovery=1 ;;
-        # What callers say to other editors: no window of its own, no swap file, wait for the end.
-        -f | -n | -w | -nw | --nofork | --wait) ;;
+        # What other editors call it where they write no swap file.
+        -n) is_unkept=1 ;;
+        # What callers say to other editors: no window of its own, wait for the end.
+        -f | -w | -nw | --nofork | --wait) ;;
         --)
             shift
             break
@@ -123,6 +125,15 @@ read_words() { # WORD..
         esac
         shift
     done
+    take_file "$@"
+}
+
+# The words behind the options: FILE, or none where sessions are listed.
+take_file() { # WORD..
+    if [ "$#$is_recovery$other" = 01 ]; then
+        is_list=1
+        return
+    fi
     [ $# = 1 ] || refuse_words 'one FILE is wanted'
     [ -n "$1" ] || refuse_words 'FILE has no name'
     case $1 in

@@ -329,10 +329,11 @@ shows_shell() {
     [ "$(terminal display-message -p -t shell '#{alternate_on}')" = 0 ]
 }
 
-# The editor is open on the file text, keys are typed until the last row is this, and its program is ended.
-break_off() { # ROW KEY..
-    row=$1
-    shift
+# The editor is open on the file text, keys are typed until the last row is this, and its program is ended, or the launcher too. The
+# launcher that lives says this.
+break_off() { # ROW WORDS KEY..
+    row=$1 words=$2
+    shift 2
     open_shell
     rm -rf "$shell/state" "$shell"/text*
     printf 'ab\n' >"$shell/text"
@@ -340,8 +341,16 @@ break_off() { # ROW KEY..
     wait_for 150 has_row shell '- 1:1'
     terminal send-keys -t shell "$@"
     wait_for 150 has_row shell "$row"
-    kill -s KILL "$(terminal list-panes -t shell -F '#{pane_pid}' | while read -r process; do program_under "$process"; done)"
-    expect "$scene" 'what was typed is kept'
+    process=$(terminal list-panes -t shell -F '#{pane_pid}')
+    if [ -n "$words" ]; then
+        kill -s KILL "$(program_under "$process")"
+        expect "$scene" "$words"
+    else
+        kill -s KILL "$(program_under "$process")" "$(ps -o pid= --ppid "$process" | tr -d ' ')"
+        # the terminal is raw by then, and on the alternate screen
+        terminal send-keys -t shell C-j "stty sane; printf '\\033[?1049l'" C-j
+        sleep 0.5
+    fi
     say clear
 }
 
@@ -350,18 +359,24 @@ program_under() { # SHELL
 }
 
 scene_recover_asks() {
-    break_off '* 1:2' x && say bidi-edit text && expect "$scene" 'an unfinished session of' && expect "$scene" 'keys typed: 1' && say what &&
+    break_off '* 1:2' "$kept" x && say bidi-edit text && expect "$scene" 'an unfinished session of' && expect "$scene" 'keys typed: 1' && say what &&
         say 'echo status $?' && expect "$scene" 'status 2' && say clear && say bidi-edit text && expect "$scene" 'discard it' && say discard &&
         wait_for 150 has_row shell '- 1:1' && end_by_keys C-q && say 'ls state/bidi_edit | wc -l' && expect "$scene" 0
 }
 
+# The launcher sees that itself, where it lives.
 scene_all_is_saved() {
-    break_off '- 1:2  saved' x C-s && say bidi-edit text && wait_for 150 has_row shell '- 1:1' && end_by_keys C-q &&
-        expect "$scene" 'text holds all that was typed in its last session'
+    break_off '- 1:2  saved' 'the editor was ended by the signal' x C-s && say bidi-edit text && wait_for 150 has_row shell '- 1:1' &&
+        end_by_keys C-q && say 'ls state/bidi_edit | wc -l' && expect "$scene" 0
+}
+
+scene_all_was_saved() {
+    break_off '- 1:2  saved' '' x C-s && say bidi-edit text && expect "$scene" 'discard it' && say recover &&
+        wait_for 150 has_row shell '- 1:1' && end_by_keys C-q && expect "$scene" 'text holds all that was typed in its last session'
 }
 
 scene_changed_by_another() {
-    break_off '* 1:2' x && echo other >"$shell/text" && say bidi-edit text && expect "$scene" 'discard it' && say recover &&
+    break_off '* 1:2' "$kept" x && echo other >"$shell/text" && say bidi-edit text && expect "$scene" 'discard it' && say recover &&
         wait_for 150 has_row shell '* 1:2' && end_by_keys C-s C-q && expect "$scene" 'recovered as text.recovered' &&
         say 'cat text text.recovered' && expect "$scene" xab && expect "$scene" other
 }
@@ -389,7 +404,8 @@ scene_two_editors() {
 }
 
 check_scenes() {
-    for scene in recover_asks all_is_saved changed_by_another dropped two_editors; do
+    kept='what was typed is kept'
+    for scene in recover_asks all_is_saved all_was_saved changed_by_another dropped two_editors; do
         if "scene_$scene"; then passes "$scene"; else fails "$scene" "at last: $(terminal capture-pane -p -J -t shell | tr '\n' '|' | sed 's/|*$//')"; fi
     done
 }

@@ -1,0 +1,374 @@
+# shellcheck shell=sh
+# shellcheck disable=SC2034,SC2154 # words that other parts give and take
+# How what was typed in a session is had back: FILE's sessions, what is asked of them, and what becomes of one. No key of a session is
+# obeyed before the answer.
+
+# ---- the sessions of FILE
+
+# A session of a recovery beside FILE is found under FILE's name until it was saved beside.
+is_of_file() { # SESSION
+    [ -f "$1/path" ] || return 1
+    at=$1/path
+    if [ -f "$1/beside" ] && [ -e "$(cat "$1/beside")" ]; then at=$1/beside; fi
+    [ "$(cat "$at" && echo x)" = "${path}x" ]
+}
+
+# FILE's newest sessions of each kind: `live`, `elsewhere`, `unfinished` and `dropped`. One that no key was typed in is nobody's loss.
+find_sessions() {
+    live='' elsewhere='' unfinished='' dropped=''
+    find_path
+    find_sessions_folder
+    [ -d "$sessions" ] || return 0
+    for session in "$sessions"/[0-9]*; do
+        is_of_file "$session" && is_own "$session" || continue
+        if is_live "$session"; then
+            live=$session
+        elif may_go_on_elsewhere "$session"; then
+            elsewhere=$session
+        elif ! [ -s "$session/journal" ]; then
+            drop_session "$session"
+        elif [ -e "$session/dropped" ]; then
+            dropped=$session
+        else
+            unfinished=$session
+        fi
+    done
+}
+
+# How many keys a journal has, without obeying them: a sequence is one, and a told size none.
+count_keys() { # SESSION
+    escape=$(printf '\033')
+    LC_ALL=C tr '\n' '\r' <"$1/journal" |
+        LC_ALL=C sed -e "s/$escape\[8;[0-9]*;[0-9]*t//g" -e "s/$escape\[[0-9;]*[A-Za-z~]/k/g" | LC_ALL=C tr -d '\200-\277' | wc -c
+}
+
+tell_when() { # SESSION
+    date -r "$1/journal" '+%Y-%m-%d %H:%M'
+}
+
+# ---- replays
+
+# Obeys a session's keys, within `limit` seconds where there is one, and stores the text as TO.
+run_replay() { # SESSION TO
+    read_begin "$1"
+    ${limit:+timeout -s KILL "$limit"} "$editor" --rows "$rows" --cols "$cols" --direction "$direction" ${line:+--line "$line"} --classes "$classes" \
+        --brackets "$brackets" --mirroring "$mirroring" --text "$1/text" --replay "$1/journal" --to "$2" "$file"
+}
+
+# The text of a session, in a folder `replay` that is this script's alone. `held` tells what FILE holds now: same, the text of the
+# session; known, what it began with or a save of it; foreign, something else. `count` is how many keys were typed.
+replay_session() { # SESSION
+    # the program takes a text that is not there as an empty one
+    [ -f "$1/text" ] || ! [ -f "$1/mode" ] || return 1
+    replay=$(mktemp -d "$sessions/.replay.XXXXXX") || fail "nothing can be written in $(shown "$sessions")"
+    if told=$(run_replay "$1" "$replay/text"); then
+        held=${told%% *} count=${told##* }
+        return 0
+    fi
+    rm -rf -- "$replay"
+    return 1
+}
+
+# By the sums, whatever the places of the files.
+is_of_this_version() { # SESSION
+    [ "$(tell_versions | cut -d ' ' -f 1,2)" = "$(cut -d ' ' -f 1,2 -- "$1/versions" 2>/dev/null)" ]
+}
+
+# ---- what is asked
+
+ask() { # QUESTION
+    printf '%s ' "$1"
+    answer='' was_asked=1
+    read -r answer || echo
+}
+
+ask_to_go_on() { # QUESTION
+    ask "$1 (yes, no)?"
+    case $answer in
+    y | yes) ;;
+    *) exit 2 ;;
+    esac
+}
+
+ask_beside_live() {
+    if [ -n "$live" ]; then
+        read_process "$live"
+        find_machine
+        [ "$host" != "$this_host" ] || host=''
+        printf 'bidi-edit: %s is open in another editor, of process %s%s.' "$(shown "$file")" "$(shown "$process")" "${host:+ on $(shown "$host")}"
+    else
+        read_process "$elsewhere"
+        printf 'bidi-edit: %s may be open in another editor, of process %s on %s, which cannot be seen from here.' "$(shown "$file")" "$(shown "$process")" "$(shown "$host")"
+    fi
+    printf ' What one of them saves the other may overwrite.\n'
+    ask_to_go_on 'Edit it all the same'
+}
+
+ask_what_to_do() { # SESSION
+    printf 'bidi-edit: %s has an unfinished session of %s (keys typed: %s)\n' "$(shown "$file")" "$(tell_when "$1")" "$(($(count_keys "$1")))"
+    ask 'recover it, discard it, or leave it as it is?'
+    case $answer in
+    r | recover) take_session "$1" ;;
+    d | discard) drop_session "$1" || meet_again ;;
+    l | leave) ;;
+    *) exit 2 ;;
+    esac
+}
+
+# Before FILE is opened: what other sessions it has. An answer takes time, so FILE is looked at once more.
+meet_sessions() {
+    was_asked=''
+    find_sessions
+    [ -z "$live$elsewhere" ] || ask_beside_live
+    [ -z "$unfinished" ] || ask_what_to_do "$unfinished"
+    [ -z "$was_asked" ] || check_file
+}
+
+meet_again() {
+    echo 'bidi-edit: another start of the editor has that session by now'
+    meet_sessions
+}
+
+# ---- a session goes on
+
+# The first free one of FILE.recovered, FILE.recovered1 and so on.
+take_free_name() { # ENDING
+    free=$file.$1
+    number=0
+    while [ -e "$free" ] || [ -L "$free" ]; do
+        number=$((number + 1))
+        free=$file.$1$number
+    done
+}
+
+# The permissions of a file that is made for a session: those that FILE had, without what goes with an owner, else its user's alone.
+read_mode() { # SESSION
+    session_mode=600
+    [ ! -f "$1/mode" ] || read -r session_mode <"$1/mode"
+    session_mode=${session_mode#"${session_mode%???}"}
+}
+
+# Over FILE, or beside it where FILE is there and is not what the session knew.
+go_on() { # SESSION
+    if [ "$held" = foreign ] && [ -e "$file" ]; then
+        take_free_name recovered
+        printf 'bidi-edit: another program has changed %s since; what was typed is recovered as %s\n' "$(shown "$file")" "$(shown "$free")"
+        file=$free
+        find_place
+        find_path
+        printf '%s' "$path" >"$1/beside"
+    elif [ "$(cat "$1/path" && echo x)" = "${path}x" ]; then
+        rm -f -- "$1/beside"
+    fi
+    kept=$1 is_resumed=1
+    read_mode "$1"
+    rm -f -- "$kept/dropped" "$kept/snapshot"
+    note_process "$kept"
+}
+
+# Takes a session that nobody else has by now, and looks at FILE now.
+take_session() { # SESSION
+    if ! lock_session "$1"; then
+        meet_again
+    elif ! is_of_this_version "$1"; then
+        take_from_other_version "$1"
+    else
+        take_by_keys "$1"
+    fi
+}
+
+tell_cut() { # SESSION
+    [ ! -e "$1/cut" ] || printf 'bidi-edit: the session is cut behind its key %s, where its journal could not be written\n' "$count"
+}
+
+take_by_keys() { # SESSION
+    if ! replay_session "$1"; then
+        ask_what_to_keep "$1"
+        return
+    fi
+    rm -rf -- "$replay"
+    tell_cut "$1"
+    if [ "$held" = same ]; then
+        end_where_same "$1"
+    else
+        go_on "$1"
+    fi
+}
+
+# Of a session that is replayed: it ends here where FILE holds all of it.
+end_where_same() { # SESSION
+    printf 'bidi-edit: %s holds all that was typed in its last session\n' "$(shown "$file")"
+    rm -rf -- "$1"
+    unlock_session
+}
+
+# ---- a session whose keys cannot be relied on
+
+# Another editor, or other tables, may make another text of the same keys. The text where it was left is sure.
+take_from_other_version() { # SESSION
+    if [ -f "$1/snapshot" ]; then
+        take_by_text "$1"
+        return
+    fi
+    tell_unsure
+    ask_to_go_on 'Recover it all the same'
+    take_by_keys "$1"
+}
+
+tell_unsure() {
+    echo 'bidi-edit: an editor of another version, or with other tables, kept that session, and not its text: the keys may make another one now'
+}
+
+what_file_holds() { # SESSION
+    if cmp -s "$file" "$1/snapshot"; then
+        held=same
+    elif cmp -s "$file" "$1/text" || ! [ -e "$file" ]; then
+        held=known
+    else
+        held=foreign
+    fi
+}
+
+# A session of its own begins with that text, and with a letter that is typed and erased: so nothing of it counts as saved.
+take_by_text() { # SESSION
+    what_file_holds "$1"
+    if [ "$held" = same ]; then
+        end_where_same "$1"
+        return
+    fi
+    echo 'bidi-edit: an editor of another version, or with other tables, kept that session: its text is had back, and its undo history is not'
+    make_folder_of_session && fill_from_text "$1" "$new" && note_path "$new" "$(cat "$1/path")" ||
+        fail "nothing can be written in $(shown "$sessions")"
+    drop_session "$1"
+    go_on "$new"
+}
+
+fill_from_text() { # SESSION NEW
+    cp -- "$1/begin" "$2/" && cp -- "$1/snapshot" "$2/text" && printf 'x\177' >"$2/journal" && tell_versions >"$2/versions" || return 1
+    for part in mode beside; do [ ! -f "$1/$part" ] || cp -- "$1/$part" "$2/"; done
+}
+
+# Such a session keeps no one from FILE.
+ask_what_to_keep() { # SESSION
+    printf 'bidi-edit: the session of %s in %s could not be replayed\n' "$(shown "$file")" "$(shown "$1")"
+    ask "open FILE and leave the session, keep its parts as files beside FILE, or drop it (open, keep, drop)?"
+    case $answer in
+    o | open) ;;
+    k | keep) keep_parts "$1" ;;
+    d | drop) rm -rf -- "$1" ;;
+    *) exit 2 ;;
+    esac
+    unlock_session
+}
+
+# The parts of a session, under names that are free; then it is no session any more.
+keep_parts() { # SESSION
+    for part in text journal snapshot; do
+        [ -f "$1/$part" ] || continue
+        take_free_name "session-$part"
+        (umask 077 && set -C && cat -- "$1/$part" >"$free") || fail "$(shown "$free") cannot be written"
+        case $part in
+        text) what='the text as it was opened' ;;
+        journal) what='the keys' ;;
+        *) what='the text where the session was left' ;;
+        esac
+        printf 'bidi-edit: %s: %s\n' "$(shown "$free")" "$what"
+    done
+    rm -rf -- "$1"
+}
+
+# ---- --recover
+
+# The session that --recover means: an unfinished one, else one whose changes were dropped, else one of another machine that ended.
+find_recoverable() {
+    check_kind
+    find_place
+    find_sessions
+    [ -n "$unfinished" ] || unfinished=$dropped
+    [ -z "$unfinished$elsewhere" ] || return 0
+    [ -z "$live" ] || fail "the session of $(shown "$file") goes on"
+    fail "there is no session of $(shown "$file") to recover${unkept:+ ($unkept)}"
+}
+
+ask_of_elsewhere() {
+    read_process "$elsewhere"
+    printf 'bidi-edit: the session of %s began on %s, as process %s, and cannot be seen from here. It can be recovered where that has ended.\n' \
+        "$(shown "$file")" "$(shown "$host")" "$(shown "$process")"
+    ask_to_go_on 'Has it ended'
+    unfinished=$elsewhere
+}
+
+# Takes FILE's session without a question.
+recover() {
+    find_recoverable
+    if [ -z "$unfinished" ]; then
+        ask_of_elsewhere
+    elif [ -n "$live$elsewhere" ]; then
+        ask_beside_live
+    fi
+    take_session "$unfinished"
+}
+
+# The text of a session in `replay`: of its keys, or of another version's where it was left.
+take_text() { # SESSION
+    if is_of_this_version "$1" || ! [ -f "$1/snapshot" ]; then
+        is_of_this_version "$1" || tell_unsure
+        replay_session "$1" || fail "the session of $(shown "$file") in $(shown "$1") could not be replayed, and is left as it is"
+        tell_cut "$1"
+        return
+    fi
+    count=$(($(count_keys "$1")))
+    replay=$(mktemp -d "$sessions/.replay.XXXXXX") && cp -- "$1/snapshot" "$replay/text" ||
+        fail "nothing can be written in $(shown "$sessions")"
+}
+
+# Stores the text of FILE's session elsewhere, and ends. The session stays.
+recover_elsewhere() { # OTHER
+    find_recoverable
+    [ -n "$unfinished" ] || fail "the session of $(shown "$file") began on another machine: bidi-edit --recover $(shown "$file") asks of it"
+    [ ! -e "$1" ] && [ ! -L "$1" ] || fail "$(shown "$1") is there already: name a new file"
+    lock_session "$unfinished" || fail 'another start of the editor has that session by now'
+    take_text "$unfinished"
+    read_mode "$unfinished"
+    (umask 077 && set -C && cat -- "$replay/text" >"$1" && chmod "$session_mode" -- "$1")
+    result=$?
+    rm -rf -- "$replay"
+    [ "$result" = 0 ] || fail "$(shown "$1") cannot be written"
+    printf 'bidi-edit: the text of %s with what was typed (keys: %s) is in %s\n' "$(shown "$file")" "$count" "$(shown "$1")"
+    exit 0
+}
+
+# ---- all sessions
+
+# The folders that may have some: that of what lasts, and those for what does not.
+tell_folders() {
+    find_state_folder
+    [ -z "$sessions" ] || printf '%s\n' "$sessions"
+    {
+        printf '%s\n' /tmp /var/tmp "${TMPDIR:-/tmp}" "${XDG_RUNTIME_DIR:-/dev/shm}"
+        awk '$3 == "tmpfs" || $3 == "ramfs" { print $2 }' /proc/mounts 2>/dev/null
+    } | sed -e 's|/$||' | sort -u | sed -e "s|\$|/bidi_edit.$(id -u)|"
+}
+
+tell_session() { # SESSION
+    note=''
+    [ ! -e "$1/dropped" ] || note=' (dropped)'
+    ! may_go_on_elsewhere "$1" || note=" (on $(shown "$host"))"
+    ! is_live "$1" || note=' (open now)'
+    printf '%s  keys: %s  KB: %s  %s%s\n' "$(tell_when "$1")" "$(($(count_keys "$1")))" "$(du -sk -- "$1" | cut -f 1)" \
+        "$(shown "$(cat "$1/path")")" "$note"
+}
+
+# Lists the sessions that have keys, and ends.
+list_sessions() {
+    tell_folders | while read -r sessions; do
+        [ -d "$sessions" ] || continue
+        check_sessions_folder
+        [ -z "$unkept" ] || printf 'bidi-edit: a folder of sessions is not used: %s\n' "$unkept" >&2
+        for session in "${sessions:-/none}"/[0-9]*; do
+            [ -s "$session/journal" ] && is_own "$session" || continue
+            tell_session "$session"
+        done
+    done
+    exit 0
+}

@@ -1,0 +1,115 @@
+# shellcheck shell=sh
+# shellcheck disable=SC2034,SC2154 # words that other parts give and take
+# Whether a session goes on, and who may take it: what lives is neither recovered nor discarded, and one of two starts has it.
+
+check_other_namespace() {
+    if ! unshare -p -f --mount-proc true 2>/dev/null; then
+        skip 'liveness, another namespace' 'no process namespace can be made'
+        return
+    fi
+    rm -rf "$folder/state"
+    open_editor first 'unshare -p -f --mount-proc' note
+    wait_for 60 shows_in first '- 1:1'
+    terminal send-keys -t first x
+    wait_for 60 shows_in first '* 1:2'
+    open_editor second '' note
+    expect_in second 'liveness, in another process namespace' 'note is open in another editor'
+    say_in second no
+    expect_in second 'liveness, in another process namespace: no' 'status 2'
+    same 'liveness, its session stays' "$(cat "$(session_of_check)/journal")" x
+    terminal send-keys -t first y C-s
+    wait_for 30 shows_in first saved
+    same 'liveness, its keys are saved' "$(cat note)" xy
+    close_editors first second
+    rm -f note
+}
+
+check_other_host() {
+    leave_session note
+    session=$(session_of_check)
+    echo '1 elsewhere 11111111-1111' | as_user tee "$session/process" >/dev/null
+    open_editor second '' note
+    expect_in second 'liveness, on another host' 'may be open in another editor, of process 1 on elsewhere'
+    say_in second no
+    expect_in second 'liveness, on another host: no' 'status 2'
+    same 'liveness, on another host: the session stays' "$(cat "$session/journal")" x
+    open_editor second '' --recover note
+    expect_in second 'liveness, on another host: recovery asks' 'Has it ended'
+    say_in second yes
+    expect_in second 'liveness, on another host: recovered where it has ended' '* 1:2'
+    close_editors second
+}
+
+# Both are asked before either answers.
+check_two_answers() { # SECOND ANSWER
+    leave_session note
+    open_editor first '' note
+    open_editor second '' note
+    wait_for 60 shows_in first 'discard it'
+    wait_for 60 shows_in second 'discard it'
+    say_in first recover
+    expect_in first "liveness, the first of two who ask ($1)" '* 1:2'
+    say_in second "$1"
+    expect_in second "liveness, the second, whose answer is $1" 'another start of the editor has that session by now'
+    expect_in second "liveness, the second, whose answer is $1, sees it live" 'note is open in another editor'
+    terminal send-keys -t first y
+    wait_for 30 shows_in first '* 1:3'
+    same "liveness, both keys of the first are kept ($1)" "$(sed -e 's/.*t//' "$(session_of_check)/journal")" y
+    close_editors first second
+}
+
+# The launcher is a child of a process that never asks for its end.
+check_unreaped() {
+    rm -rf "$folder/state"
+    printf 'ab\n' >note
+    [ "$user" = "$(id -u)" ] || chown "$user:$user" note
+    open_editor first 'f() { "$@" <>/dev/tty & exec sleep 600; }; f' note
+    wait_for 60 shows_in first '- 1:1'
+    terminal send-keys -t first x
+    wait_for 60 shows_in first '* 1:2'
+    kill -s KILL "$(editor_process)"
+    sleep 1
+    open_editor second '' note
+    expect_in second 'liveness, a dead launcher that nobody reaped' 'an unfinished session of'
+    close_editors first second
+}
+
+check_changed_meanwhile() {
+    leave_session note
+    open_editor second '' note
+    wait_for 60 shows_in second 'discard it'
+    echo other | as_user tee note >/dev/null
+    say_in second recover
+    wait_for 60 shows_in second '* 1:2'
+    terminal send-keys -t second C-s
+    wait_for 30 shows_in second saved
+    same 'liveness, FILE that changes before the answer' "$(cat note) $(cat note.recovered 2>&1)" 'other xab'
+    close_editors second
+}
+
+# A start that has no key yet is no leavings of another.
+check_new_session() {
+    rm -rf "$folder/state"
+    open_editor first '' note
+    wait_for 60 shows_in first '- 1:1'
+    open_editor second '' note
+    expect_in second 'liveness, a session without a key' 'note is open in another editor'
+    say_in second no
+    wait_for 30 shows_in second 'status 2'
+    terminal send-keys -t first x
+    wait_for 30 shows_in first '* 1:2'
+    same 'liveness, its first key is kept' "$(cat "$(session_of_check)/journal")" x
+    close_editors first second
+    rm -f note
+}
+
+check_liveness() {
+    asked liveness || return 0
+    check_other_namespace
+    check_other_host
+    check_two_answers recover
+    check_two_answers discard
+    check_unreaped
+    check_changed_meanwhile
+    check_new_session
+}

@@ -1,0 +1,119 @@
+# shellcheck shell=sh
+# shellcheck disable=SC2034,SC2154 # words that other parts give and take
+# Folders and sessions that another user made or may write: they are not used, and nothing is written through a link.
+
+# A session of `note` with one key, as a launcher leaves it, whose notes and texts of replays would go to a file of the user's.
+plant_session() { # FOLDER
+    mkdir -p "$1/bidi_edit/20200101000000.AAAAAA"
+    planted=$1/bidi_edit/20200101000000.AAAAAA
+    printf 'ab\n' >"$planted/text"
+    printf '%s' "$folder/files/note" >"$planted/path"
+    echo '24 80 auto -' >"$planted/begin"
+    echo '1 0' >"$planted/process"
+    printf x >"$planted/journal"
+    printf 'of the user' >"$folder/victim"
+    chown "$user" "$folder/victim"
+    ln -s "$folder/victim" "$planted/replayed"
+    chmod -R go+rX "$1"
+}
+
+victim_stays() { # CHECK
+    same "$1: a file of the user's stays" "$(cat "$folder/victim")" 'of the user'
+}
+
+check_state_of_stranger() {
+    has_stranger 'trust, a state folder of another user' || return 0
+    state=$XDG_STATE_HOME
+    export XDG_STATE_HOME="$folder/theirs"
+    plant_session "$XDG_STATE_HOME"
+    chown -hR "$stranger" "$XDG_STATE_HOME"
+    printf 'ab\n' | as_user tee note >/dev/null
+    open_editor first '' note
+    expect_in first 'trust, a state folder of another user' '- 1:1'
+    victim_stays 'trust, a state folder of another user'
+    terminal send-keys -t first C-q
+    expect_in first 'trust, a state folder of another user: what is told' 'unsaved text is not kept, since'
+    open_editor first '' --recover note
+    expect_in first 'trust, a state folder of another user: recovery' 'belongs to another user'
+    victim_stays 'trust, a state folder of another user: recovery'
+    same 'trust, a state folder of another user: nothing is made there' "$(find "$folder/theirs" | wc -l)" 9
+    close_editors first
+    rm -rf "$folder/theirs"
+    export XDG_STATE_HOME="$state"
+}
+
+# The user's own, which others may write.
+check_open_state() {
+    rm -rf "$folder/state"
+    plant_session "$folder/state"
+    chown -hR "$user" "$folder/state"
+    chmod 777 "$folder/state/bidi_edit"
+    printf 'ab\n' | as_user tee note >/dev/null
+    open_editor first '' note
+    expect_in first 'trust, a state folder that others may write' '- 1:1'
+    victim_stays 'trust, a state folder that others may write'
+    close_editors first
+    rm -rf "$folder/state"
+}
+
+# A folder in one of another user's, who could put another in its place.
+check_state_below_stranger() {
+    has_stranger 'trust, a state folder below that of another user' || return 0
+    rm -rf "$folder/state"
+    mkdir "$folder/state"
+    chown "$stranger" "$folder/state"
+    as_user true
+    mkdir -m 700 "$folder/state/bidi_edit"
+    chown "$user" "$folder/state/bidi_edit"
+    printf 'ab\n' | as_user tee note >/dev/null
+    open_editor first '' note
+    wait_for 60 shows_in first '- 1:1'
+    terminal send-keys -t first C-q
+    expect_in first 'trust, a state folder below that of another user' 'unsaved text is not kept, since'
+    same 'trust, a state folder below that of another user: nothing is made there' "$(ls -A "$folder/state/bidi_edit")" ''
+    close_editors first
+    rm -rf "$folder/state"
+}
+
+# A session of another user's, and one with a link in it, in a folder that is the user's alone by now.
+check_planted_session() { # CHECK OWNER
+    rm -rf "$folder/state"
+    plant_session "$folder/state"
+    chown -hR "$2" "$folder/state"
+    chown "$user" "$folder/state" "$folder/state/bidi_edit"
+    printf 'ab\n' | as_user tee note >/dev/null
+    open_editor first '' note
+    expect_in first "trust, $1: FILE is opened" '- 1:1'
+    terminal send-keys -t first C-q
+    wait_for 30 shows_in first status
+    open_editor first '' --recover note
+    expect_in first "trust, $1: it is not recovered" 'there is no session of note to recover'
+    victim_stays "trust, $1"
+    same "trust, $1: its journal stays" "$(cat "$planted/journal")" x
+    close_editors first
+    rm -rf "$folder/state"
+}
+
+# What is asked comes before any key is obeyed, and replays leave nothing in the session.
+check_question_first() {
+    leave_session note
+    session=$(session_of_check)
+    before=$(cd "$session" && find . -exec stat -c '%n %Y %s' {} + | sort)
+    open_editor first '' note
+    expect_in first 'trust, what is asked' 'an unfinished session of'
+    same 'trust, nothing is obeyed before the answer' "$(cd "$session" && find . -exec stat -c '%n %Y %s' {} + | sort)" "$before"
+    say_in first leave
+    wait_for 30 shows_in first '- 1:1'
+    close_editors first
+}
+
+check_trust() {
+    asked trust || return 0
+    check_state_of_stranger
+    check_open_state
+    check_state_below_stranger
+    has_stranger 'trust, a session of another user' && check_planted_session 'a session of another user' "$stranger"
+    check_planted_session 'a session with a link' "$user"
+    check_question_first
+    rm -f "$folder/victim" note
+}

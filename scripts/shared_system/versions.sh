@@ -1,0 +1,79 @@
+# shellcheck shell=sh
+# shellcheck disable=SC2034,SC2154 # words that other parts give and take
+# Sessions of another version of the editor or its tables: the text where the session was left, or a word that nothing is sure.
+
+# The program is killed, and the launcher leaves the session; then its note of versions is another's.
+leave_other_version() {
+    rm -rf "$folder/state" note*
+    printf 'ab\n' | as_user tee note >/dev/null
+    open_editor first '' note
+    wait_for 60 shows_in first '- 1:1'
+    terminal send-keys -t first x y
+    wait_for 60 shows_in first '* 1:3'
+    kill -s KILL "$(pgrep -f "bidi_edit --rows.*$folder/state/")"
+    wait_for 60 shows_in first status
+    session=$(session_of_check)
+    same 'versions, the text where a session was left' "$(cat "$session/snapshot")" xyab
+    echo 'bidi-edit of another time' | as_user tee "$session/versions" >/dev/null
+}
+
+check_snapshot() {
+    leave_other_version
+    as_user "$shell" "$launcher" --recover --to other note >/dev/null
+    same 'versions, its text is stored elsewhere' "$(cat other)" xyab
+    rm -f other
+    open_editor first '' --recover note
+    expect_in first 'versions, its text is had back' 'xyab'
+    terminal send-keys -t first C-q
+    expect_in first 'versions, it counts as unsaved' 'unsaved: ^Q again'
+    terminal send-keys -t first z
+    wait_for 30 shows_in first 'zxyab'
+    kill_editor first
+    open_editor first '' note
+    wait_for 60 shows_in first 'discard it'
+    say_in first recover
+    expect_in first 'versions, and goes on after a second end' 'zxyab'
+    same 'versions, FILE is as it was' "$(cat note)" ab
+    terminal send-keys -t first C-s
+    wait_for 30 shows_in first saved
+    terminal send-keys -t first C-q
+    expect_in first 'versions, it is said' 'status 0'
+    same 'versions, no session stays' "$(ls -A "$folder/state/bidi_edit")" ''
+    close_editors first
+}
+
+check_no_snapshot() {
+    leave_other_version
+    rm -f "$session/snapshot"
+    open_editor first '' note
+    wait_for 60 shows_in first 'discard it'
+    say_in first recover
+    expect_in first 'versions, nothing is sure' 'the keys may make another one now'
+    say_in first yes
+    expect_in first 'versions, recovered all the same' '* 1:3'
+    close_editors first
+}
+
+# Other tables are another version too.
+check_other_tables() {
+    leave_other_version
+    as_user mkdir "$folder/tables"
+    for table in DerivedBidiClass BidiBrackets BidiMirroring; do
+        { cat "$top/data/$table.txt" && echo '# another'; } | as_user tee "$folder/tables/$table.txt" >/dev/null
+    done
+    rm -rf "$folder/state" note
+    printf 'ab\n' | as_user tee note >/dev/null
+    leave_session note
+    open_editor first "BIDI_EDIT_DATA='$folder/tables'" --recover note
+    expect_in first 'versions, with other tables' 'an editor of another version, or with other tables'
+    close_editors first
+    rm -rf "$folder/tables"
+}
+
+check_versions() {
+    asked versions || return 0
+    check_snapshot
+    check_no_snapshot
+    check_other_tables
+    rm -rf "$folder/state" note*
+}
