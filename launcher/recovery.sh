@@ -20,7 +20,7 @@ find_sessions() {
     find_sessions_folder
     [ -d "$sessions" ] || return 0
     for session in "$sessions"/[0-9]*; do
-        is_of_file "$session" && is_own "$session" || continue
+        if ! is_of_file "$session" || ! is_own "$session"; then continue; fi
         if is_live "$session"; then
             live=$session
         elif may_go_on_elsewhere "$session"; then
@@ -237,8 +237,9 @@ take_by_text() { # SESSION
         return
     fi
     echo 'bidi-edit: an editor of another version, or with other tables, kept that session: its text is had back, and its undo history is not'
-    make_folder_of_session && fill_from_text "$1" "$new" && note_path "$new" "$(cat "$1/path")" ||
+    if ! { make_folder_of_session && fill_from_text "$1" "$new" && note_path "$new" "$(cat "$1/path")"; }; then
         fail "nothing can be written in $(shown "$sessions")"
+    fi
     drop_session "$1"
     go_on "$new"
 }
@@ -318,15 +319,16 @@ take_text() { # SESSION
         return
     fi
     count=$(($(count_keys "$1")))
-    replay=$(mktemp -d "$sessions/.replay.XXXXXX") && cp -- "$1/snapshot" "$replay/text" ||
+    if ! { replay=$(mktemp -d "$sessions/.replay.XXXXXX") && cp -- "$1/snapshot" "$replay/text"; }; then
         fail "nothing can be written in $(shown "$sessions")"
+    fi
 }
 
 # Stores the text of FILE's session elsewhere, and ends. The session stays.
 recover_elsewhere() { # OTHER
     find_recoverable
     [ -n "$unfinished" ] || fail "the session of $(shown "$file") began on another machine: bidi-edit --recover $(shown "$file") asks of it"
-    [ ! -e "$1" ] && [ ! -L "$1" ] || fail "$(shown "$1") is there already: name a new file"
+    if [ -e "$1" ] || [ -L "$1" ]; then fail "$(shown "$1") is there already: name a new file"; fi
     lock_session "$unfinished" || fail 'another start of the editor has that session by now'
     take_text "$unfinished"
     read_mode "$unfinished"
@@ -366,7 +368,7 @@ list_sessions() {
         check_sessions_folder
         [ -z "$unkept" ] || printf 'bidi-edit: a folder of sessions is not used: %s\n' "$unkept" >&2
         for session in "${sessions:-/none}"/[0-9]*; do
-            [ -s "$session/journal" ] && is_own "$session" || continue
+            if [ ! -s "$session/journal" ] || ! is_own "$session"; then continue; fi
             tell_session "$session"
         done
     done

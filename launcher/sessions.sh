@@ -210,7 +210,7 @@ fill_session() { # SESSION
 # Takes away what a launcher that was killed had only begun.
 sweep_sessions() {
     for left in "$sessions"/[0-9]* "$sessions"/.replay.*; do
-        [ -d "$left" ] && ! [ -e "$left/path" ] || continue
+        if [ ! -d "$left" ] || [ -e "$left/path" ]; then continue; fi
         [ -z "$(find "$left" -prune -mmin +60)" ] || rm -rf -- "$left"
     done
 }

@@ -194,7 +194,7 @@ guard() {
 # its lock may be.
 sweep_folders() { # FOLDER FOR TEMPORARY FILES
     for left in "$1"/bidi-edit.??????; do
-        [ -p "$left/life" ] && [ "$left" != "$folder" ] || continue
+        if [ ! -p "$left/life" ] || [ "$left" = "$folder" ]; then continue; fi
         [ -n "$(find "$left" -prune -type d -user "$(id -u)" -mmin +1)" ] || continue
         session=''
         [ ! -f "$left/session" ] || session=$(cat "$left/session")

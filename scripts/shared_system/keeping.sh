@@ -80,7 +80,7 @@ check_passing_file() {
     same 'keeping, of a temporary FILE: its session is there' "$(cat "$folder/private/bidi_edit.$user"/[0-9]*/journal /tmp/"bidi_edit.$user"/[0-9]*/journal 2>/dev/null)" x
     terminal send-keys -t first C-s C-q
     wait_for 60 shows_in first status
-    rmdir "/tmp/bidi_edit.$user" 2>/dev/null
+    (cd /tmp && rmdir "bidi_edit.$user") 2>/dev/null
     close_editors first
     rm -rf "$lasting" note
     export XDG_STATE_HOME="$state"
