@@ -8,7 +8,7 @@ use Rattle.bx_session.specs.Session.{Session, SessionState, after_replaying, at_
 use Rattle.bx_session.specs.Saving.{StoreState, with_text}
 use Rattle.bx_session.specs.Painting.{QueuesPicture}
 use Rattle.bx_session.specs.Journal.{RecorderState, RunsRecorded}
-use Rattle.bx_session.specs.Beginning.{after_going_to, at_offset}
+use Rattle.bx_session.specs.Beginning.{after_going_to}
 use Rattle.bidi_edit.specs.declared.edit.Changes.{Changes}
 use Rattle.bidi_edit.specs.declared.edit.Changes.TheVariants.{Saved}
 use Rattle.bidi_edit.specs.Run.{AreOfFiles, Edits, IsOpened, Recovers, begins_with, bytes_of}

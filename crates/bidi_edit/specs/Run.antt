@@ -4,11 +4,10 @@ use Rattle.std.specs.Prelude.{◌≡◌, ℕ, false, List, [], Option, Some, Non
 use Rattle.bx_explicit.specs.declared.base.Base.{Base}
 use Rattle.bx_ucd.specs.Reading.{refusal, class_in_file, bracket_in_file, mirror_in_file}
 use Rattle.bx_document.specs.Data.{Data}
-use Rattle.bx_session.specs.Session.{Session, at_opening, with_painting}
+use Rattle.bx_session.specs.Session.{Session, at_opening}
 use Rattle.bx_session.specs.Saving.{StoreState, with_text}
 use Rattle.bx_session.specs.Painting.{QueuesPicture}
 use Rattle.bx_session.specs.Journal.{RecorderState, RunsRecorded}
-use Rattle.bx_session.specs.Laws.{after_replaying}
 use Rattle.bx_session.specs.Beginning.{Beginning, IsBegun, at_offset, unpainted_at, begun}
 use Rattle.bidi_edit.specs.declared.edit.Changes.{Changes}
 use Rattle.bidi_edit.specs.declared.edit.Changes.TheVariants.{Saved}

@@ -1,7 +1,7 @@
 -- A session that begins a run is in step with its terminal: the painting that it owed made it so.
-use Rattle.std.proofs.Common.{◌≡◌, ℕ, Bool, true, false, List, [], ◌∷◌, ◌++◌, Option, Some, None, Result}
+use Rattle.std.proofs.Common.{◌≡◌, ℕ, Bool, true, false, List, [], ◌∷◌, Option, Some, None}
 use Rattle.std.proofs.Common.{refl, sym, ap, subst, ◌∙◌, if◌then◌else◌}
-use Rattle.std.specs.Prelude.{IfSome, ◌&&◌, ◌==◌}
+use Rattle.std.specs.Prelude.{IfSome, ◌==◌}
 use Rattle.std.specs.List.{filter}
 use Rattle.bx_keys.specs.declared.key.Key.{Key}
 use Rattle.bx_keys.specs.Keys.{rest_after}
@@ -10,15 +10,14 @@ use Rattle.bx_grid.specs.Picture.{PictureState, IsIdle, Shows}
 use Rattle.bx_grid.specs.Terminal.{Terminal, reads}
 use Rattle.bx_editor.specs.Data.{Data}
 use Rattle.bx_editor.specs.Editor.{Editor}
-use Rattle.bx_editor.specs.Keys.{after_key, after_keys}
-use Rattle.bx_session.specs.Session.{Session, at_opening, after_going, after_replay, after_replayed_key, after_spending, is_replayed, key_of_byte, session_after_key}
+use Rattle.bx_editor.specs.Keys.{after_keys}
+use Rattle.bx_session.specs.Session.{Session, at_opening, after_replay, after_replayed_key, after_spending, is_replayed, key_of_byte, session_after_key}
 use Rattle.bx_session.specs.Painting.{QueuesPicture}
 use Rattle.bx_session.specs.Laws.{keys_from, after_replaying}
 use Rattle.bx_session.specs.Beginning.{Beginning, IsBegun, after_going_to, at_offset, unpainted_at, begun}
 use Rattle.bx_session.proofs.Input.{keys_of_input}
 use Rattle.bx_session.proofs.Pictures.{picture_height, picture_width}
 use Rattle.bx_session.proofs.Replayed.{replays_keys, rest_from, replayed_rest}
-use Rattle.bx_world.specs.World.{World}
 use Rattle.bx_world.specs.Showing.{FitsWindow, IsInStep, picture_of}
 use Rattle.bx_world.specs.Runs.{begins_at}
 use Rattle.bx_world.specs.Laws.{BeginsWithKeys}

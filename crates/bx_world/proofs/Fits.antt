@@ -1,5 +1,5 @@
 -- In a window that keeps its size, the size counts as told exactly where it is the session's.
-use Rattle.std.proofs.Common.{◌≡◌, ℕ, Bool, true, false, List, [], ◌∷◌, ◌⊎◌, inl, inr, Option, Some, None, Result, Ok, Err, refl, sym, ap, subst, ◌∙◌}
+use Rattle.std.proofs.Common.{◌≡◌, ℕ, Bool, true, false, [], ◌∷◌, ◌⊎◌, inl, inr, Option, Some, None, Result, Ok, Err, refl, sym, ap, subst, ◌∙◌}
 use Rattle.std.specs.Prelude.{◌&&◌, ◌==◌}
 use Rattle.std.specs.List.{AllByRecursion}
 use Rattle.bx_keys.specs.declared.key.Key.{Key}
@@ -14,7 +14,7 @@ use Rattle.bx_world.specs.declared.step.Step.{Step}
 use Rattle.bx_world.specs.declared.step.Step.TheVariants.{Byte, Window, Told, Send, Read}
 use Rattle.bx_world.specs.declared.step.StepFault.{StepFault}
 use Rattle.bx_world.specs.declared.step.StepFault.TheVariants as faults
-use Rattle.bx_world.specs.World.{World, told_after, told_after_key, with_byte, after_send, after_read}
+use Rattle.bx_world.specs.World.{World, told_after, with_byte}
 use Rattle.bx_world.specs.Steps.{AfterByteStep, AfterSendStep, AfterReadStep, StepsTo, PlaysTo}
 use Rattle.bx_world.specs.Events.{after_input}
 use Rattle.bx_world.specs.Runs.{Schedule}

@@ -1,34 +1,27 @@
 -- Worked rows, each of which follows from a law, or a clause, alone.
-use Rattle.std.proofs.Common.{◌≡◌, ℕ, Bool, true, List, [], ◌∷◌, ◌++◌, length, Option, Some, None, Ok, refl, sym, ap, subst, ◌∙◌}
-use Rattle.std.specs.Prelude.{codes, option_to_list}
+use Rattle.std.proofs.Common.{◌≡◌, ℕ, Bool, true, List, [], ◌∷◌, ◌++◌, length, Option, None, Ok, refl, sym, ap, subst, ◌∙◌}
+use Rattle.std.specs.Prelude.{codes}
 use Rattle.std.specs.Fmt.{digits}
-use Rattle.std.proofs.lemmas.List.{append-nil}
-use Rattle.std.proofs.KnownBytes.{Appends-nil}
 use Rattle.unicode_segmentation.proofs.Computing.{unicode_segmentation}
 use Rattle.unicode_width.proofs.Computing.{unicode_width}
 use Rattle.bx_explicit.specs.declared.base.Base.TheVariants.{Auto}
-use Rattle.bx_keys.specs.declared.key.Key.{Key}
-use Rattle.bx_keys.specs.declared.key.Key.TheVariants.{Insert}
-use Rattle.bx_keys.specs.Keys.{decoding}
-use Rattle.bx_grid.specs.Picture.{PictureState}
 use Rattle.bx_grid.specs.Terminal.{Terminal, reads}
 use Rattle.bx_editor.specs.Editor.{Editor}
 use Rattle.bx_editor.specs.Picture.{picture}
 use Rattle.bx_editor.proofs.Computed.{tables, columns_of}
 use Rattle.bx_session.specs.declared.status.Status.TheVariants.{Running}
 use Rattle.bx_session.specs.Beginning.{Beginning, IsBegun, begun, unpainted_at}
-use Rattle.bx_session.specs.Running.{ByteAnswer, Turn, InTurns, HasRun}
+use Rattle.bx_session.specs.Running.{ByteAnswer, Turn, HasRun}
 use Rattle.bx_session.specs.Saving.{StoreState}
 use Rattle.bx_session.specs.Session.{Session, after_byte}
 use Rattle.bx_session.proofs.Computed.{start}
 use Rattle.bx_session.proofs.Turns.{started}
 use Rattle.bx_world.specs.declared.step.Step.TheVariants.{Byte, Send, Read}
-use Rattle.bx_world.specs.Events.{Event, Input, after_events, input_of, keys_of}
-use Rattle.bx_world.specs.Headline.{HeadlineFromOpening}
+use Rattle.bx_world.specs.Events.{after_events}
 use Rattle.bx_world.specs.Laws.{BeginsWithKeys, HeadlineInChangingWindows, HeadlineOfRuns, RunsArePlays, TurnsArePlays}
 use Rattle.bx_world.specs.Runs.{IsAmong, Schedule, RunsInWindow, begins_at, steps_of_run, steps_of_turns}
 use Rattle.bx_world.specs.Steps.{PlaysTo, is_last_accepted}
-use Rattle.bx_world.specs.World.{World, after_read, after_send, around, unknown_terminal, with_byte}
+use Rattle.bx_world.specs.World.{World, after_read, after_send, unknown_terminal, with_byte}
 use Rattle.bx_world.proofs.Woven.{ok}
 
 -- ---- where a run begins
@@ -143,29 +136,6 @@ a_run_is_on_the_line law store =
     let run = started tables before after store None None None (codes "abc") (record { writes = tt; order = refl; session = refl }) in
     let found = law tables (pending (codes "abc")) after store store None None None None [] [] (codes "abc") before run in
     (found.0, found.2.line, ap (λ (s : Session). s.pending) found.2.session)
-
--- ---- a schedule from an opening
-
-insert_only : (key : Option Key) (c : ℕ) → option_to_list key ++ [] ≡ Insert c ∷ [] → key ≡ Some (Insert c)
-insert_only None c is = absurd (cc is)
-insert_only (Some key) c is = cc is
-
-pub a_byte_is_its_letter : (store store' : StoreState) (new : World)
-    → HeadlineFromOpening tables (around (start [] 1 5) 1 5) store ((Byte 0x61, ok) ∷ []) new store' → new.session.editor.content.text ≡ codes "a"
-unfolding unicode_segmentation unicode_width digits
-a_byte_is_its_letter store store' new clause =
-    let found = clause [] 1 5 Auto refl in
-    let events = found.0 in
-    let are = found.1.events_are in
-    let one = are.3 in
-    let is : events ≡ Input 0x61 one.0 true one.1 ∷ [] = are.2 ∙ ap (λ (xs : List Event). xs ++ are.1) one.2
-    ∙ ap (λ (xs : List Event). Input 0x61 one.0 true one.1 ∷ xs) are.4 in
-    let whole : keys_of events ≡ (decoding (input_of events)).keys = found.1.keys events [] (sym (append-nil events)) in
-    let key : one.0 ≡ Some (Insert 0x61) =
-    insert_only one.0 0x61 (subst (λ (xs : List Event). keys_of xs ≡ (decoding (input_of xs)).keys) is whole) in
-    ap (λ (e : Editor). e.content.text) found.1.editor
-    ∙ ap (λ (xs : List Event). (after_events tables (unpainted_at tables empty).editor xs).content.text) is
-    ∙ ap (λ (k : Option Key). (after_events tables (unpainted_at tables empty).editor (Input 0x61 k true one.1 ∷ [])).content.text) key
 
 -- ---- the same letters in a window that changes
 

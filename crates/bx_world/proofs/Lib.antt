@@ -12,3 +12,4 @@ pub mod Begun
 pub mod Woven
 pub mod Runs
 mod LawExamples
+mod ClauseExamples
