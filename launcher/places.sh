@@ -7,11 +7,13 @@ try_folder() { # PLACE PIPE..
     folder=$(mktemp -d "$1/bidi-edit.XXXXXX" 2>/dev/null) || return 1
     shift
     for pipe; do
-        mkfifo "$folder/$pipe" 2>/dev/null && continue
-        rm -rf -- "$folder"
-        folder=''
-        return 1
+        shift
+        set -- "$@" "$folder/$pipe"
     done
+    ! mkfifo "$@" 2>/dev/null || return 0
+    rm -rf -- "$folder"
+    folder=''
+    return 1
 }
 
 # The same in the folder for temporary files, which is /tmp from then on where TMPDIR's takes none.

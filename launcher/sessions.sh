@@ -203,7 +203,7 @@ tell_versions() {
 # Room for some keys is tried, since a full disk takes the folder and then no key.
 fill_session() { # SESSION
     copy_text "$1/text" && echo "$rows $cols $direction ${line:--}" >"$1/begin" &&
-        note_process "$1" && tell_versions >"$1/versions" && head -c 65536 /dev/zero >"$1/lock" && : >"$1/lock" &&
+        note_process "$1" && tell_versions >"$1/versions" && printf '%65536s' '' >"$1/lock" && : >"$1/lock" &&
         { [ ! -e "$file" ] || stat -c %a -- "$file" >"$1/mode"; }
 } 2>/dev/null
 
