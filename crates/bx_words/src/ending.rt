@@ -1,5 +1,6 @@
 //! The statuses that the programs end with, and what standard error is told.
 
+use crate::shown::Numbered;
 use clap::error::ErrorKind;
 use std::fmt::Display;
 use std::io;
@@ -30,7 +31,10 @@ pub fn refuse(rt: &HostRuntime, program: &str, error: &clap::Error) -> ExitCode 
         return finish(rt, program, Err("out of memory"));
     }
     // where standard error takes no text there is nobody to tell
-    let _ = error.print(rt);
+    let _ = match format!(in rt.alloc(); "{error}") {
+        Ok(text) if error.use_stderr() => eprint!(rt; "{}", Numbered(text.as_str())),
+        _ => error.print(rt),
+    };
     ExitCode::from(REFUSED)
 }
 

@@ -1,5 +1,6 @@
 //! The files that the programs read.
 
+use crate::shown::Shown;
 use bx_terms::LARGEST_TEXT;
 use std::fs::{self, File};
 use std::io::{self, ErrorKind, Read};
@@ -20,7 +21,7 @@ pub struct UnicodeFiles<'a> {
 #[derive(Debug, Drop, PartialEq, Eq, Error)]
 pub enum FileFault<'a> {
     /// The file of this path is not there, or cannot be read.
-    #[error("cannot read {0}")]
+    #[error("cannot read {}", Shown(.0))]
     Unreadable(&'a str),
     #[error("out of memory")]
     OutOfMemory,

@@ -4,7 +4,9 @@
 mod arguments;
 mod ending;
 mod files;
+mod shown;
 
 pub use arguments::{direction, direction_of, side, side_of, table};
 pub use ending::{finish, refuse, refuse_words};
 pub use files::{FileFault, UnicodeFiles, bytes_of, text_of};
+pub use shown::{Numbered, Shown};

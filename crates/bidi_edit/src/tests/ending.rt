@@ -31,7 +31,7 @@ fn faults_by_their_lines(rt: HostRuntime) -> Result<(), Fail> {
     }
     assert_eq!(rt;
         text.as_str(),
-        "bidi_edit: cannot read a path\n\
+        "bidi_edit: cannot read 'a path'\n\
          bidi_edit: out of memory\n\
          bidi_edit: file too long\n\
          bidi_edit: not UTF-8 at byte 1\n\
