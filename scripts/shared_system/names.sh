@@ -149,6 +149,35 @@ check_title_and_fault() { # TOLD
     mv "$program.was" "$program"
 }
 
+# What a program itself tells of a name in UTF-8, as others it refuses, with no launcher between.
+program_tells() { # CHECK WANTED PROGRAM WORD..
+    checked=$1 wanted_words=$2 built=$top/crates/$3/out/$3
+    shift 3
+    as_user timeout -s KILL 20 "$built" --classes "$top/data/DerivedBidiClass.txt" --brackets "$top/data/BidiBrackets.txt" \
+        --mirroring "$top/data/BidiMirroring.txt" "$@" </dev/null 2>"$folder/told" >/dev/null
+    is_harmless "$folder/told"
+    report "names, $checked: nothing hidden" $? "$(cat -v "$folder/told")"
+    has "names, $checked: the name" "$(cat "$folder/told")" "$wanted_words"
+}
+
+check_program_names() { # TOLD
+    name_of_told "$1"
+    for program in bidi_edit bidi_print; do
+        [ -x "$top/crates/$program/out/$program" ] || {
+            skip "names, $program" 'it is not built'
+            continue
+        }
+        as_user mkdir "$name" 'שלום it'"'"'s'
+        program_tells "$program, a folder" "$program: cannot read \$'$1'" "$program" "$name"
+        program_tells "$program, letters" "$program: cannot read 'שלום it'\\''s'" "$program" 'שלום it'"'"'s'
+        program_tells "$program, a name without quotes" "$program: cannot read ./" "$program" ./
+        program_tells "$program, an option" 'error: unexpected argument' "$program" "--$name" f
+        program_tells "$program, columns" 'error: invalid value' "$program" --cols "$name" f
+        program_tells "$program, two files" 'error: unexpected argument' "$program" f "$name"
+        as_user rmdir "$name" 'שלום it'"'"'s'
+    done
+}
+
 check_names() {
     asked names || return 0
     command -v perl >/dev/null || {
@@ -168,6 +197,8 @@ check_names() {
     chmod 755 "$folder/bin/rt"
     check_building_names "x$(all_hidden | sed 's/\\364\\220\\200\\200//')y"
     check_own_tables "x$(all_hidden)y"
-    # a name that is not UTF-8 is refused before there is a title
-    check_title_and_fault "x$(hidden_bytes | grep -v -e '^lone' -e '^cut' -e '^long' -e '^surrogate' -e '^past' | sed 's/.* //' | paste -s -d '')y"
+    # a name that is not UTF-8 is refused before
+    in_letters="x$(hidden_bytes | grep -v -e '^lone' -e '^cut' -e '^long' -e '^surrogate' -e '^past' | sed 's/.* //' | paste -s -d '')y"
+    check_title_and_fault "$in_letters"
+    check_program_names "$in_letters"
 }
