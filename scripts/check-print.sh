@@ -223,7 +223,7 @@ compare_endings() {
             differing=$((differing + 1))
         fi
     done
-    end_by 1 'bidi_print: cannot read not here' 'not here'
+    end_by 1 "bidi_print: cannot read 'not here'" 'not here'
     end_by 1 'bidi_print: cannot read /' /
     end_by 1 'bidi_print: not UTF-8 at byte 3' "$scratch/bytes"
     end_by 1 'bidi_print: file too long' "$scratch/long"
