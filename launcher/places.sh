@@ -10,7 +10,7 @@ try_folder() { # PLACE PIPE..
         shift
         set -- "$@" "$folder/$pipe"
     done
-    ! mkfifo "$@" 2>/dev/null || return 0
+    if [ "$#" -eq 0 ] || mkfifo "$@" 2>/dev/null; then return 0; fi
     rm -rf -- "$folder"
     folder=''
     return 1
