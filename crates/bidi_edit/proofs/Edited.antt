@@ -3,7 +3,7 @@ use Rattle.std.proofs.Common.{◌≡◌, ℕ, false, List, [], Option, None, Res
 use Rattle.std.specs.Prelude.{IfOk, OnOk, vec_items, unwrap_or, Some}
 use Rattle.std.specs.Global.{Vec}
 use Rattle.bx_explicit.specs.declared.base.Base.{Base}
-use Rattle.bx_document.specs.Data.{Data}
+use Rattle.bx_ucd.specs.Data.{Data}
 use Rattle.bx_session.specs.Session.{Session, SessionState, after_replaying, at_opening, with_painting}
 use Rattle.bx_session.specs.Saving.{StoreState, with_text}
 use Rattle.bx_session.specs.Painting.{QueuesPicture}

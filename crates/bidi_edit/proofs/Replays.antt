@@ -1,6 +1,6 @@
 -- Keys of a journal, replayed one after another.
 use Rattle.std.proofs.Common.{◌≡◌, ℕ, ◌+◌, List, [], ◌∷◌, ◌++◌, take, sym, ap, ◌∙◌}
-use Rattle.bx_document.specs.Data.{Data}
+use Rattle.bx_ucd.specs.Data.{Data}
 use Rattle.bx_session.specs.Session.{Session, SessionState, after_replay, after_replaying}
 use Rattle.bx_session.proofs.Replayed.{replayed_more}
 

@@ -3,7 +3,7 @@ use Rattle.std.specs.Global.{Vec}
 use Rattle.std.specs.Prelude.{◌≡◌, ℕ, false, List, [], Option, Some, None, vec_items}
 use Rattle.bx_explicit.specs.declared.base.Base.{Base}
 use Rattle.bx_ucd.specs.Reading.{refusal, class_in_file, bracket_in_file, mirror_in_file}
-use Rattle.bx_document.specs.Data.{Data}
+use Rattle.bx_ucd.specs.Data.{Data}
 use Rattle.bx_session.specs.Session.{Session, at_opening}
 use Rattle.bx_session.specs.Saving.{StoreState, with_text}
 use Rattle.bx_session.specs.Painting.{QueuesPicture}

@@ -7,7 +7,6 @@ ghost use Rattle.bidi_edit.specs.Run.{AreOfFiles, IsOpened, bytes_of};
 
 use crate::fault::ProgramFault;
 use bx_command::start_of_line;
-use bx_document::Answers;
 use bx_explicit::Base;
 use bx_session::Session;
 use bx_ucd::{BidiData, Tables};
@@ -42,8 +41,8 @@ pub fn open(
     beginning: Beginning<'_>,
 ) -> Result<Session<Tables>, ProgramFault<'static>>
     ensures begins { IfOk result (λ s. (offset : Option ℕ)
-        × AreOfFiles (⟦<Tables as Answers>⟧.data s.tables) beginning.entry.unicode.classes.now beginning.entry.unicode.brackets.now beginning.entry.unicode.mirroring.now
-        × IsOpened (⟦<Tables as Answers>⟧.data s.tables) (bytes_of beginning.entry.text) beginning.entry.rows beginning.entry.cols beginning.entry.direction offset s.session) }
+        × AreOfFiles (⟦<Tables as BidiData>⟧.data s.tables) beginning.entry.unicode.classes.now beginning.entry.unicode.brackets.now beginning.entry.unicode.mirroring.now
+        × IsOpened (⟦<Tables as BidiData>⟧.data s.tables) (bytes_of beginning.entry.text) beginning.entry.rows beginning.entry.cols beginning.entry.direction offset s.session) }
 {
     let (rows, cols, direction) = (beginning.rows, beginning.cols, beginning.direction);
     let unicode = beginning.unicode;
@@ -63,7 +62,7 @@ fn go_to<D: BidiData + Drop>(
     offset: Option<usize>,
 ) -> Result<(), ProgramFault<'static>>
     ensures { OnOk result (session.new ≡ record session.old {
-      session = after_going_to (⟦<D as Answers>⟧.data session.old.tables) session.old.session offset;
+      session = after_going_to (D.data session.old.tables) session.old.session offset;
     }) }
 {
     match offset {

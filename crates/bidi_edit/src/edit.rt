@@ -11,7 +11,6 @@ ghost use Rattle.bidi_edit.specs.Run.{Edits, begins_with, bytes_of};
 use crate::beginning::{Beginning, open};
 use crate::fault::ProgramFault;
 use crate::replaying::replay;
-use bx_document::Answers;
 use bx_session::{End, Journal, Recorder, Session, run_recorded};
 use bx_store::Store;
 use bx_ucd::BidiData;
@@ -37,14 +36,14 @@ fn resume<D: BidiData + Drop, R: Read, J: Journal + Drop, W: Write, S: Store>(
     keys: &[u8],
 ) -> Result<Changes, ProgramFault<'static>>
     ensures tables { session.new.tables ≡ session.old.tables }
-    ensures paints { OnOk result (QueuesPicture (⟦<D as Answers>⟧.data session.old.tables)
-        (after_replaying (⟦<D as Answers>⟧.data session.old.tables) session.old.session keys.now).pending
-        (after_replaying (⟦<D as Answers>⟧.data session.old.tables) session.old.session keys.now).known
-        (with_painting (⟦<D as Answers>⟧.data session.old.tables)
-        (after_replaying (⟦<D as Answers>⟧.data session.old.tables) session.old.session keys.now))) }
-    ensures runs { OnOk result (RunsRecorded J.contents J.failure_count (⟦<D as Answers>⟧.data session.old.tables)
-        (with_painting (⟦<D as Answers>⟧.data session.old.tables)
-        (after_replaying (⟦<D as Answers>⟧.data session.old.tables) session.old.session keys.now)) session.new.session
+    ensures paints { OnOk result (QueuesPicture (D.data session.old.tables)
+        (after_replaying (D.data session.old.tables) session.old.session keys.now).pending
+        (after_replaying (D.data session.old.tables) session.old.session keys.now).known
+        (with_painting (D.data session.old.tables)
+        (after_replaying (D.data session.old.tables) session.old.session keys.now))) }
+    ensures runs { OnOk result (RunsRecorded J.contents J.failure_count (D.data session.old.tables)
+        (with_painting (D.data session.old.tables)
+        (after_replaying (D.data session.old.tables) session.old.session keys.now)) session.new.session
         (store_state S.contents S.failure_count store.old) (store_state S.contents S.failure_count store.new)
         (R.remaining reader.old) (R.remaining reader.new) (W.contents writer.old) (W.contents writer.new) recorder.old recorder.new) }
     ensures saved { result ≡ Ok Changes.Saved → session.new.session.editor.changed ≡ false }

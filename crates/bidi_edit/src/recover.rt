@@ -8,7 +8,6 @@ ghost use Rattle.bidi_edit.specs.Run.{Recovers, begins_with, bytes_of};
 use crate::beginning::{Beginning, open};
 use crate::fault::ProgramFault;
 use crate::replaying::{Replayed, replay_beside};
-use bx_document::Answers;
 use bx_session::Session;
 use bx_store::Store;
 use bx_ucd::BidiData;
@@ -22,7 +21,7 @@ fn store_replayed<D: BidiData + Drop, S: Store>(
     file: &[u8],
 ) -> Result<Replayed, ProgramFault<'static>>
     ensures stored { OnOk result (store_state S.contents S.failure_count store.new ≡ with_text
-        (after_replaying (⟦<D as Answers>⟧.data session.old.tables) session.old.session keys.now).editor.content.text
+        (after_replaying (D.data session.old.tables) session.old.session keys.now).editor.content.text
         (store_state S.contents S.failure_count store.old)) }
 {
     let replayed = replay_beside(session, keys, file)?;

@@ -4,7 +4,6 @@ ghost use Rattle.std.specs.Prelude.{◌≡◌, OnOk};
 ghost use Rattle.bx_session.specs.Laws.{after_replaying};
 
 use crate::fault::ProgramFault;
-use bx_document::Answers;
 use bx_keys::Key;
 use bx_session::Session;
 use bx_ucd::BidiData;
@@ -48,7 +47,7 @@ pub fn replay<D: BidiData + Drop>(
 ) -> Result<(), ProgramFault<'static>>
     ensures tables { session.new.tables ≡ session.old.tables }
     ensures replays { OnOk result (session.new.session
-        ≡ after_replaying (⟦<D as Answers>⟧.data session.old.tables) session.old.session keys.now) }
+        ≡ after_replaying (D.data session.old.tables) session.old.session keys.now) }
 {
     for byte in keys {
         session.replay(*byte)?;
@@ -66,7 +65,7 @@ pub fn replay_beside<D: BidiData + Drop>(
 ) -> Result<Replayed, ProgramFault<'static>>
     ensures tables { session.new.tables ≡ session.old.tables }
     ensures replays { OnOk result (session.new.session
-        ≡ after_replaying (⟦<D as Answers>⟧.data session.old.tables) session.old.session keys.now) }
+        ≡ after_replaying (D.data session.old.tables) session.old.session keys.now) }
 {
     let mut is_known = session.has_text(file);
     let mut count = 0u64;

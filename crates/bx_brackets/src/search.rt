@@ -192,7 +192,7 @@ impl PairSearch {
     ) -> Result<(), BracketError>
         requires next { self.old.next ≤ index }
         requires within { index < self.old.count }
-        ensures progress { OnOk result (self.new.progress ≡ after index c (bracket_at (D.bracket_of tables.now) c t) self.old.progress) }
+        ensures progress { OnOk result (self.new.progress ≡ after index c (bracket_at (D.data tables.now).bracket c t) self.old.progress) }
         ensures next { self.new.next ≤ index + 1 }
         ensures count { self.new.count ≡ self.old.count }
         ensures err { OnErr result (self.new ≡ self.old) }

@@ -6,7 +6,7 @@ use Rattle.bx_grid.specs.Columns.{Col}
 use Rattle.bx_grid.specs.Picture.{GridState}
 use Rattle.bx_paragraph.specs.BodyRows.{BodyRow, body_rows, row_at}
 use Rattle.bx_document.specs.Cache.{AreDrawnBy, DrawnRowState, HoldsRow, IsDrawnBy, IsRowOf, numbered_row_columns}
-use Rattle.bx_document.specs.Data.{Data}
+use Rattle.bx_ucd.specs.Data.{Data}
 use Rattle.bx_document.specs.Drawing.{body_row_columns, with_rows}
 
 -- these are the columns of row `k` of a body, as many as the window has

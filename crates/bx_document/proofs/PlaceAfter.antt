@@ -4,6 +4,7 @@ use Rattle.std.proofs.Common.{arith, length-append, length-drop}
 use Rattle.std.proofs.lemmas.Bool.Decides.{nat_tests}
 use Rattle.std.proofs.lemmas.List.{length-take-le}
 use Rattle.bx_terms.specs.Sizes.{is_side}
+use Rattle.bx_ucd.specs.Data.{Data}
 use Rattle.bx_ucd.specs.declared.class.Class.{Class}
 use Rattle.bx_ucd.specs.declared.data.Side.{Side}
 use Rattle.bx_explicit.specs.declared.base.Base.{Base}
@@ -75,20 +76,20 @@ found class bracket base w text start stop new bytes first offset place side utf
     behind class bracket base w text start stop new (first + place) side utf8 range new_utf8 is
 
 -- and as a document says it
-pub behind_by : {D : Type 0} (class_of : D → ℕ → Class) (bracket_of : D → ℕ → Option (Side × ℕ)) (inner now : DocumentState D) (start stop : ℕ)
+pub behind_by : {D : Type 0} (says : D → Data) (inner now : DocumentState D) (start stop : ℕ)
     (new : List ℕ) (o : ℕ) (base : Base) (w : ℕ) → inner ≡ now → is_side inner.document.w ≡ true → IsUtf8 inner.document.content.text
     → IsRange now.document.content.text start stop → IsUtf8 new → base ≡ inner.document.base → w ≡ inner.document.w
-    → o ≡ place_from (text_rows (class_of inner.tables) (bracket_of inner.tables) base w (splice inner.document.content.text start stop new))
+    → o ≡ place_from (text_rows (says inner.tables).class (says inner.tables).bracket base w (splice inner.document.content.text start stop new))
     (start + length new)
-    → IsBehind (class_of now.tables) (bracket_of now.tables) now.document.base now.document.w now.document.content.text start stop new o
-behind_by {D} class_of bracket_of inner now start stop new o base w same side utf8 range new_utf8 same_base same_w is =
-    let class = class_of inner.tables in
-    let bracket = bracket_of inner.tables in
+    → IsBehind (says now.tables).class (says now.tables).bracket now.document.base now.document.w now.document.content.text start stop new o
+behind_by {D} says inner now start stop new o base w same side utf8 range new_utf8 same_base same_w is =
+    let class = (says inner.tables).class in
+    let bracket = (says inner.tables).bracket in
     let text = inner.document.content.text in
     let own : o ≡ place_from (text_rows class bracket inner.document.base inner.document.w (splice text start stop new)) (start + length new) =
     is ∙ ap (λ based. place_from (text_rows class bracket based w (splice text start stop new)) (start + length new)) same_base
     ∙ ap (λ n. place_from (text_rows class bracket inner.document.base n (splice text start stop new)) (start + length new)) same_w in
     subst (λ (s : DocumentState D).
-    IsBehind (class_of s.tables) (bracket_of s.tables) s.document.base s.document.w s.document.content.text start stop new o) same
+    IsBehind (says s.tables).class (says s.tables).bracket s.document.base s.document.w s.document.content.text start stop new o) same
     (behind class bracket inner.document.base inner.document.w text start stop new o side utf8
     (subst (λ (s : DocumentState D). IsRange s.document.content.text start stop) (sym same) range) new_utf8 own)

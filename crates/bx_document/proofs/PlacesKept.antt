@@ -2,6 +2,7 @@
 use Rattle.std.proofs.Common.{◌≡◌, ℕ, List, [], ◌∷◌, Some, All, refl, sym, ap, subst}
 use Rattle.std.proofs.lemmas.List.Elements.{All-cons, All-head, All-nil, All-tail}
 use Rattle.std.proofs.lemmas.Option.{none-some, same_Some}
+use Rattle.bx_ucd.specs.Data.{Data}
 use Rattle.bx_ucd.specs.declared.class.Class.{Class}
 use Rattle.bx_text.specs.declared.change.Change.{Change}
 use Rattle.bx_text.specs.Edits.{Edit, Edited, change_back, change_of, edit_of, first_again, first_back, next_redo, next_undo}
@@ -53,17 +54,17 @@ module _ (class : ℕ → Class) where
   place_redone t u c e h f = subst (λ (v : Edited). IsTextPlace class v.text c.place) (sym e) (place_again t.future t c h.future f)
 
 -- after an edit whose places are places of both texts, in a document that is `now` and is opened as `inner`
-pub keeps_edited : {D : Type 0} (class_of : D → ℕ → Class) (inner now : DocumentState D) (u : Edited) (start stop : ℕ) (new : List ℕ) (before after : ℕ)
-    → inner ≡ now → u ≡ replaced inner.document.content start stop new before after → KeepsPlaces (class_of inner.tables) inner.document.content
-    → IsTextPlace (class_of now.tables) now.document.content.text before
-    → IsTextPlace (class_of now.tables) (splice now.document.content.text start stop new) after → KeepsPlaces (class_of inner.tables) u
-keeps_edited {D} class_of inner now u start stop new before after same e h was is =
-    let class = class_of inner.tables in
+pub keeps_edited : {D : Type 0} (says : D → Data) (inner now : DocumentState D) (u : Edited) (start stop : ℕ) (new : List ℕ) (before after : ℕ)
+    → inner ≡ now → u ≡ replaced inner.document.content start stop new before after → KeepsPlaces (says inner.tables).class inner.document.content
+    → IsTextPlace (says now.tables).class now.document.content.text before
+    → IsTextPlace (says now.tables).class (splice now.document.content.text start stop new) after → KeepsPlaces (says inner.tables).class u
+keeps_edited {D} says inner now u start stop new before after same e h was is =
+    let class = (says inner.tables).class in
     let t = inner.document.content in
     let edit = edit_of t.text start stop new before after in
     let places : HasPlaces class edit = record {
-      before = subst (λ (s : DocumentState D). IsTextPlace (class_of s.tables) s.document.content.text before) (sym same) was;
-      after = subst (λ (s : DocumentState D). IsTextPlace (class_of s.tables) (splice s.document.content.text start stop new) after) (sym same) is;
+      before = subst (λ (s : DocumentState D). IsTextPlace (says s.tables).class s.document.content.text before) (sym same) was;
+      after = subst (λ (s : DocumentState D). IsTextPlace (says s.tables).class (splice s.document.content.text start stop new) after) (sym same) is;
     } in
     subst (KeepsPlaces class) (sym e)
     (record { past = All-cons (HasPlaces class) edit t.past places h.past; future = All-nil (HasPlaces class) })

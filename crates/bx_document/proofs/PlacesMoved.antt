@@ -1,6 +1,7 @@
 -- The moves of a document lead from a place of its text to a place.
 use Rattle.std.proofs.Common.{◌≡◌, ℕ, true, List, Option, IsUtf8, sym, subst}
 use Rattle.bx_terms.specs.Sizes.{is_side}
+use Rattle.bx_ucd.specs.Data.{Data}
 use Rattle.bx_ucd.specs.declared.class.Class.{Class}
 use Rattle.bx_ucd.specs.declared.data.Side.{Side}
 use Rattle.bx_view.specs.declared.moves.Move.{Move}
@@ -14,19 +15,19 @@ use Rattle.bx_view.proofs.Told.{side-some}
 use Rattle.bx_document.specs.Document.{DocumentState}
 
 -- of a document that is `now`, and is opened as `inner`
-module _ {D : Type 0} (class_of : D → ℕ → Class) (bracket_of : D → ℕ → Option (Side × ℕ)) (inner now : DocumentState D) (same : inner ≡ now)
+module _ {D : Type 0} (says : D → Data) (inner now : DocumentState D) (same : inner ≡ now)
     (side : is_side inner.document.w ≡ true) (utf8 : IsUtf8 inner.document.content.text) where
   abbrev w : ℕ
   w = inner.document.w
 
   abbrev rows : List TextRow
-  rows = text_rows (class_of inner.tables) (bracket_of inner.tables) inner.document.base w inner.document.content.text
+  rows = text_rows (says inner.tables).class (says inner.tables).bracket inner.document.base w inner.document.content.text
 
   abbrev IsOf : DocumentState D → ℕ → Type 0
-  IsOf s o = IsTextPlace (class_of s.tables) s.document.content.text o
+  IsOf s o = IsTextPlace (says s.tables).class s.document.content.text o
 
   kept : MovesKeep w rows (IsOf inner)
-  kept = text-places-kept (class_of inner.tables) (bracket_of inner.tables) inner.document.base w (side-some w side) inner.document.content.text utf8
+  kept = text-places-kept (says inner.tables).class (says inner.tables).bracket inner.document.base w (side-some w side) inner.document.content.text utf8
 
   there : (o led : ℕ) → o ≡ led → IsOf inner led → IsOf now o
   there o led e h = subst (λ (s : DocumentState D). IsOf s o) same (subst (IsOf inner) (sym e) h)

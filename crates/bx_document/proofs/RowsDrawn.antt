@@ -16,7 +16,7 @@ use Rattle.bx_view.specs.Holding.{Keeps, ViewState}
 use Rattle.bx_view.specs.TextRows.{TextRow, no_text_row, row_at}
 use Rattle.bx_view.proofs.Told.{rows-kept, side-some}
 use Rattle.bx_view.proofs.Walking.{row-within}
-use Rattle.bx_document.specs.Data.{Data}
+use Rattle.bx_ucd.specs.Data.{Data}
 use Rattle.bx_document.specs.Drawing.{row_columns, rows_columns, with_rows}
 
 -- columns put where the first ones end

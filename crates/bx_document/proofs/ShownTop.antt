@@ -11,7 +11,7 @@ use Rattle.bx_view.specs.Top.{nearest_top, shown_rows}
 use Rattle.bx_view.proofs.LeastMove.{falls-own}
 use Rattle.bx_view.proofs.Told.{rows-kept, side-some}
 use Rattle.bx_view.proofs.Walking.{row-within, rows-rise}
-use Rattle.bx_document.specs.Data.{Data}
+use Rattle.bx_ucd.specs.Data.{Data}
 use Rattle.bx_document.specs.Drawing.{IsAmong, rows_columns}
 
 module _ (class : ℕ → Class) (bracket : ℕ → Option (Side × ℕ)) (old v : ViewState) (text : List ℕ) (utf8 : IsUtf8 text)

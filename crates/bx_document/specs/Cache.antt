@@ -3,7 +3,7 @@ use Rattle.std.specs.Prelude.{◌≡◌, ℕ, ◌<◌, List, length, All, HoldsA
 use Rattle.bx_explicit.specs.declared.base.Base.{Base}
 use Rattle.bx_grid.specs.Columns.{Col}
 use Rattle.bx_paragraph.specs.BodyRows.{body_rows, row_at}
-use Rattle.bx_document.specs.Data.{Data}
+use Rattle.bx_ucd.specs.Data.{Data}
 use Rattle.bx_document.specs.Drawing.{body_row_columns}
 
 -- the body of the row's paragraph, the base direction, the number of the row in the body, and the row's columns

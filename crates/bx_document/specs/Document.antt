@@ -4,7 +4,7 @@ use Rattle.bx_explicit.specs.declared.base.Base.{Base}
 use Rattle.bx_text.specs.Edits.{Edited, inserted, opened, removed, splice}
 use Rattle.bx_view.specs.Moves.{place_from}
 use Rattle.bx_view.specs.TextRows.{TextRow, text_rows}
-use Rattle.bx_document.specs.Data.{Data}
+use Rattle.bx_ucd.specs.Data.{Data}
 
 -- a text, how it is laid out, and its past and future
 pub record Document : Type 0 where

@@ -5,7 +5,7 @@ use Rattle.bx_grid.specs.Picture.{GridState}
 use Rattle.bx_paragraph.specs.BodyRows.{BodyRow, row_glyphs}
 use Rattle.bx_rows.specs.RowPicture.{Glyph}
 use Rattle.bx_view.specs.TextRows.{TextRow, row_of}
-use Rattle.bx_document.specs.Data.{Data}
+use Rattle.bx_ucd.specs.Data.{Data}
 
 -- the columns of glyphs side by side
 abbrev pub side_by_side : List Glyph → List Col

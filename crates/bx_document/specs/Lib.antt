@@ -1,6 +1,5 @@
 pub mod Answers
 pub mod Cache
-pub mod Data
 pub mod Document
 pub mod Drawing
 pub mod Past

@@ -3,7 +3,7 @@ use Rattle.std.specs.Prelude.{ℕ, ◌-◌, List}
 use Rattle.bx_grid.specs.Columns.{Col}
 use Rattle.bx_view.specs.TextRows.{row_of}
 use Rattle.bx_view.specs.Top.{shown_rows}
-use Rattle.bx_document.specs.Data.{Data}
+use Rattle.bx_ucd.specs.Data.{Data}
 use Rattle.bx_document.specs.Document.{Document, rows}
 use Rattle.bx_document.specs.Drawing.{rows_columns}
 

@@ -43,10 +43,10 @@ impl<D: BidiData + Drop> Model for Document<D> {
       document = record { content = d.text.edited; base = d.layout.base; w = d.layout.w };
     } };
 
-    ghost invariant = { λ d. (d.index.paragraphs ≡ lengths (D.class_of d.tables) d.text.edited.text)
-        × IsViewBy (D.class_of d.tables) (D.bracket_of d.tables) d.layout
-        × KeepsPlaces (D.class_of d.tables) d.text.edited
-        × AreDrawnBy (record { class = D.class_of d.tables; bracket = D.bracket_of d.tables; mirror = D.mirror_of d.tables }) d.row_cache };
+    ghost invariant = { λ d. (d.index.paragraphs ≡ lengths (D.data d.tables).class d.text.edited.text)
+        × IsViewBy (D.data d.tables).class (D.data d.tables).bracket d.layout
+        × KeepsPlaces (D.data d.tables).class d.text.edited
+        × AreDrawnBy (record { class = (D.data d.tables).class; bracket = (D.data d.tables).bracket; mirror = (D.data d.tables).mirror }) d.row_cache };
 }
 
 impl<D: BidiData + Drop> Document<D> {

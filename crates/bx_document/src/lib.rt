@@ -2,7 +2,6 @@
 //! and its rows in a grid.
 #![tactic(auto)]
 
-mod answers;
 mod document;
 mod drawing;
 mod drawn_rows;
@@ -13,7 +12,6 @@ mod row_cache;
 mod shown;
 mod touched;
 
-pub use answers::Answers;
 pub use document::Document;
 pub use error::DocumentError;
 pub use shown::Shown;

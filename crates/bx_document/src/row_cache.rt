@@ -1,7 +1,7 @@
 //! Rows that were drawn, kept so that they can be put into a grid again.
 ghost use Rattle.std.specs.Prelude.{◌≡◌, ◌<◌, ◌*◌, [], length, drop, take, All, HoldsAt, IfOk, IfSome, IsTrue};
 ghost use Rattle.bx_document.specs.Cache.{AreDrawnBy, DrawnRowState, HoldsRow, IsDrawnBy, IsRowOf};
-ghost use Rattle.bx_document.specs.Data.{Data};
+ghost use Rattle.bx_ucd.specs.Data.{Data};
 
 use bx_explicit::Base;
 use bx_grid::OwnedRow;

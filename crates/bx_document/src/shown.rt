@@ -6,7 +6,6 @@ ghost use Rattle.bx_document.specs.Document.{rows};
 ghost use Rattle.bx_document.specs.Drawing.{IsAmong};
 ghost use Rattle.bx_document.specs.Shown.{rows_above, shown_columns};
 
-use crate::answers::Answers;
 use crate::document::Document;
 use crate::drawn_rows::draw_rows;
 use bx_grid::Grid;
@@ -41,16 +40,16 @@ impl<D: BidiData + Drop> Document<D> {
         requires inside { count ≤ grid.old.height }
         requires some { 0 < count }
         ensures same { self.new ≡ self.old }
-        ensures top { IfOk result (λ s. s.top ≡ follow (rows (⟦<D as Answers>⟧.data self.old.tables) self.old.document) top place count) }
-        ensures among { IfOk result (λ s. IsAmong (rows (⟦<D as Answers>⟧.data self.old.tables) self.old.document) s.top place count) }
+        ensures top { IfOk result (λ s. s.top ≡ follow (rows (D.data self.old.tables) self.old.document) top place count) }
+        ensures among { IfOk result (λ s. IsAmong (rows (D.data self.old.tables) self.old.document) s.top place count) }
         ensures drawn { IfOk result (λ s. grid.new ≡ record grid.old {
-          columns = shown_columns (⟦<D as Answers>⟧.data self.old.tables) self.old.document s.top count
+          columns = shown_columns (D.data self.old.tables) self.old.document s.top count
               ++ drop (count * grid.old.width) grid.old.columns;
         }) }
-        ensures row { IfOk result (λ s. s.row ≡ rows_above (⟦<D as Answers>⟧.data self.old.tables) self.old.document s.top place) }
+        ensures row { IfOk result (λ s. s.row ≡ rows_above (D.data self.old.tables) self.old.document s.top place) }
         ensures few { IfOk result (λ s. s.row < count) }
-        ensures position { IfOk result (λ s. IsPosition (D.class_of self.old.tables) self.old.document.w self.old.document.content.text
-            (rows (⟦<D as Answers>⟧.data self.old.tables) self.old.document) place s.position) }
+        ensures position { IfOk result (λ s. IsPosition (D.data self.old.tables).class self.old.document.w self.old.document.content.text
+            (rows (D.data self.old.tables) self.old.document) place s.position) }
         ensures inside { IfOk result (λ s. (1 ≤ s.position.column) × (s.position.column ≤ self.old.document.w)) }
     {
         // tell the proof that the text is UTF-8 and what sides a window may have

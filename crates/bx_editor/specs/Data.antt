@@ -1,2 +1,2 @@
 -- What Unicode's tables say of characters.
-pub use Rattle.bx_document.specs.Data.{Data}
+pub use Rattle.bx_ucd.specs.Data.{Data}

@@ -7,7 +7,7 @@ use Rattle.bx_view.specs.TextRows.{TextRow, text_rows}
 use Rattle.bx_view.specs.Moves.{place_from}
 use Rattle.bx_editor.specs.declared.message.Message.{Message}
 use Rattle.bx_editor.specs.declared.message.Message.TheVariants as messages
-use Rattle.bx_document.specs.Data.{Data}
+use Rattle.bx_ucd.specs.Data.{Data}
 
 pub record Editor : Type 0 where
   -- the text, with its past and its future

@@ -7,7 +7,7 @@ use Rattle.bx_document.specs.Drawing.{IsAmong}
 pub use Rattle.bx_document.specs.Drawing.{row_columns, rows_columns, side_by_side}
 use Rattle.bx_grid.specs.Columns.{blank}
 use Rattle.bx_grid.specs.Picture.{PictureState}
-use Rattle.bx_document.specs.Data.{Data}
+use Rattle.bx_ucd.specs.Data.{Data}
 use Rattle.bx_editor.specs.Editor.{Editor, rows, text_height}
 use Rattle.bx_editor.specs.Status.{status_columns}
 

@@ -6,7 +6,7 @@ pub use Rattle.bx_view.specs.Numbers.{paragraph_number, unit_number}
 use Rattle.bx_grid.specs.Columns.{Col, Glyph, blank}
 use Rattle.bx_editor.specs.declared.message.Message.{Message}
 use Rattle.bx_editor.specs.declared.message.Message.TheVariants.{Saved, SaveFailed, TextFull, NothingToUndo, NothingToRedo, Unsaved, Direction}
-use Rattle.bx_document.specs.Data.{Data}
+use Rattle.bx_ucd.specs.Data.{Data}
 use Rattle.bx_editor.specs.Editor.{Editor}
 
 abbrev pub message_text : Message → List ℕ

@@ -6,7 +6,6 @@ ghost use Rattle.bx_editor.specs.Editor.{after_insertion, after_redo, after_remo
 
 use crate::editor::Editor;
 use crate::message::Message;
-use bx_document::Answers;
 use bx_terms::OutOfMemory;
 use bx_ucd::BidiData;
 use bx_view::{Logical, Move};
@@ -15,7 +14,7 @@ impl<D: BidiData + Drop> Editor<D> {
     /// Puts a character in at the place, unless the text has no room for it.
     pub(crate) fn insert(&mut self, c: char) -> Result<(), OutOfMemory>
         ensures ok { OnOk result (self.new ≡ record self.old {
-          editor = after_insertion (⟦<D as Answers>⟧.data self.old.tables) (without_message self.old.editor) (encode_utf8 c);
+          editor = after_insertion (D.data self.old.tables) (without_message self.old.editor) (encode_utf8 c);
         }) }
         ensures err { OnErr result (self.new ≡ self.old) }
     {
@@ -36,7 +35,7 @@ impl<D: BidiData + Drop> Editor<D> {
     fn remove(&mut self, start: usize, stop: usize) -> Result<(), OutOfMemory>
         requires range { IsRange self.old.editor.content.text start stop }
         ensures ok { OnOk result (self.new ≡ record self.old {
-          editor = after_removal (⟦<D as Answers>⟧.data self.old.tables) (without_message self.old.editor) start stop;
+          editor = after_removal (D.data self.old.tables) (without_message self.old.editor) start stop;
         }) }
         ensures err { OnErr result (self.new ≡ self.old) }
     {
@@ -55,8 +54,8 @@ impl<D: BidiData + Drop> Editor<D> {
     /// Takes out the unit before the place, if there is one.
     pub(crate) fn erase(&mut self) -> Result<(), OutOfMemory>
         ensures ok { OnOk result (self.new ≡ record self.old {
-          editor = after_removal (⟦<D as Answers>⟧.data self.old.tables) (without_message self.old.editor)
-              (step_logical (rows (⟦<D as Answers>⟧.data self.old.tables) self.old.editor) Logical.Back self.old.editor.place) self.old.editor.place;
+          editor = after_removal (D.data self.old.tables) (without_message self.old.editor)
+              (step_logical (rows (D.data self.old.tables) self.old.editor) Logical.Back self.old.editor.place) self.old.editor.place;
         }) }
         ensures err { OnErr result (self.new ≡ self.old) }
     {
@@ -71,8 +70,8 @@ impl<D: BidiData + Drop> Editor<D> {
     /// Takes out the unit at the place, if there is one.
     pub(crate) fn delete(&mut self) -> Result<(), OutOfMemory>
         ensures ok { OnOk result (self.new ≡ record self.old {
-          editor = after_removal (⟦<D as Answers>⟧.data self.old.tables) (without_message self.old.editor) self.old.editor.place
-              (step_logical (rows (⟦<D as Answers>⟧.data self.old.tables) self.old.editor) Logical.Forward self.old.editor.place);
+          editor = after_removal (D.data self.old.tables) (without_message self.old.editor) self.old.editor.place
+              (step_logical (rows (D.data self.old.tables) self.old.editor) Logical.Forward self.old.editor.place);
         }) }
         ensures err { OnErr result (self.new ≡ self.old) }
     {

@@ -5,7 +5,6 @@ ghost use Rattle.bx_editor.specs.Keys.{after_key, is_edit_or_move, is_save, is_s
 
 use crate::editor::Editor;
 use crate::message::Message;
-use bx_document::Answers;
 use bx_explicit::Base;
 use bx_keys::Key;
 use bx_terms::OutOfMemory;
@@ -64,7 +63,7 @@ impl<D: BidiData + Drop> Editor<D> {
 
     /// A Save came to its end: it succeeded or failed. No memory.
     pub fn finish_save(&mut self, saved: bool)
-        ensures { self.new ≡ record self.old { editor = after_key (⟦<D as Answers>⟧.data self.old.tables) saved self.old.editor Key.Save } }
+        ensures { self.new ≡ record self.old { editor = after_key (D.data self.old.tables) saved self.old.editor Key.Save } }
     {
         if saved {
             self.changed = false;
@@ -80,7 +79,7 @@ impl<D: BidiData + Drop> Editor<D> {
     pub fn apply(&mut self, key: Key) -> Result<(), OutOfMemory>
         requires no_save { is_save key ≡ false }
         requires no_size { is_size_key key ≡ false }
-        ensures ok { OnOk result (self.new.editor ≡ after_key (⟦<D as Answers>⟧.data self.old.tables) false self.old.editor key) }
+        ensures ok { OnOk result (self.new.editor ≡ after_key (D.data self.old.tables) false self.old.editor key) }
         ensures tables { self.new.tables ≡ self.old.tables }
         ensures err { OnErr result (self.new ≡ self.old) }
         ensures edits { OnErr result (is_edit_or_move key ≡ true) }

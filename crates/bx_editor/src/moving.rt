@@ -6,7 +6,6 @@ ghost use Rattle.bx_editor.specs.Editor.{rows, text_height, with_place, without_
 
 use crate::editor::Editor;
 use crate::picture::text_height;
-use bx_document::Answers;
 use bx_terms::OutOfMemory;
 use bx_ucd::BidiData;
 use bx_view::Move;
@@ -14,7 +13,7 @@ use bx_view::Move;
 impl<D: BidiData + Drop> Editor<D> {
     /// The cursor goes to a place.
     fn stand_at(&mut self, place: usize)
-        requires text_place { IsTextPlace (D.class_of self.old.tables) self.old.editor.content.text place }
+        requires text_place { IsTextPlace (D.data self.old.tables).class self.old.editor.content.text place }
         ensures { self.new ≡ record self.old { editor = with_place (without_message self.old.editor) place } }
     {
         self.place = place;
@@ -28,7 +27,7 @@ impl<D: BidiData + Drop> Editor<D> {
     pub fn go_to(&mut self, offset: usize) -> Result<(), OutOfMemory>
         ensures ok { OnOk result (self.new ≡ record self.old {
           editor = with_place (without_message self.old.editor)
-              (place_from (rows (⟦<D as Answers>⟧.data self.old.tables) self.old.editor) offset);
+              (place_from (rows (D.data self.old.tables) self.old.editor) offset);
         }) }
         ensures err { OnErr result (self.new ≡ self.old) }
     {
@@ -48,7 +47,7 @@ impl<D: BidiData + Drop> Editor<D> {
     pub(crate) fn moved(&mut self, m: Move) -> Result<(), OutOfMemory>
         ensures ok { OnOk result (self.new ≡ record self.old {
           editor = with_place (without_message self.old.editor)
-              (moved self.old.editor.width (rows (⟦<D as Answers>⟧.data self.old.tables) self.old.editor) m self.old.editor.place);
+              (moved self.old.editor.width (rows (D.data self.old.tables) self.old.editor) m self.old.editor.place);
         }) }
         ensures err { OnErr result (self.new ≡ self.old) }
     {

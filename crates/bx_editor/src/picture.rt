@@ -8,7 +8,6 @@ ghost use Rattle.bx_editor.specs.Status.{status_columns};
 
 use crate::editor::Editor;
 use crate::status::{status_line, status_row};
-use bx_document::Answers;
 use bx_grid::{Cell, Grid, Picture};
 use bx_terms::OutOfMemory;
 use bx_ucd::BidiData;
@@ -37,11 +36,11 @@ impl<D: BidiData + Drop> Editor<D> {
     ) -> Result<(), OutOfMemory>
         requires height { page.old.height ≡ self.now.editor.height }
         requires width { page.old.width ≡ self.now.editor.width }
-        requires position { IsPosition (D.class_of self.now.tables) self.now.editor.width self.now.editor.content.text
-            (rows (⟦<D as Answers>⟧.data self.now.tables) self.now.editor) self.now.editor.place position }
+        requires position { IsPosition (D.data self.now.tables).class self.now.editor.width self.now.editor.content.text
+            (rows (D.data self.now.tables) self.now.editor) self.now.editor.place position }
         ensures status { OnOk result (page.new ≡ record page.old {
           columns = take (text_height self.now.editor.height * self.now.editor.width) page.old.columns
-              ++ status_columns (⟦<D as Answers>⟧.data self.now.tables) self.now.editor;
+              ++ status_columns (D.data self.now.tables) self.now.editor;
         }) }
     {
         // tells the proof how many columns the page has
@@ -73,10 +72,10 @@ impl<D: BidiData + Drop> Editor<D> {
         requires height { page.height ≡ self.old.editor.height }
         requires width { page.width ≡ self.old.editor.width }
         ensures same { self.new ≡ self.old }
-        ensures top { IfOk result (λ shown. shown.0 ≡ next_top (⟦<D as Answers>⟧.data self.old.tables) self.old.editor top) }
-        ensures picture { IfOk result (λ shown. shown.1 ≡ picture (⟦<D as Answers>⟧.data self.old.tables) self.old.editor shown.0) }
+        ensures top { IfOk result (λ shown. shown.0 ≡ next_top (D.data self.old.tables) self.old.editor top) }
+        ensures picture { IfOk result (λ shown. shown.1 ≡ picture (D.data self.old.tables) self.old.editor shown.0) }
         ensures cursor { self.old.editor.ended ≡ false
-            → IfOk result (λ shown. StandsOnItsCell (⟦<D as Answers>⟧.data self.old.tables) self.old.editor shown.0 shown.1) }
+            → IfOk result (λ shown. StandsOnItsCell (D.data self.old.tables) self.old.editor shown.0 shown.1) }
     {
         let mut page = page;
         // tells the proof how many columns the page has

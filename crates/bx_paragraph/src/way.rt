@@ -46,42 +46,42 @@ fn is_of_way(way: Way, class: Class) -> bool
 
 /// Whether a character is of one way and no bracket.
 fn is_bare<D: BidiData>(c: char, way: Way, tables: &D) -> bool
-    ensures { result ≡ is_bare (D.class_of tables.now) (D.bracket_of tables.now) way c }
+    ensures { result ≡ is_bare (D.data tables.now).class (D.data tables.now).bracket way c }
 {
     is_of_way(way, tables.class(c)) && tables.bracket(c).is_none()
 }
 
 /// Whether all characters of a text are of one way, and none is a bracket.
 pub(crate) fn are_bare<D: BidiData>(text: &str, way: Way, tables: &D) -> bool
-    ensures { result ≡ are_bare (D.class_of tables.now) (D.bracket_of tables.now) way text.now }
+    ensures { result ≡ are_bare (D.data tables.now).class (D.data tables.now).bracket way text.now }
 {
     text.chars().all(|c| is_bare(c, way, tables))
 }
 
 /// Whether a character is no bracket.
 fn is_no_bracket<D: BidiData>(c: char, tables: &D) -> bool
-    ensures { result ≡ not (is_listed (D.bracket_of tables.now) c) }
+    ensures { result ≡ not (is_listed (D.data tables.now).bracket c) }
 {
     tables.bracket(c).is_none()
 }
 
 /// Whether a text has no brackets.
 pub(crate) fn has_no_bracket<D: BidiData>(text: &str, tables: &D) -> bool
-    ensures { result ≡ has_no_bracket (D.bracket_of tables.now) text.now }
+    ensures { result ≡ has_no_bracket (D.data tables.now).bracket text.now }
 {
     text.chars().all(|c| is_no_bracket(c, tables))
 }
 
 /// Whether a character is no formatting character.
 fn is_unformatted<D: BidiData>(c: char, tables: &D) -> bool
-    ensures { result ≡ is_of_way Either (D.class_of tables.now c) }
+    ensures { result ≡ is_of_way Either ((D.data tables.now).class c) }
 {
     is_of_way(Way::Either, tables.class(c))
 }
 
 /// Whether a text has no formatting characters.
 pub(crate) fn are_unformatted<D: BidiData>(text: &str, tables: &D) -> bool
-    ensures { result ≡ are_unformatted (D.class_of tables.now) text.now }
+    ensures { result ≡ are_unformatted (D.data tables.now).class text.now }
 {
     text.chars().all(|c| is_unformatted(c, tables))
 }

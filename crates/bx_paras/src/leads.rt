@@ -49,7 +49,7 @@ fn mark<D: BidiData>(flags: &mut [bool; 256], tables: &D, code: u32)
     requires { code < 0x110000 }
     ensures len { length flags.new ≡ 256 }
     ensures same { (byte : ℕ) → get_or flags.old byte false ≡ true → get_or flags.new byte false ≡ true }
-    ensures marked { IsScalar code → is_separator (D.class_of tables.now code) ≡ true → get_or flags.new (lead_of code) false ≡ true }
+    ensures marked { IsScalar code → is_separator ((D.data tables.now).class code) ≡ true → get_or flags.new (lead_of code) false ≡ true }
 {
     if let Some(c) = char::from_u32(code) {
         if separates(tables, c) {
@@ -60,7 +60,7 @@ fn mark<D: BidiData>(flags: &mut [bool; 256], tables: &D, code: u32)
 
 /// The first bytes of separators, for a scan of `bytes` bytes.
 pub fn leads_of<D: BidiData>(tables: &D, bytes: usize) -> Leads
-    ensures { TellLeads (D.class_of tables.now) result.may_separate }
+    ensures { TellLeads (D.data tables.now).class result.may_separate }
 {
     let limit = asked_below(bytes);
     let mut may_separate = [false; 256];

@@ -26,7 +26,7 @@ pub fn classes_of<D: BidiData>(
     text: &str,
     tables: &D,
 ) -> Result<Vec<Class>, AllocError>
-    ensures { IfOk result (λ v. v.items ≡ map (D.class_of tables.now) (chars text.now)) }
+    ensures { IfOk result (λ v. v.items ≡ map (D.data tables.now).class (chars text.now)) }
 {
     let mut classes = Vec::with_capacity(alloc, count_for_room(text))?;
     for c in text.chars() {

@@ -16,8 +16,8 @@ fn break_behind<D: BidiData>(bytes: &[u8], at: usize, stop: usize, tables: &D) -
     requires inside { stop ≤ length bytes.now }
     ensures from { at ≤ result }
     ensures to { result ≤ stop }
-    ensures last { (i : ℕ) → at ≤ i → i + 1 ≡ result → is_blank (D.class_of tables.now (get_or bytes.now i 0)) ≡ true }
-    ensures none { (i : ℕ) → result ≤ i → i < stop → is_blank (D.class_of tables.now (get_or bytes.now i 0)) ≡ false }
+    ensures last { (i : ℕ) → at ≤ i → i + 1 ≡ result → is_blank ((D.data tables.now).class (get_or bytes.now i 0)) ≡ true }
+    ensures none { (i : ℕ) → result ≤ i → i < stop → is_blank ((D.data tables.now).class (get_or bytes.now i 0)) ≡ false }
 {
     let mut next = stop;
     'bytes: while next > at {
@@ -36,7 +36,7 @@ pub(crate) fn ascii_run<D: BidiData>(body: &str, at: usize, most: u16, tables: &
     requires { IsCharBoundary body.now at }
     ensures most { result.count ≤ most }
     ensures bounds { IsRunIn body.now at result }
-    ensures units { (w : ℕ) → IsNarrowRun (D.class_of tables.now) w body.now at result }
+    ensures units { (w : ℕ) → IsNarrowRun (D.data tables.now).class w body.now at result }
 {
     let bytes = body.as_bytes();
     let limit = at + (bytes.len() - at).min(most as usize + 1);

@@ -72,7 +72,7 @@ fn read_first<D: BidiData>(
 ) -> Result<usize, AllocError>
     requires { waiting ≤ length found.old.items }
     ensures within { IfOk result (λ next. next ≤ length found.new.items) }
-    ensures levels { IfOk result (λ next. Reads paragraph (D.class_of tables.now c) (found.old.items ++ level ∷ []) waiting found.new.items next) }
+    ensures levels { IfOk result (λ next. Reads paragraph ((D.data tables.now).class c) (found.old.items ++ level ∷ []) waiting found.new.items next) }
 {
     if waiting == found.len() && level == paragraph {
         found.push(level)?;
@@ -93,7 +93,7 @@ fn read_more<D: BidiData>(
 ) -> usize
     requires { waiting ≤ length found.old.items }
     ensures within { result ≤ length found.new.items }
-    ensures levels { Reads paragraph (D.class_of tables.now c) found.old.items waiting found.new.items result }
+    ensures levels { Reads paragraph ((D.data tables.now).class c) found.old.items waiting found.new.items result }
 {
     if waiting == found.len() {
         return waiting;
@@ -114,7 +114,7 @@ fn read_char<D: BidiData>(
 ) -> Result<usize, AllocError>
     requires { waiting ≤ length found.old.items }
     ensures within { IfOk result (λ next. next ≤ length found.new.items) }
-    ensures levels { IfOk result (λ next. ReadsChar paragraph (D.class_of tables.now c) is_known level found.old.items waiting found.new.items next) }
+    ensures levels { IfOk result (λ next. ReadsChar paragraph ((D.data tables.now).class c) is_known level found.old.items waiting found.new.items next) }
 {
     let Some(level) = level else {
         return Ok(waiting);
@@ -180,8 +180,8 @@ pub(crate) fn read_unit<'a, D: BidiData>(
     ensures within { IfOk result (λ r. r.0 ≤ length found.new.items) }
     ensures levels { IfOk result (λ r. (more counts : List ℕ)
         → levels_from paragraph found.old.items waiting 0 (length (chars text.now) ∷ counts)
-        (zip (map (D.class_of tables.now) (chars text.now ++ more)) levels.entry.now)
-        ≡ levels_from paragraph found.new.items r.0 0 counts (zip (map (D.class_of tables.now) more) r.1.now)) }
+        (zip (map (D.data tables.now).class (chars text.now ++ more)) levels.entry.now)
+        ≡ levels_from paragraph found.new.items r.0 0 counts (zip (map (D.data tables.now).class more) r.1.now)) }
 {
     let mut first = waiting;
     let mut is_known = false;

@@ -1,7 +1,7 @@
 -- What a session begins from.
 use Rattle.std.specs.Prelude.{ℕ, List, [], Option, Some, None}
 use Rattle.bx_explicit.specs.declared.base.Base.{Base}
-use Rattle.bx_document.specs.Data.{Data}
+use Rattle.bx_ucd.specs.Data.{Data}
 use Rattle.bx_session.specs.Session.{Session, at_opening, after_going, after_replaying, with_painting}
 use Rattle.bx_session.specs.Painting.{QueuesPicture}
 

@@ -4,7 +4,7 @@ use Rattle.std.specs.List.{filter}
 use Rattle.bx_explicit.specs.declared.base.Base.{Base}
 use Rattle.bx_keys.specs.Keys.{decoding}
 pub use Rattle.bx_keys.specs.Keys.{keys_from}
-use Rattle.bx_document.specs.Data.{Data}
+use Rattle.bx_ucd.specs.Data.{Data}
 use Rattle.bx_editor.specs.Keys.{after_keys}
 use Rattle.bx_session.specs.Session.{Session, at_opening, after_spending, after_byte, owing_after_byte, after_told, owing_after_told, after_sending}
 use Rattle.bx_session.specs.Session.{after_going, after_replay, is_replayed}

@@ -3,7 +3,7 @@ use Rattle.std.specs.Prelude.{◌≡◌, ℕ, true, false, List, ◌++◌, Optio
 use Rattle.bx_grid.specs.Picture.{PictureState, AreWholeTokens, IsIdle, IsPicture, Shows}
 use Rattle.bx_grid.specs.Terminal.{Terminal, reads}
 use Rattle.bx_grid.specs.Screens.{IfShown}
-use Rattle.bx_document.specs.Data.{Data}
+use Rattle.bx_ucd.specs.Data.{Data}
 use Rattle.bx_editor.specs.Editor.{Editor}
 use Rattle.bx_editor.specs.Picture.{StandsOnItsCell, picture}
 use Rattle.bx_session.specs.Session.{Session, unpainted_after_byte}

@@ -3,7 +3,7 @@ use Rattle.std.specs.Prelude.{◌≡◌, ◌≢◌, ℕ, false, List, All, Err}
 use Rattle.std.specs.List.{filter}
 use Rattle.bx_explicit.specs.declared.base.Base.{Base}
 use Rattle.bx_keys.specs.Keys.{decoding}
-use Rattle.bx_document.specs.Data.{Data}
+use Rattle.bx_ucd.specs.Data.{Data}
 use Rattle.bx_editor.specs.Editor.{at_start}
 use Rattle.bx_editor.specs.Keys.{after_keys}
 use Rattle.bx_session.specs.declared.error.Refused.TheVariants as refused

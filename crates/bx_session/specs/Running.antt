@@ -1,7 +1,7 @@
 -- A session run over a reader, a writer and a store.
 use Rattle.std.specs.Prelude.{◌≡◌, ◌≢◌, ◌≤◌, ◌<◌, length, ℕ, true, false, List, [], ◌∷◌, ◌++◌, map, Option, Result, Ok, Err, OnOk}
 use Rattle.std.specs.Io.KnownBytes.{Appends, Consumes, IsAtEnd}
-use Rattle.bx_document.specs.Data.{Data}
+use Rattle.bx_ucd.specs.Data.{Data}
 use Rattle.bx_session.specs.declared.status.Status.{Status}
 use Rattle.bx_session.specs.declared.error.Refused.{Refused}
 use Rattle.bx_session.specs.declared.end.End.{End}

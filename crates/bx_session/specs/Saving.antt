@@ -3,7 +3,7 @@ use Rattle.std.specs.Prelude.{◌≡◌, ℕ, Bool, true, false, List, Option, S
 use Rattle.bx_keys.specs.declared.key.Key.{Key}
 use Rattle.bx_grid.specs.Picture.{is_size}
 use Rattle.bx_store.specs.Stores.{one_more}
-use Rattle.bx_document.specs.Data.{Data}
+use Rattle.bx_ucd.specs.Data.{Data}
 use Rattle.bx_editor.specs.Keys.{is_edit_or_move, is_save}
 use Rattle.bx_session.specs.declared.status.Status.{Status}
 use Rattle.bx_session.specs.declared.error.Refused.{Refused}

@@ -6,7 +6,7 @@ use Rattle.bx_keys.specs.declared.key.Key.TheVariants.{Quit, Save}
 use Rattle.bx_keys.specs.Keys.{head_of, key_after, rest_after}
 use Rattle.bx_grid.specs.Picture.{PictureState}
 use Rattle.bx_paint.specs.Painting.{whole_bytes, changes_bytes}
-use Rattle.bx_document.specs.Data.{Data}
+use Rattle.bx_ucd.specs.Data.{Data}
 use Rattle.bx_view.specs.Moves.{place_from}
 use Rattle.bx_editor.specs.Editor.{Editor, at_start, rows, with_place, with_size, without_message}
 use Rattle.bx_editor.specs.Keys.{after_key, asks_for_whole}

@@ -12,7 +12,6 @@ use crate::error::Refused;
 use crate::saving::save_pieces;
 use crate::session::Session;
 use crate::status::Status;
-use bx_document::Answers;
 use bx_editor::Editor;
 use bx_keys::Key;
 use bx_store::Store;
@@ -42,7 +41,7 @@ pub(crate) fn apply_unsaved<D: BidiData + Drop>(
 ) -> Result<(), Refused>
     requires no_save { keys.is_save key ≡ false }
     requires sides { HasSides key }
-    ensures after_key { OnOk result (editor.new ≡ record editor.old { editor = keys.after_key (⟦<D as Answers>⟧.data editor.old.tables) false editor.old.editor key }) }
+    ensures after_key { OnOk result (editor.new ≡ record editor.old { editor = keys.after_key (D.data editor.old.tables) false editor.old.editor key }) }
     ensures err { OnErr result (editor.new ≡ editor.old) }
     ensures edits { OnErr result (keys.is_edit_or_move key ≡ true) }
     ensures refused { OnErr result (result ≡ Err Refused.Edit) }
@@ -70,7 +69,7 @@ fn apply<D: BidiData + Drop, S: Store>(
     ensures after_key { (saved : Bool)
         × StoreAfter (keys.is_save key) saved editor.old.editor.content.text (store_state S.contents S.failure_count store.old)
         (store_state S.contents S.failure_count store.new)
-        × OnOk result (editor.new ≡ record editor.old { editor = keys.after_key (⟦<D as Answers>⟧.data editor.old.tables) saved editor.old.editor key }) }
+        × OnOk result (editor.new ≡ record editor.old { editor = keys.after_key (D.data editor.old.tables) saved editor.old.editor key }) }
     ensures untouched { keys.is_save key ≡ false → store.new ≡ store.old }
     ensures err { OnErr result (editor.new ≡ editor.old) }
     ensures edits { OnErr result (keys.is_edit_or_move key ≡ true) }
@@ -107,7 +106,7 @@ impl<D: BidiData + Drop> Session<D> {
         ensures after_key { (saved : Bool)
             × StoreAfter (keys.is_save key) saved self.old.session.editor.content.text (store_state S.contents S.failure_count store.old)
             (store_state S.contents S.failure_count store.new)
-            × OnOk result (self.new ≡ record self.old { session = session_after_key (⟦<D as Answers>⟧.data self.old.tables) saved self.old.session key }) }
+            × OnOk result (self.new ≡ record self.old { session = session_after_key (D.data self.old.tables) saved self.old.session key }) }
         ensures untouched { keys.is_save key ≡ false → store.new ≡ store.old }
         ensures err { OnErr result (self.new ≡ self.old) }
         ensures edits { OnErr result (keys.is_edit_or_move key ≡ true) }
@@ -127,7 +126,7 @@ impl<D: BidiData + Drop> Session<D> {
         ensures after_byte { (saved : Bool)
             × StoreAfter (is_save_byte self.old.session byte) saved self.old.session.editor.content.text
             (store_state S.contents S.failure_count store.old) (store_state S.contents S.failure_count store.new)
-            × OnOk result (self.new ≡ record self.old { session = unpainted_after_byte (⟦<D as Answers>⟧.data self.old.tables) saved self.old.session byte }) }
+            × OnOk result (self.new ≡ record self.old { session = unpainted_after_byte (D.data self.old.tables) saved self.old.session byte }) }
         ensures asks { IfOk result (λ asks. asks ≡ not (is_idle self.old.session byte)) }
         ensures untouched { is_save_byte self.old.session byte ≡ false → store.new ≡ store.old }
         ensures err { OnErr result (self.new ≡ record self.old { session = after_spending self.old.session byte }) }
@@ -148,11 +147,11 @@ impl<D: BidiData + Drop> Session<D> {
     /// Errors: `Edit` where there was no memory to apply the key: it is spent, and nothing else has changed. `Paint` where
     /// there was none to paint: the key was applied, and the queue is as before.
     pub fn feed<S: Store>(&mut self, byte: u8, store: &mut S) -> Result<Status, Refused>
-        ensures after_byte { Feeds (⟦<D as Answers>⟧.data self.old.tables) self.old.session (store_state S.contents S.failure_count store.old) byte result
+        ensures after_byte { Feeds (D.data self.old.tables) self.old.session (store_state S.contents S.failure_count store.old) byte result
             self.new.session (store_state S.contents S.failure_count store.new) }
         ensures tables { self.new.tables ≡ self.old.tables }
         ensures paints { is_idle self.old.session byte ≡ false →
-            OnOk result (FeedPaints (⟦<D as Answers>⟧.data self.old.tables) self.old.session byte self.new.session) }
+            OnOk result (FeedPaints (D.data self.old.tables) self.old.session byte self.new.session) }
         ensures refused { OnErr result (self.new.session.pending ≡ self.old.session.pending) }
         ensures untouched { is_save_byte self.old.session byte ≡ false → store.new ≡ store.old }
 
@@ -172,9 +171,9 @@ impl<D: BidiData + Drop> Session<D> {
     /// Errors: `Size` where a side is not from 1 to 500: nothing has changed. `Paint` where there was no memory to paint: the
     /// size stands, and the queue is as before.
     pub fn told(&mut self, height: u16, width: u16) -> Result<(), Refused>
-        ensures told { ToldBy (⟦<D as Answers>⟧.data self.old.tables) self.old.session height width result self.new.session }
+        ensures told { ToldBy (D.data self.old.tables) self.old.session height width result self.new.session }
         ensures tables { self.new.tables ≡ self.old.tables }
-        ensures paints { OnOk result (ToldPaints (⟦<D as Answers>⟧.data self.old.tables) self.old.session self.new.session) }
+        ensures paints { OnOk result (ToldPaints (D.data self.old.tables) self.old.session self.new.session) }
         ensures refused { OnErr result (self.new.session.pending ≡ self.old.session.pending) }
     {
         if !is_size(height, width) {

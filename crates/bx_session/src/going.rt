@@ -5,7 +5,6 @@ ghost use Rattle.bx_session.specs.Session.{after_going};
 
 use crate::error::Refused;
 use crate::session::Session;
-use bx_document::Answers;
 use bx_ucd::BidiData;
 
 impl<D: BidiData + Drop> Session<D> {
@@ -14,7 +13,7 @@ impl<D: BidiData + Drop> Session<D> {
     ///
     /// Errors: `Edit` for want of memory: nothing has changed.
     pub fn go_to(&mut self, offset: usize) -> Result<(), Refused>
-        ensures ok { OnOk result (self.new ≡ record self.old { session = after_going (⟦<D as Answers>⟧.data self.old.tables) self.old.session offset }) }
+        ensures ok { OnOk result (self.new ≡ record self.old { session = after_going (D.data self.old.tables) self.old.session offset }) }
         ensures err { OnErr result (self.new ≡ self.old) }
         ensures refused { OnErr result (result ≡ Err Refused.Edit) }
     {

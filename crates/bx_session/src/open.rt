@@ -8,7 +8,6 @@ ghost use Rattle.bx_session.specs.Painting.{QueuesPicture};
 ghost use Rattle.bx_session.specs.Session.{at_opening};
 
 use crate::session::Session;
-use bx_document::Answers;
 use bx_editor::{Editor, OpenError};
 use bx_explicit::Base;
 use bx_keys::Decoder;
@@ -31,9 +30,9 @@ impl<D: BidiData + Drop> Session<D> {
     ) -> Result<Session<D>, OpenError>
         ensures ok { IfOk result (λ s. s ≡ record {
           tables = tables;
-          session = at_opening (⟦<D as Answers>⟧.data tables) bytes.items height width base;
+          session = at_opening (D.data tables) bytes.items height width base;
         }) }
-        ensures paints { IfOk result (λ s. QueuesPicture (⟦<D as Answers>⟧.data tables) [] None s.session) }
+        ensures paints { IfOk result (λ s. QueuesPicture (D.data tables) [] None s.session) }
         ensures short { OnOk result (length bytes.items ≤ largest_text) }
         ensures utf8 { OnOk result (IsUtf8 bytes.items) }
         ensures sized { OnOk result (is_size height width ≡ true) }

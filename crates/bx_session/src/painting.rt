@@ -7,7 +7,6 @@ ghost use Rattle.bx_session.specs.Session.{known_if, painting, with_painting, wi
 
 use crate::error::Refused;
 use crate::session::Session;
-use bx_document::Answers;
 use bx_grid::{Grid, Picture};
 use bx_paint::{PaintError, changes_into, whole_into};
 use bx_terms::OutOfMemory;
@@ -73,8 +72,8 @@ impl<D: BidiData + Drop> Session<D> {
     /// Errors: `Paint` for want of memory: top and queue are as before, and the painting is owed.
     pub fn paint(&mut self) -> Result<(), Refused>
         ensures tables { self.new.tables ≡ self.old.tables }
-        ensures ok { OnOk result (self.new.session ≡ with_painting (⟦<D as Answers>⟧.data self.old.tables) self.old.session) }
-        ensures paints { OnOk result (QueuesPicture (⟦<D as Answers>⟧.data self.old.tables) self.old.session.pending
+        ensures ok { OnOk result (self.new.session ≡ with_painting (D.data self.old.tables) self.old.session) }
+        ensures paints { OnOk result (QueuesPicture (D.data self.old.tables) self.old.session.pending
             self.old.session.known self.new.session) }
         ensures err { OnErr result (self.new.session ≡ with_painting_owed self.old.session) }
         ensures memory { OnErr result (result ≡ Err Refused.Paint) }

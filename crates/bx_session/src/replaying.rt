@@ -11,7 +11,6 @@ use crate::error::Refused;
 use crate::feeding::{apply_unsaved, asks_for_whole};
 use crate::saving::{is_text, save_pieces};
 use crate::session::Session;
-use bx_document::Answers;
 use bx_keys::Key;
 use bx_store::{Store, StoreFault};
 use bx_ucd::BidiData;
@@ -30,7 +29,7 @@ impl<D: BidiData + Drop> Session<D> {
     fn press_again(&mut self, key: Key) -> Result<(), Refused>
         requires replayed { is_replayed key ≡ true }
         requires sides { HasSides key }
-        ensures after_key { OnOk result (self.new ≡ record self.old { session = session_after_key (⟦<D as Answers>⟧.data self.old.tables) false self.old.session key }) }
+        ensures after_key { OnOk result (self.new ≡ record self.old { session = session_after_key (D.data self.old.tables) false self.old.session key }) }
         ensures err { OnErr result (self.new ≡ self.old) }
         ensures edits { OnErr result (keys.is_edit_or_move key ≡ true) }
         ensures refused { OnErr result (result ≡ Err Refused.Edit) }
@@ -47,7 +46,7 @@ impl<D: BidiData + Drop> Session<D> {
     ///
     /// Errors: `Edit` where there was no memory to apply the key: it is spent, and nothing else has changed.
     pub fn replay(&mut self, byte: u8) -> Result<(), Refused>
-        ensures after_byte { OnOk result (self.new ≡ record self.old { session = after_replay (⟦<D as Answers>⟧.data self.old.tables) self.old.session byte }) }
+        ensures after_byte { OnOk result (self.new ≡ record self.old { session = after_replay (D.data self.old.tables) self.old.session byte }) }
         ensures err { OnErr result (self.new ≡ record self.old { session = after_spending self.old.session byte }) }
         ensures edits { OnErr result (is_edit_or_move_key (key_of_byte self.old.session byte) ≡ true) }
         ensures refused { OnErr result (result ≡ Err Refused.Edit) }

@@ -9,7 +9,6 @@ ghost use Rattle.bx_session.specs.Saving.{store_state};
 use crate::end::{End, RunFault};
 use crate::journal::{Journal, NoJournal, Recorder};
 use crate::session::Session;
-use bx_document::Answers;
 use bx_store::Store;
 use bx_ucd::BidiData;
 use std::io::{Read, Write};
@@ -43,7 +42,7 @@ fn send<D: BidiData + Drop, W: Write>(
 /// Feeds bytes until the session ends. A refused byte is spent like any other.
 fn feed_all<D: BidiData + Drop, S: Store>(session: &mut Session<D>, bytes: &[u8], store: &mut S)
     ensures bytes { (answered : List ByteAnswer) × (dropped : List ℕ)
-        × FedUntilEnd (⟦<D as Answers>⟧.data session.old.tables) session.old.session (store_state S.contents S.failure_count store.old) bytes.now
+        × FedUntilEnd (D.data session.old.tables) session.old.session (store_state S.contents S.failure_count store.old) bytes.now
         session.new.session (store_state S.contents S.failure_count store.new) answered dropped }
     ensures tables { session.new.tables ≡ session.old.tables }
 {
@@ -96,7 +95,7 @@ pub fn run<D: BidiData + Drop, R: Read, W: Write, S: Store>(
     store: &mut S,
     session: &mut Session<D>,
 ) -> Result<End, RunFault>
-    ensures runs { Runs (⟦<D as Answers>⟧.data session.old.tables) session.old.session session.new.session
+    ensures runs { Runs (D.data session.old.tables) session.old.session session.new.session
         (store_state S.contents S.failure_count store.old) (store_state S.contents S.failure_count store.new)
         (R.remaining reader.old) (R.remaining reader.new) (W.contents writer.old) (W.contents writer.new) }
     ensures tables { session.new.tables ≡ session.old.tables }
@@ -114,7 +113,7 @@ pub fn run_within<D: BidiData + Drop, R: Read, W: Write, S: Store>(
     store: &mut S,
     session: &mut Session<D>,
 ) -> Result<End, RunFault>
-    ensures runs { Runs (⟦<D as Answers>⟧.data session.old.tables) session.old.session session.new.session
+    ensures runs { Runs (D.data session.old.tables) session.old.session session.new.session
         (store_state S.contents S.failure_count store.old) (store_state S.contents S.failure_count store.new)
         (R.remaining reader.old) (R.remaining reader.new) (W.contents writer.old) (W.contents writer.new) }
     ensures tables { session.new.tables ≡ session.old.tables }
@@ -133,7 +132,7 @@ pub fn run_recorded<D: BidiData + Drop, R: Read, J: Journal + Drop, W: Write, S:
     store: &mut S,
     session: &mut Session<D>,
 ) -> Result<End, RunFault>
-    ensures runs { RunsRecorded J.contents J.failure_count (⟦<D as Answers>⟧.data session.old.tables) session.old.session session.new.session
+    ensures runs { RunsRecorded J.contents J.failure_count (D.data session.old.tables) session.old.session session.new.session
         (store_state S.contents S.failure_count store.old) (store_state S.contents S.failure_count store.new)
         (R.remaining reader.old) (R.remaining reader.new) (W.contents writer.old) (W.contents writer.new) recorder.old recorder.new }
     ensures tables { session.new.tables ≡ session.old.tables }
@@ -152,7 +151,7 @@ fn run_turns<D: BidiData + Drop, R: Read, J: Journal + Drop, W: Write, S: Store>
     store: &mut S,
     session: &mut Session<D>,
 ) -> Result<End, RunFault>
-    ensures runs { RunsRecorded J.contents J.failure_count (⟦<D as Answers>⟧.data session.old.tables) session.old.session session.new.session
+    ensures runs { RunsRecorded J.contents J.failure_count (D.data session.old.tables) session.old.session session.new.session
         (store_state S.contents S.failure_count store.old) (store_state S.contents S.failure_count store.new)
         (R.remaining reader.old) (R.remaining reader.new) (W.contents writer.old) (W.contents writer.new) recorder.old recorder.new }
     ensures tables { session.new.tables ≡ session.old.tables }

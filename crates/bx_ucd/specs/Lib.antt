@@ -12,3 +12,4 @@ pub mod CodeMap
 pub mod Answers
 pub mod Reading
 pub mod SmallTables
+pub mod Data

@@ -58,9 +58,9 @@ pub const MIRRORING: &str = "\
 
 /// The tables of the small files. No line of theirs is refused: an error tells that memory ran out.
 pub fn sample_tables(alloc: Global) -> Result<Tables, UcdError>
-    ensures classes { IfOk result (λ t. (code : ℕ) → ⟦<Tables as BidiData>⟧.class_of t code ≡ class_in_file CLASSES.now code) }
-    ensures brackets { IfOk result (λ t. (code : ℕ) → ⟦<Tables as BidiData>⟧.bracket_of t code ≡ bracket_in_file BRACKETS.now code) }
-    ensures mirrors { IfOk result (λ t. (code : ℕ) → ⟦<Tables as BidiData>⟧.mirror_of t code ≡ mirror_in_file MIRRORING.now code) }
+    ensures classes { IfOk result (λ t. (code : ℕ) → (⟦<Tables as BidiData>⟧.data t).class code ≡ class_in_file CLASSES.now code) }
+    ensures brackets { IfOk result (λ t. (code : ℕ) → (⟦<Tables as BidiData>⟧.data t).bracket code ≡ bracket_in_file BRACKETS.now code) }
+    ensures mirrors { IfOk result (λ t. (code : ℕ) → (⟦<Tables as BidiData>⟧.data t).mirror code ≡ mirror_in_file MIRRORING.now code) }
     ensures refused { IfErr result (λ e. e ≡ no_memory_in e.file) }
 {
     let tables = Tables::read(

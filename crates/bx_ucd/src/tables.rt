@@ -113,9 +113,9 @@ impl Tables {
         mirroring: &[u8],
     ) -> Result<Tables, UcdError>
         ensures accepted { IfOk result (λ _. refusal classes.now brackets.now mirroring.now ≡ None) }
-        ensures classes { IfOk result (λ t. (code : ℕ) → ⟦<Tables as BidiData>⟧.class_of t code ≡ class_in_file classes.now code) }
-        ensures brackets { IfOk result (λ t. (code : ℕ) → ⟦<Tables as BidiData>⟧.bracket_of t code ≡ bracket_in_file brackets.now code) }
-        ensures mirrors { IfOk result (λ t. (code : ℕ) → ⟦<Tables as BidiData>⟧.mirror_of t code ≡ mirror_in_file mirroring.now code) }
+        ensures classes { IfOk result (λ t. (code : ℕ) → (⟦<Tables as BidiData>⟧.data t).class code ≡ class_in_file classes.now code) }
+        ensures brackets { IfOk result (λ t. (code : ℕ) → (⟦<Tables as BidiData>⟧.data t).bracket code ≡ bracket_in_file brackets.now code) }
+        ensures mirrors { IfOk result (λ t. (code : ℕ) → (⟦<Tables as BidiData>⟧.data t).mirror code ≡ mirror_in_file mirroring.now code) }
         ensures refused { IfErr result (λ e. (refusal classes.now brackets.now mirroring.now ≡ Some e) ⊎ NoMemoryAfter classes.now brackets.now e) }
     {
         Ok(Tables {
@@ -127,11 +127,7 @@ impl Tables {
 }
 
 impl BidiData for Tables {
-    ghost class_of = { λ t code. class_in_table t.classes code };
-
-    ghost bracket_of = { λ t code. value_in t.brackets code };
-
-    ghost mirror_of = { λ t code. value_in t.mirrors code };
+    ghost data = { λ t. record { class = class_in_table t.classes; bracket = value_in t.brackets; mirror = value_in t.mirrors } };
 
     ghost no_mirror_is_control = { λ t code. no_control_if_some (value_in t.mirrors code) (t.no_control code) };
 

@@ -33,9 +33,9 @@ impl Layout {
         place: usize,
     ) -> Result<Position, ViewError>
         requires row { Stands source.now self.now at }
-        requires paragraph { at.paragraph ≡ paragraph_of (lengths (D.class_of source.now.tables.now) (bytes source.now)) place }
+        requires paragraph { at.paragraph ≡ paragraph_of (lengths (D.data source.now.tables.now).class (bytes source.now)) place }
         requires order { at.start ≤ place }
-        ensures { IfOk result (IsPosition (D.class_of source.now.tables.now) self.now.w (bytes source.now) (rows source.now self.now) place) }
+        ensures { IfOk result (IsPosition (D.data source.now.tables.now).class self.now.w (bytes source.now) (rows source.now self.now) place) }
     {
         // tells the proof that paragraphs are not too many to be counted from 1
         let _count = source.index.count();

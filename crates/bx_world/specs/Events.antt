@@ -5,7 +5,7 @@ use Rattle.bx_keys.specs.declared.key.Key.{Key}
 use Rattle.bx_keys.specs.Keys.{decoding}
 use Rattle.bx_grid.specs.Picture.{is_size}
 use Rattle.bx_store.specs.Stores.{one_more}
-use Rattle.bx_document.specs.Data.{Data}
+use Rattle.bx_ucd.specs.Data.{Data}
 use Rattle.bx_editor.specs.Editor.{Editor, with_size}
 use Rattle.bx_editor.specs.Keys.{after_key}
 use Rattle.bx_session.specs.declared.error.Refused.TheVariants as refused

@@ -4,7 +4,7 @@ use Rattle.bx_explicit.specs.declared.base.Base.{Base}
 use Rattle.bx_keys.specs.Keys.{keys_from}
 use Rattle.bx_grid.specs.Picture.{Shows}
 use Rattle.bx_store.specs.Stores.{greatest}
-use Rattle.bx_document.specs.Data.{Data}
+use Rattle.bx_ucd.specs.Data.{Data}
 use Rattle.bx_editor.specs.Editor.{Editor, at_start}
 use Rattle.bx_editor.specs.Picture.{StandsOnItsCell, picture}
 use Rattle.bx_session.specs.Session.{at_opening}

@@ -2,7 +2,7 @@
 use Rattle.std.specs.Prelude.{◌≡◌, ℕ, Bool, true, false, List, [], ◌∷◌, ◌==◌, IfSome}
 use Rattle.bx_grid.specs.Picture.{PictureState, IsIdle, Shows}
 use Rattle.bx_grid.specs.Terminal.{Terminal, reads}
-use Rattle.bx_document.specs.Data.{Data}
+use Rattle.bx_ucd.specs.Data.{Data}
 use Rattle.bx_editor.specs.Editor.{Editor}
 use Rattle.bx_editor.specs.Picture.{StandsOnItsCell, picture}
 use Rattle.bx_session.specs.Session.{Session}

@@ -2,7 +2,7 @@
 use Rattle.std.specs.Prelude.{◌≡◌, ◌≢◌, ℕ, Bool, true, false, List, [], ◌∷◌, take, drop, Result, Ok, Err, IsSome}
 use Rattle.bx_grid.specs.Picture.{is_size}
 use Rattle.bx_grid.specs.declared.error.GridError.TheVariants as grid
-use Rattle.bx_document.specs.Data.{Data}
+use Rattle.bx_ucd.specs.Data.{Data}
 use Rattle.bx_session.specs.declared.error.Refused.TheVariants as refused
 use Rattle.bx_session.specs.Session.{key_of_byte, after_spending, after_byte, owing_after_byte, is_idle, after_told, owing_after_told}
 use Rattle.bx_session.specs.Saving.{StoreState, StoreAfter, is_save_byte, is_edit_or_move_key}

@@ -11,7 +11,6 @@ ghost use Rattle.bx_world.specs.Steps.{PlaysTo, is_last_accepted};
 
 use crate::step::{Step, StepFault};
 use crate::world::World;
-use bx_document::Answers;
 use bx_store::Store;
 use bx_ucd::BidiData;
 
@@ -25,7 +24,7 @@ impl<D: BidiData + Drop> World<D> {
     )
         requires empty { answers.old.items ≡ [] }
         requires room { length steps.now ≤ vec_capacity answers.old }
-        ensures plays { PlaysTo (⟦<D as Answers>⟧.data self.old.tables) self.old.world (store_state S.contents S.failure_count store.old)
+        ensures plays { PlaysTo (D.data self.old.tables) self.old.world (store_state S.contents S.failure_count store.old)
             (zip steps.now answers.new.items) self.new.world (store_state S.contents S.failure_count store.new) }
         ensures count { length answers.new.items ≡ length steps.now }
         ensures tables { self.new.tables ≡ self.old.tables }
@@ -47,28 +46,28 @@ impl<D: BidiData + Drop> World<D> {
         steps: &[Step],
         store: &mut S,
     ) -> Result<Vec<Result<(), StepFault>>, StepFault>
-        ensures plays { IfOk result (λ answers. PlaysTo (⟦<D as Answers>⟧.data self.old.tables) self.old.world
+        ensures plays { IfOk result (λ answers. PlaysTo (D.data self.old.tables) self.old.world
             (store_state S.contents S.failure_count store.old) (zip steps.now answers.items) self.new.world
             (store_state S.contents S.failure_count store.new)) }
         ensures count { IfOk result (λ answers. length answers.items ≡ length steps.now) }
         ensures tables { self.new.tables ≡ self.old.tables }
 
         // What the user did, and what came of it.
-        ensures headline { IfOk result (λ answers. HeadlineFromOpening (⟦<D as Answers>⟧.data self.old.tables) self.old.world
+        ensures headline { IfOk result (λ answers. HeadlineFromOpening (D.data self.old.tables) self.old.world
             (store_state S.contents S.failure_count store.old) (zip steps.now answers.items) self.new.world
             (store_state S.contents S.failure_count store.new)) }
-        ensures follows { IfOk result (λ answers. (events : List Event) × Follows (⟦<D as Answers>⟧.data self.old.tables) self.old.world
+        ensures follows { IfOk result (λ answers. (events : List Event) × Follows (D.data self.old.tables) self.old.world
             (store_state S.contents S.failure_count store.old) (zip steps.now answers.items) self.new.world
             (store_state S.contents S.failure_count store.new) events) }
 
         // What is seen, also in the midst of a schedule.
-        ensures seen { IfOk result (λ answers. (read : List ℕ) × PlaysReading (⟦<D as Answers>⟧.data self.old.tables) self.old.world
+        ensures seen { IfOk result (λ answers. (read : List ℕ) × PlaysReading (D.data self.old.tables) self.old.world
             (store_state S.contents S.failure_count store.old) (zip steps.now answers.items) self.new.world
             (store_state S.contents S.failure_count store.new) read
-            × SeesPromised (⟦<D as Answers>⟧.data self.old.tables) self.old.world (zip steps.now answers.items) read self.new.world) }
+            × SeesPromised (D.data self.old.tables) self.old.world (zip steps.now answers.items) read self.new.world) }
         ensures shows { IfOk result (λ answers. ShowsWhenRead (is_last_accepted (not self.old.world.session.painting_owed) (zip steps.now answers.items))
-            (⟦<D as Answers>⟧.data self.new.tables) self.new.world) }
-        ensures will_show { WillShow (⟦<D as Answers>⟧.data self.new.tables) self.new.world }
+            (D.data self.new.tables) self.new.world) }
+        ensures will_show { WillShow (D.data self.new.tables) self.new.world }
         ensures whole { StaysWhole self.new.world }
 
         // Where no memory was left for the answers.

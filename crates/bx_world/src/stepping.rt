@@ -11,7 +11,6 @@ ghost use Rattle.bx_world.specs.World.{told_after};
 
 use crate::step::{Step, StepFault};
 use crate::world::World;
-use bx_document::Answers;
 use bx_grid::{GridError, Screen};
 use bx_keys::Key;
 use bx_session::{Refused, Session};
@@ -124,7 +123,7 @@ impl<D: BidiData + Drop> World<D> {
         ensures step { (saved : Bool)
             × StoreAfter (is_save_byte self.old.world.session byte) saved self.old.world.session.editor.content.text
             (store_state S.contents S.failure_count store.old) (store_state S.contents S.failure_count store.new)
-            × AfterByteStep (⟦<D as Answers>⟧.data self.old.tables) saved self.old.world byte result self.new.world }
+            × AfterByteStep (D.data self.old.tables) saved self.old.world byte result self.new.world }
         ensures tables { self.new.tables ≡ self.old.tables }
     {
         let told = is_told_after(&self.session, self.height, self.width, self.told, byte);
@@ -135,7 +134,7 @@ impl<D: BidiData + Drop> World<D> {
 
     /// The session is told a size.
     fn tell(&mut self, height: u16, width: u16) -> Result<(), StepFault>
-        ensures step { AfterToldStep (⟦<D as Answers>⟧.data self.old.tables) self.old.world height width result self.new.world }
+        ensures step { AfterToldStep (D.data self.old.tables) self.old.world height width result self.new.world }
         ensures tables { self.new.tables ≡ self.old.tables }
     {
         let told = is_window(self.height, self.width, height, width);
@@ -181,7 +180,7 @@ impl<D: BidiData + Drop> World<D> {
     }
     /// Takes a step.
     fn answer<S: Store>(&mut self, step: Step, store: &mut S) -> Result<(), StepFault>
-        ensures steps { StepsTo (⟦<D as Answers>⟧.data self.old.tables) self.old.world (store_state S.contents S.failure_count store.old) step result
+        ensures steps { StepsTo (D.data self.old.tables) self.old.world (store_state S.contents S.failure_count store.old) step result
             self.new.world (store_state S.contents S.failure_count store.new) }
         ensures tables { self.new.tables ≡ self.old.tables }
     {
@@ -199,10 +198,10 @@ impl<D: BidiData + Drop> World<D> {
     /// Errors: `Session` for what the session refuses of a byte or a told size; `Screen` for a window's side that is not from
     /// 1 to 500, and where memory ran out in the terminal, now or before; `Line` for want of memory, and nothing was moved.
     pub fn step<S: Store>(&mut self, step: Step, store: &mut S) -> Result<(), StepFault>
-        ensures steps { StepsTo (⟦<D as Answers>⟧.data self.old.tables) self.old.world (store_state S.contents S.failure_count store.old) step result
+        ensures steps { StepsTo (D.data self.old.tables) self.old.world (store_state S.contents S.failure_count store.old) step result
             self.new.world (store_state S.contents S.failure_count store.new) }
         ensures tables { self.new.tables ≡ self.old.tables }
-        ensures shows { WillShow (⟦<D as Answers>⟧.data self.new.tables) self.new.world }
+        ensures shows { WillShow (D.data self.new.tables) self.new.world }
         ensures whole { StaysWhole self.new.world }
     {
         let answer = self.answer(step, store);

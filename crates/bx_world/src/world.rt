@@ -10,7 +10,6 @@ ghost use Rattle.bx_session.specs.Session.{at_opening};
 ghost use Rattle.bx_world.specs.Showing.{IsInStep, StaysWhole, WillShow, picture_of};
 ghost use Rattle.bx_world.specs.World.{around};
 
-use bx_document::Answers;
 use bx_explicit::Base;
 use bx_grid::Screen;
 use bx_session::{OpenError, Session};
@@ -52,9 +51,9 @@ impl<D: BidiData + Drop> Model for World<D> {
     } };
 
     ghost invariant = { λ w. IsInStep (record {
-      class = D.class_of w.session.tables;
-      bracket = D.bracket_of w.session.tables;
-      mirror = D.mirror_of w.session.tables;
+      class = (D.data w.session.tables).class;
+      bracket = (D.data w.session.tables).bracket;
+      mirror = (D.data w.session.tables).mirror;
     }) (record {
       session = w.session.session;
       line = w.line.items;
@@ -81,7 +80,7 @@ impl<D: BidiData + Drop> World<D> {
     ) -> Result<World<D>, OpenError>
         ensures ok { IfOk result (λ w. w ≡ record {
           tables = tables;
-          world = around (at_opening (⟦<D as Answers>⟧.data tables) bytes.items height width base) height width;
+          world = around (at_opening (D.data tables) bytes.items height width base) height width;
         }) }
         ensures short { OnOk result (length bytes.items ≤ largest_text) }
         ensures utf8 { OnOk result (IsUtf8 bytes.items) }
@@ -128,7 +127,7 @@ impl<D: BidiData + Drop> World<D> {
     pub fn shows(&self) -> bool
         ensures painted { IsTrue result ↔ IsShownOn self.now.world.session.painted self.now.world.screen }
         ensures state { self.now.world.session.painting_owed ≡ false
-            → (IsTrue result ↔ IfShown self.now.world.screen (picture_of (⟦<D as Answers>⟧.data self.now.tables) self.now.world.session)) }
+            → (IsTrue result ↔ IfShown self.now.world.screen (picture_of (D.data self.now.tables) self.now.world.session)) }
     {
         self.keep_up();
         self.session.is_shown_on(&self.screen)
@@ -136,7 +135,7 @@ impl<D: BidiData + Drop> World<D> {
 
     /// What every step keeps: the terminal will show the picture last painted.
     pub(crate) fn keep_up(&self)
-        ensures in_step { IsInStep (⟦<D as Answers>⟧.data self.now.tables) self.now.world }
+        ensures in_step { IsInStep (D.data self.now.tables) self.now.world }
     {
         let _ = &self.session;
     }

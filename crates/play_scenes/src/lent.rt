@@ -9,11 +9,7 @@ pub struct Lent<'a, D: BidiData> {
 }
 
 impl<D: BidiData> BidiData for Lent<'_, D> {
-    ghost class_of = { λ s c. D.class_of s.tables.now c };
-
-    ghost bracket_of = { λ s c. D.bracket_of s.tables.now c };
-
-    ghost mirror_of = { λ s c. D.mirror_of s.tables.now c };
+    ghost data = { λ s. D.data s.tables.now };
 
     ghost no_mirror_is_control = { λ s c. D.no_mirror_is_control s.tables.now c };
 

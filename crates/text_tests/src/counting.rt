@@ -28,11 +28,7 @@ impl Counting {
 impl BidiData for Counting {
     ghost use Rattle.std.specs.Prelude.{None};
 
-    ghost class_of = { λ s c. ⟦<Tables as BidiData>⟧.class_of s.tables c };
-
-    ghost bracket_of = { λ s c. ⟦<Tables as BidiData>⟧.bracket_of s.tables c };
-
-    ghost mirror_of = { λ _ _. None };
+    ghost data = { λ s. record (⟦<Tables as BidiData>⟧.data s.tables) { mirror = λ _. None } };
 
     ghost no_mirror_is_control = { λ _ _. tt };
 

@@ -35,9 +35,9 @@ fn read_files<R: Files + AllocGlobal>(rt: &R, paths: &[String]) -> Result<DataFi
 
 /// The tables that the files make.
 fn read_tables<R: AllocGlobal>(rt: &R, files: &DataFiles) -> Result<Tables>
-    ensures classes { IfOk result (λ t. (code : ℕ) → ⟦<Tables as BidiData>⟧.class_of t code ≡ class_in_file files.now.classes.items code) }
-    ensures brackets { IfOk result (λ t. (code : ℕ) → ⟦<Tables as BidiData>⟧.bracket_of t code ≡ bracket_in_file files.now.brackets.items code) }
-    ensures mirrors { IfOk result (λ t. (code : ℕ) → ⟦<Tables as BidiData>⟧.mirror_of t code ≡ mirror_in_file files.now.mirroring.items code) }
+    ensures classes { IfOk result (λ t. (code : ℕ) → (⟦<Tables as BidiData>⟧.data t).class code ≡ class_in_file files.now.classes.items code) }
+    ensures brackets { IfOk result (λ t. (code : ℕ) → (⟦<Tables as BidiData>⟧.data t).bracket code ≡ bracket_in_file files.now.brackets.items code) }
+    ensures mirrors { IfOk result (λ t. (code : ℕ) → (⟦<Tables as BidiData>⟧.data t).mirror code ≡ mirror_in_file files.now.mirroring.items code) }
 {
     let tables = Tables::read(
         rt.alloc(),

@@ -19,11 +19,7 @@ struct Counting<'a> {
 impl BidiData for Counting<'_> {
     ghost use Rattle.std.specs.Prelude.{None};
 
-    ghost class_of = { λ s c. ⟦<Tables as BidiData>⟧.class_of s.tables c };
-
-    ghost bracket_of = { λ s c. ⟦<Tables as BidiData>⟧.bracket_of s.tables c };
-
-    ghost mirror_of = { λ _ _. None };
+    ghost data = { λ s. record (⟦<Tables as BidiData>⟧.data s.tables) { mirror = λ _. None } };
 
     ghost no_mirror_is_control = { λ _ _. tt };
 

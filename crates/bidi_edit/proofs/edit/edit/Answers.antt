@@ -1,4 +1,4 @@
-use Rattle.bx_document.specs.Data.{Data}
+use Rattle.bx_ucd.specs.Data.{Data}
 use Rattle.bx_ucd.specs.ClassTable.{class_in_table}
 use Rattle.bx_ucd.specs.CodeMap.{value_in}
 use Rattle.bx_ucd.specs.declared.tables.Tables.{Tables}

@@ -1,13 +1,13 @@
-use Rattle.bx_document.specs.Data.{Data}
+use Rattle.bx_ucd.specs.Data.{Data}
 use Rattle.bidi_edit.proofs.Edited.{painted_again, runs_again}
 use Rattle.bidi_edit.proofs.edit.resume.Goals as goal
 
 pub returns-clause-paints : goal.returns-clause-paints
 returns-clause-paints g c =
     let says : g.row.D.Denot → Data = λ t. record {
-      class = g.D.BidiData.class_of t;
-      bracket = g.D.BidiData.bracket_of t;
-      mirror = g.D.BidiData.mirror_of t;
+      class = (g.D.BidiData.data t).class;
+      bracket = (g.D.BidiData.data t).bracket;
+      mirror = (g.D.BidiData.data t).mirror;
     } in
     painted_again says c.args.session.now c.replay.new.session c.paint.new.self c.args.keys.now _ c.replay.ensures.tables c.in_ok-replay.ensures.replays
     c.in_ok-paint.ensures.ok c.in_ok-paint.ensures.paints
@@ -15,9 +15,9 @@ returns-clause-paints g c =
 pub returns-clause-runs : goal.returns-clause-runs
 returns-clause-runs g c =
     let says : g.row.D.Denot → Data = λ t. record {
-      class = g.D.BidiData.class_of t;
-      bracket = g.D.BidiData.bracket_of t;
-      mirror = g.D.BidiData.mirror_of t;
+      class = (g.D.BidiData.data t).class;
+      bracket = (g.D.BidiData.data t).bracket;
+      mirror = (g.D.BidiData.data t).mirror;
     } in
     runs_again says g.J.Journal.contents g.J.Journal.failure_count c.args.session.now c.replay.new.session c.paint.new.self c.args.keys.now _ _ _ _ _ _ _ _ _ _
     c.replay.ensures.tables c.in_ok-replay.ensures.replays c.paint.ensures.tables c.in_ok-paint.ensures.ok c.run_recorded.ensures.runs

@@ -5,8 +5,8 @@ use Rattle.bidi_edit.proofs.replaying.replay.Given as goal
 abbrev pub invariant-loop-byte : goal.invariant-loop-byte
 invariant-loop-byte g l =
     (l.session.session ≡ after_replaying (record {
-      class = g.D.BidiData.class_of l.fn.session.tables;
-      bracket = g.D.BidiData.bracket_of l.fn.session.tables;
-      mirror = g.D.BidiData.mirror_of l.fn.session.tables;
+      class = (g.D.BidiData.data l.fn.session.tables).class;
+      bracket = (g.D.BidiData.data l.fn.session.tables).bracket;
+      mirror = (g.D.BidiData.data l.fn.session.tables).mirror;
     }) l.fn.session.session (take l.byte-index l.keys))
     × (l.session.tables ≡ l.fn.session.tables)

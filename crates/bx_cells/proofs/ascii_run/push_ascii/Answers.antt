@@ -30,7 +30,7 @@ bytes-preserved g c =
     subst (λ xs. is_ascii_printable (get_or xs (at + 1) 0) ≡ true) same
     (c.printable_stop-stop.ensures.printable (at + 1) (omega (arith, from)) (omega (arith, test))) in
     let byte = c.from.ensures ∙ ap (λ xs. get_or xs at 0) same in
-    let class = g.D.BidiData.class_of c.args.tables.now in
+    let class = (g.D.BidiData.data c.args.tables.now).class in
     record {
       from = omega (arith, from);
       to = omega (arith, test);

@@ -6,7 +6,7 @@ use Rattle.bx_cells.proofs.by_rules.push_by_rules.Goals as goal
 pub loop-cluster-preserved : goal.loop-cluster-preserved
 loop-cluster-preserved g c =
     let i = c.loop-cluster.invariant in
-    let class = g.D.BidiData.class_of c.args.tables.now in
+    let class = (g.D.BidiData.data c.args.tables.now).class in
     let from = i.from in
     let left = graphemes_left c.next.new.self in
     let next = next-cluster class c.args.w c.args.body.now c.loop-cluster.start c.in-Some.cluster.now left c.utf8.body i.boundary

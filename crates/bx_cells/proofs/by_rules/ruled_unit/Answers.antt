@@ -11,7 +11,7 @@ unreachable-requires g c =
 
 pub returns-clause-units : goal.returns-clause-units
 returns-clause-units g c =
-    let class = g.D.BidiData.class_of c.args.tables.now in
+    let class = (g.D.BidiData.data c.args.tables.now).class in
     let left = c.graphemes.ensures.left ∙ ap (graphemes true) c.range_from.ensures.value in
     let next = next-cluster class c.args.w c.args.body.now c.args.at c.in-Some.cluster.now _ c.utf8.body c.requires.start
     (sym left ∙ c.in-Some.ensures.steps) in
@@ -19,7 +19,7 @@ returns-clause-units g c =
 
 pub returns-clause-stop : goal.returns-clause-stop
 returns-clause-stop g c =
-    let class = g.D.BidiData.class_of c.args.tables.now in
+    let class = (g.D.BidiData.data c.args.tables.now).class in
     let left = c.graphemes.ensures.left ∙ ap (graphemes true) c.range_from.ensures.value in
     let first = sym left ∙ c.in-Some.ensures.steps in
     let next = next-cluster class c.args.w c.args.body.now c.args.at c.in-Some.cluster.now _ c.utf8.body c.requires.start first in

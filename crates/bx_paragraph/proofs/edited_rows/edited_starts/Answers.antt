@@ -12,7 +12,7 @@ use Rattle.bx_paragraph.proofs.edited_rows.edited_starts.Goals as goal
 
 pub push_rest-requires-clause-room : goal.push_rest-requires-clause-room
 push_rest-requires-clause-room g c =
-    let class = g.D.BidiData.class_of c.args.tables.now in
+    let class = (g.D.BidiData.data c.args.tables.now).class in
     let e = c.args.edit.now in
     let row = c.in-Some.row in
     let body_is : IsUtf8 e.body.now = search rules in
@@ -22,7 +22,7 @@ push_rest-requires-clause-room g c =
 
 pub returns-then-is_char_boundary : goal.returns-then-is_char_boundary
 returns-then-is_char_boundary g c =
-    let class = g.D.BidiData.class_of c.args.tables.now in
+    let class = (g.D.BidiData.data c.args.tables.now).class in
     let e = c.args.edit.now in
     let row = c.in-Some.row in
     let starts = e.starts.now in
@@ -44,11 +44,11 @@ push_rest-requires-2-clause-room g c =
     let e = c.args.edit.now in
     let body_is : IsUtf8 e.body.now = search rules in
     let inserted_is : IsUtf8 e.inserted.now = search rules in
-    room-whole (g.D.BidiData.class_of c.args.tables.now) e.w (changed e) (changed-utf8 e c.requires.edit body_is inserted_is)
+    room-whole (g.D.BidiData.data c.args.tables.now).class e.w (changed e) (changed-utf8 e c.requires.edit body_is inserted_is)
     (changed-short e c.requires.edit c.requires.short)
 
 pub returns : goal.returns
 returns g c =
     let e = c.args.edit.now in
-    let starts = row_starts (g.D.BidiData.class_of c.args.tables.now) e.w (changed e) in
+    let starts = row_starts (g.D.BidiData.data c.args.tables.now).class e.w (changed e) in
     c.in_ok-push_rest-2.ensures ∙ ap (λ xs. xs ++ map (behind origin) starts) c.clear.ensures.items ∙ behind-origin starts

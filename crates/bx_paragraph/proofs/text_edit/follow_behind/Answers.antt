@@ -7,8 +7,8 @@ use Rattle.bx_paragraph.proofs.text_edit.follow_behind.Goals as goal
 
 pub returns-clause-follows : goal.returns-clause-follows
 returns-clause-follows g c = λ e.
-    let class = g.D.BidiData.class_of c.args.tables.now in
-    let bracket = g.D.BidiData.bracket_of c.args.tables.now in
+    let class = (g.D.BidiData.data c.args.tables.now).class in
+    let bracket = (g.D.BidiData.data c.args.tables.now).bracket in
     let t = c.args.edit.now in
     let x = c.args.before in
     let near_is : IsUtf8 t.near.now = search rules in
@@ -22,5 +22,5 @@ returns-clause-follows g c = λ e.
 pub returns-clause-unformatted : goal.returns-clause-unformatted
 returns-clause-unformatted g c = λ e.
     let passed : c.is_bare_edit.result ≡ true = search rules in
-    bare-unformatted (g.D.BidiData.class_of c.args.tables.now) (g.D.BidiData.bracket_of c.args.tables.now) Either (chars c.args.edit.now.inserted.now)
+    bare-unformatted (g.D.BidiData.data c.args.tables.now).class (g.D.BidiData.data c.args.tables.now).bracket Either (chars c.args.edit.now.inserted.now)
     (c.is_bare_edit.ensures passed).inserted_is

@@ -5,8 +5,8 @@ use Rattle.bx_paragraph.proofs.text_edit.follow_within.Goals as goal
 
 pub returns-clause-follows : goal.returns-clause-follows
 returns-clause-follows g c = λ e.
-    let class = g.D.BidiData.class_of c.args.tables.now in
-    let bracket = g.D.BidiData.bracket_of c.args.tables.now in
+    let class = (g.D.BidiData.data c.args.tables.now).class in
+    let bracket = (g.D.BidiData.data c.args.tables.now).bracket in
     let t = c.args.edit.now in
     let x = c.args.before in
     let y = c.args.behind in
@@ -29,5 +29,5 @@ returns-clause-unformatted g c = λ e.
     let x = c.args.before in
     let behind_is : IsUtf8 t.behind.now = search rules in
     let passed : c.is_cut_off.result ≡ true = search rules in
-    cut-unformatted (g.D.BidiData.class_of c.args.tables.now) (g.D.BidiData.bracket_of c.args.tables.now) t x c.requires.before (t.ahead + x.index)
+    cut-unformatted (g.D.BidiData.data c.args.tables.now).class (g.D.BidiData.data c.args.tables.now).bracket t x c.requires.before (t.ahead + x.index)
     (ap (λ n. n + x.index) c.requires.ahead) c.args.behind c.requires.behind behind_is (c.is_cut_off.ensures passed)

@@ -9,7 +9,7 @@ use Rattle.bx_paras.proofs.fill.fill.Given as goal
 
 abbrev pub invariant-loop-at : goal.invariant-loop-at
 invariant-loop-at g l =
-    let class = g.D.BidiData.class_of l.tables in
+    let class = (g.D.BidiData.data l.tables).class in
     let text = l.text.edited.text in
     let left = ended_within (l.stop - l.at) (lengths class (drop l.at text)) in
     let all = ended_within (l.stop - l.start) (lengths class (drop l.start text)) in

@@ -11,7 +11,7 @@ loop-code-preserved g c = record {
   len = c.mark.ensures.len;
   asked = λ d s l e. elim (cases_eq d c.loop-code.code) [
     | inl here ↦
-        subst (λ k. IsScalar k → is_separator (g.D.BidiData.class_of c.args.tables.now k) ≡ true → get_or c.mark.new.flags (lead_of k) false ≡ true)
+        subst (λ k. IsScalar k → is_separator ((g.D.BidiData.data c.args.tables.now).class k) ≡ true → get_or c.mark.new.flags (lead_of k) false ≡ true)
         (sym here) c.mark.ensures.marked s e
     | inr other ↦ c.mark.ensures.same (lead_of d) (c.loop-code.invariant.asked d s (omega arith) e)
   ];

@@ -8,12 +8,12 @@ use Rattle.bx_paras.proofs.leads.leads_of.Given as goal
 abbrev pub invariant-loop-code : goal.invariant-loop-code
 invariant-loop-code g l = record {
   len : length l.may_separate ≡ 256;
-  asked : (c : ℕ) → IsScalar c → c < l.code → is_separator (g.D.BidiData.class_of l.tables c) ≡ true → get_or l.may_separate (lead_of c) false ≡ true;
+  asked : (c : ℕ) → IsScalar c → c < l.code → is_separator ((g.D.BidiData.data l.tables).class c) ≡ true → get_or l.may_separate (lead_of c) false ≡ true;
 }
 
 abbrev pub invariant-loop-byte : goal.invariant-loop-byte
 invariant-loop-byte g l = record {
   len : length l.may_separate ≡ 256;
-  asked : (c : ℕ) → IsScalar c → c < l.limit → is_separator (g.D.BidiData.class_of l.tables c) ≡ true → get_or l.may_separate (lead_of c) false ≡ true;
+  asked : (c : ℕ) → IsScalar c → c < l.limit → is_separator ((g.D.BidiData.data l.tables).class c) ≡ true → get_or l.may_separate (lead_of c) false ≡ true;
   later : (b : ℕ) → lead_of l.limit ≤ b → b < l.byte → get_or l.may_separate b false ≡ true;
 }

@@ -6,11 +6,11 @@ use Rattle.bx_print.proofs.paragraph.push_paragraph.Goals as goal
 
 pub returns-clause-lines : goal.returns-clause-lines
 returns-clause-lines g c =
-    let class = g.D.BidiData.class_of c.args.source.now.tables.now in
+    let class = (g.D.BidiData.data c.args.source.now.tables.now).class in
     let text = c.args.source.now.text.now.edited.text in
     let l = c.in_ok-layout.layout in
     let style = c.args.style in
-    let lines = body_lines class (g.D.BidiData.bracket_of c.args.source.now.tables.now) (g.D.BidiData.mirror_of c.args.source.now.tables.now) style.marks in
+    let lines = body_lines class (g.D.BidiData.data c.args.source.now.tables.now).bracket (g.D.BidiData.data c.args.source.now.tables.now).mirror style.marks in
     let told = c.in_ok-layout.ensures in
     let span = span-told class text c.args.source.now.index.now.paragraphs c.args.number c.span-start.result.0 c.span-start.result.1 c.args.source.now.utf8
     c.requires.number c.args.source.now.indexed c.span-start.ensures in

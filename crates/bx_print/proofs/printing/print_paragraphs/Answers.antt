@@ -10,15 +10,15 @@ use Rattle.bx_print.proofs.printing.print_paragraphs.Goals as goal
 
 pub push_paragraph-requires : goal.push_paragraph-requires
 push_paragraph-requires g c =
-    let class = g.D.BidiData.class_of c.args.source.now.tables.now in
+    let class = (g.D.BidiData.data c.args.source.now.tables.now).class in
     let all = lengths-count class c.args.source.now.text.now.edited.text in
     omega (arith, c.count-count.ensures.some, c.count-count.ensures.count, ap length c.args.source.now.indexed, all)
 
 pub returns-in_err-send_full-clause-front : goal.returns-in_err-send_full-clause-front
 returns-in_err-send_full-clause-front g c =
-    let class = g.D.BidiData.class_of c.args.source.now.tables.now in
-    let bracket = g.D.BidiData.bracket_of c.args.source.now.tables.now in
-    let mirror = g.D.BidiData.mirror_of c.args.source.now.tables.now in
+    let class = (g.D.BidiData.data c.args.source.now.tables.now).class in
+    let bracket = (g.D.BidiData.data c.args.source.now.tables.now).bracket in
+    let mirror = (g.D.BidiData.data c.args.source.now.tables.now).mirror in
     let text = c.args.source.now.text.now.edited.text in
     let style = c.args.style in
     let lines = lines_of class bracket mirror style.marks style.base style.columns in
@@ -29,9 +29,9 @@ returns-in_err-send_full-clause-front g c =
 
 pub returns-in_err-push_paragraph-2-clause-front : goal.returns-in_err-push_paragraph-2-clause-front
 returns-in_err-push_paragraph-2-clause-front g c =
-    let class = g.D.BidiData.class_of c.args.source.now.tables.now in
-    let bracket = g.D.BidiData.bracket_of c.args.source.now.tables.now in
-    let mirror = g.D.BidiData.mirror_of c.args.source.now.tables.now in
+    let class = (g.D.BidiData.data c.args.source.now.tables.now).class in
+    let bracket = (g.D.BidiData.data c.args.source.now.tables.now).bracket in
+    let mirror = (g.D.BidiData.data c.args.source.now.tables.now).mirror in
     let text = c.args.source.now.text.now.edited.text in
     let style = c.args.style in
     let lines = lines_of class bracket mirror style.marks style.base style.columns in
@@ -43,9 +43,9 @@ returns-in_err-push_paragraph-2-clause-front g c =
 
 pub loop-number-preserved : goal.loop-number-preserved
 loop-number-preserved g c =
-    let class = g.D.BidiData.class_of c.args.source.now.tables.now in
-    let bracket = g.D.BidiData.bracket_of c.args.source.now.tables.now in
-    let mirror = g.D.BidiData.mirror_of c.args.source.now.tables.now in
+    let class = (g.D.BidiData.data c.args.source.now.tables.now).class in
+    let bracket = (g.D.BidiData.data c.args.source.now.tables.now).bracket in
+    let mirror = (g.D.BidiData.data c.args.source.now.tables.now).mirror in
     let text = c.args.source.now.text.now.edited.text in
     let style = c.args.style in
     let lines = lines_of class bracket mirror style.marks style.base style.columns in
@@ -61,9 +61,9 @@ loop-number-preserved g c =
 
 pub returns-clause-page : goal.returns-clause-page
 returns-clause-page g c =
-    let class = g.D.BidiData.class_of c.args.source.now.tables.now in
-    let bracket = g.D.BidiData.bracket_of c.args.source.now.tables.now in
-    let mirror = g.D.BidiData.mirror_of c.args.source.now.tables.now in
+    let class = (g.D.BidiData.data c.args.source.now.tables.now).class in
+    let bracket = (g.D.BidiData.data c.args.source.now.tables.now).bracket in
+    let mirror = (g.D.BidiData.data c.args.source.now.tables.now).mirror in
     let text = c.args.source.now.text.now.edited.text in
     let style = c.args.style in
     let lines = lines_of class bracket mirror style.marks style.base style.columns in
@@ -80,9 +80,9 @@ returns-clause-page g c =
 
 pub returns-clause-front : goal.returns-clause-front
 returns-clause-front g c =
-    let class = g.D.BidiData.class_of c.args.source.now.tables.now in
-    let bracket = g.D.BidiData.bracket_of c.args.source.now.tables.now in
-    let mirror = g.D.BidiData.mirror_of c.args.source.now.tables.now in
+    let class = (g.D.BidiData.data c.args.source.now.tables.now).class in
+    let bracket = (g.D.BidiData.data c.args.source.now.tables.now).bracket in
+    let mirror = (g.D.BidiData.data c.args.source.now.tables.now).mirror in
     let text = c.args.source.now.text.now.edited.text in
     let style = c.args.style in
     let lines = lines_of class bracket mirror style.marks style.base style.columns in

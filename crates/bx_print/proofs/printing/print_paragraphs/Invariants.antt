@@ -7,7 +7,7 @@ use Rattle.bx_print.proofs.printing.print_paragraphs.Given as goal
 
 abbrev pub invariant-loop-number : goal.invariant-loop-number
 invariant-loop-number g l =
-    let class = g.D.BidiData.class_of l.source.tables.now in
+    let class = (g.D.BidiData.data l.source.tables.now).class in
     (written : List ℕ) × IsSent
-    (lines_of class (g.D.BidiData.bracket_of l.source.tables.now) (g.D.BidiData.mirror_of l.source.tables.now) l.style.marks l.style.base l.style.columns)
+    (lines_of class (g.D.BidiData.data l.source.tables.now).bracket (g.D.BidiData.data l.source.tables.now).mirror l.style.marks l.style.base l.style.columns)
     (paragraphs class l.source.text.now.edited.text) (g.W.Write.contents l.fn.writer) (g.W.Write.contents l.writer) l.pending.items l.number written

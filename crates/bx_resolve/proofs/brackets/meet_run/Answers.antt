@@ -7,7 +7,7 @@ use Rattle.bx_resolve.proofs.brackets.meet_run.Goals.{in-Some-kept+else-given-le
 
 pub returns-then-met-types-clause-met : goal.returns-then-met-types-clause-met
 returns-then-met-types-clause-met g c = λ rest.
-    let bracket = g.D.BidiData.bracket_of c.args.tables.now in
+    let bracket = (g.D.BidiData.data c.args.tables.now).bracket in
     let all : List ℕ = c.args.body.now in
     let met : ℕ = c.loop-k.met in
     c.loop-k.invariant.left rest
@@ -17,7 +17,7 @@ returns-then-met-types-clause-met g c = λ rest.
 
 pub loop-k-preserved : goal.loop-k-preserved
 loop-k-preserved g c =
-    let bracket = g.D.BidiData.bracket_of c.args.tables.now in
+    let bracket = (g.D.BidiData.data c.args.tables.now).bracket in
     let all : List ℕ = c.args.body.now in
     let k : ℕ = c.loop-k.k in
     let left : drop k all ≡ c.in-Some.c ∷ chars c.in-Some.behind.now = sym c.loop-k.invariant.chars_are ∙ c.in-Some.ensures.0 in

@@ -8,7 +8,7 @@ use Rattle.bx_resolve.proofs.by_rules.levels_by_rules.Goals as goal
 
 pub loop-sequence-preserved : goal.loop-sequence-preserved
 loop-sequence-preserved g c =
-    let bracket : ℕ → Option (Side × ℕ) = g.D.BidiData.bracket_of c.args.tables.now in
+    let bracket : ℕ → Option (Side × ℕ) = (g.D.BidiData.data c.args.tables.now).bracket in
     let chars : List ℕ = c.in_ok-chars.chars.items in
     let kept : List (Option Kept) = c.in_ok-explicit.explicit.kept.items in
     let ss : List RunSequence = c.deref-sequence-items.result.now in

@@ -16,7 +16,7 @@ write_lent-requires-clause-small g c =
 
 pub loop-walk-preserved : goal.loop-walk-preserved
 loop-walk-preserved g c =
-    let bracket : ℕ → Option (Side × ℕ) = g.D.BidiData.bracket_of c.args.tables.now in
+    let bracket : ℕ → Option (Side × ℕ) = (g.D.BidiData.data c.args.tables.now).bracket in
     let text : List ℕ = chars c.args.body.now in
     let kept : List (Option Kept) = c.args.explicit.now.kept.items in
     let s : RunSequence = c.advance.new.self.current in

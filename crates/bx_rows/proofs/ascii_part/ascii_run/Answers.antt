@@ -7,7 +7,7 @@ use Rattle.bx_rows.proofs.ascii_part.ascii_run.Goals as goal
 
 pub returns-clause-units : goal.returns-clause-units
 returns-clause-units g c =
-    let class = g.D.BidiData.class_of c.args.tables.now in
+    let class = (g.D.BidiData.data c.args.tables.now).class in
     let body = c.args.body.now in
     let at = c.args.at in
     let bytes = c.as_bytes-bytes.result.now in

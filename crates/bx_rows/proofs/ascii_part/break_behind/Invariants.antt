@@ -7,7 +7,7 @@ abbrev pub invariant-bytes : goal.invariant-bytes
 invariant-bytes g l = record {
   from : l.at ≤ l.next;
   to : l.next ≤ l.stop;
-  none : (i : ℕ) → l.next ≤ i → i < l.stop → is_blank (g.D.BidiData.class_of l.tables (get_or l.bytes i 0)) ≡ false;
+  none : (i : ℕ) → l.next ≤ i → i < l.stop → is_blank ((g.D.BidiData.data l.tables).class (get_or l.bytes i 0)) ≡ false;
 }
 
 abbrev pub decreases-bytes : goal.decreases-bytes

@@ -9,7 +9,7 @@ returns-then-level-paragraph-clause-levels g c =
     let pushed = c.in_ok-push.ensures.items in
     let none = c.if-waiting-len.true ∙ c.len.ensures in
     let count = c.len-then-level-paragraph.ensures in
-    let class = g.D.BidiData.class_of c.args.tables.now c.args.c in
+    let class = (g.D.BidiData.data c.args.tables.now).class c.args.c in
     subst (λ xs. Reads c.args.paragraph class xs c.args.waiting c.push.new.self.items c.len-then-level-paragraph.result) pushed
     (same_level c.args.paragraph c.args.waiting c.len-then-level-paragraph.result class old c.push.new.self.items (omega (arith, none))
     (pushed ∙ ap (λ x. old ++ x ∷ []) c.if-level-paragraph.true) (omega (arith, count)))

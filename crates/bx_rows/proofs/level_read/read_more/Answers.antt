@@ -6,7 +6,7 @@ use Rattle.bx_rows.proofs.level_read.read_more.Goals as goal
 pub returns-then-waiting-len-clause-levels : goal.returns-then-waiting-len-clause-levels
 returns-then-waiting-len-clause-levels g c =
     let none = c.if-waiting-len.true ∙ c.len.ensures in
-    still_none c.args.paragraph c.args.waiting (g.D.BidiData.class_of c.args.tables.now c.args.c) c.args.found.now.items (omega (arith, none))
+    still_none c.args.paragraph c.args.waiting ((g.D.BidiData.data c.args.tables.now).class c.args.c) c.args.found.now.items (omega (arith, none))
 
 pub returns-clause-levels : goal.returns-clause-levels
 returns-clause-levels g c =

@@ -15,7 +15,7 @@ or_false true b r e f = cc
 
 pub chars-preserved-then-is_known : goal.chars-preserved-then-is_known
 chars-preserved-then-is_known g c =
-    let class = g.D.BidiData.class_of c.args.tables.now in
+    let class = (g.D.BidiData.data c.args.tables.now).class in
     let text = c.args.text.now in
     let rest = c.chars.rest.now in
     let behind = c.in-Some.behind.now in
@@ -34,7 +34,7 @@ chars-preserved-then-is_known g c =
 
 pub chars-preserved : goal.chars-preserved
 chars-preserved g c =
-    let class = g.D.BidiData.class_of c.args.tables.now in
+    let class = (g.D.BidiData.data c.args.tables.now).class in
     let text = c.args.text.now in
     let rest = c.chars.rest.now in
     let behind = c.in-Some.behind.now in
@@ -54,7 +54,7 @@ chars-preserved g c =
 
 pub returns-then-is_known-2-clause-levels : goal.returns-then-is_known-2-clause-levels
 returns-then-is_known-2-clause-levels g c =
-    let class = g.D.BidiData.class_of c.args.tables.now in
+    let class = (g.D.BidiData.data c.args.tables.now).class in
     let text = c.args.text.now in
     known-end class c.args.paragraph (λ more counts. levels_from c.args.paragraph c.args.found.now.items c.args.waiting 0 (length (chars text) ∷ counts)
     (zip (map class (chars text ++ more)) c.args.levels.now)) c.chars.rest.now c.chars.is_known c.chars.found.items c.chars.first c.chars.left.now
@@ -62,7 +62,7 @@ returns-then-is_known-2-clause-levels g c =
 
 pub returns-clause-levels : goal.returns-clause-levels
 returns-clause-levels g c =
-    let class = g.D.BidiData.class_of c.args.tables.now in
+    let class = (g.D.BidiData.data c.args.tables.now).class in
     let text = c.args.text.now in
     unknown-end class c.args.paragraph (λ more counts. levels_from c.args.paragraph c.args.found.now.items c.args.waiting 0 (length (chars text) ∷ counts)
     (zip (map class (chars text ++ more)) c.args.levels.now)) c.chars.rest.now c.chars.is_known c.chars.found.items c.chars.first c.chars.left.now

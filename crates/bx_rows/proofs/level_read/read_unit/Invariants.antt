@@ -12,9 +12,9 @@ invariant-chars g l = record {
   within : l.first ≤ length l.found.items;
   levels : (more counts : List ℕ)
       → levels_from l.paragraph l.fn.found.items l.fn.waiting 0 (length (chars l.fn.text) ∷ counts)
-      (zip (map (g.D.BidiData.class_of l.tables) (chars l.fn.text ++ more)) l.fn.levels)
+      (zip (map (g.D.BidiData.data l.tables).class (chars l.fn.text ++ more)) l.fn.levels)
       ≡ unit_from l.is_known l.paragraph l.found.items l.first (length (chars l.rest)) counts
-      (zip (map (g.D.BidiData.class_of l.tables) (chars l.rest ++ more)) l.left);
+      (zip (map (g.D.BidiData.data l.tables).class (chars l.rest ++ more)) l.left);
 }
 
 abbrev pub decreases-chars : goal.decreases-chars

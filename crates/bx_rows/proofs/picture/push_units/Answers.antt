@@ -8,8 +8,8 @@ use Rattle.bx_rows.proofs.picture.push_units.Goals as goal
 
 pub loop-number-preserved : goal.loop-number-preserved
 loop-number-preserved g c =
-    let class = g.D.BidiData.class_of c.args.tables.now in
-    let mirror = g.D.BidiData.mirror_of c.args.tables.now in
+    let class = (g.D.BidiData.data c.args.tables.now).class in
+    let mirror = (g.D.BidiData.data c.args.tables.now).mirror in
     let k = get_or c.args.order.now c.loop-number.number-index 0 in
     let u = get_or c.args.units.now k no_unit in
     let within : k < length c.args.units.now = c.requires.order c.loop-number.number-index 0 c.loop-number-test.true in
@@ -25,4 +25,4 @@ push_face-requires g c =
     let k = get_or c.args.order.now c.loop-number.number-index 0 in
     let u = get_or c.args.units.now k no_unit in
     let within : k < length c.args.units.now = c.requires.order c.loop-number.number-index 0 c.loop-number-test.true in
-    letter-face (g.D.BidiData.class_of c.args.tables.now) c.args.w (unit_text c.args.body.now u) u.face (c.requires.faces k no_unit within)
+    letter-face (g.D.BidiData.data c.args.tables.now).class c.args.w (unit_text c.args.body.now u) u.face (c.requires.faces k no_unit within)

@@ -9,8 +9,8 @@ pub returns-clause-order : goal.returns-clause-order
 returns-clause-order g c = λ cs e.
     let row = c.args.row in
     let ordered = c.reorder.ensures in
-    let class = g.D.BidiData.class_of c.args.tables.now in
-    let mirror = g.D.BidiData.mirror_of c.args.tables.now in
+    let class = (g.D.BidiData.data c.args.tables.now).class in
+    let mirror = (g.D.BidiData.data c.args.tables.now).mirror in
     let len = c.deref_mut.ensures.len in
     let len' = c.deref_mut-2.ensures.len in
     let first = written row.glyphs.len c.mirror_odd.new.glyphs row.glyphs.items (c.in_ok-mirror_odd.ensures.count ∙ len) in

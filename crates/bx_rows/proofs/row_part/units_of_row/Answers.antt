@@ -3,17 +3,17 @@ use Rattle.bx_rows.proofs.row_part.units_of_row.Goals as goal
 
 pub most_units-count-requires : goal.most_units-count-requires
 most_units-count-requires g c =
-    (part-at (g.D.BidiData.class_of c.args.tables.now) c.args.w c.args.body.now c.args.starts.now c.args.number _ c.start_of.result c.utf8.body
+    (part-at (g.D.BidiData.data c.args.tables.now).class c.args.w c.args.body.now c.args.starts.now c.args.number _ c.start_of.result c.utf8.body
     c.requires.starts c.requires.number c.start_of.ensures).order
 
 pub units_from-requires : goal.units_from-requires
 units_from-requires g c =
-    (part-at (g.D.BidiData.class_of c.args.tables.now) c.args.w c.args.body.now c.args.starts.now c.args.number _ c.start_of.result c.utf8.body
+    (part-at (g.D.BidiData.data c.args.tables.now).class c.args.w c.args.body.now c.args.starts.now c.args.number _ c.start_of.result c.utf8.body
     c.requires.starts c.requires.number c.start_of.ensures).boundary
 
 pub returns-clause-units : goal.returns-clause-units
 returns-clause-units g c =
-    let class = g.D.BidiData.class_of c.args.tables.now in
+    let class = (g.D.BidiData.data c.args.tables.now).class in
     let body = c.args.body.now in
     let part = part-at class c.args.w body c.args.starts.now c.args.number _ c.start_of.result c.utf8.body c.requires.starts c.requires.number
     c.start_of.ensures in
@@ -22,7 +22,7 @@ returns-clause-units g c =
 
 pub returns-clause-row : goal.returns-clause-row
 returns-clause-row g c =
-    let class = g.D.BidiData.class_of c.args.tables.now in
+    let class = (g.D.BidiData.data c.args.tables.now).class in
     let body = c.args.body.now in
     let part = part-at class c.args.w body c.args.starts.now c.args.number _ c.start_of.result c.utf8.body c.requires.starts c.requires.number
     c.start_of.ensures in
@@ -32,7 +32,7 @@ returns-clause-row g c =
 
 pub returns-clause-chars : goal.returns-clause-chars
 returns-clause-chars g c = λ s start some.
-    let class = g.D.BidiData.class_of c.args.tables.now in
+    let class = (g.D.BidiData.data c.args.tables.now).class in
     let body = c.args.body.now in
     let part = part-at class c.args.w body c.args.starts.now c.args.number _ c.start_of.result c.utf8.body c.requires.starts c.requires.number
     c.start_of.ensures in

@@ -6,7 +6,7 @@ use Rattle.bx_rows.proofs.start_search.read_run.Goals as goal
 
 pub returns-clause-read : goal.returns-clause-read
 returns-clause-read g c = λ starts read.
-    let class = g.D.BidiData.class_of c.args.tables.now in
+    let class = (g.D.BidiData.data c.args.tables.now).class in
     let body = c.args.body.now in
     let w = c.args.w in
     let most = c.narrow_run-run.ensures.most in

@@ -18,11 +18,11 @@ pub returns-then-is_empty : goal.returns-then-is_empty
 returns-then-is_empty g c =
     c.in_ok-push.ensures.items
     ∙ ap (λ xs. xs ++ record { offset = 0; units = 0; chars = 0 } ∷ []) c.new-starts.ensures.items
-    ∙ sym (starts-of-none (g.D.BidiData.class_of c.args.tables.now) c.args.w c.args.body.now (is_none (length c.args.body.now) c.if-is_empty.ensures))
+    ∙ sym (starts-of-none (g.D.BidiData.data c.args.tables.now).class c.args.w c.args.body.now (is_none (length c.args.body.now) c.if-is_empty.ensures))
 
 pub loop-at-init : goal.loop-at-init
 loop-at-init g c =
-    let class = g.D.BidiData.class_of c.args.tables.now in
+    let class = (g.D.BidiData.data c.args.tables.now).class in
     let body = c.args.body.now in
     let w = c.args.w in
     record {
@@ -43,7 +43,7 @@ loop-at-preserved g c = record {
 
 pub returns-then-scan-eq0 : goal.returns-then-scan-eq0
 returns-then-scan-eq0 g c =
-    let class = g.D.BidiData.class_of c.args.tables.now in
+    let class = (g.D.BidiData.data c.args.tables.now).class in
     let body = c.args.body.now in
     let w = c.args.w in
     let starts = c.loop-at.starts.items in
@@ -55,7 +55,7 @@ returns-then-scan-eq0 g c =
 
 pub returns : goal.returns
 returns g c =
-    let class = g.D.BidiData.class_of c.args.tables.now in
+    let class = (g.D.BidiData.data c.args.tables.now).class in
     let body = c.args.body.now in
     let w = c.args.w in
     let starts = c.loop-at.starts.items in

@@ -8,9 +8,9 @@ abbrev pub invariant-loop-byte : goal.invariant-loop-byte
 invariant-loop-byte g l =
     ((answered : List ByteAnswer)
     × Fed (record {
-      class = g.D.BidiData.class_of l.initial.session.tables;
-      bracket = g.D.BidiData.bracket_of l.initial.session.tables;
-      mirror = g.D.BidiData.mirror_of l.initial.session.tables;
+      class = (g.D.BidiData.data l.initial.session.tables).class;
+      bracket = (g.D.BidiData.data l.initial.session.tables).bracket;
+      mirror = (g.D.BidiData.data l.initial.session.tables).mirror;
     }) l.initial.session.session (store_state g.S.Store.contents g.S.Store.failure_count l.initial.store) l.bytes l.byte-index l.session.session
     (store_state g.S.Store.contents g.S.Store.failure_count l.store) answered)
     × (l.session.tables ≡ l.initial.session.tables)

@@ -37,9 +37,9 @@ returns-then-count-eq0-clause-runs g c =
 pub returns-in_err-send-2-clause-runs : goal.returns-in_err-send-2-clause-runs
 returns-in_err-send-2-clause-runs g c =
     let says : g.row.D.Denot → Data = λ t. record {
-      class = g.D.BidiData.class_of t;
-      bracket = g.D.BidiData.bracket_of t;
-      mirror = g.D.BidiData.mirror_of t;
+      class = (g.D.BidiData.data t).class;
+      bracket = (g.D.BidiData.data t).bracket;
+      mirror = (g.D.BidiData.data t).mirror;
     } in
     let run = c.reads.invariant.0 in
     let fed = c.feed_all.ensures.bytes in
@@ -62,9 +62,9 @@ returns-in_err-send-2-clause-runs g c =
 pub reads-preserved : goal.reads-preserved
 reads-preserved g c =
     let says : g.row.D.Denot → Data = λ t. record {
-      class = g.D.BidiData.class_of t;
-      bracket = g.D.BidiData.bracket_of t;
-      mirror = g.D.BidiData.mirror_of t;
+      class = (g.D.BidiData.data t).class;
+      bracket = (g.D.BidiData.data t).bracket;
+      mirror = (g.D.BidiData.data t).mirror;
     } in
     let run = c.reads.invariant.0 in
     let fed = c.feed_all.ensures.bytes in

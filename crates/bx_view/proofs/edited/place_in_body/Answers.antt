@@ -8,8 +8,8 @@ use Rattle.bx_view.proofs.edited.place_in_body.Goals as goal
 
 pub returns-in-Some-clause-place : goal.returns-in-Some-clause-place
 returns-in-Some-clause-place g c =
-    let class = g.D.BidiData.class_of c.args.tables.now in
-    let bracket = g.D.BidiData.bracket_of c.args.tables.now in
+    let class = (g.D.BidiData.data c.args.tables.now).class in
+    let bracket = (g.D.BidiData.data c.args.tables.now).bracket in
     let l = c.args.paragraph.now in
     let some = side-some l.w (subst (λ w. is_side w ≡ true) c.width-side.ensures.width c.width-side.ensures.side) in
     let utf8 = subst IsUtf8 c.body-utf8.ensures c.body-utf8.utf8 in
@@ -19,8 +19,8 @@ returns-in-Some-clause-place g c =
 
 pub returns-in-Some-clause-within : goal.returns-in-Some-clause-within
 returns-in-Some-clause-within g c =
-    let class = g.D.BidiData.class_of c.args.tables.now in
-    let bracket = g.D.BidiData.bracket_of c.args.tables.now in
+    let class = (g.D.BidiData.data c.args.tables.now).class in
+    let bracket = (g.D.BidiData.data c.args.tables.now).bracket in
     let l = c.args.paragraph.now in
     let some = side-some l.w (subst (λ w. is_side w ≡ true) c.width-side.ensures.width c.width-side.ensures.side) in
     let utf8 = subst IsUtf8 c.body-utf8.ensures c.body-utf8.utf8 in
@@ -28,8 +28,8 @@ returns-in-Some-clause-within g c =
 
 pub returns-then-row-rows-clause-place : goal.returns-then-row-rows-clause-place
 returns-then-row-rows-clause-place g c =
-    let class = g.D.BidiData.class_of c.args.tables.now in
-    let bracket = g.D.BidiData.bracket_of c.args.tables.now in
+    let class = (g.D.BidiData.data c.args.tables.now).class in
+    let bracket = (g.D.BidiData.data c.args.tables.now).bracket in
     let l = c.args.paragraph.now in
     let some = side-some l.w (subst (λ w. is_side w ≡ true) c.width-side.ensures.width c.width-side.ensures.side) in
     let utf8 = subst IsUtf8 c.body-utf8.ensures c.body-utf8.utf8 in
@@ -42,8 +42,8 @@ returns-then-row-rows-clause-place g c =
 
 pub returns-then-row-rows-clause-within : goal.returns-then-row-rows-clause-within
 returns-then-row-rows-clause-within g c =
-    let class = g.D.BidiData.class_of c.args.tables.now in
-    let bracket = g.D.BidiData.bracket_of c.args.tables.now in
+    let class = (g.D.BidiData.data c.args.tables.now).class in
+    let bracket = (g.D.BidiData.data c.args.tables.now).bracket in
     let l = c.args.paragraph.now in
     let some = side-some l.w (subst (λ w. is_side w ≡ true) c.width-side.ensures.width c.width-side.ensures.side) in
     let utf8 = subst IsUtf8 c.body-utf8.ensures c.body-utf8.utf8 in
@@ -51,8 +51,8 @@ returns-then-row-rows-clause-within g c =
 
 pub returns-clause-place : goal.returns-clause-place
 returns-clause-place g c =
-    let class = g.D.BidiData.class_of c.args.tables.now in
-    let bracket = g.D.BidiData.bracket_of c.args.tables.now in
+    let class = (g.D.BidiData.data c.args.tables.now).class in
+    let bracket = (g.D.BidiData.data c.args.tables.now).bracket in
     let l = c.args.paragraph.now in
     let some = side-some l.w (subst (λ w. is_side w ≡ true) c.width-side.ensures.width c.width-side.ensures.side) in
     let utf8 = subst IsUtf8 c.body-utf8.ensures c.body-utf8.utf8 in
@@ -65,8 +65,8 @@ returns-clause-place g c =
 
 pub returns-clause-within : goal.returns-clause-within
 returns-clause-within g c =
-    let class = g.D.BidiData.class_of c.args.tables.now in
-    let bracket = g.D.BidiData.bracket_of c.args.tables.now in
+    let class = (g.D.BidiData.data c.args.tables.now).class in
+    let bracket = (g.D.BidiData.data c.args.tables.now).bracket in
     let l = c.args.paragraph.now in
     let some = side-some l.w (subst (λ w. is_side w ≡ true) c.width-side.ensures.width c.width-side.ensures.side) in
     let utf8 = subst IsUtf8 c.body-utf8.ensures c.body-utf8.utf8 in

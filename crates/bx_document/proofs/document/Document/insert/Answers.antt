@@ -8,12 +8,12 @@ pub place_after-requires-clause-range : goal.place_after-requires-clause-range
 place_after-requires-clause-range g c =
     let now = c.args.self.now in
     let utf8 = subst (λ s. IsUtf8 s.document.content.text) c.self.view_is c.len.ensures.utf8 in
-    let bounds = place-between (g.D.BidiData.class_of now.tables) now.document.content.text c.args.place utf8 c.requires.text_place in
+    let bounds = place-between (g.D.BidiData.data now.tables).class now.document.content.text c.args.place utf8 c.requires.text_place in
     record { start_bounds = bounds; stop_bounds = bounds; in_order = omega arith }
 
 pub invariant_of-self-2 : goal.invariant_of-self-2
 invariant_of-self-2 g c =
-    let keeps = keeps_edited g.D.BidiData.class_of _ c.args.self.now c.insert.new.self.edited c.args.place c.args.place c.args.new.now c.args.place c.in_ok-after.after
+    let keeps = keeps_edited g.D.BidiData.data _ c.args.self.now c.insert.new.self.edited c.args.place c.args.place c.args.new.now c.args.place c.in_ok-after.after
     (c.self-2.view_is ∙ c.place_after.ensures.same) (ap (λ (x : TextState). x.edited) c.in-Ok.ensures.ok) c.self-2.invariant.2 c.requires.text_place
     c.in_ok-after.ensures.text_place in
     (c.follow.ensures, c.self-2.invariant.1, keeps, c.self-2.invariant.3)

@@ -9,8 +9,8 @@ use Rattle.bx_editor.proofs.editor.Editor.delete.Goals as goal
 pub remove-requires : goal.remove-requires
 remove-requires g c =
     let t : DocumentState g.row.D.Denot = c.self.inside.document in
-    let rows = text_rows (g.D.BidiData.class_of t.tables) (g.D.BidiData.bracket_of t.tables) t.document.base t.document.w t.document.content.text in
-    let class = g.D.BidiData.class_of t.tables in
+    let rows = text_rows (g.D.BidiData.data t.tables).class (g.D.BidiData.data t.tables).bracket t.document.base t.document.w t.document.content.text in
+    let class = (g.D.BidiData.data t.tables).class in
     let text = t.document.content.text in
     let between : (p : ℕ) → IsTextPlace class text p → IsCharBoundary text p = λ p is. place-between class text p c.len-utf8.ensures.utf8 is in
     record {

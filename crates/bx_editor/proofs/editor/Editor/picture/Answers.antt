@@ -20,10 +20,10 @@ use Rattle.bx_editor.proofs.editor.Editor.picture.Goals as goal
 pub put_status-requires-clause-position : goal.put_status-requires-clause-position
 put_status-requires-clause-position g c =
     let i = c.self.inside in
-    subst (λ doc. IsPosition (g.D.BidiData.class_of doc.tables) doc.document.w doc.document.content.text (rows (record {
-      class = g.D.BidiData.class_of doc.tables;
-      bracket = g.D.BidiData.bracket_of doc.tables;
-      mirror = g.D.BidiData.mirror_of doc.tables;
+    subst (λ doc. IsPosition (g.D.BidiData.data doc.tables).class doc.document.w doc.document.content.text (rows (record {
+      class = (g.D.BidiData.data doc.tables).class;
+      bracket = (g.D.BidiData.data doc.tables).bracket;
+      mirror = (g.D.BidiData.data doc.tables).mirror;
     }) (record {
       content = doc.document.content;
       place = i.place;
@@ -40,9 +40,9 @@ pub returns-clause-top : goal.returns-clause-top
 returns-clause-top g c =
     let i = c.self.inside in
     let d : Data = (record {
-      class = g.D.BidiData.class_of i.document.tables;
-      bracket = g.D.BidiData.bracket_of i.document.tables;
-      mirror = g.D.BidiData.mirror_of i.document.tables;
+      class = (g.D.BidiData.data i.document.tables).class;
+      bracket = (g.D.BidiData.data i.document.tables).bracket;
+      mirror = (g.D.BidiData.data i.document.tables).mirror;
     }) in
     let e : Editor = (record {
       content = i.document.document.content;
@@ -57,9 +57,9 @@ returns-clause-top g c =
     }) in
     let count = c.text_height-count.ensures.rows in
     subst (λ s. c.in_ok-shown.shown.top ≡ next_top (record {
-      class = g.D.BidiData.class_of s.tables;
-      bracket = g.D.BidiData.bracket_of s.tables;
-      mirror = g.D.BidiData.mirror_of s.tables;
+      class = (g.D.BidiData.data s.tables).class;
+      bracket = (g.D.BidiData.data s.tables).bracket;
+      mirror = (g.D.BidiData.data s.tables).mirror;
     }) s.editor c.args.top) c.self.view_is
     (c.in_ok-shown.ensures.top ∙ ap (follow (rows d e) c.args.top i.place) count
     ∙ sym (ap (λ b. if b then c.args.top else follow (rows d e) c.args.top i.place (text_height i.height)) c.if-self.false))
@@ -68,9 +68,9 @@ pub returns-clause-picture : goal.returns-clause-picture
 returns-clause-picture g c =
     let i = c.self.inside in
     let d : Data = (record {
-      class = g.D.BidiData.class_of i.document.tables;
-      bracket = g.D.BidiData.bracket_of i.document.tables;
-      mirror = g.D.BidiData.mirror_of i.document.tables;
+      class = (g.D.BidiData.data i.document.tables).class;
+      bracket = (g.D.BidiData.data i.document.tables).bracket;
+      mirror = (g.D.BidiData.data i.document.tables).mirror;
     }) in
     let e : Editor = (record {
       content = i.document.document.content;
@@ -94,9 +94,9 @@ returns-clause-picture g c =
     let cell = c.in_ok-shown.ensures.position.column in
     let status = subst (λ doc. new ≡ record mid {
       columns = take (text_height i.height * doc.document.w) mid.columns ++ status_columns (record {
-        class = g.D.BidiData.class_of doc.tables;
-        bracket = g.D.BidiData.bracket_of doc.tables;
-        mirror = g.D.BidiData.mirror_of doc.tables;
+        class = (g.D.BidiData.data doc.tables).class;
+        bracket = (g.D.BidiData.data doc.tables).bracket;
+        mirror = (g.D.BidiData.data doc.tables).mirror;
       }) (record {
         content = doc.document.content;
         place = i.place;
@@ -118,9 +118,9 @@ returns-clause-picture g c =
     ap₂ (λ t w. take (t * w) mid.columns) (sym c.text_height-count.ensures.rows) (sym wide) ∙ front
     ∙ ap (λ t. rows_columns d e.width t (shown_rows all top t)) c.text_height-count.ensures.rows in
     subst (λ s. c.new-2.result ≡ picture (record {
-      class = g.D.BidiData.class_of s.tables;
-      bracket = g.D.BidiData.bracket_of s.tables;
-      mirror = g.D.BidiData.mirror_of s.tables;
+      class = (g.D.BidiData.data s.tables).class;
+      bracket = (g.D.BidiData.data s.tables).bracket;
+      mirror = (g.D.BidiData.data s.tables).mirror;
     }) s.editor top) c.self.view_is
     (picture-is new (rows_columns d e.width (text_height e.height) (shown_rows all top (text_height e.height)) ++ status_columns d e) e.height e.width
     (row_of all e.place - row_of all top) (cell_of e.width all e.place) (c.in_ok-shown.shown.row + 1) c.in_ok-shown.shown.position.column c.new-2.result c.new-2.ensures
@@ -136,23 +136,23 @@ returns-clause-cursor g c = λ live.
     let count = c.text_height-count.ensures.rows in
     let some = subst (λ n. 1 ≤ n) c.requires.width c.columns-columns.ensures.grid.sized.narrow in
     let utf8 = subst (λ s. IsUtf8 s.editor.content.text) same c.len-utf8.ensures.utf8 in
-    let place = subst (λ s. IsTextPlace (g.D.BidiData.class_of s.tables) s.editor.content.text s.editor.place) same c.self.invariant.0 in
+    let place = subst (λ s. IsTextPlace (g.D.BidiData.data s.tables).class s.editor.content.text s.editor.place) same c.self.invariant.0 in
     let shown = subst (λ s. IsAmong (rows (record {
-      class = g.D.BidiData.class_of s.tables;
-      bracket = g.D.BidiData.bracket_of s.tables;
-      mirror = g.D.BidiData.mirror_of s.tables;
+      class = (g.D.BidiData.data s.tables).class;
+      bracket = (g.D.BidiData.data s.tables).bracket;
+      mirror = (g.D.BidiData.data s.tables).mirror;
     }) s.editor) top s.editor.place (text_height s.editor.height)) same
     (subst (λ n. IsAmong (document_rows (record {
-      class = g.D.BidiData.class_of i.document.tables;
-      bracket = g.D.BidiData.bracket_of i.document.tables;
-      mirror = g.D.BidiData.mirror_of i.document.tables;
+      class = (g.D.BidiData.data i.document.tables).class;
+      bracket = (g.D.BidiData.data i.document.tables).bracket;
+      mirror = (g.D.BidiData.data i.document.tables).mirror;
     }) i.document.document) top i.place n) count c.in_ok-shown.ensures.among) in
     let now = c.args.self.now in
     let e : Editor = now.editor in
     let d : Data = (record {
-      class = g.D.BidiData.class_of now.tables;
-      bracket = g.D.BidiData.bracket_of now.tables;
-      mirror = g.D.BidiData.mirror_of now.tables;
+      class = (g.D.BidiData.data now.tables).class;
+      bracket = (g.D.BidiData.data now.tables).bracket;
+      mirror = (g.D.BidiData.data now.tables).mirror;
     }) in
     stands d e top c.new-2.result some utf8 place shown
     (returns-clause-picture g c ∙ ap (λ b. if b then blank_picture e.height e.width else text_picture d e top (rows d e)) live)
@@ -164,9 +164,9 @@ returns-then-self-clause-picture g c =
     let now = c.args.self.now in
     let e : Editor = now.editor in
     let d : Data = (record {
-      class = g.D.BidiData.class_of now.tables;
-      bracket = g.D.BidiData.bracket_of now.tables;
-      mirror = g.D.BidiData.mirror_of now.tables;
+      class = (g.D.BidiData.data now.tables).class;
+      bracket = (g.D.BidiData.data now.tables).bracket;
+      mirror = (g.D.BidiData.data now.tables).mirror;
     }) in
     let was = c.args.page in
     let height = ap (λ s. s.editor.height) c.self.view_is ∙ sym c.requires.height in

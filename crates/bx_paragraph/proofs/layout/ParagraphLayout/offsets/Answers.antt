@@ -6,14 +6,14 @@ use Rattle.bx_paragraph.proofs.layout.ParagraphLayout.offsets.Goals as goal
 
 pub returns : goal.returns
 returns g c =
-    let class = g.D.BidiData.class_of c.args.tables.now in
+    let class = (g.D.BidiData.data c.args.tables.now).class in
     let l = c.args.self.now in
     let i = c.self.inside in
     let us = c.in_ok-units.units.items in
     let count : c.len.result ≡ length i.starts.items = search rules in
     let is_last : Bool = nat_eq (c.args.row + 1) c.len.result in
     let body = c.as_str-body.ensures.value ∙ ap (λ m. m.body) c.self.view_is in
-    offsets-are l class (g.D.BidiData.bracket_of c.args.tables.now) c.args.row us is_last c.in_ok-offsets.offsets.items c.requires.data c.requires.row
+    offsets-are l class (g.D.BidiData.data c.args.tables.now).bracket c.args.row us is_last c.in_ok-offsets.offsets.items c.requires.data c.requires.row
     (c.in_ok-units.ensures.units ∙ ap (λ b. units_of_row class i.w b c.args.row) c.as_str-body.ensures.value
     ∙ ap (λ m. units_of_row class m.w m.body c.args.row) c.self.view_is ∙ units-of-row class l.w l.body c.args.row)
     (ap (nat_eq (c.args.row + 1)) (count ∙ ap (λ m. length m.starts) c.self.view_is))

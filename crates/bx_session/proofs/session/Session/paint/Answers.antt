@@ -10,9 +10,9 @@ use Rattle.bx_session.proofs.session.Session.paint.Goals as goal
 pub invariant_of-self-2 : goal.invariant_of-self-2
 invariant_of-self-2 g c =
     let d : Data = record {
-      class = g.D.BidiData.class_of c.self.inside.editor.tables;
-      bracket = g.D.BidiData.bracket_of c.self.inside.editor.tables;
-      mirror = g.D.BidiData.mirror_of c.self.inside.editor.tables;
+      class = (g.D.BidiData.data c.self.inside.editor.tables).class;
+      bracket = (g.D.BidiData.data c.self.inside.editor.tables).bracket;
+      mirror = (g.D.BidiData.data c.self.inside.editor.tables).mirror;
     } in
     let e : Editor = c.self.inside.editor.editor in
     let same : c.picture.new.self.editor ≡ e = ap (λ (x : EditorState g.row.D.Denot). x.editor) c.in-Ok-picture.ensures.same in (
@@ -31,9 +31,9 @@ invariant_of-self-2 g c =
 pub returns-clause-ok : goal.returns-clause-ok
 returns-clause-ok g c =
     let d : Data = record {
-      class = g.D.BidiData.class_of c.self.inside.editor.tables;
-      bracket = g.D.BidiData.bracket_of c.self.inside.editor.tables;
-      mirror = g.D.BidiData.mirror_of c.self.inside.editor.tables;
+      class = (g.D.BidiData.data c.self.inside.editor.tables).class;
+      bracket = (g.D.BidiData.data c.self.inside.editor.tables).bracket;
+      mirror = (g.D.BidiData.data c.self.inside.editor.tables).mirror;
     } in
     let s : Session = record {
       editor = c.self.inside.editor.editor;
@@ -53,9 +53,9 @@ returns-clause-ok g c =
 pub returns-clause-paints : goal.returns-clause-paints
 returns-clause-paints g c =
     let d : Data = record {
-      class = g.D.BidiData.class_of c.self.inside.editor.tables;
-      bracket = g.D.BidiData.bracket_of c.self.inside.editor.tables;
-      mirror = g.D.BidiData.mirror_of c.self.inside.editor.tables;
+      class = (g.D.BidiData.data c.self.inside.editor.tables).class;
+      bracket = (g.D.BidiData.data c.self.inside.editor.tables).bracket;
+      mirror = (g.D.BidiData.data c.self.inside.editor.tables).mirror;
     } in
     let s : Session = record {
       editor = c.self.inside.editor.editor;

@@ -9,7 +9,7 @@ use Rattle.bx_view.proofs.layout.Layout.edit.Goals as goal
 
 pub edit_in-requires-clause-within : goal.edit_in-requires-clause-within
 edit_in-requires-clause-within g c =
-    let class = g.D.BidiData.class_of c.args.source.now.tables.now in
+    let class = (g.D.BidiData.data c.args.source.now.tables.now).class in
     let text = c.args.source.now.text.now.edited.text in
     let body = body_at class text c.paragraph_under-first.result.0 in
     let laid = c.in_ok-lay_out_in.ensures.body body
@@ -19,7 +19,7 @@ edit_in-requires-clause-within g c =
 
 pub index-requires : goal.index-requires
 index-requires g c =
-    let class = g.D.BidiData.class_of c.args.source.now.tables.now in
+    let class = (g.D.BidiData.data c.args.source.now.tables.now).class in
     let text = c.args.source.now.text.now.edited.text in
     let body = body_at class text c.paragraph_under-first.result.0 in
     let laid = c.in_ok-lay_out_in.ensures.body body
@@ -32,7 +32,7 @@ index-requires g c =
 
 pub place_in_body-requires : goal.place_in_body-requires
 place_in_body-requires g c =
-    let class = g.D.BidiData.class_of c.args.source.now.tables.now in
+    let class = (g.D.BidiData.data c.args.source.now.tables.now).class in
     let text = c.args.source.now.text.now.edited.text in
     let body = body_at class text c.paragraph_under-first.result.0 in
     let laid = c.in_ok-lay_out_in.ensures.body body
@@ -40,7 +40,7 @@ place_in_body-requires g c =
     (subst (λ b. HasBody b c.deref.result.now c.in-Some.i) c.paragraph_under-first.ensures.body c.in-Some.ensures)) in
     let did : c.in_ok-is_edited.is_edited ≡ true = search rules in
     let done = c.in_ok-is_edited.ensures.body did body c.self.inside.w laid in
-    let bracket = g.D.BidiData.bracket_of c.args.source.now.tables.now in
+    let bracket = (g.D.BidiData.data c.args.source.now.tables.now).bracket in
     let first = c.paragraph_under-first.result.1 in
     let now = list_splice body (c.args.start - first) (c.args.stop - first) c.args.new.now in
     let l = c.index.result.now in
@@ -49,7 +49,7 @@ place_in_body-requires g c =
 
 pub overflow_add-result : goal.overflow_add-result
 overflow_add-result g c =
-    let class = g.D.BidiData.class_of c.args.source.now.tables.now in
+    let class = (g.D.BidiData.data c.args.source.now.tables.now).class in
     let text = c.args.source.now.text.now.edited.text in
     let body = body_at class text c.paragraph_under-first.result.0 in
     let laid = c.in_ok-lay_out_in.ensures.body body
@@ -57,7 +57,7 @@ overflow_add-result g c =
     (subst (λ b. HasBody b c.deref.result.now c.in-Some.i) c.paragraph_under-first.ensures.body c.in-Some.ensures)) in
     let did : c.in_ok-is_edited.is_edited ≡ true = search rules in
     let done = c.in_ok-is_edited.ensures.body did body c.self.inside.w laid in
-    let bracket = g.D.BidiData.bracket_of c.args.source.now.tables.now in
+    let bracket = (g.D.BidiData.data c.args.source.now.tables.now).bracket in
     let first = c.paragraph_under-first.result.1 in
     let now = list_splice body (c.args.start - first) (c.args.stop - first) c.args.new.now in
     let l = c.index.result.now in
@@ -79,7 +79,7 @@ overflow_add-result g c =
 
 pub returns-clause-place : goal.returns-clause-place
 returns-clause-place g c =
-    let class = g.D.BidiData.class_of c.args.source.now.tables.now in
+    let class = (g.D.BidiData.data c.args.source.now.tables.now).class in
     let text = c.args.source.now.text.now.edited.text in
     let body = body_at class text c.paragraph_under-first.result.0 in
     let laid = c.in_ok-lay_out_in.ensures.body body
@@ -87,7 +87,7 @@ returns-clause-place g c =
     (subst (λ b. HasBody b c.deref.result.now c.in-Some.i) c.paragraph_under-first.ensures.body c.in-Some.ensures)) in
     let did : c.in_ok-is_edited.is_edited ≡ true = search rules in
     let done = c.in_ok-is_edited.ensures.body did body c.self.inside.w laid in
-    let bracket = g.D.BidiData.bracket_of c.args.source.now.tables.now in
+    let bracket = (g.D.BidiData.data c.args.source.now.tables.now).bracket in
     let first = c.paragraph_under-first.result.1 in
     let now = list_splice body (c.args.start - first) (c.args.stop - first) c.args.new.now in
     let l = c.index.result.now in

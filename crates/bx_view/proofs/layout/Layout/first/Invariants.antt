@@ -7,8 +7,8 @@ use Rattle.bx_view.proofs.layout.Layout.first.Given as goal
 
 abbrev pub invariant-loop-done : goal.invariant-loop-done
 invariant-loop-done g l =
-    let class = g.D.BidiData.class_of l.source.tables.now in
-    let bracket = g.D.BidiData.bracket_of l.source.tables.now in
+    let class = (g.D.BidiData.data l.source.tables.now).class in
+    let bracket = (g.D.BidiData.data l.source.tables.now).bracket in
     let text = bytes l.source in
     record {
       paragraphs : l.walk.paragraphs ≡ lengths class text;

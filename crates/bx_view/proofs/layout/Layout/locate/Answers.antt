@@ -9,8 +9,8 @@ use Rattle.bx_view.proofs.layout.Layout.locate.Goals as goal
 
 pub returns-clause-top : goal.returns-clause-top
 returns-clause-top g c =
-    let class = g.D.BidiData.class_of c.args.source.now.tables.now in
-    let bracket = g.D.BidiData.bracket_of c.args.source.now.tables.now in
+    let class = (g.D.BidiData.data c.args.source.now.tables.now).class in
+    let bracket = (g.D.BidiData.data c.args.source.now.tables.now).bracket in
     let text = c.args.source.now.text.now.edited.text in
     let old = c.args.self.now in
     let v = c.row_at.new.self in
@@ -25,8 +25,8 @@ returns-clause-top g c =
 
 pub returns-clause-above : goal.returns-clause-above
 returns-clause-above g c =
-    let class = g.D.BidiData.class_of c.args.source.now.tables.now in
-    let bracket = g.D.BidiData.bracket_of c.args.source.now.tables.now in
+    let class = (g.D.BidiData.data c.args.source.now.tables.now).class in
+    let bracket = (g.D.BidiData.data c.args.source.now.tables.now).bracket in
     let text = c.args.source.now.text.now.edited.text in
     let old = c.args.self.now in
     let v = c.row_at.new.self in

@@ -9,8 +9,8 @@ use Rattle.bx_view.proofs.layout.Layout.position.Goals as goal
 
 pub overflow_add-result-2 : goal.overflow_add-result-2
 overflow_add-result-2 g c =
-    let class = g.D.BidiData.class_of c.args.source.now.tables.now in
-    let bracket = g.D.BidiData.bracket_of c.args.source.now.tables.now in
+    let class = (g.D.BidiData.data c.args.source.now.tables.now).class in
+    let bracket = (g.D.BidiData.data c.args.source.now.tables.now).bracket in
     let is = c.paragraph-paragraph.ensures in
     let most = number-short class bracket c.args.self.now c.args.source.now.text.now.edited.text c.args.place c.args.at.paragraph c.args.at.start
     c.paragraph-paragraph.result.now c.args.source.now.utf8 c.requires.paragraph c.requires.row.1.start_is is c.row_of-row.result
@@ -19,8 +19,8 @@ overflow_add-result-2 g c =
 
 pub overflow_add-result-3 : goal.overflow_add-result-3
 overflow_add-result-3 g c =
-    let class = g.D.BidiData.class_of c.args.source.now.tables.now in
-    let bracket = g.D.BidiData.bracket_of c.args.source.now.tables.now in
+    let class = (g.D.BidiData.data c.args.source.now.tables.now).class in
+    let bracket = (g.D.BidiData.data c.args.source.now.tables.now).bracket in
     let is = c.paragraph-paragraph.ensures in
     let most = number-short class bracket c.args.self.now c.args.source.now.text.now.edited.text c.args.place c.args.at.paragraph c.args.at.start
     c.paragraph-paragraph.result.now c.args.source.now.utf8 c.requires.paragraph c.requires.row.1.start_is is c.row_of-row.result
@@ -29,8 +29,8 @@ overflow_add-result-3 g c =
 
 pub returns : goal.returns
 returns g c =
-    let class = g.D.BidiData.class_of c.args.source.now.tables.now in
-    let bracket = g.D.BidiData.bracket_of c.args.source.now.tables.now in
+    let class = (g.D.BidiData.data c.args.source.now.tables.now).class in
+    let bracket = (g.D.BidiData.data c.args.source.now.tables.now).bracket in
     let text = c.args.source.now.text.now.edited.text in
     let utf8 = c.args.source.now.utf8 in
     let v = c.args.self.now in

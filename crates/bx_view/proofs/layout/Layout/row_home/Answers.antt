@@ -6,8 +6,8 @@ use Rattle.bx_view.proofs.layout.Layout.row_home.Goals as goal
 
 pub overflow_add-result : goal.overflow_add-result
 overflow_add-result g c =
-    let class = g.D.BidiData.class_of c.args.source.now.tables.now in
-    let bracket = g.D.BidiData.bracket_of c.args.source.now.tables.now in
+    let class = (g.D.BidiData.data c.args.source.now.tables.now).class in
+    let bracket = (g.D.BidiData.data c.args.source.now.tables.now).bracket in
     let first : c.first.result ≡ first_of (row_by class bracket c.paragraph-paragraph.result.now c.in_ok-at.at.row) =
     c.first.ensures class bracket c.paragraph-paragraph.ensures.by in
     let text = c.args.source.now.text.now.edited.text in
@@ -18,8 +18,8 @@ overflow_add-result g c =
 
 pub returns-clause-home : goal.returns-clause-home
 returns-clause-home g c =
-    let class = g.D.BidiData.class_of c.args.source.now.tables.now in
-    let bracket = g.D.BidiData.bracket_of c.args.source.now.tables.now in
+    let class = (g.D.BidiData.data c.args.source.now.tables.now).class in
+    let bracket = (g.D.BidiData.data c.args.source.now.tables.now).bracket in
     home-told class bracket c.args.self.now c.row_at.new.self c.args.source.now.text.now.edited.text c.args.place c.in_ok-at.at c.paragraph-paragraph.result.now
     c.row_at.ensures.keeps c.args.source.now.utf8 c.in_ok-at.ensures.row c.paragraph-paragraph.ensures c.first.result
     (c.first.ensures class bracket c.paragraph-paragraph.ensures.by)

@@ -6,8 +6,8 @@ use Rattle.bx_view.proofs.layout.Layout.row_near.Goals as goal
 
 pub returns-then-number-at-clause-row : goal.returns-then-number-at-clause-row
 returns-then-number-at-clause-row g c =
-    let class = g.D.BidiData.class_of c.args.source.now.tables.now in
-    let bracket = g.D.BidiData.bracket_of c.args.source.now.tables.now in
+    let class = (g.D.BidiData.data c.args.source.now.tables.now).class in
+    let bracket = (g.D.BidiData.data c.args.source.now.tables.now).bracket in
     let text = c.args.source.now.text.now.edited.text in
     let v = c.args.self.now in
     let held = subst (λ k. HoldsBody (body_at class text k) v.w v.held c.args.at.held) (sym c.if-number-at.true) c.requires.row.1.held_is in

@@ -7,8 +7,8 @@ use Rattle.bx_view.proofs.layout.Layout.top_above.Goals as goal
 
 pub loop-above-init : goal.loop-above-init
 loop-above-init g c =
-    let class = g.D.BidiData.class_of c.args.source.now.tables.now in
-    let bracket = g.D.BidiData.bracket_of c.args.source.now.tables.now in
+    let class = (g.D.BidiData.data c.args.source.now.tables.now).class in
+    let bracket = (g.D.BidiData.data c.args.source.now.tables.now).bracket in
     let text = c.args.source.now.text.now.edited.text in
     record {
       keeps = record { base = refl; w = refl; held = c.requires.row.1.by };
@@ -21,8 +21,8 @@ loop-above-init g c =
 
 pub returns-then-first_in-old-clause-top : goal.returns-then-first_in-old-clause-top
 returns-then-first_in-old-clause-top g c = λ n k on begins.
-    let class = g.D.BidiData.class_of c.args.source.now.tables.now in
-    let bracket = g.D.BidiData.bracket_of c.args.source.now.tables.now in
+    let class = (g.D.BidiData.data c.args.source.now.tables.now).class in
+    let bracket = (g.D.BidiData.data c.args.source.now.tables.now).bracket in
     let text = c.args.source.now.text.now.edited.text in
     let old = c.args.self.now in
     let v = c.loop-above.self in
@@ -36,8 +36,8 @@ returns-then-first_in-old-clause-top g c = λ n k on begins.
 
 pub returns-then-first_in-old-clause-above : goal.returns-then-first_in-old-clause-above
 returns-then-first_in-old-clause-above g c = λ n k on begins.
-    let class = g.D.BidiData.class_of c.args.source.now.tables.now in
-    let bracket = g.D.BidiData.bracket_of c.args.source.now.tables.now in
+    let class = (g.D.BidiData.data c.args.source.now.tables.now).class in
+    let bracket = (g.D.BidiData.data c.args.source.now.tables.now).bracket in
     let text = c.args.source.now.text.now.edited.text in
     let old = c.args.self.now in
     let v = c.loop-above.self in
@@ -52,8 +52,8 @@ returns-then-first_in-old-clause-above g c = λ n k on begins.
 -- the first row is at the old top or above it
 pub returns-in_default-clause-top : goal.returns-in_default-clause-top
 returns-in_default-clause-top g c = λ n k on begins.
-    let class = g.D.BidiData.class_of c.args.source.now.tables.now in
-    let bracket = g.D.BidiData.bracket_of c.args.source.now.tables.now in
+    let class = (g.D.BidiData.data c.args.source.now.tables.now).class in
+    let bracket = (g.D.BidiData.data c.args.source.now.tables.now).bracket in
     let text = c.args.source.now.text.now.edited.text in
     let old = c.args.self.now in
     let v = c.loop-above.self in
@@ -67,8 +67,8 @@ returns-in_default-clause-top g c = λ n k on begins.
 
 pub returns-in_default-clause-above : goal.returns-in_default-clause-above
 returns-in_default-clause-above g c = λ n k on begins.
-    let class = g.D.BidiData.class_of c.args.source.now.tables.now in
-    let bracket = g.D.BidiData.bracket_of c.args.source.now.tables.now in
+    let class = (g.D.BidiData.data c.args.source.now.tables.now).class in
+    let bracket = (g.D.BidiData.data c.args.source.now.tables.now).bracket in
     let text = c.args.source.now.text.now.edited.text in
     let old = c.args.self.now in
     let v = c.loop-above.self in
@@ -82,8 +82,8 @@ returns-in_default-clause-above g c = λ n k on begins.
 
 pub loop-above-preserved : goal.loop-above-preserved
 loop-above-preserved g c =
-    let class = g.D.BidiData.class_of c.args.source.now.tables.now in
-    let bracket = g.D.BidiData.bracket_of c.args.source.now.tables.now in
+    let class = (g.D.BidiData.data c.args.source.now.tables.now).class in
+    let bracket = (g.D.BidiData.data c.args.source.now.tables.now).bracket in
     let text = c.args.source.now.text.now.edited.text in
     let old = c.args.self.now in
     let v = c.loop-above.self in
@@ -112,8 +112,8 @@ loop-above-preserved g c =
 
 pub returns-clause-top : goal.returns-clause-top
 returns-clause-top g c = λ n k on begins.
-    let class = g.D.BidiData.class_of c.args.source.now.tables.now in
-    let bracket = g.D.BidiData.bracket_of c.args.source.now.tables.now in
+    let class = (g.D.BidiData.data c.args.source.now.tables.now).class in
+    let bracket = (g.D.BidiData.data c.args.source.now.tables.now).bracket in
     let text = c.args.source.now.text.now.edited.text in
     let v = c.loop-above.self in
     let i = c.loop-above.invariant in

@@ -8,9 +8,9 @@ use Rattle.bx_world.proofs.world.World.play_into.Goals as goal
 pub loop-step-preserved : goal.loop-step-preserved
 loop-step-preserved g c =
     let says : g.row.D.Denot → Data = λ t. record {
-      class = g.D.BidiData.class_of t;
-      bracket = g.D.BidiData.bracket_of t;
-      mirror = g.D.BidiData.mirror_of t;
+      class = (g.D.BidiData.data t).class;
+      bracket = (g.D.BidiData.data t).bracket;
+      mirror = (g.D.BidiData.data t).mirror;
     } in
     let h = c.loop-step.invariant in (
       one_played says c.args.self.now.tables c.loop-step.self.tables c.args.self.now.world c.loop-step.self.world c.step.new.self.world

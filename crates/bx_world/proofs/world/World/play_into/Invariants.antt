@@ -7,9 +7,9 @@ use Rattle.bx_world.proofs.world.World.play_into.Given as goal
 abbrev pub invariant-loop-step : goal.invariant-loop-step
 invariant-loop-step g l =
     Played (record {
-      class = g.D.BidiData.class_of l.initial.self.tables;
-      bracket = g.D.BidiData.bracket_of l.initial.self.tables;
-      mirror = g.D.BidiData.mirror_of l.initial.self.tables;
+      class = (g.D.BidiData.data l.initial.self.tables).class;
+      bracket = (g.D.BidiData.data l.initial.self.tables).bracket;
+      mirror = (g.D.BidiData.data l.initial.self.tables).mirror;
     }) l.initial.self.world (store_state g.S.Store.contents g.S.Store.failure_count l.initial.store) l.steps l.step-index l.self.world
     (store_state g.S.Store.contents g.S.Store.failure_count l.store) l.answers.items
     × (l.self.tables ≡ l.initial.self.tables)

@@ -7,9 +7,9 @@ use Rattle.bx_world.proofs.world.World.send.Goals as goal
 pub invariant_of-self-2 : goal.invariant_of-self-2
 invariant_of-self-2 g c =
     let says : g.row.D.Denot → Data = λ t. record {
-      class = g.D.BidiData.class_of t;
-      bracket = g.D.BidiData.bracket_of t;
-      mirror = g.D.BidiData.mirror_of t;
+      class = (g.D.BidiData.data t).class;
+      bracket = (g.D.BidiData.data t).bracket;
+      mirror = (g.D.BidiData.data t).mirror;
     } in
     let w : World = record {
       session = c.self.inside.session.session;

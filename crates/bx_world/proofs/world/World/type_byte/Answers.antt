@@ -10,9 +10,9 @@ use Rattle.bx_world.proofs.world.World.type_byte.Goals as goal
 pub invariant_of-self : goal.invariant_of-self
 invariant_of-self g c =
     let says : g.row.D.Denot → Data = λ t. record {
-      class = g.D.BidiData.class_of t;
-      bracket = g.D.BidiData.bracket_of t;
-      mirror = g.D.BidiData.mirror_of t;
+      class = (g.D.BidiData.data t).class;
+      bracket = (g.D.BidiData.data t).bracket;
+      mirror = (g.D.BidiData.data t).mirror;
     } in
     let w : World = record {
       session = c.self.inside.session.session;
@@ -31,9 +31,9 @@ invariant_of-self g c =
 pub returns-clause-step : goal.returns-clause-step
 returns-clause-step g c =
     let says : g.row.D.Denot → Data = λ t. record {
-      class = g.D.BidiData.class_of t;
-      bracket = g.D.BidiData.bracket_of t;
-      mirror = g.D.BidiData.mirror_of t;
+      class = (g.D.BidiData.data t).class;
+      bracket = (g.D.BidiData.data t).bracket;
+      mirror = (g.D.BidiData.data t).mirror;
     } in
     let w : World = record {
       session = c.self.inside.session.session;
