@@ -1,4 +1,4 @@
--- Kinds of characters that more than one layer asks for.
+-- Kinds of characters that several layers use.
 use Rattle.std.specs.Prelude.{ℕ, Bool, not, ◌&&◌, ◌||◌, nat_le, List, [], ◌∷◌, false, chars}
 use Rattle.std.specs.List.{list_all}
 
@@ -9,19 +9,19 @@ is_within low high c = nat_le low c && nat_le c high
 abbrev pub is_control : ℕ → Bool
 is_control c = (is_within 0x00 0x1F c || is_within 0x7F 0x9F c) || is_within 0x2028 0x2029 c
 
--- a character from SPACE to TILDE, or its byte
+-- printable ASCII, SPACE to TILDE, as a character or as its byte
 abbrev pub is_ascii_printable : ℕ → Bool
 is_ascii_printable c = is_within 0x20 0x7E c
 
--- the bytes are characters from SPACE to TILDE
+-- all bytes are printable ASCII
 abbrev pub are_ascii_printable : List ℕ → Bool
 are_ascii_printable text = list_all is_ascii_printable text
 
--- the characters that the bytes spell are no controls
+-- none of the characters that the bytes encode is a control
 abbrev pub are_printable : List ℕ → Bool
 are_printable text = list_all (λ c. not (is_control c)) (chars text)
 
--- the text is one character from SPACE to TILDE
+-- the text is a single printable ASCII character
 abbrev pub is_ascii_glyph : List ℕ → Bool
 is_ascii_glyph [] = false
 is_ascii_glyph (c ∷ []) = is_ascii_printable c

@@ -2,14 +2,14 @@
 use Rattle.std.specs.Prelude.{ℕ, Bool}
 use Rattle.bx_terms.specs.Characters.{is_within}
 
--- the most rows or columns of a window
+-- the largest number of rows or columns of a window
 abbrev pub largest_side : ℕ
 largest_side = 500
 
--- a window may have a side of so many rows or columns
+-- a window may have n rows or columns
 abbrev pub is_side : ℕ → Bool
 is_side n = is_within 1 largest_side n
 
--- the most bytes of a text
+-- the largest size of a text, in bytes
 abbrev pub largest_text : ℕ
 largest_text = 16777216

@@ -10,7 +10,7 @@ pub fn is_control(c: char) -> bool
     c <= '\u{1F}' || ('\u{7F}' <= c && c <= '\u{9F}') || ('\u{2028}' <= c && c <= '\u{2029}')
 }
 
-/// Whether a byte is a character from SPACE to TILDE.
+/// Whether a byte is printable ASCII, SPACE to TILDE.
 #[inline(always)]
 pub fn is_ascii_printable(byte: u8) -> bool
     ensures { result ≡ is_ascii_printable byte }
@@ -18,21 +18,21 @@ pub fn is_ascii_printable(byte: u8) -> bool
     0x20 <= byte && byte <= 0x7E
 }
 
-/// Whether all characters of a text are from SPACE to TILDE.
+/// Whether a text has only printable ASCII, SPACE to TILDE.
 pub fn are_ascii_printable(text: &str) -> bool
     ensures { result ≡ are_ascii_printable text.now }
 {
     text.as_bytes().iter().all(|b| is_ascii_printable(*b))
 }
 
-/// Whether no character of a text is a control.
+/// Whether a text has no control (`is_control`).
 pub fn are_printable(text: &str) -> bool
     ensures { result ≡ are_printable text.now }
 {
     text.chars().all(|c| !is_control(c))
 }
 
-/// The byte of a text that is one character from SPACE to TILDE, and none for any other text.
+/// The byte of a text that is a single printable ASCII character, else `None`.
 pub fn ascii_glyph(text: &str) -> Option<u8>
     ensures { MatchOption result (is_ascii_glyph text.now ≡ false) (λ byte. (text.now ≡ byte ∷ []) × (is_ascii_printable byte ≡ true)) }
 {

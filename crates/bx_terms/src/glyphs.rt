@@ -1,4 +1,4 @@
-//! Glyphs: which texts a terminal shows as one, and how many columns they take.
+//! Glyphs: the texts that a terminal shows as one, and their columns.
 
 ghost use Rattle.std.specs.Prelude.{◌≡◌};
 ghost use Rattle.bx_terms.specs.Glyphs.{is_one_glyph, run_width};
@@ -6,7 +6,7 @@ ghost use Rattle.bx_terms.specs.Glyphs.{is_one_glyph, run_width};
 use crate::characters::{are_ascii_printable, are_printable, is_ascii_printable};
 use unicode_width::UnicodeWidthStr;
 
-/// How many columns a run of printable characters takes (`unicode_width`, ambiguous characters narrow).
+/// The columns of a run of printable characters, by `unicode_width` with ambiguous characters narrow.
 pub fn run_width(run: &str) -> usize
     ensures { result ≡ run_width run.now }
 {
@@ -17,8 +17,8 @@ pub fn run_width(run: &str) -> usize
     }
 }
 
-/// Whether a terminal shows a text as one glyph: a character from SPACE to TILDE, or characters that are no controls, not
-/// all from SPACE to TILDE, and that take a column or more together.
+/// Whether a terminal shows a text as one glyph: a single printable ASCII character, or a text without controls that has
+/// a character outside ASCII and takes at least one column.
 pub fn is_glyph(text: &str) -> bool
     ensures { result ≡ is_one_glyph text.now }
 {

@@ -1,4 +1,4 @@
-//! Words that several layers share: kinds of characters, glyphs and their columns, the limits of a window and of a text, want of memory.
+//! Terms that several layers share: kinds of characters, glyphs and their columns, limits of a window and a text, the allocation error.
 #![tactic(auto)]
 
 mod characters;

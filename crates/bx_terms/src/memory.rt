@@ -1,9 +1,9 @@
-//! Want of memory, which is the one refusal of most calls.
+//! The error of a failed allocation, which is the only error of most calls.
 
 use std::alloc::{AllocError, AllocFailed};
 use thiserror::Error;
 
-/// Memory ran out.
+/// An allocation failed.
 #[derive(Clone, Copy, PartialEq, Eq, Debug, Error)]
 #[error("out of memory")]
 pub struct OutOfMemory;

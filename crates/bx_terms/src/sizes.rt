@@ -3,13 +3,13 @@
 ghost use Rattle.std.specs.Prelude.{◌≡◌};
 ghost use Rattle.bx_terms.specs.Sizes.{is_side};
 
-/// The most rows or columns of a window.
+/// The largest number of rows or columns of a window.
 pub const LARGEST_SIDE: u16 = 500;
 
-/// The most bytes of a text.
+/// The largest size of a text, in bytes (16 MiB).
 pub const LARGEST_TEXT: usize = 16_777_216;
 
-/// Whether a window may have a side of so many rows or columns: from 1 to 500.
+/// Whether a window may have `side` rows or columns: 1 to 500.
 pub fn is_side(side: u16) -> bool
     ensures { result ≡ is_side side }
 {
