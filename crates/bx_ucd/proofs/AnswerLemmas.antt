@@ -16,7 +16,7 @@ use Rattle.bx_ucd.specs.declared.class_file.ClassEntry.{ClassEntry}
 find-one : {A : Type 0} (p : A → Bool) (x : A) → find p (x ∷ []) ≡ (if p x then Some x else None)
 find-one p x = refl
 
--- of a list with one more in front
+-- the same for a list with one more item in front
 pub find_last-cons : {A : Type 0} (p : A → Bool) (x : A) (xs : List A) → find_last p (x ∷ xs) ≡ option_or (find_last p xs) (if p x then Some x else None)
 find_last-cons p x xs = ap (find p) (reverse_onto xs x []) ∙ find-append p (reverse xs) (x ∷ []) ∙ ap (option_or (find_last p xs)) (find-one p x)
 
@@ -53,12 +53,12 @@ pub filter_map_skipped : {A B : Type 0} (f : A → Option B) (xs : List A) (i : 
     → filter_map f (drop i xs) ≡ filter_map f (drop (i + 1) xs)
 filter_map_skipped f xs i d lt none = at_drop_more (filter_map f) xs i d lt ∙ rw none refl
 
--- an entry of this kind is the first of what is left
+-- an entry of this kind is the first of the rest
 pub filter_map_taken : {A B : Type 0} (f : A → Option B) (xs : List A) (i : ℕ) (d : A) (y : B) → i < length xs → f (get_or xs i d) ≡ Some y
     → filter_map f (drop i xs) ≡ y ∷ filter_map f (drop (i + 1) xs)
 filter_map_taken f xs i d y lt some = at_drop_more (filter_map f) xs i d lt ∙ rw some refl
 
--- the entry's range is painted over what was there
+-- the entry's range is painted over the earlier class
 pub painted_taken : (f : ClassEntry → Option ClassRange) (es : List ClassEntry) (i : ℕ) (d : ClassEntry) (r : ClassRange) (code : ℕ) (old new : Class)
     → i < length es → f (get_or es i d) ≡ Some r → new ≡ (if covers r.range code then r.class else old)
     → unwrap_or (class_by_ranges (filter_map f (drop i es)) code) old ≡ unwrap_or (class_by_ranges (filter_map f (drop (i + 1) es)) code) new
@@ -75,7 +75,7 @@ painted_skipped f es i d code old new lt none kept =
     ap (λ rs. unwrap_or (class_by_ranges rs code) old) (filter_map_skipped f es i d lt none)
     ∙ ap (unwrap_or (class_by_ranges (filter_map f (drop (i + 1) es)) code)) (sym kept)
 
--- the data lines decide, else the defaults, else it is the class that was there
+-- the data lines decide, else the defaults, else the earlier class
 pub data_over_defaults : (given defaults : Option Class) (class : Class)
     → unwrap_or given (unwrap_or defaults class) ≡ unwrap_or (option_or given defaults) class
 data_over_defaults (Some c) defaults class = refl

@@ -1,4 +1,4 @@
--- No line of the class file speaks of a code past 10FFFF.
+-- No line of the class file covers a code past 10FFFF.
 use Rattle.std.proofs.Common.{◌≡◌, ◌<◌, ◌≤◌, ℕ, Bool, true, false, List, [], ◌∷◌, Option, Some, None, Result, Ok, Err, refl, sym, ap, ◌∙◌, map, length, arith}
 use Rattle.std.proofs.Common.{leb}
 use Rattle.std.specs.Prelude.{◌&&◌, ◌==◌, nat_le, if◌then◌else◌, IfSome, IfOk, filter_map, option_map, option_and_then, unwrap_or}
@@ -31,7 +31,7 @@ abbrev SaysBounded : ClassEntry → Type 0
 SaysBounded (Given r) = IsBounded r
 SaysBounded (Default r) = IsBounded r
 
--- ---- what is read is bounded
+-- ---- codes and ranges are bounded
 
 ok_then : {A B : Type 0} (Q : A → Type 0) (P : B → Type 0) (r : Result A Cause) (next : A → Result B Cause) → IfOk r Q → ((a : A) → Q a → IfOk (next a) P)
     → IfOk (and_then r next) P
@@ -81,7 +81,7 @@ class_range_bounded (range ∷ name ∷ []) =
     ok_then (λ r. r.high ≤ 0x10FFFF) IsBounded (range_of range) _ (range_of_bounded range) (λ r bounded. named_bounded r _ bounded)
 class_range_bounded (range ∷ name ∷ third ∷ rest) = tt
 
--- ---- what a line says is bounded
+-- ---- entries are bounded
 
 given_some : (r : Result ClassRange Cause) → IfOk r IsBounded
     → IfSome (entry (and_then (and_then r (λ range. Ok (Given range))) (λ e. Ok (Some e)))) SaysBounded

@@ -4,12 +4,12 @@ use Rattle.bx_ucd.specs.Blocks.{class_in}
 use Rattle.bx_ucd.specs.declared.class.Class.{Class}
 use Rattle.bx_ucd.specs.declared.blocks.Block.{Block}
 
--- a block whose classes are each code's own has the class that is written
+-- a block with one class per code has the written class at the written index
 pub class_in_written : (block : Block) (i : ℕ) (class : Class) → block.whole ≡ None → i < length block.each
     → class_in (record block { each = set block.each i class }) i ≡ class
 class_in_written block i class own lt = rw (own, get_or-set_same) refl
 
--- and what it had at the other indexes
+-- and keeps its classes at the other indexes
 pub class_in_kept : (block : Block) (i k : ℕ) (class : Class) → block.whole ≡ None → k ≢ i
     → class_in (record block { each = set block.each i class }) k ≡ class_in block k
 class_in_kept block i k class own ne = rw (own, get_or-set_other) refl

@@ -17,7 +17,7 @@ use Rattle.bx_ucd.specs.declared.error.Cause.TheVariants.{BadLine, BadCode, BadR
 abbrev Answers : Type 0
 Answers = List Class × List (Option (Side × ℕ)) × List (Option ℕ)
 
--- what the files say of some codes, or the first refused line
+-- the properties of some codes by the files, or the first refused line
 abbrev answers : List ℕ → List ℕ → List ℕ → List ℕ → List ℕ → List ℕ → Result Answers UcdError
 answers classes brackets mirroring cs bs ms = elim (refusal classes brackets mirroring) [
   | None ↦ Ok (map (class_in_file classes) cs, map (bracket_in_file brackets) bs, map (mirror_in_file mirroring) ms)
@@ -141,7 +141,7 @@ pub not_a_comment : answers (codes "ÿ") [] [] [] [] []
     ≡ Err (record { file = Classes; line = 1; cause = BadLine })
 not_a_comment = refl
 
--- the first file with a refused line is told
+-- the error names the first file with a refused line
 pub files_in_order : answers (codes "0041 ; L\n\n041 ; L\n") (codes "0028") (codes "0028") [] [] []
     ≡ Err (record { file = Classes; line = 3; cause = BadCode })
 files_in_order = refl
@@ -213,7 +213,7 @@ pub missing_with_a_comment : answers (codes "# @missing: 0041; R # x\n") [] [] (
     ≡ Ok ((L ∷ []), [], [])
 missing_with_a_comment = refl
 
--- a default that reads badly is a comment
+-- a malformed default is a comment
 pub missing_that_reads_badly : answers
     (codes
     "# @missing: 0041; Q\n# @missing: 0042..0041; R\n# @missing: 041; R\n# @missing: 0041; R; R\n#@ missing: 0041; R\n## @missing: 0041; R\n# @Missing: 0041; R")

@@ -6,7 +6,7 @@ use Rattle.std.specs.Str.Parse.{digits_value_after}
 use Rattle.std.proofs.lemmas.Bool.{lt-ltb}
 use Rattle.std.proofs.lemmas.List.{at_drop_more}
 
--- how many values so many digits have
+-- the number of values of `n` hexadecimal digits
 abbrev pub values : ℕ → ℕ
 values zero = 1
 values (suc i) = 16 * values i

@@ -1,4 +1,4 @@
--- What the law of the small tables tells by itself: what the small files say of single codes.
+-- Consequences of the law of the small tables: properties of single codes by the sample files.
 use Rattle.std.proofs.Common.{◌≡◌, ℕ, Some, None, sym}
 use Rattle.bx_ucd.specs.Reading.{class_in_file, bracket_in_file, mirror_in_file}
 use Rattle.bx_ucd.specs.SmallTables.{class, bracket, mirror}

@@ -7,7 +7,7 @@ use Rattle.std.proofs.lemmas.List.Splits.{slice_split_first, slice_split_none, l
 use Rattle.std.proofs.lemmas.List.Sums.{fails_before_first, prefix_len-le-length}
 use Rattle.std.proofs.lemmas.List.{take_rest}
 
--- a list where nothing passes is one part
+-- a list without a separator is one part
 pub slice_split_whole : {X : Type 0} (p : X → Bool) (xs : List X) → position_or_len p xs ≡ length xs → slice_split p xs ≡ xs ∷ []
 slice_split_whole p xs e = slice_split_none p xs (λ k d lt. fails_before_first p xs k d (omega arith))
 
@@ -18,13 +18,13 @@ lines_last (b ∷ bs) some none =
     let e : eqb (length (b ∷ bs)) 0 ≡ false = grind arith in
     ap lines_of_parts (slice_split_whole (λ b. b == 10) (b ∷ bs) none) ∙ rw e refl
 
--- a part that others follow is a line, less its carriage return
+-- a part that others follow is a line, without its carriage return
 lines_of_parts-cons : (part : List ℕ) (parts : List (List ℕ)) → 0 < length parts
     → lines_of_parts (part ∷ parts) ≡ strip_carriage_return part ∷ lines_of_parts parts
 lines_of_parts-cons part [] some = absurd (omega arith)
 lines_of_parts-cons part (next ∷ more) some = refl
 
--- what stands before the first line feed is the first line, less its carriage return
+-- the bytes before the first line feed are the first line, without its carriage return
 pub lines_first : (bs : List ℕ) → position_or_len (λ b. b == 10) bs < length bs
     → lines bs ≡ strip_carriage_return (before_first (λ b. b == 10) bs) ∷ lines (after_first (λ b. b == 10) bs)
 lines_first bs lt =
@@ -43,7 +43,7 @@ lines_at bs line n at more stripped =
     let rest : take (length bs - (n + 1)) (drop (n + 1) bs) ≡ drop (n + 1) bs = take_rest bs (n + 1) in
     rw (rest, stripped, at) first
 
--- what stands before the first that passes is the first part
+-- the items before the first separator are the first part
 pub slice_split_at_first : (p : ℕ → Bool) (bs : List ℕ) (n : ℕ) → n ≡ position_or_len p bs → (n ≡ length bs → ⊥)
     → slice_split p bs ≡ take n bs ∷ slice_split p (take (length bs - (n + 1)) (drop (n + 1) bs))
 slice_split_at_first p bs n at more =

@@ -19,14 +19,14 @@ tie_is false false exclusive = refl
 pub is_eq-nat_cmp : (a b : ℕ) → is_eq (nat_cmp a b) ≡ (a == b)
 is_eq-nat_cmp a b = tie_is (ltb a b) (a == b) (λ same. let e : a ≡ b = eqb-true a b same in lt-leb (suc a) b (omega arith))
 
--- what is put in for a key replaces what was there
+-- an inserted value replaces the key's earlier one
 put_over : {E V : Type 0} (value : E → V) (later : Option E) (same : Bool) (e : E) (old : Option V)
     → option_or (option_map value (option_or later (if same then Some e else None))) old ≡ option_or (option_map value later) (cond same (Some (value e)) old)
 put_over value (Some l) same e old = refl
 put_over value None true e old = refl
 put_over value None false e old = refl
 
--- one more entry is put in
+-- one more entry is inserted
 pub put_more : {E V : Type 0} (key : E → ℕ) (value : E → V) (es : List E) (i : ℕ) (d : E) (code : ℕ) (old new : Option V) → i < length es
     → new ≡ cond (is_eq (nat_cmp (key (get_or es i d)) code)) (Some (value (get_or es i d))) old
     → option_or (option_map value (find_last (λ e. key e == code) (drop i es))) old

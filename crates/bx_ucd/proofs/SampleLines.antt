@@ -1,4 +1,4 @@
--- The lines of the small file of classes say of every code what the small tables say.
+-- The lines of the sample file of classes give every code the class that the small tables give.
 use Rattle.std.proofs.Common.{◌≡◌, ℕ, Bool, true, false, List, [], ◌∷◌, ◌++◌, map, None, refl, ap, ◌∙◌, sym, arith}
 use Rattle.std.specs.Prelude.{◌&&◌, ◌||◌, nat_lt, filter_map, option_map, unwrap_or, if◌then◌else◌}
 use Rattle.std.specs.List.{list_all}
@@ -62,7 +62,7 @@ data_lines = filter_map given (entries (class_lines CLASSES.now))
 abbrev default_lines : List ClassRange
 default_lines = filter_map default (entries (class_lines CLASSES.now))
 
--- what the small tables have behind the data lines
+-- the rows of the small tables after the data lines
 abbrev default_rows : List (ℕ × ℕ × Class)
 default_rows = (0x590, 0x5ff, R) ∷ []
 

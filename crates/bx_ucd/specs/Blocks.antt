@@ -8,7 +8,7 @@ use Rattle.bx_ucd.specs.declared.blocks.Block.{Block}
 abbrev pub class_in : Block → ℕ → Class
 class_in block index = elim block.whole [ None ↦ slice_index_or block.each index L | (Some class) ↦ class ]
 
--- what stands for a block past the last
+-- the block read past the last one
 abbrev pub empty_block : Block
 empty_block = record { whole = None; each = [] }
 

@@ -29,6 +29,6 @@ is_neutral RLI = true
 is_neutral PDI = true
 is_neutral _ = false
 
--- the direction of a level: L of an even one, R of an odd one
+-- the direction of a level: L if it is even, R if odd
 abbrev pub direction : ℕ → Class
 direction level = elim (level % 2) [ zero ↦ L | suc n ↦ R ]

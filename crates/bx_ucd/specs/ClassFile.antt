@@ -1,4 +1,4 @@
--- The file of classes.
+-- DerivedBidiClass.txt, the file of classes.
 use Rattle.std.specs.Prelude.{ℕ, ◌||◌, List, [], ◌∷◌, length, drop, find, codes, bytes_eq, nat_eq, if◌then◌else◌, Option, Some, None, option_map}
 use Rattle.std.specs.Prelude.{option_and_then, ok_or, Result, Ok, Err}
 use Rattle.std.specs.List.{starts_with}
@@ -18,7 +18,7 @@ use Rattle.bx_ucd.specs.declared.class_file.ClassEntry.TheVariants.{Given, Defau
 abbrev pub Named : Type 0
 Named = List ℕ × List ℕ × Class
 
--- the class that has this name, short or long, letter by letter
+-- the class with exactly this short or long name
 abbrev pub class_among : List Named → List ℕ → Option Class
 class_among names name = option_map (λ n. n.2) (find (λ n. bytes_eq name n.0 || bytes_eq name n.1) names)
 
@@ -76,16 +76,16 @@ abbrev pub class_range : List (List ℕ) → Result ClassRange Cause
 class_range (range ∷ name ∷ []) = and_then (range_of range) (λ r. and_then (ok_or (class_named name) UnknownValue) (λ c. Ok (record { range = r; class = c })))
 class_range _ = Err BadLine
 
--- the bytes after a beginning, where they have it
+-- the bytes after a prefix, if they begin with it
 abbrev pub after_prefix : List ℕ → List ℕ → Option (List ℕ)
 after_prefix prefix bs = if starts_with nat_eq bs prefix then Some (drop (length prefix) bs) else None
 
--- what stands after the `#` of a comment and then `@missing:`, blanks before each, up to the line's end
+-- the rest of a line after `#` and `@missing:`, each with any blanks before it
 abbrev pub missing : List ℕ → Option (List ℕ)
 missing line = option_and_then (λ comment. after_prefix (codes "@missing:") (without_leading_blanks comment))
     (after_prefix (codes "#") (without_leading_blanks line))
 
--- the default that a comment gives, if two fields follow that read well
+-- the default that a comment gives, if two well-formed fields follow
 abbrev pub default_of : List ℕ → Option ClassEntry
 default_of line = option_map Default (option_and_then (λ text. result_ok (class_range (fields text))) (missing line))
 
@@ -93,10 +93,10 @@ default_of line = option_map Default (option_and_then (λ text. result_ok (class
 abbrev pub given_of : List (List ℕ) → Result ClassEntry Cause
 given_of fs = and_then (class_range fs) (λ r. Ok (Given r))
 
--- what a line says
+-- the entry of a line
 abbrev pub class_line : List ℕ → Line ClassEntry
 class_line line = line_by default_of given_of line
 
--- what the file's lines say
+-- the lines of the file
 abbrev pub class_lines : List ℕ → List (Line ClassEntry)
 class_lines bytes = lines_by class_line bytes

@@ -1,4 +1,4 @@
--- Values by the codes of characters.
+-- A map from characters to values.
 use Rattle.std.specs.Prelude.{ℕ, Option}
 use Rattle.std.specs.Ordering.{nat_cmp}
 use Rattle.std.specs.BTreeMap.{get}

@@ -1,4 +1,4 @@
--- Codes and ranges of codes, as the files write them.
+-- Code points and ranges of them, as the files write them.
 use Rattle.std.specs.Prelude.{ℕ, Bool, ◌&&◌, nat_le, nat_lt, ◌==◌, List, [], ◌∷◌, length, if◌then◌else◌, Result, Ok, Err}
 use Rattle.std.specs.List.{slice_split, list_all}
 use Rattle.std.specs.Char.{is_digit}
@@ -29,7 +29,7 @@ covers range code = nat_le range.low code && nat_le code range.high
 abbrev pub range_between : ℕ → ℕ → Result Range Cause
 range_between low high = if nat_lt high low then Err BadRange else Ok (record { low = low; high = high })
 
--- a range cut at its dots: one code, or two with nothing between two dots
+-- a range split at its dots: one code, or two codes with an empty part between
 abbrev pub range_of_codes : List (List ℕ) → Result Range Cause
 range_of_codes (code ∷ []) = and_then (code_of code) (λ c. Ok (record { low = c; high = c }))
 range_of_codes (low ∷ [] ∷ high ∷ []) = and_then (code_of low) (λ l. and_then (code_of high) (λ h. range_between l h))

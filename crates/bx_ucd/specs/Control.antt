@@ -3,7 +3,7 @@ use Rattle.std.specs.Prelude.{◌≡◌, ℕ, false, Option, Some, None, IfSome,
 use Rattle.std.specs.Option.{ForSome}
 pub use Rattle.bx_terms.specs.Characters.{is_control}
 
--- no control at any value is none at the value that there is
+-- if an option cannot hold a control, its value is none
 pub no_control_if_some : (o : Option ℕ) → ForSome o (λ m. is_control m ≡ false) → IfSome o (λ m. is_control m ≡ false)
 no_control_if_some None no_control = tt
 no_control_if_some (Some m) no_control = no_control m refl

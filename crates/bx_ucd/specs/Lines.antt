@@ -1,4 +1,4 @@
--- The lines of a data file, their fields, and what a line says.
+-- The lines of a data file, their fields and their entries.
 use Rattle.std.specs.Prelude.{◌≡◌, ◌⊎◌, ℕ, ◌+◌, ◌-◌, Bool, ◌||◌, ◌==◌, List, [], ◌∷◌, map, length, take, drop, filter_map, Option, Some, None, Result, Ok, Err}
 use Rattle.std.specs.Prelude.{if◌then◌else◌}
 use Rattle.std.specs.List.{slice_split, before_first, prefix_len, suffix_len, list_all}
@@ -14,19 +14,19 @@ use Rattle.bx_ucd.specs.declared.error.UcdError.{UcdError}
 abbrev pub is_blank : ℕ → Bool
 is_blank b = b == 0x20 || b == 0x09
 
--- without the blanks at the start
+-- without leading blanks
 abbrev pub without_leading_blanks : List ℕ → List ℕ
 without_leading_blanks bs = drop (prefix_len is_blank bs) bs
 
--- without the blanks at the end
+-- without trailing blanks
 abbrev pub without_trailing_blanks : List ℕ → List ℕ
 without_trailing_blanks bs = take (length bs - suffix_len is_blank bs) bs
 
--- without the blanks at both ends
+-- without blanks at either end
 abbrev pub trimmed : List ℕ → List ℕ
 trimmed bs = without_trailing_blanks (without_leading_blanks bs)
 
--- what stands before the first `#`, or all
+-- the part before the first `#`, or all
 abbrev pub before_comment : List ℕ → List ℕ
 before_comment line = before_first (λ b. b == 0x23) line
 
@@ -34,23 +34,23 @@ before_comment line = before_first (λ b. b == 0x23) line
 abbrev pub fields : List ℕ → List (List ℕ)
 fields text = map trimmed (slice_split (λ b. b == 0x3B) text)
 
--- ---- what a line says
+-- ---- the entry of a line
 
--- nothing, or an entry, or why the line is refused
+-- an entry, none, or the cause of the refusal
 abbrev pub Line : Type 0 → Type 0
 Line A = Result (Option A) Cause
 
--- the value read, and what comes next is read with it, or the first refusal
+-- the next step applied to the value, or the first refusal
 abbrev pub and_then : {A B : Type 0} → Result A Cause → (A → Result B Cause) → Result B Cause
 and_then (Ok a) next = next a
 and_then (Err cause) next = Err cause
 
--- a line with nothing but blanks before its comment says what its comment says; another is read by its fields
+-- a line that is blank before its comment has the entry of its comment; any other line is read by its fields
 abbrev pub line_by : {A : Type 0} → (List ℕ → Option A) → (List (List ℕ) → Result A Cause) → List ℕ → Line A
 line_by comment entry line =
     if list_all is_blank (before_comment line) then Ok (comment line) else and_then (entry (fields (before_comment line))) (λ a. Ok (Some a))
 
--- a comment that says nothing
+-- a comment has no entry
 abbrev pub plain : {A : Type 0} → List ℕ → Option A
 plain line = None
 
@@ -77,10 +77,10 @@ refusal_from file n (Err cause ∷ ls) = Some (record { file = file; line = n; c
 abbrev pub first_refusal : {A : Type 0} → UcdFile → List (Line A) → Option UcdError
 first_refusal file ls = refusal_from file 1 ls
 
--- there was no memory while the file was read, of which line 0 is told
+-- an allocation failed while the file was read; the line is 0
 abbrev pub no_memory_in : UcdFile → UcdError
 no_memory_in file = record { file = file; line = 0; cause = OutOfMemory }
 
--- the error tells of the first refused line of a file, or that there was no memory while it was read
+-- the error is the first refused line of a file, or an allocation that failed while it was read
 abbrev pub TellsRefusal : UcdFile → UcdError → Option UcdError → Type 0
 TellsRefusal file e refusal = (refusal ≡ Some e) ⊎ (e ≡ no_memory_in file)

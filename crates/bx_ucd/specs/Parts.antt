@@ -1,9 +1,9 @@
--- A text cut at a separator, as code gives it.
+-- The value `Parts` of the code, for a text split at a separator.
 use Rattle.std.specs.Prelude.{◌≡◌, ℕ, ◌<◌, List, [], ◌∷◌, length}
 use Rattle.bx_ucd.specs.declared.parts.Parts.{Parts}
 use Rattle.bx_ucd.specs.declared.parts.Parts.TheVariants.{One, Two, Three, More}
 
--- these are the parts
+-- the value holds the parts, or says that they are more than three
 abbrev pub IsCut : Parts → List (List ℕ) → Type 0
 IsCut (One a) parts = parts ≡ a.now ∷ []
 IsCut (Two a b) parts = parts ≡ a.now ∷ b.now ∷ []

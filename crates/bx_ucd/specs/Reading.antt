@@ -18,18 +18,18 @@ refusal classes brackets mirroring =
     option_or (first_refusal Classes (class_lines classes))
     (option_or (first_refusal Brackets (bracket_lines brackets)) (first_refusal Mirroring (mirror_lines mirroring)))
 
--- no line is refused of the files that are read before a file
+-- no line is refused in the files read before this one
 abbrev pub AcceptedBefore : UcdFile → List ℕ → List ℕ → Type 0
 AcceptedBefore Classes classes brackets = Unit {0}
 AcceptedBefore Brackets classes brackets = first_refusal Classes (class_lines classes) ≡ None
 AcceptedBefore Mirroring classes brackets =
     (first_refusal Classes (class_lines classes) ≡ None) × (first_refusal Brackets (bracket_lines brackets) ≡ None)
 
--- there was no memory while some file was read, before which no line is refused
+-- an allocation failed while a file was read, and no line of the files before it is refused
 abbrev pub NoMemoryAfter : List ℕ → List ℕ → UcdError → Type 0
 NoMemoryAfter classes brackets e = (e ≡ no_memory_in e.file) × AcceptedBefore e.file classes brackets
 
--- what the file's lines say of a code
+-- the property of a code by the lines of the file
 abbrev pub class_in_file : List ℕ → ℕ → Class
 class_in_file bytes code = class_by_lines (entries (class_lines bytes)) code
 

@@ -1,4 +1,4 @@
-//! The classes of all codes while ranges are painted over them, in blocks of 256 codes.
+//! The classes of all code points, in blocks of 256, while ranges are painted over them.
 
 ghost use Rattle.std.specs.Prelude.{◌≡◌, ℕ, ◌*◌, ◌<◌, ◌≤◌, length, slice_index_or, unwrap_or, filter_map, IfOk, vec_len, if◌then◌else◌};
 ghost use Rattle.bx_ucd.specs.Codes.{covers};
@@ -9,24 +9,24 @@ use crate::class::Class;
 use crate::class_file::{ClassEntry, ClassRange};
 use std::alloc::{AllocError, Global};
 
-/// How many codes a block has.
+/// Code points per block.
 pub const BLOCK_SIZE: usize = 256;
 
-/// How many blocks hold all codes up to 10FFFF.
+/// Blocks that cover 0 to 10FFFF.
 pub const BLOCK_COUNT: usize = 4352;
 
-/// The classes of a block's codes: one for all, or each code's own.
+/// The classes of a block: one for all its codes, or one for each.
 #[derive(Clone, Copy)]
 pub struct Block {
     whole: Option<Class>,
-    /// Read only where there is none for all.
+    /// Read only where `whole` is `None`.
     each: [Class; BLOCK_SIZE],
 }
 
 impl Block {
     ghost use Rattle.bx_ucd.specs.Blocks.{class_in};
 
-    /// A block of one class.
+    /// A block whose codes all have one class.
     pub fn new(class: Class) -> Block
         ensures { (i : ℕ) → class_in result i ≡ class }
     {
@@ -47,7 +47,7 @@ impl Block {
         }
     }
 
-    /// Gives the class to the block's codes from `low` to before `end`, counted in the block.
+    /// Sets the class of the codes `low..end`, as indexes into the block.
     fn paint(&mut self, low: usize, end: usize, class: Class)
         requires { end ≤ 256 }
         ensures painted { (i : ℕ) → low ≤ i → i < end → class_in self.new i ≡ class }
@@ -66,7 +66,7 @@ impl Block {
     }
 }
 
-/// Gives the range's class to its codes. A whole block is painted in one step.
+/// Sets the class of the range's codes. A block that the range covers takes one step.
 pub fn paint(blocks: &mut [Block], painted: ClassRange)
     ensures len { length blocks.new ≡ length blocks.old }
     ensures painted { (code : ℕ) → code < 256 * length blocks.old
@@ -87,7 +87,7 @@ pub fn paint(blocks: &mut [Block], painted: ClassRange)
     }
 }
 
-/// Paints the defaults over the blocks, in order.
+/// Paints the `@missing` defaults, in file order.
 fn paint_defaults(blocks: &mut [Block], entries: &[ClassEntry])
     ensures len { length blocks.new ≡ length blocks.old }
     ensures painted { (code : ℕ) → code < 256 * length blocks.old
@@ -100,7 +100,7 @@ fn paint_defaults(blocks: &mut [Block], entries: &[ClassEntry])
     }
 }
 
-/// Paints the data lines over the blocks, in order.
+/// Paints the data lines, in file order.
 fn paint_given(blocks: &mut [Block], entries: &[ClassEntry])
     ensures len { length blocks.new ≡ length blocks.old }
     ensures painted { (code : ℕ) → code < 256 * length blocks.old
@@ -113,7 +113,7 @@ fn paint_given(blocks: &mut [Block], entries: &[ClassEntry])
     }
 }
 
-/// Paints the data lines over the defaults, and these over blocks of class L.
+/// Paints the defaults, then the data lines, so that a data line overrides every default.
 fn paint_entries(blocks: &mut [Block], entries: &[ClassEntry])
     requires { (code : ℕ) → code < 256 * length blocks.old → class_at blocks.old code ≡ Class.L }
     ensures len { length blocks.new ≡ length blocks.old }
@@ -123,7 +123,7 @@ fn paint_entries(blocks: &mut [Block], entries: &[ClassEntry])
     paint_given(blocks, entries);
 }
 
-/// The blocks of all codes, with the classes that the entries give.
+/// The blocks of all code points, painted by the entries; a code that no entry covers has class L.
 pub fn painted_blocks(alloc: Global, entries: &[ClassEntry]) -> Result<Vec<Block>, AllocError>
     ensures len { IfOk result (λ v. vec_len v ≡ 4352) }
     ensures classes { IfOk result (λ v. (code : ℕ) → code < 0x110000 → class_at v.items code ≡ class_by_lines entries.now code) }

@@ -1,4 +1,4 @@
-//! The file of brackets, BidiBrackets.txt.
+//! BidiBrackets.txt, the file of paired brackets.
 
 ghost use Rattle.std.specs.Prelude.{◌≡◌};
 ghost use Rattle.bx_ucd.specs.Lines.{fields};
@@ -11,7 +11,7 @@ use crate::file::Entry;
 use crate::lines::{before_comment, is_all_blank, trimmed};
 use crate::parts::{Parts, cut};
 
-/// A bracket, the one that it is paired with, and its side.
+/// A line of the file: a bracket, its counterpart and its side.
 #[derive(Clone, Copy, PartialEq, Eq, Debug)]
 pub struct BracketEntry {
     pub bracket: char,
@@ -19,7 +19,7 @@ pub struct BracketEntry {
     pub side: Side,
 }
 
-/// The side of its name, `o` or `c`.
+/// The side that `o` or `c` names.
 fn side_of(name: &[u8]) -> Result<Side, Cause>
     ensures { result ≡ side_of name.now }
 {
@@ -32,7 +32,7 @@ fn side_of(name: &[u8]) -> Result<Side, Cause>
     }
 }
 
-/// Three fields: two characters and a side.
+/// Reads three fields: the bracket, its counterpart, the side.
 fn bracket_entry(text: &[u8]) -> Result<BracketEntry, Cause>
     ensures { result ≡ bracket_entry (fields text.now) }
 {

@@ -79,7 +79,7 @@ pub fn is_neutral(class: Class) -> bool
     }
 }
 
-/// The direction of a level: L of an even one, R of an odd one (UAX #9, BD2).
+/// The direction of a level: L if it is even, R if odd (UAX #9, BD2).
 pub fn direction(level: u8) -> Class
     ensures { result ≡ direction level }
 {

@@ -1,4 +1,4 @@
-//! The file of classes, DerivedBidiClass.txt.
+//! DerivedBidiClass.txt, the file of classes.
 
 ghost use Rattle.std.specs.Prelude.{◌≡◌, ◌||◌, bytes_eq};
 ghost use Rattle.std.specs.Option.{option_copied};
@@ -13,14 +13,14 @@ use crate::file::Entry;
 use crate::lines::{before_comment, is_all_blank, trimmed, without_leading_blanks};
 use crate::parts::{Parts, cut};
 
-/// The class of the codes of a range.
+/// A range of codes and their class.
 #[derive(Clone, Copy, PartialEq, Eq, Debug)]
 pub struct ClassRange {
     pub range: Range,
     pub class: Class,
 }
 
-/// A data line, or a default for the codes that no data line covers.
+/// A data line (`Given`), or an `@missing` line: the default for codes that no data line covers.
 #[derive(Clone, Copy, PartialEq, Eq, Debug)]
 pub enum ClassEntry {
     Given(ClassRange),
@@ -33,7 +33,7 @@ fn is_either(name: &[u8], short: &[u8], long: &[u8]) -> bool
     name == short || name == long
 }
 
-/// The strong class of this name.
+/// The strong class with this name.
 fn strong_named(name: &[u8]) -> Option<Class>
     ensures { result ≡ class_among strong_names name.now }
 {
@@ -48,7 +48,7 @@ fn strong_named(name: &[u8]) -> Option<Class>
     }
 }
 
-/// The weak class of this name.
+/// The weak class with this name.
 fn weak_named(name: &[u8]) -> Option<Class>
     ensures { result ≡ class_among weak_names name.now }
 {
@@ -71,7 +71,7 @@ fn weak_named(name: &[u8]) -> Option<Class>
     }
 }
 
-/// The neutral class of this name.
+/// The neutral class with this name.
 fn neutral_named(name: &[u8]) -> Option<Class>
     ensures { result ≡ class_among neutral_names name.now }
 {
@@ -88,7 +88,7 @@ fn neutral_named(name: &[u8]) -> Option<Class>
     }
 }
 
-/// The explicit formatting class of this name.
+/// The explicit formatting class with this name.
 fn formatting_named(name: &[u8]) -> Option<Class>
     ensures { result ≡ class_among formatting_names name.now }
 {
@@ -115,7 +115,7 @@ fn formatting_named(name: &[u8]) -> Option<Class>
     }
 }
 
-/// The class of a name, short or long, letter by letter.
+/// The class with exactly this short or long name.
 fn class_named(name: &[u8]) -> Option<Class>
     ensures { result ≡ class_named name.now }
 {
@@ -125,7 +125,7 @@ fn class_named(name: &[u8]) -> Option<Class>
         .or(formatting_named(name))
 }
 
-/// Two fields: a range and the name of a class.
+/// Reads two fields: a range and the name of a class.
 fn class_range(text: &[u8]) -> Result<ClassRange, Cause>
     ensures { result ≡ class_range (fields text.now) }
 {
@@ -139,7 +139,7 @@ fn class_range(text: &[u8]) -> Result<ClassRange, Cause>
     }
 }
 
-/// The bytes after a beginning, if they have it.
+/// The bytes after `prefix`, if they begin with it.
 fn after_prefix<'a>(prefix: &[u8], bytes: &'a [u8]) -> Option<&'a [u8]>
     ensures { option_copied result ≡ after_prefix prefix.now bytes.now }
 {
@@ -150,7 +150,7 @@ fn after_prefix<'a>(prefix: &[u8], bytes: &'a [u8]) -> Option<&'a [u8]>
     }
 }
 
-/// What stands after `# @missing:` up to the line's end, in a line that begins with that.
+/// The rest of a line that begins with `# @missing:`, up to the line's end.
 fn missing(line: &[u8]) -> Option<&[u8]>
     ensures { option_copied result ≡ missing line.now }
 {
@@ -158,7 +158,7 @@ fn missing(line: &[u8]) -> Option<&[u8]>
     after_prefix(b"@missing:", without_leading_blanks(comment))
 }
 
-/// The default that a comment gives. One that does not read well gives none, as any other comment.
+/// The default that a comment gives. A malformed `@missing` line gives none, like any other comment.
 fn default_of(line: &[u8]) -> Option<ClassEntry>
     ensures { result ≡ default_of line.now }
 {

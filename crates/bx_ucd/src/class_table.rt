@@ -1,4 +1,4 @@
-//! The class of each code in two stages: the number of a block of 256 codes, and the block's classes.
+//! A two-stage table of classes: each 256 codes have the number of a stored block, which holds their classes.
 
 ghost use Rattle.std.specs.Prelude.{◌≡◌, ℕ, ◌+◌, ◌<◌, ◌≤◌, All, IfOk, [], length, vec_len, slice_index_or};
 ghost use Rattle.bx_ucd.specs.Blocks.{class_at};
@@ -7,20 +7,20 @@ use crate::blocks::{BLOCK_COUNT, BLOCK_SIZE, Block};
 use crate::class::Class;
 use std::alloc::{AllocError, Global};
 
-/// The classes of a block's codes.
+/// The classes of a block of codes.
 type Classes = [Class; BLOCK_SIZE];
 
-/// The class of each code. Equal blocks are stored once.
+/// The class of each code point. Equal blocks are stored once.
 #[derive(Drop)]
 pub struct ClassTable {
-    /// The number of the stored block that each 256 codes have.
+    /// For each 256 codes, the index of their block in `stored`.
     numbers: Vec<u16>,
     stored: Vec<Classes>,
     ghost complete: { vec_len numbers ≡ 4352 },
     ghost in_range: { All (λ n. n < vec_len stored) numbers.items },
 }
 
-/// The number of the stored block with these classes, which is stored if it is new.
+/// The index of the stored block with these classes; appends the block if it is new.
 fn number_of(stored: &mut Vec<Classes>, classes: Classes) -> Result<usize, AllocError>
     ensures number { IfOk result (λ n. n < vec_len stored.new) }
     ensures found { IfOk result (λ n. slice_index_or stored.new.items n [] ≡ classes) }
@@ -42,7 +42,7 @@ fn number_of(stored: &mut Vec<Classes>, classes: Classes) -> Result<usize, Alloc
 impl ClassTable {
     ghost use Rattle.bx_ucd.specs.ClassTable.{class_in_table};
 
-    /// The table of these blocks.
+    /// Builds the table from the blocks of all code points.
     pub fn new(alloc: Global, blocks: &[Block]) -> Result<ClassTable, AllocError>
         requires { length blocks.now ≡ 4352 }
         ensures { IfOk result (λ t. (code : ℕ) → code < 0x110000 → class_in_table t code ≡ class_at blocks.now code) }

@@ -1,4 +1,4 @@
-//! Values by the codes of characters.
+//! A map from characters to values.
 
 ghost use Rattle.std.specs.Prelude.{◌≡◌, ℕ, ◌%◌, cond, false, true, None, Some, IfOk, OnOk, length, slice_index_or, vec_len};
 ghost use Rattle.std.specs.Ordering.{is_eq, nat_cmp};
@@ -7,20 +7,20 @@ ghost use Rattle.std.specs.BTreeMap.{get};
 use std::alloc::{AllocError, Global};
 use std::collections::BTreeMap;
 
-/// How many remainders of codes are told apart. The marks and signs in use leave other ones than Unicode's brackets.
+/// The modulus of the filter `remainders`. Marks and signs in use rarely share a remainder with Unicode's brackets.
 const REMAINDERS: usize = 8192;
 
-/// The values of some characters. Of a character that has none, mostly one test says so.
+/// The values of some characters. One test mostly rules out a character that has none.
 #[derive(Drop)]
 pub struct CodeMap<V: Copy> {
     each: BTreeMap<char, V>,
-    /// Whether the code of some character with a value leaves this remainder.
+    /// For each remainder, whether the code of some character with a value leaves it.
     remainders: Vec<bool>,
     ghost complete: { vec_len remainders ≡ 8192 },
     ghost noted: { (code : ℕ) → slice_index_or remainders.items (code % 8192) true ≡ false → get nat_cmp each code ≡ None },
 }
 
-/// So many remainders, none of which is noted.
+/// `count` remainders, none noted.
 fn no_remainders(alloc: Global, count: usize) -> Result<Vec<bool>, AllocError>
     ensures { IfOk result (λ v. length v.items ≡ count) }
 {
@@ -30,7 +30,7 @@ fn no_remainders(alloc: Global, count: usize) -> Result<Vec<bool>, AllocError>
 impl<V: Copy> CodeMap<V> {
     ghost use Rattle.bx_ucd.specs.CodeMap.{value_in};
 
-    /// No character has a value.
+    /// An empty map.
     pub fn new(alloc: Global) -> Result<CodeMap<V>, AllocError>
         ensures { IfOk result (λ m. (code : ℕ) → value_in m code ≡ None) }
     {
@@ -40,7 +40,7 @@ impl<V: Copy> CodeMap<V> {
         })
     }
 
-    /// Gives a character a value, in the place of one that it had.
+    /// Sets a character's value, and replaces an earlier one.
     pub fn insert(&mut self, c: char, value: V) -> Result<(), AllocError>
         ensures { OnOk result ((code : ℕ) → value_in self.new code ≡ cond (is_eq (nat_cmp c code)) (Some value) (value_in self.old code)) }
     {

@@ -1,4 +1,4 @@
-//! Codes and ranges of codes, as the files write them.
+//! Code points and ranges of them, as the files write them.
 
 ghost use Rattle.std.specs.Prelude.{◌≡◌, ◌≤◌, length, Option, if◌then◌else◌, Some, None};
 ghost use Rattle.std.specs.List.{list_all};
@@ -9,7 +9,7 @@ ghost use Rattle.bx_ucd.specs.Codes.{code_of, character_of, range_of};
 use crate::error::Cause;
 use crate::parts::{Parts, cut};
 
-/// The highest code.
+/// Unicode's last code point.
 const LAST: u32 = 0x10FFFF;
 
 /// Codes from `low` to `high`, both included.
@@ -19,7 +19,7 @@ pub struct Range {
     pub high: u32,
 }
 
-/// The value of hexadecimal digits, if they are nothing else.
+/// The value of hexadecimal digits, or `None` where a byte is no digit.
 fn hex_value(digits: &[u8]) -> Option<u32>
     requires { length digits.now ≤ 6 }
     ensures { result ≡ (if list_all (λ b. is_digit b 16) digits.now then Some (digits_value 16 digits.now) else None) }
@@ -32,7 +32,7 @@ fn hex_value(digits: &[u8]) -> Option<u32>
     Some(value)
 }
 
-/// The code that a field writes: four to six hexadecimal digits of either case.
+/// Reads a code: four to six hexadecimal digits of either case.
 fn code_of(field: &[u8]) -> Result<u32, Cause>
     ensures { result ≡ code_of field.now }
 {
@@ -45,14 +45,14 @@ fn code_of(field: &[u8]) -> Result<u32, Cause>
     }
 }
 
-/// The character whose code a field writes: no surrogate.
+/// Reads the code of a character; a surrogate is refused.
 pub fn character_of(field: &[u8]) -> Result<char, Cause>
     ensures { result ≡ character_of field.now }
 {
     char::from_u32(code_of(field)?).ok_or(Cause::BadCode)
 }
 
-/// The range that a field writes: one code, or two with two dots between them.
+/// Reads a range: `CODE` or `CODE..CODE`.
 pub fn range_of(field: &[u8]) -> Result<Range, Cause>
     ensures { result ≡ range_of field.now }
 {

@@ -1,4 +1,4 @@
-//! What the algorithm asks of Unicode's data.
+//! The properties that the bidirectional algorithm looks up.
 
 ghost use Rattle.std.specs.Prelude.{◌≡◌, ℕ, IfSome, false};
 ghost use Rattle.bx_ucd.specs.Control.{is_control};
@@ -13,7 +13,7 @@ pub enum Side {
     Closer,
 }
 
-/// The answers of Unicode's data, by character.
+/// Unicode's properties of a character.
 pub trait BidiData {
     ghost data: { Self → Data };
 
@@ -21,12 +21,12 @@ pub trait BidiData {
     fn class(&self, c: char) -> Class
         ensures { result ≡ («data» self.now).class c };
 
-    /// The side of the bracket and the bracket that it is paired with (the properties Bidi_Paired_Bracket_Type and
-    /// Bidi_Paired_Bracket), or nothing for any other character.
+    /// A bracket's side and its counterpart (the properties Bidi_Paired_Bracket_Type and Bidi_Paired_Bracket); `None` for
+    /// any other character.
     fn bracket(&self, c: char) -> Option<(Side, char)>
         ensures { result ≡ («data» self.now).bracket c };
 
-    /// The character whose glyph is the mirror image (the property Bidi_Mirroring_Glyph), where there is one.
+    /// The character whose glyph is the mirror image (the property Bidi_Mirroring_Glyph), if any.
     fn mirror(&self, c: char) -> Option<char>
         ensures { result ≡ («data» self.now).mirror c };
 

@@ -1,4 +1,4 @@
-//! Why a data file is refused.
+//! The errors of reading Unicode's data files.
 
 ghost use Rattle.std.specs.Prelude.{◌≡◌};
 ghost use Rattle.bx_ucd.specs.Lines.{no_memory_in};
@@ -6,7 +6,7 @@ ghost use Rattle.bx_ucd.specs.Lines.{no_memory_in};
 use std::{error, fmt};
 use thiserror::Error;
 
-/// A data file, in the order in which they are read.
+/// The data files, in the order in which they are read.
 #[derive(Clone, Copy, PartialEq, Eq, Debug, Error)]
 pub enum UcdFile {
     /// DerivedBidiClass.txt
@@ -20,13 +20,13 @@ pub enum UcdFile {
     Mirroring,
 }
 
-/// What is wrong with a line, in the order of the checks: the first that fails is told.
+/// The faults of a line, in the order of the checks: the first that fails is reported.
 #[derive(Clone, Copy, PartialEq, Eq, Debug, Error)]
 pub enum Cause {
     /// The line has too few or too many fields.
     #[error("bad line")]
     BadLine,
-    /// A field is no code of four to six hexadecimal digits up to 10FFFF, or a surrogate where a character is wanted.
+    /// A field is not four to six hexadecimal digits up to 10FFFF, or is a surrogate where a character is wanted.
     #[error("bad code")]
     BadCode,
     /// A range's end is below its start.
@@ -35,25 +35,25 @@ pub enum Cause {
     /// No class, or no side of a bracket, has this name.
     #[error("unknown value")]
     UnknownValue,
-    /// A control character would be mirrored, or be a mirror.
+    /// The character or its mirror is a control.
     #[error("control in mirror")]
     ControlInMirror,
-    /// No memory is left. This is told of line 0, and may come before a later bad line is seen.
+    /// An allocation failed. The line is 0, and later lines may be unread.
     #[error("out of memory")]
     OutOfMemory,
 }
 
-/// The first refused line of the three files, or want of memory.
+/// The first refused line of the three files, or a failed allocation.
 #[derive(Clone, Copy, PartialEq, Eq, Debug)]
 pub struct UcdError {
     pub file: UcdFile,
-    /// The line in its file, counted from 1, or 0 where there was no memory.
+    /// The line in its file, counted from 1; 0 where an allocation failed.
     pub line: u64,
     pub cause: Cause,
 }
 
 impl UcdError {
-    /// No memory while the file was read.
+    /// An allocation failed while the file was read.
     pub(crate) fn out_of_memory(file: UcdFile) -> UcdError
         ensures { result ≡ no_memory_in file }
     {
@@ -66,7 +66,7 @@ impl UcdError {
 }
 
 impl fmt::Display for UcdError {
-    /// Names the file, the line and the cause; of want of memory the cause alone.
+    /// Writes the file, the line and the cause, or just `out of memory`.
     fn fmt<W: fmt::Write>(&self, f: &mut fmt::Formatter<W>) -> fmt::Result {
         let UcdError { file, line, cause } = *self;
         match cause {

@@ -8,16 +8,16 @@ use crate::error::{Cause, UcdError, UcdFile};
 use crate::lines::split_line;
 use std::alloc::Global;
 
-/// What a line of a data file says.
+/// An entry of a data file, read from one line.
 pub trait Entry: Drop {
     ghost line_of: { List ℕ → Line Self };
 
-    /// The entry of a line, if it has one.
+    /// The entry of a line; `None` where the line has none.
     fn read(line: &[u8]) -> Result<Option<Self>, Cause>
         ensures { result ≡ line_of line.now };
 }
 
-/// The entries of a file, in the order of its lines, or its first refused line.
+/// Reads the entries of a file, in the order of its lines, up to the first refused line.
 pub fn read_entries<E: Entry>(
     alloc: Global,
     file: UcdFile,

@@ -5,7 +5,7 @@ ghost use Rattle.std.specs.List.{position_or_len, slice_split, list_all};
 ghost use Rattle.std.specs.Str.Lines.{lines, strip_carriage_return};
 ghost use Rattle.bx_ucd.specs.Lines.{is_blank, without_leading_blanks, without_trailing_blanks, trimmed, before_comment};
 
-/// The index of the first such byte, or the length where there is none.
+/// The index of the first `byte`, or the length where none is found.
 pub fn position_or_len(bytes: &[u8], byte: u8) -> usize
     ensures first { result ≡ position_or_len (λ b. b == byte) bytes.now }
     ensures within { result ≤ length bytes.now }
@@ -18,7 +18,7 @@ pub fn position_or_len(bytes: &[u8], byte: u8) -> usize
     bytes.len()
 }
 
-/// The line less the one carriage return at its end, if it has one.
+/// The line without one carriage return at its end.
 fn without_carriage_return(line: &[u8]) -> &[u8]
     ensures { result.now ≡ strip_carriage_return line.now }
 {
@@ -28,7 +28,7 @@ fn without_carriage_return(line: &[u8]) -> &[u8]
     }
 }
 
-/// The first line, less its end, and what follows it. A carriage return belongs to a line's end only before a line feed.
+/// The first line without its line end, and the rest. A carriage return is part of the line end only before a line feed.
 pub fn split_line(bytes: &[u8]) -> (&[u8], &[u8])
     requires { 0 < length bytes.now }
     ensures lines { lines bytes.now ≡ result.0.now ∷ lines result.1.now }
@@ -49,14 +49,14 @@ fn is_blank(byte: u8) -> bool
     byte == b' ' || byte == b'\t'
 }
 
-/// Whether there is nothing but blanks.
+/// Whether all bytes are blanks.
 pub fn is_all_blank(bytes: &[u8]) -> bool
     ensures { result ≡ list_all is_blank bytes.now }
 {
     bytes.iter().all(|b| is_blank(*b))
 }
 
-/// The bytes less the blanks at the start.
+/// The bytes without leading blanks.
 pub fn without_leading_blanks(bytes: &[u8]) -> &[u8]
     ensures { result.now ≡ without_leading_blanks bytes.now }
 {
@@ -68,7 +68,7 @@ pub fn without_leading_blanks(bytes: &[u8]) -> &[u8]
     &[]
 }
 
-/// The bytes less the blanks at the end.
+/// The bytes without trailing blanks.
 fn without_trailing_blanks(bytes: &[u8]) -> &[u8]
     ensures { result.now ≡ without_trailing_blanks bytes.now }
 {
@@ -79,14 +79,14 @@ fn without_trailing_blanks(bytes: &[u8]) -> &[u8]
     &bytes[..end]
 }
 
-/// The bytes less the blanks at both ends.
+/// The bytes without blanks at either end.
 pub fn trimmed(bytes: &[u8]) -> &[u8]
     ensures { result.now ≡ trimmed bytes.now }
 {
     without_trailing_blanks(without_leading_blanks(bytes))
 }
 
-/// What stands before the line's comment, which `#` begins.
+/// The part of the line before its comment, which `#` begins.
 pub fn before_comment(line: &[u8]) -> &[u8]
     ensures { result.now ≡ before_comment line.now }
 {

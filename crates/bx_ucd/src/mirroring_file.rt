@@ -1,4 +1,4 @@
-//! The file of mirrored characters, BidiMirroring.txt.
+//! BidiMirroring.txt, the file of mirrored characters.
 
 ghost use Rattle.std.specs.Prelude.{◌≡◌};
 ghost use Rattle.bx_ucd.specs.Lines.{fields};
@@ -11,14 +11,14 @@ use crate::lines::{before_comment, is_all_blank, trimmed};
 use crate::parts::{Parts, cut};
 use bx_terms::is_control;
 
-/// A character, and the one that it is mirrored to.
+/// A line of the file: a character and its mirror.
 #[derive(Clone, Copy, PartialEq, Eq, Debug)]
 pub struct MirrorEntry {
     pub character: char,
     pub mirror: char,
 }
 
-/// Two fields: two characters, neither a control.
+/// Reads two fields: a character and its mirror, neither a control.
 fn mirror_entry(text: &[u8]) -> Result<MirrorEntry, Cause>
     ensures { result ≡ mirror_entry (fields text.now) }
 {

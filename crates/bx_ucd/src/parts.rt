@@ -1,4 +1,4 @@
-//! A text cut at a separator.
+//! Splits a text at a separator.
 
 ghost use Rattle.std.specs.Prelude.{◌≡◌, ◌==◌, [], ◌∷◌, MatchOption};
 ghost use Rattle.std.specs.List.{slice_split};
@@ -6,7 +6,7 @@ ghost use Rattle.bx_ucd.specs.Parts.{IsCut};
 
 use crate::lines::position_or_len;
 
-/// The parts of a text between separators, in order, as far as three.
+/// The parts of a text between separators, in order; `More` for four or more.
 #[derive(Clone, Copy)]
 pub enum Parts<'a> {
     One(&'a [u8]),
@@ -15,7 +15,7 @@ pub enum Parts<'a> {
     More,
 }
 
-/// What stands before the first separator and after it, if there is one.
+/// The parts before and after the first separator, if the text has one.
 fn split_once(text: &[u8], separator: u8) -> Option<(&[u8], &[u8])>
     ensures { MatchOption result (slice_split (λ b. b == separator) text.now ≡ text.now ∷ [])
         (λ p. slice_split (λ b. b == separator) text.now ≡ p.0.now ∷ slice_split (λ b. b == separator) p.1.now) }
@@ -28,7 +28,7 @@ fn split_once(text: &[u8], separator: u8) -> Option<(&[u8], &[u8])>
     }
 }
 
-/// The text cut at each separator.
+/// Splits the text at each separator.
 pub fn cut(text: &[u8], separator: u8) -> Parts<'_>
     ensures { IsCut result (slice_split (λ b. b == separator) text.now) }
 {

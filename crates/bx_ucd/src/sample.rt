@@ -1,5 +1,5 @@
-//! Small files of the three kinds and their tables, for tests and measurements: letters of three scripts, digits, round and
-//! square brackets, and the formatting characters.
+//! Small samples of the three files, for tests and measurements: letters of three scripts, digits, round and square
+//! brackets, and the formatting characters.
 ghost use Rattle.std.specs.Prelude.{◌≡◌, ℕ, IfOk, IfErr};
 ghost use Rattle.bx_ucd.specs.Lines.{no_memory_in};
 ghost use Rattle.bx_ucd.specs.Reading.{class_in_file, bracket_in_file, mirror_in_file};
@@ -10,7 +10,7 @@ use crate::error::UcdError;
 use crate::tables::Tables;
 use std::alloc::Global;
 
-/// Classes.
+/// A sample of DerivedBidiClass.txt.
 pub const CLASSES: &str = "\
 # @missing: 0000..10FFFF; Left_To_Right\n\
 # @missing: 0590..05FF; Right_To_Left\n\
@@ -42,21 +42,21 @@ pub const CLASSES: &str = "\
 2068 ; FSI\n\
 2069 ; PDI\n";
 
-/// Paired brackets.
+/// A sample of BidiBrackets.txt.
 pub const BRACKETS: &str = "\
 0028; 0029; o\n\
 0029; 0028; c\n\
 005B; 005D; o\n\
 005D; 005B; c\n";
 
-/// Mirrors.
+/// A sample of BidiMirroring.txt.
 pub const MIRRORING: &str = "\
 0028; 0029\n\
 0029; 0028\n\
 005B; 005D\n\
 005D; 005B\n";
 
-/// The tables of the small files. No line of theirs is refused: an error tells that memory ran out.
+/// The tables of the sample files. No line of them is refused: an error means a failed allocation.
 pub fn sample_tables(alloc: Global) -> Result<Tables, UcdError>
     ensures classes { IfOk result (λ t. (code : ℕ) → (⟦<Tables as BidiData>⟧.data t).class code ≡ class_in_file CLASSES.now code) }
     ensures brackets { IfOk result (λ t. (code : ℕ) → (⟦<Tables as BidiData>⟧.data t).bracket code ≡ bracket_in_file BRACKETS.now code) }

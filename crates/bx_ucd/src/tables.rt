@@ -1,4 +1,4 @@
-//! The tables that Unicode's three files make.
+//! The tables built from Unicode's three files.
 
 ghost use Rattle.std.specs.Prelude.{◌≡◌, ℕ, ◌<◌, ◌⊎◌, false, None, Some, IfOk, IfErr};
 ghost use Rattle.std.specs.Option.{ForSome};
@@ -24,7 +24,7 @@ use crate::file::read_entries;
 use crate::mirroring_file::MirrorEntry;
 use std::alloc::{AllocError, Global};
 
-/// Unicode's data as its files give it. The look-ups take no memory.
+/// Unicode's data as its files give it. Lookups do not allocate.
 #[derive(Drop)]
 pub struct Tables {
     classes: ClassTable,
@@ -33,7 +33,7 @@ pub struct Tables {
     ghost no_control: { (code : ℕ) → ForSome (value_in mirrors code) (λ m. is_control m ≡ false) },
 }
 
-/// The table of the classes that the entries give.
+/// Builds the table of classes.
 fn class_table(alloc: Global, entries: &[ClassEntry]) -> Result<ClassTable, AllocError>
     ensures { IfOk result (λ t. (code : ℕ) → code < 0x110000 → class_in_table t code ≡ class_by_lines entries.now code) }
 {
@@ -41,7 +41,7 @@ fn class_table(alloc: Global, entries: &[ClassEntry]) -> Result<ClassTable, Allo
     ClassTable::new(alloc, &blocks)
 }
 
-/// The side and pair of each bracket. The last entry for a bracket counts.
+/// The side and counterpart of each bracket. The last entry for a bracket wins.
 fn bracket_map(alloc: Global, entries: &[BracketEntry]) -> Result<CodeMap<(Side, char)>, AllocError>
     ensures { IfOk result (λ m. (code : ℕ) → value_in m code ≡ bracket_by_lines entries.now code) }
 {
@@ -52,7 +52,7 @@ fn bracket_map(alloc: Global, entries: &[BracketEntry]) -> Result<CodeMap<(Side,
     Ok(brackets)
 }
 
-/// The mirrored characters. The last entry for a character counts.
+/// The mirror of each mirrored character. The last entry for a character wins.
 fn mirror_map(alloc: Global, entries: &[MirrorEntry]) -> Result<CodeMap<char>, AllocError>
     ensures { IfOk result (λ m. (code : ℕ) → value_in m code ≡ mirror_by_lines entries.now code) }
 {
@@ -63,7 +63,7 @@ fn mirror_map(alloc: Global, entries: &[MirrorEntry]) -> Result<CodeMap<char>, A
     Ok(mirrors)
 }
 
-/// The classes of the file, or its first refused line.
+/// Reads DerivedBidiClass.txt.
 fn read_classes(alloc: Global, bytes: &[u8]) -> Result<ClassTable, UcdError>
     ensures accepted { IfOk result (λ _. first_refusal UcdFile.Classes (class_lines bytes.now) ≡ None) }
     ensures answers { IfOk result (λ t. (code : ℕ) → class_in_table t code ≡ class_in_file bytes.now code) }
@@ -76,7 +76,7 @@ fn read_classes(alloc: Global, bytes: &[u8]) -> Result<ClassTable, UcdError>
     }
 }
 
-/// The brackets of the file, or its first refused line.
+/// Reads BidiBrackets.txt.
 fn read_brackets(alloc: Global, bytes: &[u8]) -> Result<CodeMap<(Side, char)>, UcdError>
     ensures accepted { IfOk result (λ _. first_refusal UcdFile.Brackets (bracket_lines bytes.now) ≡ None) }
     ensures answers { IfOk result (λ m. (code : ℕ) → value_in m code ≡ bracket_in_file bytes.now code) }
@@ -89,7 +89,7 @@ fn read_brackets(alloc: Global, bytes: &[u8]) -> Result<CodeMap<(Side, char)>, U
     }
 }
 
-/// The mirrored characters of the file, or its first refused line.
+/// Reads BidiMirroring.txt.
 fn read_mirrors(alloc: Global, bytes: &[u8]) -> Result<CodeMap<char>, UcdError>
     ensures accepted { IfOk result (λ _. first_refusal UcdFile.Mirroring (mirror_lines bytes.now) ≡ None) }
     ensures answers { IfOk result (λ m. (code : ℕ) → value_in m code ≡ mirror_in_file bytes.now code) }
@@ -103,9 +103,8 @@ fn read_mirrors(alloc: Global, bytes: &[u8]) -> Result<CodeMap<char>, UcdError>
 }
 
 impl Tables {
-    /// Reads the bytes of DerivedBidiClass.txt, BidiBrackets.txt and BidiMirroring.txt, in this order. The first line that
-    /// does not read well is refused. Want of memory is told of the file that was being read, and may come before a later
-    /// such line is seen.
+    /// Reads the bytes of DerivedBidiClass.txt, BidiBrackets.txt and BidiMirroring.txt, in this order, up to the first
+    /// malformed line. The error of a failed allocation names the file that was being read; its later lines may be unread.
     pub fn read(
         alloc: Global,
         classes: &[u8],

@@ -1,4 +1,4 @@
--- `==` of two blocks says that they are the same.
+-- `==` of two blocks decides whether they are equal.
 use Rattle.std.proofs.Common.{◌≡◌, rules, sym, ap, ◌∙◌, get_or, [], below_more}
 use Rattle.std.specs.Bool.{Decides}
 use Rattle.std.proofs.lemmas.Slice.Eq.{slice_eq-Decides}

@@ -1,4 +1,4 @@
--- Each digit is taken off what is left.
+-- Each step takes the first digit of the rest.
 use Rattle.std.proofs.Common.{◌<◌, ◌≤◌, ◌∙◌, arith}
 use Rattle.bx_ucd.proofs.HexLemmas.{values, values_small, values_more, tested_more, value_more}
 use Rattle.bx_ucd.proofs.codes.hex_value.Goals as goal

@@ -1,4 +1,4 @@
--- The loop's invariant says that no byte before passes.
+-- By the loop's invariant no earlier byte is the one looked for.
 use Rattle.std.proofs.Common.{◌≡◌, arith, sym, eq-eqb, length}
 use Rattle.std.specs.Prelude.{◌==◌}
 use Rattle.std.proofs.lemmas.List.Sums.{position_or_len_is}

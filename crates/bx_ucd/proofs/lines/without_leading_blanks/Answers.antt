@@ -1,4 +1,4 @@
--- The loop's invariant says that each byte before is a blank.
+-- By the loop's invariant each byte before is a blank.
 use Rattle.std.proofs.Common.{◌≡◌, arith, sym, length, ap, ◌∙◌, drop}
 use Rattle.std.proofs.lemmas.List.Sums.{prefix_len_is}
 use Rattle.std.proofs.lemmas.List.{take_rest}

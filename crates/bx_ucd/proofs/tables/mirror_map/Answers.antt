@@ -1,4 +1,4 @@
--- One more entry is put in.
+-- One more entry is inserted.
 use Rattle.std.proofs.Common.{◌∙◌}
 use Rattle.bx_ucd.specs.CodeMap.{value_in}
 use Rattle.bx_ucd.proofs.MapLemmas.{put_more}

@@ -1,4 +1,4 @@
--- What is written, and what stays.
+-- The painted codes and the others.
 use Rattle.std.proofs.Common.{◌<◌, ◌∙◌, refl, length, arith, length-set, inl, inr}
 use Rattle.std.proofs.lemmas.Bool.{cases_lt}
 use Rattle.bx_ucd.proofs.ClassLemmas.{class_in_more, class_in_kept}

@@ -1,4 +1,4 @@
--- One more block has its number, and the earlier numbers still stand for their blocks.
+-- One more block has its number, and the earlier numbers still name their blocks.
 use Rattle.std.proofs.Common.{◌≡◌, ℕ, ◌<◌, [], length, slice_index_or, ap, sym, refl, ◌∙◌, arith, below_more}
 use Rattle.std.specs.Prelude.{vec_len}
 use Rattle.std.proofs.lemmas.List.{get_or_default}

@@ -1,4 +1,4 @@
--- No line that is accepted says a control as a mirror.
+-- No accepted line gives a control as a mirror.
 use Rattle.std.proofs.Common.{sym, ◌∙◌}
 use Rattle.bx_ucd.proofs.LawLemmas.{no_mirror_is_control}
 use Rattle.bx_ucd.proofs.tables.Tables.read.Goals as goal
