@@ -12,7 +12,7 @@ here_or_later zero (suc k) h = inr (omega arith)
 here_or_later (suc j) zero h = absurd (omega arith)
 here_or_later (suc j) (suc k) h = elim (here_or_later j k (omega arith)) [ inl e ↦ inl (ap (λ n. suc n) e) | inr l ↦ inr (omega arith) ]
 
--- what is written at `j` is wanted there
+-- the value written at `j` is the one wanted there
 pub done_more : {A : Type 0} (want : ℕ → A) (xs : List A) (i j n : ℕ) (x d : A) → j + 1 ≡ i → i ≤ n → length xs ≡ n → x ≡ want j
     → ((k : ℕ) → i ≤ k → k < n → get_or xs k d ≡ want k) → (k : ℕ) → j ≤ k → k < n → get_or (set xs j x) k d ≡ want k
 done_more {A} want xs i j n x d e h m w done k low high =

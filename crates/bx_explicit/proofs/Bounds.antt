@@ -1,4 +1,4 @@
--- What bounds the levels and the indexes of the sequences.
+-- Bounds of the levels and the indexes of the sequences.
 use Rattle.std.proofs.Common.{◌<◌, ◌≤◌, ◌+◌, ◌-◌, ℕ, List, [], ◌∷◌, ◌++◌, length, drop, take, arith, true, false, Option, Some, None}
 use Rattle.std.specs.Prelude.{All, ◌==◌}
 use Rattle.std.proofs.lemmas.List.{length-take}
@@ -63,7 +63,7 @@ runs_low k (None ∷ g) a = runs_low (k + 1) g (All-tail IsLow None g a)
 runs_low k (Some c ∷ g) a = join_low k c.level (runs_from (k + 1) g) (All-head IsLow (Some c) g a) (runs_low (k + 1) g (All-tail IsLow (Some c) g a))
 
 module _ (paragraph : ℕ) (cs : List Class) (kept : List (Option Kept)) (P : RunSequence → Type 0) where
-  -- what holds of each sequence that begins with one of the runs
+  -- a property of each sequence that begins with one of the runs
   pub sequences_each : (Q : Run → Type 0) → ((r : Run) (fs : List Run) → Q r → All Q fs → P (sequence_of paragraph cs kept r fs))
       → ((r : Run) (rs : List Run) → All Q rs → All Q (followers cs r rs)) → (before rs : List Run) → All Q rs
       → All P (sequences_from paragraph cs kept before rs)

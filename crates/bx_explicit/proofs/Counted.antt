@@ -1,4 +1,4 @@
--- A sequence has no more indexes than the text has characters, since the runs of a chain stand one behind another.
+-- A sequence has no more indexes than the text has characters, since the runs of a chain do not overlap.
 use Rattle.std.proofs.Common.{◌<◌, ◌≤◌, ◌+◌, ◌-◌, ℕ, List, [], ◌∷◌, ◌++◌, length, drop, take, arith, true, false, Option, Some, None, length-append}
 use Rattle.std.specs.Prelude.{All}
 use Rattle.std.proofs.lemmas.List.{length-take}
@@ -64,7 +64,7 @@ module _ (paragraph : ℕ) (cs : List Class) (kept : List (Option Kept)) where
         | false ↦ All-cons IsFew s rest small ih
       ]
 
-  -- so it is in whatever order they are given
+  -- the same in any order of the sequences
   pub given_few : (given : List RunSequence) → AreGiven given (sequences paragraph cs kept) → All IsFew given
   given_few given g =
       let all : List RunSequence = sequences paragraph cs kept in

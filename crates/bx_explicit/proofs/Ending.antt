@@ -1,4 +1,4 @@
--- The sequences in the order in which their chains end: what a turn of the walk does.
+-- The sequences in the order in which their chains end: one turn of the walk.
 use Rattle.std.proofs.Common.{◌≡◌, ◌+◌, ◌∙◌, ℕ, List, [], ◌∷◌, ◌++◌, drop, reverse, refl, ap, sym, Bool, true, false, Option, Some, None}
 use Rattle.std.specs.Prelude.{IfNone, IfSome}
 use Rattle.bx_ucd.specs.declared.class.Class.{Class}

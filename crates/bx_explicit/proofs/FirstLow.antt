@@ -16,7 +16,7 @@ pick true same a h = a
 pick false true a h = h
 pick false false a h = None
 
--- how many characters stand before the first kept one that is not above a level, if that one has the level
+-- the number of characters before the first kept one that is not above a level, if that one has the level
 abbrev pub resumes_at : ℕ → List (Option Kept) → Option ℕ
 resumes_at l [] = None
 resumes_at l (None ∷ ks) = one_more (resumes_at l ks)
@@ -73,7 +73,7 @@ resumed_runs l k (Some c ∷ ks) =
     ∙ ap (pick (nat_lt l c.level) (c.level == l) (further k (one_more (resumes_at l ks)))) here
     ∙ sym (further_pick k (nat_lt l c.level) (c.level == l) (one_more (resumes_at l ks)) (Some 0))
 
--- an index, if there is one, is the index `f`
+-- an index, if any, is the index `f`
 abbrev pub begins_at : Option ℕ → ℕ → Bool
 begins_at o f = elim o [ None ↦ false | Some p ↦ p == f ]
 

@@ -1,4 +1,4 @@
--- What the laws tell by themselves, of single texts.
+-- Consequences of the laws for single texts.
 use Rattle.std.proofs.Common.{◌≡◌, ◌≤◌, ℕ, [], ◌∷◌, length, get_or, replicate, Option, Some, None, arith}
 use Rattle.bx_ucd.specs.declared.class.Class.{Class}
 use Rattle.bx_ucd.specs.declared.class.Class.TheVariants.{L, RLE, RLI, PDF, PDI}
@@ -9,7 +9,7 @@ use Rattle.bx_explicit.specs.Laws.{states, given_between, StatesGiveLevels, Alwa
 abbrev kept : ℕ → Class → Option Kept
 kept level class = Some (record { level = level; class = class })
 
--- behind 200 RLE the stack has 127 entries at most, though each of them would add one
+-- after 200 RLE, each of which would push an entry, the stack has at most 127 entries
 embeddings_have_room : AlwaysHasRoom → length (get_or (states 0 (replicate 200 RLE)) 200 (start 0)).stack ≤ 127
 embeddings_have_room law = law 0 (replicate 200 RLE) (omega arith) 200 (start 0) (omega arith)
 

@@ -1,4 +1,4 @@
--- Level runs: what a turn of each loop does.
+-- Level runs: one turn of each loop.
 use Rattle.std.proofs.Common.{◌≡◌, ◌<◌, ◌+◌, ◌-◌, ◌∙◌, ℕ, suc, List, [], ◌∷◌, ◌++◌, length, get_or, drop, take, set, reverse, refl, ap, sym, arith, Option}
 use Rattle.std.proofs.Common.{Some, None, subst, true, false}
 use Rattle.std.proofs.lemmas.List.{at_drop_more, take_more, take_more_set, reverse-append}
@@ -75,7 +75,7 @@ runs_within k (Some r ∷ g) = within_eq k (k + 1 + length g) (k + suc (length g
 pub all_within : (g : List (Option Kept)) → All (IsRunWithin 0 (length g)) (runs_from 0 g)
 all_within g = within_eq 0 (0 + length g) (length g) (runs_from 0 g) (omega arith) (runs_within 0 g)
 
--- each run stands before those after it
+-- the runs are in text order and do not overlap
 after_all : (k n : ℕ) (rs : List Run) → All (IsRunWithin (k + 1) n) rs → All (λ q. k < q.first) rs
 after_all k n rs a = λ i d h. let w : IsRunWithin (k + 1) n (get_or rs i d) = a i d h in omega (arith, w.starts)
 

@@ -1,4 +1,4 @@
--- The newest of the chains that may go on, from what is kept of it.
+-- The newest open chain, from its stored values.
 use Rattle.std.proofs.Common.{◌≡◌, ◌<◌, ◌≤◌, ◌+◌, ◌-◌, ◌∙◌, ℕ, List, [], ◌∷◌, ◌++◌, length, get_or, drop, take, map, reverse, max, refl, ap, sym, subst, arith}
 use Rattle.std.proofs.Common.{Bool, true, false, Option, length-drop}
 use Rattle.std.specs.Prelude.{All, ◌||◌, nat_lt, not}

@@ -1,4 +1,4 @@
--- Where all characters are kept at the paragraph level, there is one sequence, over all indexes.
+-- If all characters are kept at the paragraph level, they form one sequence, over all indexes.
 use Rattle.std.proofs.Common.{◌≡◌, ◌≤◌, ◌+◌, ◌-◌, ◌∙◌, ℕ, zero, suc, List, [], ◌∷◌, ◌++◌, length, drop, map, max, refl, ap, arith, true}
 use Rattle.std.proofs.Common.{false, Option, Some, append-nil}
 use Rattle.std.specs.Prelude.{◌==◌}
@@ -10,7 +10,7 @@ use Rattle.bx_explicit.specs.declared.runs.Run.{Run}
 use Rattle.bx_explicit.specs.Runs.{run, join_run, runs_from, kept_indexes, indexes_of}
 use Rattle.bx_explicit.specs.Sequences.{RunSequence, direction, level_of_first, level_after, starts_with_initiator, sequences, sequences_from}
 
--- what is kept of a class at a level
+-- a class kept at a level
 abbrev pub kept_as : ℕ → Class → Option Kept
 kept_as p c = Some (record { level = p; class = c })
 

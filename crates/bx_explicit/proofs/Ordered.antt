@@ -1,4 +1,4 @@
--- The sequences in order of their first indexes are what a sort of them makes, in whatever order they came.
+-- A sort by first index gives the sequences in their order, whatever order they came in.
 use Rattle.std.proofs.Common.{◌≡◌, ◌<◌, ◌≤◌, ◌+◌, ◌-◌, ◌∙◌, ◌==◌, ℕ, zero, suc, List, [], ◌∷◌, ◌++◌, length, get_or, drop, take, refl, ap, sym, subst, arith}
 use Rattle.std.proofs.Common.{Bool, true, false, Option, Some, None, nat_lt, ltb-true, ltb-false, lt-ltb, le-ltb}
 use Rattle.std.specs.Prelude.{All, sum_by}
@@ -18,7 +18,7 @@ use Rattle.bx_explicit.specs.Walk.{AreGiven}
 use Rattle.bx_explicit.proofs.LevelRuns.{runs_within, all_rising}
 use Rattle.bx_explicit.proofs.Bounds.{sequences_each, followers_each}
 
--- each is behind those before it
+-- each is after the ones before it
 abbrev AreBehind : List RunSequence → Type 0
 AreBehind [] = Unit {0}
 AreBehind (s ∷ ss) = All (λ (u : RunSequence). first_index s < first_index u) ss × AreBehind ss
@@ -89,7 +89,7 @@ module _ (paragraph : ℕ) (cs : List Class) (kept : List (Option Kept)) where
   pub all_behind : AreBehind (sequences paragraph cs kept)
   all_behind = behind [] (runs_from 0 kept) (all_rising kept) (begin_all kept kept 0 refl)
 
--- what is given is the same in another order
+-- given sequences are a permutation of all
 pub given_permutes : (given all : List RunSequence) → AreGiven given all → IsPermutation given all
 given_permutes [] all a = subst (IsPermutation []) (sym a) (IsPermutation-refl [])
 given_permutes (s ∷ given) all a =

@@ -52,7 +52,7 @@ end_embedding_keeps s n e = ap
           [ suc m ↦ record s { overflow_embeddings = m } | zero ↦ record s { stack = after_embedding s.stack } ]
     ]) e
 
--- the first kept character of a text, if there is one, has the level of the state's last entry
+-- the first kept character of a text, if any, has the level of the state's last entry
 abbrev pub StartsAtTop : State → List Class → Type 0
 StartsAtTop s cs = level_of_first (top s).level (explicit_from s cs) ≡ (top s).level
 

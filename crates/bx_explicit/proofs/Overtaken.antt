@@ -1,5 +1,5 @@
--- The law of the walk: the sequences come in the order in which their chains end, and one that comes earlier than the
--- order of first indexes wants it lies apart from those that it overtakes.
+-- The law of the walk: the sequences come in the order in which their chains end, and one that comes earlier than by the
+-- order of first indexes lies apart from the ones that it overtakes.
 use Rattle.std.proofs.Common.{◌≡◌, ◌≢◌, ◌<◌, ◌≤◌, ◌+◌, ◌∙◌, ℕ, suc, List, [], ◌∷◌, ◌++◌, append_assoc, append-nil, length, get_or, drop, reverse, refl, ap, sym}
 use Rattle.std.proofs.Common.{subst, arith, Bool, true, false, not, ◌==◌, Option, nat_lt, ltb-false, eqb-true}
 use Rattle.std.specs.Prelude.{All}
@@ -79,7 +79,7 @@ pub record IsMet (cs : List Class) (kept : List (Option Kept)) (done : List Run)
   pub waits : AreWaiting done chains from
   pub joined : StandFor cs (heads chains) done (runs_after kept from)
 
--- the next run, and those after it
+-- the next run, and the runs after it
 next_runs : (kept : List (Option Kept)) (from : ℕ) (q : Run) (rest : List Run) → runs_after kept from ≡ q ∷ rest → runs_after kept (q.last + 1) ≡ rest
 next_runs kept from q rest e =
     let w : EndsAt from (drop from kept) q rest = run_ends from (drop from kept) [] q rest e in

@@ -27,7 +27,7 @@ use Rattle.bx_explicit.proofs.RunEnd.{IsUnlike, EndsAt, run_ends}
 use Rattle.bx_explicit.proofs.Inside.{IsInside, out_at}
 use Rattle.bx_explicit.proofs.Overflown.{no_other_run}
 
--- the index of a match, from what stands before it
+-- the index of a match, from the text before it
 match_further : (i : ℕ) (b : Option ℕ) → further (i + 1) b ≡ elim b [ None ↦ None | Some k ↦ Some (i + 1 + k) ]
 match_further i None = refl
 match_further i (Some k) = refl
@@ -39,7 +39,7 @@ kept level class = record { level = level; class = class }
 kept_level : (level : ℕ) (class : Class) (k : Kept) → Some (kept level class) ≡ Some k → level ≡ k.level
 kept_level level class k e = let f : kept level class ≡ k = cc in ap (λ (x : Kept). x.level) f
 
--- the runs after `t` are those of a state; `q` is one of them
+-- the runs after `t` are the runs of a state; `q` is one of them
 module _ (t : Run) (between : List Run) (q : Run) (after : List Run) where
   abbrev rest : List Run
   rest = between ++ q ∷ after
@@ -59,7 +59,7 @@ module _ (t : Run) (between : List Run) (q : Run) (after : List Run) where
       ∙ ap (further (t.last + 1)) (out_at cs t.level 0 s w) in
       ap (λ o. begins_at o q.first) (sym a) ∙ first_is t.level between q after (rising ks e)
 
-  -- behind an initiator
+  -- after an initiator
   module _ (s : State) (level : ℕ) (cs : List Class) (higher : (top s).level < level) (same : (top s).level ≡ t.level) where
     valid_inside : is_valid s level ≡ true → IsInside t.level 1 (record s { stack = entry level Neutral true ∷ s.stack; valid_isolates = s.valid_isolates + 1 })
     valid_inside e =
@@ -82,7 +82,7 @@ module _ (t : Run) (between : List Run) (q : Run) (after : List Run) where
               after (omega arith) same e u)
         ] refl
 
-  -- the runs after `t` are those of the text after a character that is kept at its level
+  -- the runs after `t` are the runs of the text after a character that is kept at its level
   module _ (s : State) (char : Kept) (ks : List (Option Kept)) (same : char.level ≡ t.level) (later : runs_from (t.last + 1) ks ≡ rest)
       (unlike : IsUnlike t.level rest) where
     after_initiator : (level : ℕ) (cs : List Class) → (top s).level < level → (top s).level ≡ char.level → explicit_from (isolate s level) cs ≡ ks
@@ -105,7 +105,7 @@ module _ (t : Run) (between : List Run) (q : Run) (after : List Run) where
     joined_at [] e = absurd (cc)
     joined_at (c ∷ cs) e = joined_after c cs (cc) (cc)
 
--- what is kept from an index on
+-- the kept characters from an index on
 levels_drop : (p : ℕ) (s : State) (cs : List Class) → drop p (explicit_from s cs) ≡ explicit_from (state_at p cs s) (drop p cs)
 levels_drop zero s cs = refl
 levels_drop (suc p) s [] = refl

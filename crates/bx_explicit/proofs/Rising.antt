@@ -1,4 +1,4 @@
--- The stack of rising levels, and what its list, last entry last, becomes.
+-- The stack of rising levels, and changes of its list, last entry last.
 use Rattle.std.proofs.Common.{◌≡◌, ◌<◌, ◌≤◌, ◌+◌, ℕ, List, [], ◌∷◌, length, reverse, arith}
 use Rattle.std.proofs.lemmas.List.{length-reverse}
 use Rattle.bx_explicit.specs.declared.entry.Entry.{Entry}

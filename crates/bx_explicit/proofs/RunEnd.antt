@@ -1,4 +1,4 @@
--- The end of a run within the kept characters, and what follows it.
+-- The end of a run within the kept characters, and the runs after it.
 use Rattle.std.proofs.Common.{◌≡◌, ◌≢◌, ◌+◌, ◌∙◌, ℕ, suc, List, [], ◌∷◌, ◌++◌, drop, refl, ap, subst, arith, Bool, true, false, Option, Some, None}
 use Rattle.std.specs.Prelude.{◌==◌}
 use Rattle.std.proofs.lemmas.Bool.Decides.{nat_tests}
@@ -60,7 +60,7 @@ module _ (k : ℕ) (c : Kept) (ks : List (Option Kept)) where
   abbrev Within : List Run → Type 0
   Within inner = (bs : List Run) (u : Run) (us : List Run) → inner ≡ bs ++ u ∷ us → EndsAt (k + 1) ks u us
 
-  -- the same where the first run, and what follows it, are known by equations
+  -- the same with the first run and the ones after it given by equations
   end_as : (t u : Run) (rest us : List Run) → u ≡ t → us ≡ rest → EndsAt k (Some c ∷ ks) u us → EndsAt k (Some c ∷ ks) t rest
   end_as t u rest us e f w = subst (λ xs. EndsAt k (Some c ∷ ks) t xs) f (subst (λ x. EndsAt k (Some c ∷ ks) x us) e w)
 
@@ -86,7 +86,7 @@ module _ (k : ℕ) (c : Kept) (ks : List (Option Kept)) where
   end_join [] g w before t rest e = end_alone g before t rest e
   end_join (r ∷ rs) g w before t rest e = end_by r rs (r.level == c.level) refl g w before t rest e
 
--- each run ends at a character of its level, and the runs after it are those of the characters after that
+-- each run ends at a character of its level, and the runs after it are the runs of the characters after that one
 pub run_ends : (k : ℕ) (ks : List (Option Kept)) (before : List Run) (t : Run) (rest : List Run) → runs_from k ks ≡ before ++ t ∷ rest → EndsAt k ks t rest
 run_ends k [] before t rest e = absurd (no_run before t rest e)
 run_ends k (None ∷ ks) before t rest e = end_more k None ks t rest (run_ends (k + 1) ks before t rest e)

@@ -37,7 +37,7 @@ join_level k level (q ∷ rs) r qs e = elim (q.level == level) as
       | false ↦ λ t. cc
     ] e
 
--- where there is no run, no character is kept
+-- without runs, no character is kept
 no_indexes : (g : List (Option Kept)) (k n : ℕ) → runs_from k g ≡ [] → kept_indexes k (take n g) ≡ []
 no_indexes g k zero e = refl
 no_indexes [] k (suc n) e = refl
@@ -63,7 +63,7 @@ reaches g k r rs e =
     let w : IsRunWithin k (k + length g) r = All-head (IsRunWithin k (k + length g)) r rs (subst (All (IsRunWithin k (k + length g))) e (runs_within k g)) in
     omega (arith, w.starts, w.ordered)
 
--- the indexes after the first one of a run, by the runs of what comes after it
+-- the indexes of a run after its first one, by the runs of the rest
 later : (level k : ℕ) (g : List (Option Kept)) (qs : List Run) (r : Run) (rs : List Run) → runs_from (k + 1) g ≡ qs → join_run k level qs ≡ r ∷ rs
     → ((q : Run) (qs' : List Run) → runs_from (k + 1) g ≡ q ∷ qs' → q.level ≡ level
     → kept_indexes (k + 1) (take (q.last + 1 - (k + 1)) g) ≡ level_indexes level (k + 1) g)
@@ -100,7 +100,7 @@ run_indexes level (Some c ∷ g) k r rs e s =
     ∙ ap (λ ps. k ∷ ps) (later level k g (runs_from (k + 1) g) r rs refl j (λ q qs f u. run_indexes level g (k + 1) q qs f u))
     ∙ sym (indexes_at level k c g true t)
 
--- the same for the first run of a list, if there is one
+-- the same for the first run of a list, if any
 first_run_indexes : (level : ℕ) (g : List (Option Kept)) (k : ℕ) (rs : List Run) → runs_from k g ≡ rs → (first_run_of rs).level ≡ level
     → kept_indexes k (take ((first_run_of rs).last + 1 - k) g) ≡ level_indexes level k g
 first_run_indexes level g k [] e s = no_indexes g k (0 + 1 - k) e ∙ sym (none_of_level level g k e)
@@ -111,7 +111,7 @@ indexes_walked kept level p w =
     ap (λ n. kept_indexes n (take ((run_at kept p).last + 1 - n) (drop n kept))) w.here
     ∙ first_run_indexes level (drop p kept) p (runs_from p (drop p kept)) refl w.of_level
 
--- what bounds it
+-- its bound
 last_in : (n k : ℕ) (rs : List Run) → 0 < n → All (IsRunWithin k n) rs → (first_run_of rs).last < n
 last_in n k [] h a = h
 last_in n k (r ∷ rs) h a = (All-head (IsRunWithin k n) r rs a).ends

@@ -1,4 +1,4 @@
--- The run that begins at an index: what a character more does to it.
+-- The run that begins at an index, with one more character.
 use Rattle.std.proofs.Common.{◌≡◌, ◌≢◌, ◌<◌, ◌≤◌, ◌+◌, ◌∙◌, ℕ, List, [], ◌∷◌, length, get_or, drop, refl, ap, sym, arith, Bool, true}
 use Rattle.std.proofs.Common.{false, Option, Some, None}
 use Rattle.std.specs.Prelude.{◌==◌}

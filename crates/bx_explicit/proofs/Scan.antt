@@ -66,7 +66,7 @@ pub scan_all : (cs : List Class) (n : ℕ) → level_of_rest n (drop (length cs)
 scan_all cs zero = rw drop-length
 scan_all cs (suc n) = rw drop-length
 
--- how many characters stand before the PDI that ends `n` isolates, or before the end
+-- the number of characters before the PDI that ends `n` isolates, or before the end
 abbrev pub until_pdi : ℕ → List Class → ℕ
 until_pdi n cs = or_end (before_pdi n cs) cs
 

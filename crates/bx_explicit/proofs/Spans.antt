@@ -1,4 +1,4 @@
--- What holds of all indexes of a run, and so of a chain's.
+-- Properties of all indexes of a run, and so of all indexes of a chain.
 use Rattle.std.proofs.Common.{◌<◌, ◌≤◌, ◌+◌, ◌-◌, ℕ, List, [], ◌∷◌, length, drop, take, reverse, sym, subst, arith, inl, inr, Option, Some, None}
 use Rattle.std.specs.Prelude.{All}
 use Rattle.std.proofs.lemmas.List.{length-take, reverse-append}
@@ -9,7 +9,7 @@ use Rattle.bx_explicit.specs.Runs.{kept_indexes, indexes_of, IsRunWithin}
 use Rattle.bx_explicit.specs.Sequences.{chain_indexes}
 use Rattle.bx_explicit.specs.Walk.{IsIn, IsOut}
 
--- what holds of all indexes of a run holds of its kept ones, and so of a chain's
+-- a property of all indexes of a run holds of its kept ones, and so of a chain's
 module _ (P : ℕ → Type 0) where
   each_kept : (k : ℕ) (g : List (Option Kept)) → ((p : ℕ) → k ≤ p → p < k + length g → P p) → All P (kept_indexes k g)
   each_kept k [] h = All-nil P

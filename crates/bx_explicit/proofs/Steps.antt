@@ -61,7 +61,7 @@ state_next Pdf cs s = refl
 state_next Bn cs s = refl
 state_next Other cs s = refl
 
--- what the character at `i` is given, and then the rest
+-- the result for the character at `i`, and then the rest
 pub levels_more : (cs : List Class) (i : ℕ) (s : State) (first : ℕ) → i < length cs → first ≡ isolate_level (drop (i + 1) cs)
     → explicit_from s (drop i cs) ≡ kept_by (role_of (get_or cs i L)) (get_or cs i L) s (state_after (role_of (get_or cs i L)) first s) ∷ explicit_from
     (state_after (role_of (get_or cs i L)) first s) (drop (i + 1) cs)

@@ -103,7 +103,7 @@ module _ (cs : List Class) (all : List Run) (law : AreResumed cs all) where
         later_alone before t between q rest e (omega arith),
       )
 
--- what follows a run
+-- the runs that follow a run
 followers_at : (cs : List Class) (r q : Run) (qs : List Run) (b : Bool) → is_joined cs r q ≡ b
     → followers cs r (q ∷ qs) ≡ elim b [ true ↦ q ∷ followers cs q qs | false ↦ followers cs r qs ]
 followers_at cs r q qs true e = rw (e, followers)
@@ -120,7 +120,7 @@ alone cs t [] a = refl
 alone cs t (q ∷ rest) a = followers_unjoined cs t q rest (All-head (λ x. is_joined cs t x ≡ false) q rest a)
     ∙ alone cs t rest (All-tail (λ x. is_joined cs t x ≡ false) q rest a)
 
--- the runs that are joined to one of those met, where the newest of each chain stand for all
+-- the runs joined to a run met so far are the runs joined to the newest run of a chain
 abbrev pub StandFor : List Class → List Run → List Run → List Run → Type 0
 StandFor cs hs done rest = All (λ q. follows cs done q ≡ follows cs hs q) rest
 

@@ -26,7 +26,7 @@ pub record IsWaiting (done : List Run) (r : Run) (rs older : List Run) (low high
   pub lower : All (λ (u : Run). u.level < r.level) older
   pub within : All (IsRunWithin low high) (r ∷ rs)
 
--- the same of each chain, one behind the other before an index
+-- the same for each chain, one after the other before an index
 abbrev pub AreWaiting : List Run → List (List Run) → ℕ → Type 0
 AreWaiting done [] high = Unit {0}
 AreWaiting done ([] ∷ chains) high = ⊥

@@ -1,4 +1,4 @@
--- The explicit levels, X1 to X9, by the standard's own stack and counts: one rule for each character.
+-- The explicit levels, X1 to X9, by the standard's own stack and counts.
 use Rattle.std.specs.Prelude.{ℕ, ◌+◌, ◌-◌, ◌%◌, nat_le, ◌&&◌, Bool, true, false, List, [], ◌∷◌, Option, Some, None}
 use Rattle.std.proofs.Common.{zero, suc}
 use Rattle.bx_ucd.specs.declared.class.Class.{Class}
@@ -14,7 +14,7 @@ use Rattle.bx_explicit.specs.declared.entry.Override.TheVariants.{Neutral, Left,
 use Rattle.bx_explicit.specs.Stack.{max_depth, entry, top_of, after_isolate, after_embedding}
 use Rattle.bx_explicit.specs.ParagraphLevel.{isolate_level}
 
--- X1: the stack begins with the paragraph level, and the counts at 0
+-- X1: the stack has one entry of the paragraph level, and all counts are 0
 abbrev pub start : ℕ → State
 start level = record { stack = entry level Neutral false ∷ []; overflow_isolates = 0; overflow_embeddings = 0; valid_isolates = 0 }
 
@@ -22,36 +22,36 @@ start level = record { stack = entry level Neutral false ∷ []; overflow_isolat
 abbrev pub top : State → Entry
 top s = top_of s.stack
 
--- the least odd level above a level (X2, X4, X5a), and the least even one (X3, X5, X5b)
+-- the least odd level greater than n (X2, X4, X5a), and the least even one (X3, X5, X5b)
 abbrev pub odd_above : ℕ → ℕ
 odd_above n = n + 1 + n % 2
 
 abbrev pub even_above : ℕ → ℕ
 even_above n = n + 2 - n % 2
 
--- X2 to X5c: a new level is valid if it is at most the greatest one and nothing has overflowed
+-- X2 to X5c: a new level is valid if it does not exceed max_depth and both overflow counts are 0
 abbrev pub is_valid : State → ℕ → Bool
 is_valid s level = nat_le level max_depth && nat_le s.overflow_isolates 0 && nat_le s.overflow_embeddings 0
 
--- X2 to X5, an embedding or an override: pushed if it is valid, and else counted outside of overflow isolates
+-- X2 to X5, an embedding or override: a valid one is pushed; any other is counted if the overflow isolate count is 0
 abbrev pub embed : State → ℕ → Override → State
 embed s level o = elim (is_valid s level) [
   | true ↦ record s { stack = entry level o false ∷ s.stack }
   | false ↦ record s { overflow_embeddings = elim (s.overflow_isolates) [ zero ↦ s.overflow_embeddings + 1 | suc n ↦ s.overflow_embeddings ] }
 ]
 
--- X5a to X5c, an initiator: pushed if it is valid, and else counted
+-- X5a to X5c, an isolate initiator: a valid one is pushed and counted; any other is counted as an overflow isolate
 abbrev pub isolate : State → ℕ → State
 isolate s level = elim (is_valid s level) [
   | true ↦ record s { stack = entry level Neutral true ∷ s.stack; valid_isolates = s.valid_isolates + 1 }
   | false ↦ record s { overflow_isolates = s.overflow_isolates + 1 }
 ]
 
--- X5c: the level of an isolate whose text has the paragraph level `first`
+-- X5c: the level of an FSI's isolate whose text has the paragraph level `first`
 abbrev pub first_above : ℕ → ℕ → ℕ
 first_above first n = elim first [ zero ↦ even_above n | suc m ↦ odd_above n ]
 
--- X6, and X5a to X5c for the initiator itself: what an entry gives a character, its level, and under an override the
+-- X6, and X5a to X5c for the initiator itself: the character gets the entry's level and, under an override, the
 -- override's type
 abbrev pub forced_class : Override → Class → Class
 forced_class Neutral c = c
@@ -61,7 +61,7 @@ forced_class Right c = R
 abbrev pub kept_under : Entry → Class → Option Kept
 kept_under e c = Some (record { level = e.level; class = forced_class e.forced c })
 
--- X6a, a PDI: ends an overflow isolate, or the last valid one with the embeddings in it
+-- X6a, a PDI: ends an overflow isolate, else the last valid isolate with the embeddings in it
 abbrev pub end_isolate : State → State
 end_isolate s = elim (s.overflow_isolates) [
   | suc n ↦ record s { overflow_isolates = n }
@@ -71,7 +71,7 @@ end_isolate s = elim (s.overflow_isolates) [
   ]
 ]
 
--- X7, a PDF: ends an overflow embedding, or the last entry
+-- X7, a PDF: in no overflow isolate, ends an overflow embedding, else the last entry
 abbrev pub end_embedding : State → State
 end_embedding s = elim (s.overflow_isolates) [
   | suc n ↦ s
@@ -81,7 +81,7 @@ end_embedding s = elim (s.overflow_isolates) [
   ]
 ]
 
--- the state after a character of a role; after an FSI the text of its isolate has the paragraph level `first`
+-- the state after a character of a role; for an FSI, `first` is the paragraph level of its isolate's text
 abbrev pub state_after : Role → ℕ → State → State
 -- X2
 state_after Rle first s = embed s (odd_above (top s).level) Neutral
@@ -97,7 +97,7 @@ state_after Rli first s = isolate s (odd_above (top s).level)
 state_after Lri first s = isolate s (even_above (top s).level)
 -- X5c
 state_after Fsi first s = isolate s (first_above first (top s).level)
--- X6, and X8, by which a paragraph begins anew: a B at its end is a character like others
+-- X6 and X8: each paragraph begins with a new state, so a B at its end changes nothing
 state_after Other first s = s
 -- X6a
 state_after Pdi first s = end_isolate s
@@ -106,24 +106,24 @@ state_after Pdf first s = end_embedding s
 -- X9: it is removed
 state_after Bn first s = s
 
--- the same before the text `cs`
+-- the same, with the text `cs` after the character
 abbrev pub next_state : Role → List Class → State → State
 next_state Fsi cs s = state_after Fsi (isolate_level cs) s
 next_state role cs s = state_after role 0 s
 
--- what a character of a role is given, from the states before and after it
+-- the result for a character of a role, from the states before and after it
 abbrev pub kept_by : Role → Class → State → State → Option Kept
 -- X2 to X5 and X9: it is removed
 kept_by Rle c s t = None
 kept_by Lre c s t = None
 kept_by Rlo c s t = None
 kept_by Lro c s t = None
--- X5a to X5c and X6: what the last entry before it gives
+-- X5a to X5c and X6: by the last entry before the character
 kept_by Rli c s t = kept_under (top s) c
 kept_by Lri c s t = kept_under (top s) c
 kept_by Fsi c s t = kept_under (top s) c
 kept_by Other c s t = kept_under (top s) c
--- X6a: what the last entry after it gives
+-- X6a: by the last entry after the PDI
 kept_by Pdi c s t = kept_under (top t) c
 -- X7 and X9: it is removed
 kept_by Pdf c s t = None
@@ -133,6 +133,6 @@ abbrev pub explicit_from : State → List Class → List (Option Kept)
 explicit_from s [] = []
 explicit_from s (c ∷ cs) = let t = next_state (role_of c) cs s in kept_by (role_of c) c s t ∷ explicit_from t cs
 
--- each character of a paragraph of a level: its level and its type after overrides, or nothing where it is removed
+-- for each character of a paragraph, its level and its type after overrides, or nothing where X9 removes it
 abbrev pub explicit_levels : ℕ → List Class → List (Option Kept)
 explicit_levels level cs = explicit_from (start level) cs

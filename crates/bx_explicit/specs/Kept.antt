@@ -1,4 +1,4 @@
--- What the explicit rules give a character, as a level.
+-- The explicit level of a character.
 use Rattle.std.specs.Prelude.{◌≡◌, ℕ, Option, Some, None}
 use Rattle.bx_explicit.specs.declared.entry.Kept.{Kept}
 

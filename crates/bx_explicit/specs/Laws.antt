@@ -1,4 +1,4 @@
--- What holds of every run of the rules for explicit levels.
+-- A law of the rules for explicit levels.
 use Rattle.std.specs.Prelude.{◌≡◌, ◌≤◌, ℕ, ◌+◌, List, [], ◌∷◌, Option, All, length}
 use Rattle.bx_ucd.specs.declared.class.Class.{Class}
 use Rattle.bx_explicit.specs.declared.entry.Kept.{Kept}
@@ -7,30 +7,30 @@ use Rattle.bx_explicit.specs.Role.{role_of}
 use Rattle.bx_explicit.specs.Stack.{max_depth}
 use Rattle.bx_explicit.specs.Explicit.{start, next_state, kept_by, explicit_levels}
 
--- the states of a run over the classes of a text: before each character, and behind the last
+-- the states over the classes of a text: before each character, and after the last
 abbrev pub states_from : State → List Class → List State
 states_from s [] = s ∷ []
 states_from s (c ∷ cs) = s ∷ states_from (next_state (role_of c) cs s) cs
 
--- those of a run over a paragraph of a level
+-- the states over a paragraph, given its level
 abbrev pub states : ℕ → List Class → List State
 states level cs = states_from (start level) cs
 
--- what the states before and behind each character give it
+-- the result for each character, from the states before and after it
 abbrev pub given_between : List State → List Class → List (Option Kept)
 given_between [] cs = []
 given_between (s ∷ []) cs = []
 given_between (s ∷ t ∷ ss) [] = []
 given_between (s ∷ t ∷ ss) (c ∷ cs) = kept_by (role_of c) c s t ∷ given_between (t ∷ ss) cs
 
--- these states are those that give each character its level
+-- these states give each character its explicit level
 abbrev pub StatesGiveLevels : Type 0
 StatesGiveLevels = (level : ℕ) (cs : List Class) → given_between (states level cs) cs ≡ explicit_levels level cs
 
--- X1: a stack has room for two entries more than the greatest level
+-- X1: a stack has room for max_depth + 2 entries
 abbrev pub HasRoom : State → Type 0
 HasRoom s = length s.stack ≤ max_depth + 2
 
--- in no run does it want more
+-- over any text each state keeps to it
 abbrev pub AlwaysHasRoom : Type 0
 AlwaysHasRoom = (level : ℕ) (cs : List Class) → level ≤ max_depth → All HasRoom (states level cs)

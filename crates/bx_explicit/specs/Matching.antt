@@ -18,17 +18,17 @@ abbrev pub one_more : Option ℕ → Option ℕ
 one_more None = None
 one_more (Some k) = Some (suc k)
 
--- how many characters stand before the first PDI that brings the count `n` to 0
+-- the number of characters before the first PDI that brings the count `n` to 0
 abbrev pub before_pdi : ℕ → List Class → Option ℕ
 before_pdi n [] = None
 before_pdi n (c ∷ cs) = elim (count_after n c) [ zero ↦ Some 0 | suc m ↦ one_more (before_pdi (suc m) cs) ]
 
--- an index in a list, or its end
+-- the index, or the length of the list
 abbrev pub or_end : Option ℕ → List Class → ℕ
 or_end None cs = length cs
 or_end (Some k) cs = k
 
--- how many of the characters after an initiator stand in its isolate: up to its matching PDI, or to the end
+-- the number of characters in an isolate, of those after its initiator: up to the matching PDI, or to the end
 abbrev pub isolated : List Class → ℕ
 isolated cs = or_end (before_pdi 1 cs) cs
 

@@ -1,5 +1,5 @@
--- The chains of level runs that may go on, as the runs are met in order. A chain whose newest run ends in an initiator
--- waits for the next run of its level; the higher runs that come before that one are inside the isolate.
+-- Open chains: chains of level runs that a later run may join, while the runs are met in order. A chain whose newest run
+-- ends in an initiator waits for the next run of its level; the higher runs before that one are inside the isolate.
 use Rattle.std.specs.Prelude.{◌==◌, ◌&&◌, ◌||◌, ℕ, nat_lt, Bool, true, false, not, List, [], ◌∷◌, Option, drop, reverse}
 use Rattle.bx_ucd.specs.declared.class.Class.{Class}
 use Rattle.bx_ucd.specs.declared.class.Class.TheVariants.{L}
@@ -20,22 +20,22 @@ run_at kept p = first_run_of (runs_from p (drop p kept))
 abbrev pub ends_in_initiator : List Class → Run → Bool
 ends_in_initiator cs r = starts_with_initiator (drop r.last cs)
 
--- the runs of a list are above a level
+-- all runs are above the level
 abbrev pub all_above : ℕ → List Run → Bool
 all_above level [] = true
 all_above level (r ∷ rs) = nat_lt level r.level && all_above level rs
 
--- the run `q` is the first one after `r` that is not above it, and has its level, where `r` ends in an initiator
+-- `r` ends in an initiator, and `q`, the first run after `r` that is not above it, has its level
 abbrev pub is_resumed : List Class → Run → List Run → Run → Bool
 is_resumed cs r between q = ends_in_initiator cs r && (q.level == r.level) && all_above r.level between
 
--- of chains, the newest first, each with its newest run first: whether the newest one ends before the run `q`
+-- the newest chain ends before the run `q` (chains the newest first, each with its newest run first)
 abbrev pub is_over : List Class → List (List Run) → Run → Bool
 is_over cs [] q = false
 is_over cs ([] ∷ chains) q = true
 is_over cs ((r ∷ rs) ∷ chains) q = nat_lt q.level r.level || not (ends_in_initiator cs r)
 
--- the chains after the run `q`, where the newest one does not end before it
+-- the chains after the run `q`, before which the newest one does not end
 abbrev pub with_run : List (List Run) → Run → List (List Run)
 with_run [] q = (q ∷ []) ∷ []
 with_run ([] ∷ chains) q = (q ∷ []) ∷ [] ∷ chains
@@ -55,7 +55,7 @@ abbrev pub sequence_of_runs : ℕ → List Class → List (Option Kept) → List
 sequence_of_runs paragraph cs kept [] = record { indexes = []; level = 0; sos = L; eos = L }
 sequence_of_runs paragraph cs kept (r ∷ rs) = sequence_of paragraph cs kept r rs
 
--- what a paragraph body and its chains give
+-- a paragraph body after the explicit rules, and its open chains
 pub record OpenRuns : Type 0 where
   pub explicit : Explicit
   pub chains : List (List Run)

@@ -8,17 +8,17 @@ use Rattle.bx_explicit.specs.declared.base.Base.{Base}
 use Rattle.bx_explicit.specs.declared.base.Base.TheVariants.{Auto, Ltr, Rtl}
 use Rattle.bx_explicit.specs.Matching.{isolated}
 
--- how many characters are skipped after `c`: after an initiator, those of its isolate
+-- the number of characters skipped after `c`: after an initiator, those of its isolate
 abbrev pub skipped : Class → List Class → ℕ
 skipped c cs = elim (is_initiator c) [ true ↦ isolated cs | false ↦ 0 ]
 
--- P2: the first L, R or AL, once `skip` characters are skipped
+-- P2: the first L, R or AL outside isolates, after `skip` characters
 abbrev pub first_strong : ℕ → List Class → Option Class
 first_strong skip [] = None
 first_strong (suc skip) (c ∷ cs) = first_strong skip cs
 first_strong zero (c ∷ cs) = elim (is_strong c) [ true ↦ Some c | false ↦ first_strong (skipped c cs) cs ]
 
--- P3: 1 if it is R or AL
+-- P3: 1 if the class is R or AL, else 0
 abbrev pub level_of_strong : Class → ℕ
 level_of_strong R = 1
 level_of_strong AL = 1
@@ -31,11 +31,11 @@ level_of (Some c) = level_of_strong c
 abbrev pub paragraph_level : List Class → ℕ
 paragraph_level cs = level_of (first_strong 0 cs)
 
--- the same of an isolate alone, from the text after its initiator (X5c)
+-- X5c: the paragraph level of an isolate's text, given the text after its initiator
 abbrev pub isolate_level : List Class → ℕ
 isolate_level cs = paragraph_level (take (isolated cs) cs)
 
--- the paragraph level under a base: found from the text, or given (HL1)
+-- the paragraph level under a base direction: found from the text, or given (HL1)
 abbrev pub base_level : Base → List Class → ℕ
 base_level Auto cs = paragraph_level cs
 base_level Ltr cs = 0

@@ -1,10 +1,10 @@
--- What each class does to the stack of explicit levels.
+-- The role of each class in the rules for explicit levels.
 use Rattle.bx_ucd.specs.declared.class.Class.{Class}
 use Rattle.bx_ucd.specs.declared.class.Class.TheVariants.{BN, LRE, LRO, RLE, RLO, PDF, LRI, RLI, FSI, PDI}
 use Rattle.bx_explicit.specs.declared.role.Role.{Role}
 use Rattle.bx_explicit.specs.declared.role.Role.TheVariants.{Lre, Rle, Lro, Rlo, Lri, Rli, Fsi, Pdi, Pdf, Bn, Other}
 
--- what a class does to the stack of explicit levels
+-- the role of a class
 abbrev pub role_of : Class → Role
 role_of LRE = Lre
 role_of RLE = Rle

@@ -6,18 +6,18 @@ use Rattle.bx_explicit.specs.declared.runs.Run.{Run}
 abbrev pub run : ℕ → ℕ → ℕ → Run
 run level first last = record { level = level; first = first; last = last }
 
--- a kept character at index `k` joins the run after it, if that has its level
+-- a kept character at index `k` joins the next run, if that has its level
 abbrev pub join_run : ℕ → ℕ → List Run → List Run
 join_run k level [] = run level k k ∷ []
 join_run k level (r ∷ rs) = elim (r.level == level) [ true ↦ run level k r.last ∷ rs | false ↦ run level k k ∷ r ∷ rs ]
 
--- the level runs of the characters from index `k` on, removed ones between not counting
+-- the level runs of the characters from index `k` on; removed characters do not count
 abbrev pub runs_from : ℕ → List (Option Kept) → List Run
 runs_from k [] = []
 runs_from k (None ∷ cs) = runs_from (k + 1) cs
 runs_from k (Some c ∷ cs) = join_run k c.level (runs_from (k + 1) cs)
 
--- the indexes of the kept characters of a list whose first index is `k`
+-- the indexes of the kept characters, counted from `k`
 abbrev pub kept_indexes : ℕ → List (Option Kept) → List ℕ
 kept_indexes k [] = []
 kept_indexes k (None ∷ cs) = kept_indexes (k + 1) cs
@@ -27,13 +27,13 @@ kept_indexes k (Some c ∷ cs) = k ∷ kept_indexes (k + 1) cs
 abbrev pub indexes_of : List (Option Kept) → Run → List ℕ
 indexes_of kept r = kept_indexes r.first (take (r.last + 1 - r.first) (drop r.first kept))
 
--- a run lies between two indexes
+-- a run lies within `low..high`
 pub record IsRunWithin (low high : ℕ) (r : Run) : Type 0 where
   pub starts : low ≤ r.first
   pub ordered : r.first ≤ r.last
   pub ends : r.last < high
 
--- each run stands before those after it
+-- the runs are in text order and do not overlap
 abbrev pub AreRising : List Run → Type 0
 AreRising [] = Unit {0}
 AreRising (r ∷ rs) = (r.first ≤ r.last) × All (λ q. r.last < q.first) rs × AreRising rs

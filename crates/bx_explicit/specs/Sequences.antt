@@ -9,23 +9,23 @@ use Rattle.bx_explicit.specs.declared.runs.Run.{Run}
 use Rattle.bx_explicit.specs.Matching.{match_of}
 use Rattle.bx_explicit.specs.Runs.{runs_from, indexes_of}
 
--- an isolating run sequence: the indexes of its characters, their level, and the types before its first (sos) and after
--- its last character (eos)
+-- an isolating run sequence: the indexes of its characters, their level, and the types before its first character (sos)
+-- and after its last (eos)
 pub record RunSequence : Type 0 where
   pub indexes : List ℕ
   pub level : ℕ
   pub sos : Class
   pub eos : Class
 
--- the run `r` ends in an initiator whose matching PDI begins the run `q`
+-- BD13: the run `r` ends in an initiator whose matching PDI begins the run `q`
 abbrev pub is_joined : List Class → Run → Run → Bool
 is_joined cs r q = elim (match_of cs r.last) [ None ↦ false | Some p ↦ p == q.first ]
 
--- a run is joined to one of those before it
+-- a run is joined to one of the runs before it
 abbrev pub follows : List Class → List Run → Run → Bool
 follows cs before r = list_any (λ q. is_joined cs q r) before
 
--- the runs that follow `r` in its chain, one joined to the next, where `qs` are the runs after it
+-- the runs after `r` in its chain, each joined to the next, from the later runs `qs`
 abbrev pub followers : List Class → Run → List Run → List Run
 followers cs r [] = []
 followers cs r (q ∷ qs) = elim (is_joined cs r q) [ true ↦ q ∷ followers cs q qs | false ↦ followers cs r qs ]
@@ -46,7 +46,7 @@ level_of_first paragraph [] = paragraph
 level_of_first paragraph (None ∷ cs) = level_of_first paragraph cs
 level_of_first paragraph (Some c ∷ cs) = c.level
 
--- sos: the direction of the higher of two levels, the first character's and that of the kept character before it
+-- sos: the direction of the higher of two levels, the run's and the one of the kept character before it
 abbrev pub start_class : ℕ → List (Option Kept) → Run → Class
 start_class paragraph kept r = direction (max r.level (level_of_first paragraph (reverse (take r.first kept))))
 
@@ -54,18 +54,18 @@ abbrev pub starts_with_initiator : List Class → Bool
 starts_with_initiator [] = false
 starts_with_initiator (c ∷ cs) = is_initiator c
 
--- the level of the kept character after the index `p`, or the paragraph level, also where `p` holds an initiator
+-- the level of the next kept character after index `p`; the paragraph level if none follows, or if `p` holds an initiator
 abbrev pub level_after : ℕ → List Class → List (Option Kept) → ℕ → ℕ
 level_after paragraph cs kept p = elim (starts_with_initiator (drop p cs)) [
   | true ↦ paragraph
   | false ↦ level_of_first paragraph (drop (p + 1) kept)
 ]
 
--- eos: likewise the last character's and that of the kept character after it
+-- eos: the direction of the higher of the run's level and the level after its last character
 abbrev pub end_class : ℕ → List Class → List (Option Kept) → Run → Class
 end_class paragraph cs kept r = direction (max r.level (level_after paragraph cs kept r.last))
 
--- the sequence of the chain of a run and its followers
+-- the sequence of a run and its followers
 abbrev pub sequence_of : ℕ → List Class → List (Option Kept) → Run → List Run → RunSequence
 sequence_of paragraph cs kept r rs = record {
   indexes = chain_indexes kept (r ∷ rs);
@@ -74,7 +74,7 @@ sequence_of paragraph cs kept r rs = record {
   eos = end_class paragraph cs kept (last_run r rs);
 }
 
--- the sequences that begin with a run to which no run before it is joined
+-- one sequence for each run to which no earlier run is joined
 abbrev pub sequences_from : ℕ → List Class → List (Option Kept) → List Run → List Run → List RunSequence
 sequences_from paragraph cs kept before [] = []
 sequences_from paragraph cs kept before (r ∷ rs) = elim (follows cs before r) [

@@ -1,10 +1,10 @@
--- The stack of the rules for explicit levels (X1), its last entry first.
+-- The directional status stack (X1), its last entry first.
 use Rattle.std.specs.Prelude.{ℕ, ◌<◌, ◌≤◌, Bool, true, false, List, [], ◌∷◌, Option, Some, None}
 use Rattle.bx_explicit.specs.declared.entry.Entry.{Entry}
 use Rattle.bx_explicit.specs.declared.entry.Override.{Override}
 use Rattle.bx_explicit.specs.declared.entry.Override.TheVariants.{Neutral}
 
--- BD2: no level is above this one, so a stack has as many entries as this and two more at most
+-- BD2: no explicit level exceeds max_depth; X1: the stack has at most max_depth + 2 entries
 abbrev pub max_depth : ℕ
 max_depth = 125
 
@@ -27,7 +27,7 @@ abbrev pub rest_of : List Entry → List Entry
 rest_of [] = []
 rest_of (e ∷ es) = es
 
--- each entry is above the one before it, and none is above the greatest level
+-- each entry has a higher level than the one before it, and none exceeds max_depth
 abbrev pub IsAbove : Entry → List Entry → Type 0
 IsAbove e [] = Unit {0}
 IsAbove e (f ∷ es) = f.level < e.level
@@ -36,12 +36,12 @@ abbrev pub IsRising : List Entry → Type 0
 IsRising [] = Unit {0}
 IsRising (e ∷ es) = (e.level ≤ max_depth) × IsAbove e es × IsRising es
 
--- the stack without its entries down to the last isolate, and without that
+-- the stack without its entries through the last isolate
 abbrev pub after_isolate : List Entry → List Entry
 after_isolate [] = []
 after_isolate (e ∷ es) = elim (e.isolate) [ true ↦ es | false ↦ after_isolate es ]
 
--- the stack without its last entry, if that is no isolate and not the only one
+-- the stack without its last entry, unless that is an isolate or the only one
 abbrev pub after_embedding : List Entry → List Entry
 after_embedding [] = []
 after_embedding (e ∷ []) = e ∷ []

@@ -1,5 +1,5 @@
--- How the chains that may go on are kept: for each chain its level, the last index of its newest run and the number of
--- runs before it, the newest chain first; and the first indexes of all runs, the oldest first.
+-- How open chains are stored: for each chain, the newest first, its level, the last index of its newest run and the number
+-- of runs before it; and the first index of each run, the oldest first.
 use Rattle.std.specs.Prelude.{◌≡◌, ◌<◌, ◌==◌, ◌-◌, ℕ, true, false, List, [], ◌∷◌, Option, All, length, take, drop, map, reverse, slice_index_or}
 use Rattle.bx_explicit.specs.declared.entry.Kept.{Kept}
 use Rattle.bx_explicit.specs.declared.open_chains.OpenChain.{OpenChain}
@@ -20,7 +20,7 @@ pub record BeginsRun (kept : List (Option Kept)) (level p : ℕ) : Type 0 where
   pub here : (run_at kept p).first ≡ p
   pub of_level : (run_at kept p).level ≡ level
 
--- what is kept of the newest chain is that of its runs
+-- the stored values of the newest chain agree with its runs
 pub record IsOpenChain (kept : List (Option Kept)) (o : OpenChain) (ps : List ℕ) : Type 0 where
   pub begin_within : o.begin < length ps
   pub runs : All (BeginsRun kept o.level) (drop o.begin ps)
@@ -30,7 +30,7 @@ abbrev pub AreOpen : List (Option Kept) → List OpenChain → List ℕ → Type
 AreOpen kept [] ps = ps ≡ []
 AreOpen kept (o ∷ os) ps = IsOpenChain kept o ps × AreOpen kept os (take o.begin ps)
 
--- a run goes on with the newest chain, if that has its level, or begins a chain after so many runs
+-- a run joins the newest chain if that has its level, else begins a chain after `begin` runs
 abbrev pub open_with : Run → ℕ → List OpenChain → List OpenChain
 open_with r begin [] = open_chain r.level r.last begin ∷ []
 open_with r begin (o ∷ os) = elim (r.level == o.level) [

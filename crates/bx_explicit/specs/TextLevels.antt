@@ -1,15 +1,15 @@
--- The levels of the texts between PDIs, which a scan from the end keeps (X5c).
+-- The levels that a scan from the end keeps to find the directions of isolates (X5c).
 use Rattle.std.specs.Prelude.{ℕ, Bool, true, false, List, [], ◌∷◌}
 use Rattle.bx_ucd.specs.declared.class.Class.{Class}
 use Rattle.bx_ucd.specs.declared.class.Class.TheVariants.{L, R, AL, LRI, RLI, FSI, PDI}
 
--- the class whose isolate takes its direction from its text
+-- X5c: the isolate of an FSI takes its direction from its text
 abbrev pub is_fsi : Class → Bool
 is_fsi FSI = true
 is_fsi _ = false
 
--- the levels of the texts between the PDIs of a text that match no initiator in it, for one character more before it: a
--- PDI begins a text of its own, an initiator skips the first one, and a strong character gives the first one its level
+-- a text is cut at each PDI that matches no initiator in it, and each part has a level. One more character in front: a
+-- PDI begins a new part, an initiator drops the first part, and a strong character gives the first part its level
 abbrev pub rest_levels : List ℕ → List ℕ
 rest_levels [] = 0 ∷ []
 rest_levels (l ∷ []) = 0 ∷ []

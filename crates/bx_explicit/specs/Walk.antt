@@ -1,4 +1,4 @@
--- The sequences of a paragraph body in the order in which their chains end, as its level runs are met in order.
+-- The sequences of a paragraph body, in the order in which their chains end while its level runs are met in order.
 use Rattle.std.specs.Prelude.{◌≡◌, ◌<◌, ◌≤◌, ◌+◌, ◌⊎◌, ℕ, Bool, true, false, List, [], ◌∷◌, ◌++◌, Option, Some, None, All, drop, length, reverse}
 use Rattle.bx_ucd.specs.declared.class.Class.{Class}
 use Rattle.bx_explicit.specs.declared.entry.Explicit.{Explicit}
@@ -13,7 +13,7 @@ abbrev pub over_before : List Class → List (List Run) → Run → List (List R
 over_before cs [] q = []
 over_before cs (c ∷ chains) q = elim (is_over cs (c ∷ chains) q) [ true ↦ c ∷ over_before cs chains q | false ↦ [] ]
 
--- the chains that may go on with it
+-- the chains that do not end before it
 abbrev pub still_open : List Class → List (List Run) → Run → List (List Run)
 still_open cs [] q = []
 still_open cs (c ∷ chains) q = elim (is_over cs (c ∷ chains) q) [ true ↦ still_open cs chains q | false ↦ c ∷ chains ]
@@ -23,39 +23,39 @@ abbrev pub sequences_of : ℕ → List Class → List (Option Kept) → List (Li
 sequences_of paragraph cs kept [] = []
 sequences_of paragraph cs kept (c ∷ chains) = sequence_of_runs paragraph cs kept (reverse c) ∷ sequences_of paragraph cs kept chains
 
--- the sequences of chains and of the runs to come, in the order in which the chains end
+-- the sequences of the open chains and the runs to come, in the order in which the chains end
 abbrev pub ending : ℕ → List Class → List (Option Kept) → List (List Run) → List Run → List RunSequence
 ending paragraph cs kept chains [] = sequences_of paragraph cs kept chains
 ending paragraph cs kept chains (q ∷ rest) = sequences_of paragraph cs kept (over_before cs chains q)
     ++ ending paragraph cs kept (with_run (still_open cs chains q) q) rest
 
--- an index lies between two indexes, or it does not
+-- an index lies within `low..high`, or outside
 abbrev pub IsIn : ℕ → ℕ → ℕ → Type 0
 IsIn low high p = (low ≤ p) × (p < high)
 
 abbrev pub IsOut : ℕ → ℕ → ℕ → Type 0
 IsOut low high p = (p < low) ⊎ (high ≤ p)
 
--- a sequence lies between two indexes, where no other of some sequences has an index
+-- a sequence lies within `low..high`, where no other sequence has an index
 pub record IsApart (s : RunSequence) (others : List RunSequence) : Type 0 where
   pub low : ℕ
   pub high : ℕ
   pub inside : All (IsIn low high) s.indexes
   pub outside : All (λ (u : RunSequence). All (IsOut low high) u.indexes) others
 
--- the sequences `given` are those of `all` in another order: one that comes earlier than in `all` lies apart from those
--- that it overtakes
+-- `given` is a permutation of `all`: a sequence that comes earlier than in `all` lies apart from the ones that it
+-- overtakes
 abbrev pub AreGiven : List RunSequence → List RunSequence → Type 0
 AreGiven [] all = all ≡ []
 AreGiven (s ∷ given) all = (before : List RunSequence) × (after : List RunSequence) × (all ≡ before ++ s ∷ after) × IsApart s before
     × AreGiven given (before ++ after)
 
--- the run to come and those after it
+-- the next run and the runs after it
 abbrev pub runs_to_come : List (Option Kept) → Option Run → List Run
 runs_to_come kept None = []
 runs_to_come kept (Some r) = r ∷ runs_from (r.last + 1) (drop (r.last + 1) kept)
 
--- it is a run of the text
+-- `r` is a run of the text
 pub record IsRunOf (kept : List (Option Kept)) (r : Run) : Type 0 where
   pub own : r ≡ run_at kept r.first
   pub within : IsRunWithin 0 (length kept) r
@@ -64,23 +64,23 @@ abbrev pub IsToCome : List (Option Kept) → Option Run → Type 0
 IsToCome kept None = Unit {0}
 IsToCome kept (Some r) = IsRunOf kept r
 
--- what a walk over the sequences shows: whether one is lent, which one, and those that are left
+-- the value of a walk: whether a sequence is lent, which one, and the sequences left
 pub record SequencesLeft : Type 0 where
   pub explicit : Explicit
   pub has_current : Bool
   pub current : RunSequence
   pub left : List RunSequence
 
--- the chains but the newest one, if that is lent
+-- the chains without the newest one, if that is lent
 abbrev pub unlent : Bool → List (List Run) → List (List Run)
 unlent true chains = others chains
 unlent false chains = chains
 
--- the sequences of chains and of the runs to come in a paragraph body
+-- the sequences of the open chains and the runs to come in a paragraph body
 abbrev pub sequences_left : Explicit → List (List Run) → Option Run → List RunSequence
 sequences_left e chains run = ending e.level e.classes.items e.kept.items chains (runs_to_come e.kept.items run)
 
--- what a walk keeps: the chains and the run to come are those of its text, and a lent chain is one of them
+-- the invariant of a walk: its chains and its next run are of its text, and a chain is open while one is lent
 pub record IsWalk (e : Explicit) (o : OpenRuns) (next : Option Run) (lent : Bool) : Type 0 where
   pub own : o.explicit ≡ e
   pub run : IsToCome e.kept.items next

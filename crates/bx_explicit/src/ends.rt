@@ -35,7 +35,7 @@ fn level_of_first(paragraph: u8, kept: &[Option<Kept>]) -> u8
     paragraph
 }
 
-/// The type before the first character of a run (X10).
+/// The type before a run that begins a sequence, sos (X10).
 pub fn start_class(explicit: &Explicit, run: Run) -> Class
     requires { run.first ≤ length explicit.now.kept.items }
     ensures { result ≡ start_class explicit.now.level explicit.now.kept.items run }
@@ -44,7 +44,7 @@ pub fn start_class(explicit: &Explicit, run: Run) -> Class
     direction(run.level.max(before))
 }
 
-/// The level after the last character of a run (X10).
+/// The level after a run whose last character is at index `last` (X10).
 fn level_after(explicit: &Explicit, last: usize) -> u8
     requires { last < length explicit.now.kept.items }
     ensures { result ≡ level_after explicit.now.level explicit.now.classes.items explicit.now.kept.items last }
@@ -56,7 +56,7 @@ fn level_after(explicit: &Explicit, last: usize) -> u8
     }
 }
 
-/// The type after the last character of a run (X10).
+/// The type after a run that ends a sequence, eos (X10).
 pub fn end_class(explicit: &Explicit, run: Run) -> Class
     requires { run.last < length explicit.now.kept.items }
     ensures { result ≡ end_class explicit.now.level explicit.now.classes.items explicit.now.kept.items run }

@@ -1,4 +1,4 @@
-//! What the rules for explicit levels keep and give.
+//! The entries and the results of the rules for explicit levels.
 ghost use Rattle.std.specs.Prelude.{◌≡◌, ◌≤◌, All, length};
 ghost use Rattle.bx_explicit.specs.Explicit.{explicit_levels};
 ghost use Rattle.bx_explicit.specs.Kept.{level_or_0};
@@ -6,7 +6,7 @@ ghost use Rattle.bx_explicit.specs.Stack.{max_depth};
 
 use bx_ucd::Class;
 
-/// What an override does to the types of the characters in it.
+/// The directional override status of an entry (X1).
 #[derive(Clone, Copy, PartialEq, Eq, Debug, Default)]
 pub enum Override {
     #[default]
@@ -15,7 +15,7 @@ pub enum Override {
     Right,
 }
 
-/// An entry of the stack of explicit levels (X1).
+/// An entry of the directional status stack (X1).
 #[derive(Clone, Copy, PartialEq, Eq, Debug, Default)]
 pub struct Entry {
     pub level: u8,
@@ -23,7 +23,7 @@ pub struct Entry {
     pub isolate: bool,
 }
 
-/// What the explicit rules give a character that X9 keeps.
+/// The result of the explicit rules for a character that X9 keeps.
 #[derive(Clone, Copy, PartialEq, Eq, Debug)]
 pub struct Kept {
     /// Its explicit level, at most `MAX_DEPTH`.
@@ -32,12 +32,12 @@ pub struct Kept {
     pub class: Class,
 }
 
-/// The characters of a paragraph body after the explicit rules.
+/// The result of the explicit rules for a paragraph body.
 #[derive(Drop)]
 pub struct Explicit {
     /// The original class of each character.
     pub classes: Vec<Class>,
-    /// What the rules give each character: `None` where X9 removes it.
+    /// The result for each character: `None` where X9 removes it.
     pub kept: Vec<Option<Kept>>,
     /// The paragraph level.
     pub level: u8,

@@ -1,4 +1,4 @@
-//! The directions of isolates that take theirs from their text (X5c), all in one scan from the end.
+//! The direction of each FSI's isolate (X5c), all found in one scan from the end.
 ghost use Rattle.std.specs.Prelude.{◌≡◌, ℕ, ◌+◌, ◌<◌, List, [], ◌∷◌, IfOk, OnOk, reverse, length, drop, slice_index_or};
 ghost use Rattle.bx_explicit.specs.ParagraphLevel.{isolate_level};
 ghost use Rattle.std.specs.Prelude.{true};
@@ -10,14 +10,15 @@ use bx_ucd::Class;
 use std::alloc::{AllocError, Global};
 use std::marker::Model;
 
-/// The levels of the texts between the PDIs that match no initiator in the text read so far.
+/// The text read so far is cut at each PDI that matches no initiator in it. `first` is the paragraph level of the first
+/// part, and `later` has the levels of the others, the nearest last.
 #[derive(Drop)]
 struct TextLevels {
     first: u8,
     later: Vec<u8>,
 }
 
-// Clauses see the levels in the order of the texts.
+// Its value is the levels in the order of the parts.
 impl Model for TextLevels {
     ghost Value = { List ℕ };
 
@@ -25,7 +26,7 @@ impl Model for TextLevels {
 }
 
 impl TextLevels {
-    /// No text yet: one empty one.
+    /// The empty text, which is one part of level 0.
     fn new(alloc: Global) -> Self
         ensures { result ≡ 0 ∷ [] }
     {
@@ -35,14 +36,14 @@ impl TextLevels {
         }
     }
 
-    /// The level of the text up to the first PDI.
+    /// The level of the first part.
     fn first(&self) -> u8
         ensures { result ≡ first_level self.now }
     {
         self.first
     }
 
-    /// Takes one character more, before the text.
+    /// Puts a character in front of the text.
     fn put_before(&mut self, class: Class) -> Result<(), AllocError>
         ensures { OnOk result (self.new ≡ levels_before class self.old) }
     {
@@ -60,14 +61,14 @@ impl TextLevels {
     }
 }
 
-/// Whether an isolate takes its direction from its text.
+/// Whether any isolate takes its direction from its text.
 fn has_fsi(classes: &[Class]) -> bool
     ensures { result ≡ list_any is_fsi classes.now }
 {
     classes.iter().any(|class| matches!(*class, Class::FSI))
 }
 
-/// For each FSI the paragraph level of its isolate.
+/// At the index of each FSI, the paragraph level of its isolate's text; other indexes are not used.
 pub fn isolate_levels(alloc: Global, classes: &[Class]) -> Result<Vec<u8>, AllocError>
     ensures as_long { IfOk result (λ v. length v.items ≡ length classes.now) }
     ensures levels { IfOk result (λ v. (i : ℕ) → i < length classes.now → is_fsi (slice_index_or classes.now i L) ≡ true

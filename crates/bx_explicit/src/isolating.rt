@@ -13,7 +13,7 @@ use smallvec::SmallVec;
 use std::alloc::{AllocError, Global};
 use std::marker::Model;
 
-/// The indexes of a sequence, of which a few need no allocation.
+/// The indexes of a sequence. Up to 8 need no allocation.
 type Indexes = SmallVec<usize, 8>;
 
 /// An isolating run sequence.
@@ -32,7 +32,7 @@ impl Model for Sequence {
 }
 
 impl Sequence {
-    /// The indexes of its characters in the paragraph, in order.
+    /// The indexes of its characters in the paragraph, in order; they count characters from 0.
     pub fn indexes(&self) -> &[usize]
         ensures { result.now ≡ self.now.indexes }
     {
@@ -60,7 +60,7 @@ impl Sequence {
         self.eos
     }
 
-    /// Its first index.
+    /// Its first index, by which `sequences` sorts.
     fn first_index(&self) -> usize
         ensures { result ≡ first_index self.now }
     {
@@ -71,7 +71,7 @@ impl Sequence {
     }
 }
 
-/// Adds the indexes of a run of a level, from its first index on.
+/// Appends the indexes of the run that begins at `first`.
 fn add_run(
     indexes: &mut Indexes,
     kept: &[Option<Kept>],
@@ -93,7 +93,7 @@ fn add_run(
     Ok(())
 }
 
-/// The indexes of runs of a level, from the first index of each.
+/// The indexes of the runs of one level that begin at `firsts`.
 fn indexes_from(
     alloc: Global,
     kept: &[Option<Kept>],
@@ -109,7 +109,7 @@ fn indexes_from(
     Ok(indexes)
 }
 
-/// The sequence that a walk lends, with all its indexes.
+/// Collects the sequence that the walk lends.
 fn lent_sequence(
     alloc: Global,
     walk: &SequenceWalk<'_>,
@@ -128,7 +128,7 @@ fn lent_sequence(
     })
 }
 
-/// The sequences of a paragraph body in the order in which they end.
+/// The sequences of a paragraph body, in the order in which they end.
 fn ended_sequences(alloc: Global, explicit: &Explicit) -> Result<Vec<Sequence>, ExplicitError>
     ensures { IfOk result (λ v. AreGiven v.items (sequences explicit.now.level explicit.now.classes.items explicit.now.kept.items)) }
 {
@@ -140,8 +140,7 @@ fn ended_sequences(alloc: Global, explicit: &Explicit) -> Result<Vec<Sequence>, 
     Ok(all)
 }
 
-/// The isolating run sequences of a paragraph body, ordered by their first indexes, with the types at their ends (BD13,
-/// X10).
+/// The isolating run sequences of a paragraph body, sorted by first index, with their sos and eos (BD13, X10).
 pub fn sequences(alloc: Global, explicit: &Explicit) -> Result<Vec<Sequence>, ExplicitError>
     ensures sequences { IfOk result (λ v. v.items ≡ sequences explicit.now.level explicit.now.classes.items explicit.now.kept.items) }
     ensures low { IfOk result (λ v. All (λ s. s.level ≤ max_depth) v.items) }

@@ -1,4 +1,4 @@
-//! The chains of level runs that may go on (BD13), as the runs are met in order.
+//! Open chains: chains of level runs (BD13) that a later run may join, while the runs are met in order.
 ghost use Rattle.std.specs.Prelude.{◌≡◌, ◌==◌, ◌<◌, ◌≤◌, ◌-◌, ◌++◌, [], ◌∷◌, OnOk, OnErr, length, reverse, take};
 ghost use Rattle.bx_explicit.specs.LevelIndexes.{indexes_from};
 ghost use Rattle.bx_explicit.specs.OpenChains.{run_at, is_over, with_run, others, OpenRuns, newest_sequence};
@@ -14,13 +14,13 @@ use bx_ucd::class::is_initiator;
 use std::alloc::{AllocError, Global};
 use std::marker::Model;
 
-/// A chain that may go on.
+/// An open chain.
 #[derive(Clone, Copy, PartialEq, Eq, Debug)]
 pub struct OpenChain {
     pub level: u8,
     /// The last index of its newest run.
     pub last: usize,
-    /// How many runs are kept before its own.
+    /// The index of its first run in `firsts`.
     pub begin: usize,
 }
 
@@ -32,7 +32,7 @@ fn newest(chains: &[OpenChain]) -> OpenChain
     chains[chains.len() - 1]
 }
 
-/// Takes a run into the newest chain, if that has its level, and else into a new one, after `begin` runs.
+/// Appends a run to the newest chain if that has its level, else pushes a new chain that begins at `begin`.
 #[tactic(auto, using(crate::proofs::LevelRuns::reverse_last, crate::proofs::LevelRuns::reverse_set, crate::proofs::LevelRuns::reverse_one))]
 fn join_chain(chains: &mut Vec<OpenChain>, run: Run, begin: usize) -> Result<(), AllocError>
     ensures ok { OnOk result (reverse chains.new.items ≡ open_with run begin (reverse chains.old.items)) }
@@ -56,7 +56,7 @@ fn join_chain(chains: &mut Vec<OpenChain>, run: Run, begin: usize) -> Result<(),
     Ok(())
 }
 
-/// The same, and its first index.
+/// Does the same, and appends the run's first index.
 fn take_run(
     chains: &mut Vec<OpenChain>,
     firsts: &mut Vec<usize>,
@@ -73,16 +73,16 @@ fn take_run(
     Ok(())
 }
 
-/// The chains of the level runs met so far that may go on: of each run its first index alone is kept.
+/// The open chains among the level runs met so far. Each run is kept as its first index.
 #[derive(Drop)]
 pub struct OpenChains<'e> {
     explicit: &'e Explicit,
-    /// The first indexes of all runs, the oldest first.
+    /// The first index of each run, the oldest first.
     firsts: Vec<usize>,
     chains: Vec<OpenChain>,
 }
 
-// Clauses see the chains, the newest first, each with its newest run first.
+// Its value is the chains, the newest first, each with its newest run first.
 impl<'e> Model for OpenChains<'e> {
     ghost Value = { OpenRuns };
 
@@ -92,7 +92,7 @@ impl<'e> Model for OpenChains<'e> {
 }
 
 impl<'e> OpenChains<'e> {
-    /// None yet, of a paragraph body after the explicit rules.
+    /// No chain yet.
     pub fn new(alloc: Global, explicit: &'e Explicit) -> Self
         ensures explicit { result.explicit ≡ explicit.now }
         ensures none { result.chains ≡ [] }
@@ -104,14 +104,14 @@ impl<'e> OpenChains<'e> {
         }
     }
 
-    /// Whether there is no chain.
+    /// Whether no chain is open.
     pub fn is_empty(&self) -> bool
         ensures { result ≡ (length self.now.chains == 0) }
     {
         self.chains.is_empty()
     }
 
-    /// Whether the newest chain ends before a run: where it is higher, or does not end in an isolate initiator.
+    /// Whether the newest chain ends before a run: its level is higher, or it does not end in an isolate initiator.
     pub fn is_over(&self, run: Run) -> bool
         ensures { result ≡ is_over self.now.explicit.classes.items self.now.chains run }
     {
@@ -122,8 +122,8 @@ impl<'e> OpenChains<'e> {
         run.level < newest.level || !is_initiator(self.explicit.classes[newest.last])
     }
 
-    /// Takes the next run, where the newest chain does not end before it: it goes on with that chain, if they have one
-    /// level, and else begins a chain.
+    /// Takes the next run, before which the newest chain must not end: the run joins that chain if they have the same level,
+    /// else it begins a chain.
     pub fn take(&mut self, run: Run) -> Result<(), ExplicitError>
         requires own { run ≡ run_at self.old.explicit.kept.items run.first }
         requires within { run.first < length self.old.explicit.kept.items }
@@ -182,7 +182,7 @@ impl<'e> OpenChains<'e> {
         end_class(self.explicit, run)
     }
 
-    /// The first index of each run of the newest chain, in order.
+    /// The first index of each run of the newest chain, in text order.
     pub fn firsts(&self) -> &[usize]
         requires { 0 < length self.now.chains }
         ensures { indexes_from (newest_sequence self.now).level self.now.explicit.kept.items result.now ≡ (newest_sequence self.now).indexes }

@@ -6,7 +6,7 @@ ghost use Rattle.bx_explicit.specs.ParagraphLevel.{paragraph_level, base_level, 
 use crate::base::Base;
 use bx_ucd::Class;
 
-/// How many isolates are open after a character.
+/// The number of open isolates after a character.
 fn count_after(isolates: usize, class: Class) -> usize
     requires { isolates < usize.MAX }
     ensures { result ≡ count_after isolates class }
@@ -18,7 +18,7 @@ fn count_after(isolates: usize, class: Class) -> usize
     }
 }
 
-/// The level of a paragraph whose first strong class is `class`.
+/// The level of a paragraph whose first strong class is `class` (P3).
 fn level_of_strong(class: Class) -> u8
     ensures value { result ≡ level_of_strong class }
     ensures low { result ≤ 1 }
@@ -29,7 +29,7 @@ fn level_of_strong(class: Class) -> u8
     }
 }
 
-/// The paragraph level, 0 or 1, by the first strong class that stands in no isolate (P2, P3).
+/// The paragraph level, 0 or 1, by the first strong class outside isolates (P2, P3).
 #[tactic(auto, using(crate::proofs::Scan::scan_more, crate::proofs::Scan::scan_here, crate::proofs::Scan::scan_all, crate::proofs::Scan::count_after_le))]
 pub fn paragraph_level(classes: &[Class]) -> u8
     ensures value { result ≡ paragraph_level classes.now }
@@ -45,7 +45,7 @@ pub fn paragraph_level(classes: &[Class]) -> u8
     0
 }
 
-/// The paragraph level under a base: found from the text, or given (HL1).
+/// The paragraph level under a base direction: found from the text, or given (HL1).
 pub fn base_level(classes: &[Class], base: Base) -> u8
     ensures value { result ≡ base_level base classes.now }
     ensures low { result ≤ 1 }

@@ -1,10 +1,10 @@
-//! What each class does to the stack of explicit levels.
+//! The role of each class in the rules for explicit levels.
 ghost use Rattle.std.specs.Prelude.{◌≡◌};
 ghost use Rattle.bx_explicit.specs.Role.{role_of};
 
 use bx_ucd::Class;
 
-/// What a class does to the stack of explicit levels, in the order of the rules X2 to X9.
+/// The role of a character in the rules, in the order of X2 to X9.
 #[derive(Clone, Copy, PartialEq, Eq, Debug)]
 pub enum Role {
     Rle,
@@ -20,7 +20,7 @@ pub enum Role {
     Bn,
 }
 
-/// What the class does to the stack of explicit levels.
+/// The role of a class; `Other` for every class without a rule of its own.
 pub fn role_of(class: Class) -> Role
     ensures { result ≡ role_of class }
 {

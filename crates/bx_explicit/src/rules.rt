@@ -9,7 +9,7 @@ use crate::state::State;
 use bx_ucd::Class;
 use std::alloc::{AllocError, Global};
 
-/// What each character is given: `None` where it is removed.
+/// The result for each character: `None` where X9 removes it.
 #[tactic(auto, using(crate::proofs::Steps::levels_more, crate::proofs::Steps::levels_all, crate::proofs::Steps::total_next))]
 fn kept_of(alloc: Global, classes: &[Class], level: u8) -> Result<Vec<Option<Kept>>, AllocError>
     requires { level ≤ 1 }
@@ -24,7 +24,7 @@ fn kept_of(alloc: Global, classes: &[Class], level: u8) -> Result<Vec<Option<Kep
     Ok(kept)
 }
 
-/// The explicit levels of a paragraph body of a level (X1 to X9).
+/// The explicit levels of a paragraph body with paragraph level `level` (X1 to X9).
 #[tactic(auto, using(crate::proofs::Steps::levels_length, crate::proofs::Bounds::levels_low))]
 pub fn explicit(alloc: Global, classes: &[Class], level: u8) -> Result<Explicit, ExplicitError>
     requires { level ≤ 1 }

@@ -8,7 +8,7 @@ ghost use Rattle.bx_explicit.specs.Runs.{run, join_run, runs_from, IsRunWithin, 
 use crate::entry::Kept;
 use std::alloc::AllocError;
 
-/// A level run: the kept characters from `first` to `last`.
+/// A level run: the kept characters from index `first` to `last`, both included.
 #[derive(Clone, Copy, PartialEq, Eq, Debug)]
 pub struct Run {
     pub level: u8,
@@ -16,8 +16,8 @@ pub struct Run {
     pub last: usize,
 }
 
-/// Makes room for one more, of what there is for each run. A text may have a run every few characters, so the room grows
-/// by a quarter.
+/// Reserves room for one more item, where there is one per run. Capacity grows by a quarter, not by doubling, since a text
+/// may have a run every few characters.
 pub fn make_room<T>(items: &mut Vec<T>) -> Result<(), AllocError>
     ensures same { items.new.items ≡ items.old.items }
     ensures len { vec_len items.new ≡ vec_len items.old }
@@ -30,7 +30,7 @@ pub fn make_room<T>(items: &mut Vec<T>) -> Result<(), AllocError>
     Ok(())
 }
 
-/// The last index of the run of a level that begins at an index.
+/// The last index of the run that begins at `first`.
 #[tactic(auto, using(crate::proofs::RunsAt::begins_at, crate::proofs::RunsAt::goes_on, crate::proofs::RunsAt::ends_before, crate::proofs::RunsAt::ends_last, crate::proofs::LevelRuns::runs_none))]
 fn last_of_run(kept: &[Option<Kept>], first: usize, level: u8) -> usize
     requires within { first < length kept.now }
@@ -53,7 +53,7 @@ fn last_of_run(kept: &[Option<Kept>], first: usize, level: u8) -> usize
     last
 }
 
-/// The first level run of the characters from an index on.
+/// The first level run at or after index `from`.
 #[tactic(auto, using(crate::proofs::LevelRuns::runs_none, crate::proofs::RunsAt::no_more, crate::proofs::RunsAt::level_of_some))]
 pub fn next_run(kept: &[Option<Kept>], from: usize) -> Option<Run>
     requires { from ≤ length kept.now }

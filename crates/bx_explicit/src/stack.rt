@@ -1,4 +1,4 @@
-//! The stack of explicit levels.
+//! The directional status stack (X1).
 ghost use Rattle.std.specs.Prelude.{◌≡◌, ℕ, ◌<◌, ◌≤◌, List, [], ◌∷◌, reverse, length, false};
 ghost use Rattle.bx_explicit.specs.declared.entry.Entry.{Entry};
 ghost use Rattle.bx_explicit.specs.Stack.{max_depth, stack_room, IsRising, entry, top_of, first_of, rest_of, after_isolate, after_embedding};
@@ -10,16 +10,16 @@ use std::marker::Model;
 /// The greatest explicit level (BD2).
 pub const MAX_DEPTH: u8 = 125;
 
-/// How many entries the stack has room for (X1).
+/// The capacity of the stack: `max_depth` + 2 entries (X1).
 const STACK_ROOM: usize = 127;
 
-/// The entries of the rules for explicit levels, of rising levels.
+/// The directional status stack, each entry of a higher level than the one before.
 #[derive(Drop)]
 pub struct EntryStack {
     entries: ArrayVec<Entry, STACK_ROOM>,
 }
 
-// Clauses see the entries, the last one first.
+// Its value is the entries, the last one first.
 impl Model for EntryStack {
     ghost Value = { List Entry };
 
@@ -29,7 +29,7 @@ impl Model for EntryStack {
 }
 
 impl EntryStack {
-    /// The stack of one entry at `level`.
+    /// A stack of one entry at `level`.
     pub fn new(level: u8) -> Self
         requires { level ≤ max_depth }
         ensures { result ≡ entry level Override.Neutral false ∷ [] }
@@ -43,7 +43,7 @@ impl EntryStack {
         EntryStack { entries }
     }
 
-    /// How many entries there are.
+    /// The number of entries.
     pub fn len(&self) -> usize
         ensures value { result ≡ length self.now }
         ensures few { result ≤ stack_room }
@@ -66,7 +66,7 @@ impl EntryStack {
         }
     }
 
-    /// Adds an entry of a higher level.
+    /// Pushes an entry, whose level must be higher than the last one's.
     pub fn push(&mut self, entry: Entry)
         requires low { entry.level ≤ max_depth }
         requires above { (top_of self.old).level < entry.level }
@@ -75,7 +75,7 @@ impl EntryStack {
         self.entries.push(entry);
     }
 
-    /// Takes the last entry off.
+    /// Pops the last entry.
     pub fn pop(&mut self) -> Option<Entry>
         ensures first { result ≡ first_of self.old }
         ensures rest { self.new ≡ rest_of self.old }
@@ -83,7 +83,7 @@ impl EntryStack {
         self.entries.pop()
     }
 
-    /// Takes entries off, through the last isolate.
+    /// Pops entries through the last isolate (X6a).
     pub fn end_isolate(&mut self)
         ensures { self.new ≡ after_isolate self.old }
     {
@@ -94,7 +94,7 @@ impl EntryStack {
         }
     }
 
-    /// Takes the last entry off, if it is no isolate and not the only one.
+    /// Pops the last entry, unless it is an isolate or the only one (X7).
     pub fn end_embedding(&mut self)
         ensures { self.new ≡ after_embedding self.old }
     {

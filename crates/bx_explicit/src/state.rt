@@ -1,4 +1,4 @@
-//! The state of the rules for explicit levels (X1), one method a rule.
+//! The state of the rules for explicit levels (X1), with one method per rule.
 ghost use Rattle.std.specs.Prelude.{◌≡◌, ◌<◌, ◌≤◌};
 ghost use Rattle.bx_explicit.specs.Role.{role_of};
 ghost use Rattle.bx_explicit.specs.Stack.{max_depth};
@@ -10,7 +10,7 @@ use crate::role::{Role, role_of};
 use crate::stack::{EntryStack, MAX_DEPTH};
 use bx_ucd::Class;
 
-/// The stack of entries and the three counts (X1).
+/// The directional status stack and the three counts of X1.
 #[derive(Drop)]
 pub struct State {
     pub stack: EntryStack,
@@ -46,7 +46,7 @@ pub fn forced_class(forced: Override, class: Class) -> Class
     }
 }
 
-/// The level of an isolate whose text has the paragraph level `first` (X5c).
+/// The level of an FSI's isolate whose text has the paragraph level `first` (X5c).
 pub fn first_above(first: u8, level: u8) -> u8
     requires { level ≤ max_depth }
     ensures { result ≡ first_above first level }
@@ -72,14 +72,14 @@ impl State {
         }
     }
 
-    /// Whether an entry of this level may be pushed.
+    /// Whether an entry of this level may be pushed: it does not exceed `MAX_DEPTH`, and nothing has overflowed.
     pub fn is_valid(&self, level: u8) -> bool
         ensures { result ≡ is_valid self.now level }
     {
         level <= MAX_DEPTH && self.overflow_isolates == 0 && self.overflow_embeddings == 0
     }
 
-    /// An embedding or an override (X2 to X5).
+    /// Begins an embedding or an override (X2 to X5).
     pub fn embed(&mut self, level: u8, forced: Override)
         requires above { (top self.old).level < level }
         requires fits { self.old.overflow_embeddings < usize.MAX }
@@ -96,7 +96,7 @@ impl State {
         }
     }
 
-    /// An isolate initiator (X5a to X5c).
+    /// Begins an isolate (X5a to X5c).
     pub fn isolate(&mut self, level: u8)
         requires above { (top self.old).level < level }
         requires isolates_fit { self.old.overflow_isolates < usize.MAX }
@@ -115,7 +115,7 @@ impl State {
         }
     }
 
-    /// A PDI (X6a).
+    /// Takes a PDI (X6a).
     pub fn end_isolate(&mut self)
         ensures { self.new ≡ end_isolate self.old }
     {
@@ -128,7 +128,7 @@ impl State {
         }
     }
 
-    /// A PDF (X7).
+    /// Takes a PDF (X7).
     pub fn end_embedding(&mut self)
         ensures { self.new ≡ end_embedding self.old }
     {
@@ -141,7 +141,7 @@ impl State {
         }
     }
 
-    /// What the last entry gives a character (X6).
+    /// The result that the last entry gives a character (X6).
     pub fn kept_under(&self, class: Class) -> Option<Kept>
         ensures { result ≡ kept_under (top self.now) class }
     {
@@ -152,7 +152,7 @@ impl State {
         })
     }
 
-    /// Takes a character: what it is given. After an FSI the text of its isolate has the paragraph level `first`.
+    /// Takes a character and returns its result. For an FSI, `first` is the paragraph level of its isolate's text.
     pub fn step(&mut self, class: Class, first: u8) -> Option<Kept>
         requires isolates_fit { self.old.overflow_isolates < usize.MAX }
         requires embeddings_fit { self.old.overflow_embeddings < usize.MAX }

@@ -14,7 +14,7 @@ use bx_ucd::Class;
 use std::alloc::Global;
 use std::marker::Model;
 
-/// Takes runs until the newest chain ends: whether there is one.
+/// Takes runs until the newest chain ends. False if no chain is left.
 fn end_newest(
     explicit: &Explicit,
     chains: &mut OpenChains<'_>,
@@ -40,19 +40,19 @@ fn end_newest(
     Ok(!chains.is_empty())
 }
 
-/// The isolating run sequences of a paragraph body, lent one after another: inner isolates come before what is around
-/// them, and of each sequence the first index of each of its runs is kept.
+/// A walk that lends the isolating run sequences of a paragraph body one after another, the sequences in an isolate before
+/// the one around it. It keeps only the first index of each run.
 #[derive(Drop)]
 pub struct SequenceWalk<'e> {
     explicit: &'e Explicit,
     chains: OpenChains<'e>,
-    /// The first level run that is not met.
+    /// The next level run.
     run: Option<Run>,
     /// Whether the newest chain is lent.
     lent: bool,
 }
 
-// Clauses see the sequence that is lent, and those that are left.
+// Its value is the lent sequence and the sequences left.
 impl<'e> Model for SequenceWalk<'e> {
     ghost Value = { SequencesLeft };
 
@@ -77,7 +77,7 @@ fn drop_lent(chains: &mut OpenChains<'_>, lent: bool)
 }
 
 impl<'e> SequenceWalk<'e> {
-    /// The sequences of a paragraph body, of which none is lent.
+    /// Begins a walk, with no sequence lent.
     pub fn new(alloc: Global, explicit: &'e Explicit) -> Self
         ensures explicit { result.explicit ≡ explicit.now }
         ensures given { AreGiven result.left (sequences explicit.now.level explicit.now.classes.items explicit.now.kept.items) }
@@ -91,7 +91,7 @@ impl<'e> SequenceWalk<'e> {
         }
     }
 
-    /// Lends the next sequence, if one is left. Where it is refused, the same sequences are left.
+    /// Lends the next sequence; false if none is left. After an error the same sequences are left.
     pub fn advance(&mut self) -> Result<bool, ExplicitError>
         ensures explicit { self.new.explicit ≡ self.old.explicit }
         ensures lent { IfOk result (λ b. b ≡ self.new.has_current) }
@@ -105,7 +105,7 @@ impl<'e> SequenceWalk<'e> {
         Ok(self.lent)
     }
 
-    /// The level of the sequence that is lent.
+    /// The level of the lent sequence.
     pub fn level(&self) -> u8
         requires { self.now.has_current ≡ true }
         ensures value { result ≡ self.now.current.level }
@@ -114,7 +114,7 @@ impl<'e> SequenceWalk<'e> {
         self.chains.level()
     }
 
-    /// The type before it (X10).
+    /// The type before the lent sequence, L or R (X10).
     pub fn sos(&self) -> Class
         requires { self.now.has_current ≡ true }
         ensures { result ≡ self.now.current.sos }
@@ -122,7 +122,7 @@ impl<'e> SequenceWalk<'e> {
         self.chains.sos()
     }
 
-    /// The type after it (X10).
+    /// The type after the lent sequence, L or R (X10).
     pub fn eos(&self) -> Class
         requires { self.now.has_current ≡ true }
         ensures { result ≡ self.now.current.eos }
@@ -130,8 +130,8 @@ impl<'e> SequenceWalk<'e> {
         self.chains.eos()
     }
 
-    /// The first index of each of its runs, in order. The indexes of a run are the kept characters of its level from there
-    /// on, up to a kept one of another level.
+    /// The first index of each run of the lent sequence, in text order. A run has the kept characters from there on, up to the
+    /// next one of another level.
     pub fn firsts(&self) -> &[usize]
         requires { self.now.has_current ≡ true }
         ensures { indexes_from self.now.current.level self.now.explicit.kept.items result.now ≡ self.now.current.indexes }

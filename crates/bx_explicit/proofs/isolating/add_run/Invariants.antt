@@ -1,4 +1,4 @@
--- What is added so far, and what is left to add.
+-- The indexes appended so far, and those left to append.
 use Rattle.std.proofs.Common.{◌≡◌, ◌-◌, ◌++◌, drop, length}
 use Rattle.bx_explicit.specs.LevelIndexes.{level_indexes}
 use Rattle.bx_explicit.proofs.isolating.add_run.Given as goal

@@ -1,4 +1,4 @@
--- The sequences that were lent, and those that are left.
+-- The sequences lent so far, and the sequences left.
 use Rattle.std.proofs.Common.{◌≡◌, ◌++◌, length}
 use Rattle.bx_explicit.specs.Sequences.{sequences}
 use Rattle.bx_explicit.specs.Walk.{AreGiven}

@@ -1,4 +1,4 @@
--- What is added so far, and what is left to add.
+-- The indexes appended so far, and those left to append.
 use Rattle.std.proofs.Common.{◌≡◌, ◌++◌, drop}
 use Rattle.bx_explicit.specs.LevelIndexes.{indexes_from}
 use Rattle.bx_explicit.proofs.isolating.indexes_from.Given as goal

@@ -1,4 +1,4 @@
--- What the scan keeps: the level is that of the rest, where `isolates` isolates are open.
+-- The level follows from the rest of the text, in which `isolates` isolates are open.
 use Rattle.std.proofs.Common.{◌≡◌, ◌≤◌, drop}
 use Rattle.bx_explicit.specs.ParagraphLevel.{paragraph_level}
 use Rattle.bx_explicit.proofs.Scan.{level_of_rest}

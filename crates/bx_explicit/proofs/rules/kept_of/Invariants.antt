@@ -1,4 +1,4 @@
--- What is given so far, and what the rest will be given.
+-- The results so far, and the results of the rest.
 use Rattle.std.proofs.Common.{◌≡◌, ◌≤◌, ◌++◌, drop}
 use Rattle.bx_explicit.specs.Explicit.{explicit_levels, explicit_from}
 use Rattle.bx_explicit.proofs.Steps.{total}
