@@ -1,4 +1,4 @@
--- Ranges that are clear of a direction: what a look into one tells, and what a change leaves of it.
+-- Ranges that are clear of a direction, after a search in one and after a change.
 use Rattle.std.proofs.Common.{◌≡◌, ◌<◌, ◌≤◌, ◌+◌, ◌-◌, ◌∙◌, ℕ, zero, suc, List, [], ◌∷◌, length, get_or, take, drop, refl, ap, arith, Bool, true, false, ◌⊎◌}
 use Rattle.std.proofs.Common.{inl, inr}
 use Rattle.std.specs.List.{list_any}
@@ -44,7 +44,7 @@ some_in d ts a b k h low high e =
     ∙ ap (λ n. get_or ts n L) s in
     list_any_at (counts_as d) (take (b - a) (drop a ts)) (k - a) L (omega arith) (ap (counts_as d) at ∙ e)
 
--- a change of a bracket leaves what stands before it, and all others or makes them the direction
+-- a change of a bracket keeps the types before it, and keeps each other type or makes it the direction
 marks_either : (d : Class) (was : List Bool) (ts : List Class) (k : ℕ)
     → (get_or (change_marks d was ts) k L ≡ get_or ts k L) ⊎ (get_or (change_marks d was ts) k L ≡ d)
 marks_either d [] ts k = inl refl
@@ -102,7 +102,7 @@ kept_clear e d was ts us p c h n f clear k a b = ap (λ xs. counts_as e (get_or 
   | inr x ↦ ap (counts_as e) x ∙ f
 ])
 
--- and any change leaves what stands between its two parts
+-- any change keeps the types between its two parts
 cut_clear : (e d : Class) (was : List Bool) (ts us vs : List Class) (q n : ℕ) (c : Clear) → q < length us → vs ≡ change_bracket d was us q → AreSameFrom n ts us
     → IsClear e ts c → IsClear e vs (between c n q)
 cut_clear e d was ts us vs q n c h w same clear k a b =

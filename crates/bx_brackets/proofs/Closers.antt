@@ -111,7 +111,7 @@ all_none : (P : ℕ → Type 0) (n : ℕ) → P 0 → All P (replicate n 0)
 all_none P zero h = All-nil P
 all_none P (suc n) h = All-cons P 0 (replicate n 0) h (all_none P n h)
 
--- what holds once a character more is met
+-- the invariant after one more character
 pub searched_later : (count i j : ℕ) (os : List (ℕ × ℕ)) (cs : List ℕ) → i ≤ j → IsSearched count i os cs → IsSearched count j os cs
 searched_later count i j os cs h s = record {
   falling = falling_later i j os h s.falling;

@@ -35,7 +35,7 @@ canonical_equivalents = refl
 bracket_stack_limit : pairs bracket (40 ∷ 41 ∷ (replicate 63 40 ++ (41 ∷ []))) (replicate 66 ON) ≡ (0, 1) ∷ (64, 65) ∷ []
 bracket_stack_limit = refl
 
--- with a 64th the search ends, and the pair found stands
+-- with a 64th opener the search ends, and the pair already found is kept
 bracket_stack_overflow : pairs bracket (40 ∷ 41 ∷ (replicate 64 40 ++ (41 ∷ []))) (replicate 67 ON) ≡ (0, 1) ∷ []
 bracket_stack_overflow = refl
 

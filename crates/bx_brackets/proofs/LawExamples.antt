@@ -1,4 +1,4 @@
--- What the laws tell by themselves, of single texts.
+-- Consequences of the laws for single texts.
 use Rattle.std.proofs.Common.{◌≡◌, ◌<◌, inl, inr, [], ◌∷◌, ◌++◌, replicate, refl, subst, arith}
 use Rattle.std.specs.Prelude.{AllPairs, Contains}
 use Rattle.bx_ucd.specs.declared.class.Class.TheVariants.{L, ON}

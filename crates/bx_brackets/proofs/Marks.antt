@@ -1,4 +1,4 @@
--- N0: what a turn of each loop does.
+-- N0: one turn of each loop.
 use Rattle.std.proofs.Common.{append_assoc, ◌≡◌, ◌<◌, ◌+◌, ◌∙◌, ℕ, List, [], ◌∷◌, ◌++◌, length, get_or, take, drop, set, reverse, refl, ap, arith, Bool, true}
 use Rattle.std.proofs.Common.{false}
 use Rattle.std.proofs.lemmas.List.{take_more, take_more_set, drop-set-lt, at_drop_more, reverse-append, take_all, take-append-drop, append-nil}

@@ -11,7 +11,7 @@ use Rattle.bx_brackets.specs.Search.{below_first, is_for, left_by, Progress, pro
 use Rattle.bx_brackets.specs.Laws.{NeighboursArePaired}
 use Rattle.bx_brackets.proofs.Stack.{all_found}
 
--- ---- what is found stays
+-- ---- found pairs stay
 
 in_tail : (p x : ℕ × ℕ) (ps : List (ℕ × ℕ)) → Contains ps x → Contains (p ∷ ps) x
 in_tail p x ps h = let l : h.0 < length ps = h.1 in (suc h.0, omega arith, h.2)
@@ -56,7 +56,7 @@ search_keeps bracket p j (c ∷ cs) (t ∷ ts) x h =
     let b : Option (Side × ℕ) = bracket_at bracket c t in
     search_keeps bracket (after j c b p) (j + 1) cs ts x (after_keeps j c b p x h)
 
--- ---- there is room where few characters stand before
+-- ---- the stack has room if few characters come before
 
 record IsRoomy (j : ℕ) (p : Progress) : Type 0 where
   few : length p.openers ≤ j
@@ -98,7 +98,7 @@ after_is j c b p e = ap (λ v. elim v as (λ w. Progress) [ true ↦ p | false �
 
 -- ---- neighbours
 
--- what an opener leaves where there is room
+-- the openers after an opener, if the stack has room
 opened_is : (j o m : ℕ) (p : Progress) → j < bracket_room → IsRoomy j p
     → turn j o (Some (Opener, m)) p ≡ progress ((j, canonical m) ∷ p.openers) p.pairs false
 opened_is j o m p l h = ap (λ b. progress (elim b as (λ v. List (ℕ × ℕ)) [ true ↦ (j, canonical m) ∷ p.openers | false ↦ p.openers ]) p.pairs (not b))

@@ -1,4 +1,4 @@
--- Pairs do not cross: a closer takes off the openers that stand between it and its own.
+-- Pairs do not cross: a closer pops the openers between it and its own.
 use Rattle.std.proofs.Common.{◌≡◌, ◌<◌, ◌≤◌, ◌+◌, ◌⊎◌, inl, inr, ℕ, List, [], ◌∷◌, length, get_or, refl, subst, arith, cond, Bool, true, false, Option, Some, None}
 use Rattle.std.specs.Prelude.{All, AllPairs, nat_lt, find}
 use Rattle.std.proofs.lemmas.Bool.Decides.{nat_tests}
@@ -20,7 +20,7 @@ abbrev AreOrdered : List (ℕ × ℕ) → Type 0
 AreOrdered [] = Unit {0}
 AreOrdered (p ∷ ps) = All (IsOuter p) ps × AreOrdered ps
 
--- an opener stands before a pair, or behind it
+-- an opener is before a pair, or after it
 abbrev IsOutside : ℕ × ℕ → ℕ × ℕ → Type 0
 IsOutside p o = (o.0 < p.0) ⊎ (p.1 < o.0)
 
@@ -30,7 +30,7 @@ record IsPast (j : ℕ) (os : List (ℕ × ℕ)) (p : ℕ × ℕ) : Type 0 where
   ends : p.1 < j
   outside : All (IsOutside p) os
 
--- what holds of the openers and the pairs before index `j`
+-- the invariant of the openers and pairs before index `j`
 record AreLaid (j : ℕ) (os ps : List (ℕ × ℕ)) : Type 0 where
   falling : IsFalling j os
   past : All (IsPast j os) ps

@@ -119,7 +119,7 @@ falling_below p j (x ∷ xs) o h e =
       | false ↦ λ k. ih k
     ]) e
 
--- to close an opener takes it off with what stands above it
+-- to close an opener pops it and the openers above it
 pub through : (p : OpenEntry → Bool) (j : ℕ) (os : List OpenEntry) (o : OpenEntry) → IsFalling j os → find p os ≡ Some o
     → filter (is_outside o.0 j) os ≡ below_first p os
 through p j [] o h e = refl
@@ -142,7 +142,7 @@ open_new [] j c h = refl
 open_new (p ∷ ps) j c h = let lt : p.1 < j = h.0 in let e : nat_lt j p.1 ≡ false = grind (arith, nat_tests) in let z : (nat_le p.0 j && nat_lt j p.1) ≡ false =
     rw e (and_false (nat_le p.0 j)) in rw z (open_new ps j c h.1)
 
--- what stands open after a closer at `j` that meets `o`
+-- the open openers after a closer at `j` that matches `o`
 pub open_after_pair : (s : Search) (j c : ℕ) (o : OpenEntry) → IsFalling j s.openers → find (λ (x : OpenEntry). x.1 == canonical c) (open_openers s) ≡ Some o
     → open_openers (meet_closer s j c) ≡ below_first (λ x. x.1 == canonical c) (open_openers s)
 open_after_pair s j c o h e = rw (e, meet_closer)
@@ -180,7 +180,7 @@ search_over bracket s j [] ts e = refl
 search_over bracket s j (c ∷ cs) [] e = refl
 search_over bracket s j (c ∷ cs) (t ∷ ts) e = rw (e, search_from)
 
--- what the search and the stack make of the rest are one
+-- the search and the stack agree on the rest
 abbrev Agrees : (ℕ → Option (Side × ℕ)) → ℕ → List ℕ → List Class → Type 0
 Agrees bracket j cs ts = (s : Search) → s.is_over ≡ false → IsFalling j s.openers → EndsBelow j s.pairs
     → (search_from bracket s j cs ts).pairs ≡ stack_run bracket (open_openers s) s.pairs j cs ts
@@ -248,7 +248,7 @@ over_after bracket p j (c ∷ cs) (t ∷ ts) e =
     let same : after j c (bracket_at bracket c t) p ≡ p = ap (λ x. elim x as (λ v. Progress) [ true ↦ p | false ↦ turn j c (bracket_at bracket c t) p ]) e in
     ap (λ q. pairs_after bracket q (j + 1) cs ts) same ∙ over_after bracket p (j + 1) cs ts e
 
--- what the turns and the stack make of the rest are one
+-- the turns and the stack agree on the rest
 abbrev AreOne : (ℕ → Option (Side × ℕ)) → ℕ → List ℕ → List Class → Type 0
 AreOne bracket j cs ts = (p : Progress) → p.is_over ≡ false → pairs_after bracket p j cs ts ≡ stack_run bracket p.openers p.pairs j cs ts
 
@@ -302,7 +302,7 @@ pub all_found : (bracket : ℕ → Option (Side × ℕ)) (cs : List ℕ) (ts : L
 all_found bracket cs ts = turns_are_stack bracket 0 cs ts (progress [] [] false) refl
     ∙ sym (search_is_stack bracket 0 cs ts (record { openers = []; pairs = []; is_over = false }) refl tt tt)
 
--- what the search finds from index `i` on, where the turn there leaves this
+-- the pairs found from index `i` on, given the progress after the turn there
 pub turn_more : (bracket : ℕ → Option (Side × ℕ)) (os ps new_os new_ps : List OpenEntry) (over : Bool) (cs : List ℕ) (ts : List Class) (i x : ℕ)
     (b : Option (Side × ℕ)) → i < length cs → i < length ts → x ≡ get_or cs i x → b ≡ bracket_at bracket x (get_or ts i L)
     → progress new_os new_ps over ≡ turn i x b (progress os ps false)

@@ -1,4 +1,4 @@
--- What the walk over the pairs knows to be clear of a direction, so that it looks at no index again.
+-- The ranges that a walk over the pairs knows to be clear of a direction, so that it skips them.
 use Rattle.std.specs.Prelude.{◌≡◌, ◌≤◌, ◌<◌, ℕ, false, true, List, slice_index_or, max, min, length}
 use Rattle.bx_ucd.specs.declared.class.Class.{Class}
 use Rattle.bx_ucd.specs.declared.class.Class.TheVariants.{L}
@@ -7,7 +7,7 @@ use Rattle.bx_brackets.specs.declared.resolve.Clears.{Clears}
 use Rattle.bx_brackets.specs.declared.resolve.Known.{Known}
 use Rattle.bx_brackets.specs.Resolve.{counts_as, opposite, context_of}
 
--- no type of a range counts as the direction
+-- no type in the range counts as the direction
 abbrev pub IsClear : Class → List Class → Clear → Type 0
 IsClear d ts c = (k : ℕ) → c.from ≤ k → k < c.to → counts_as d (slice_index_or ts k L) ≡ false
 
@@ -15,7 +15,7 @@ pub record AreClear (embedding : Class) (ts : List Class) (c : Clears) : Type 0 
   pub embedding_is : IsClear embedding ts c.embedding
   pub other_is : IsClear (opposite embedding) ts c.other
 
--- two lists are the same from an index on
+-- two lists agree from an index on
 abbrev pub AreSameFrom : ℕ → List Class → List Class → Type 0
 AreSameFrom n old new = (k : ℕ) → n ≤ k → slice_index_or new k L ≡ slice_index_or old k L
 
@@ -28,7 +28,7 @@ clear_after embedding d c from to = elim (counts_as embedding d) [
   | false ↦ record c { other = between c.other from to }
 ]
 
--- a walk over the pairs knows the context of an index, and what is clear
+-- the state of a walk over the pairs is right: the context of its index, and its clear ranges
 pub record IsKnown (embedding sos : Class) (ts : List Class) (k : Known) : Type 0 where
   pub within : k.index ≤ length ts
   pub context_is : k.context ≡ context_of sos ts k.index

@@ -1,4 +1,4 @@
--- What holds of the bracket pairs of every sequence.
+-- Laws of the bracket pairs of every sequence.
 use Rattle.std.specs.Prelude.{◌≡◌, ◌<◌, ◌⊎◌, ℕ, ◌+◌, List, ◌∷◌, ◌++◌, length, Option, Some, All, AllPairs, Contains}
 use Rattle.bx_ucd.specs.declared.class.Class.{Class}
 use Rattle.bx_ucd.specs.declared.class.Class.TheVariants.{ON}
@@ -14,21 +14,21 @@ OpensFirst p = p.0 < p.1
 abbrev pub IsInside : ℕ × ℕ → ℕ × ℕ → Type 0
 IsInside p q = (q.0 < p.0) × (p.1 < q.1)
 
--- two pairs do not cross: the second lies inside the first, or opens once that is closed
+-- two pairs do not cross: the second lies inside the first, or opens after the first closes
 abbrev pub AreUncrossed : ℕ × ℕ → ℕ × ℕ → Type 0
 AreUncrossed p q = IsInside q p ⊎ (p.1 < q.0)
 
--- pairs that rise by their openers, where each opens before it closes and no two cross
+-- pairs are sorted by opener, each opens before it closes, and no two cross
 pub record AreNested (ps : List (ℕ × ℕ)) : Type 0 where
   pub open_first : All OpensFirst ps
   pub rise : AllPairs (λ (p q : ℕ × ℕ). p.0 < q.0) ps
   pub uncrossed : AllPairs AreUncrossed ps
 
--- so are the pairs of any sequence
+-- the pairs of any sequence are nested
 abbrev pub PairsAreNested : Type 0
 PairsAreNested = (bracket : ℕ → Option (Side × ℕ)) (cs : List ℕ) (ts : List Class) → AreNested (pairs bracket cs ts)
 
--- an opener and its closer that stand side by side, both of type ON, are a pair where fewer than 63 characters stand before them
+-- an opener and its closer side by side, both of type ON, are a pair if fewer than 63 characters come before them
 abbrev pub NeighboursArePaired : Type 0
 NeighboursArePaired = (bracket : ℕ → Option (Side × ℕ)) (before after : List ℕ) (opener closer paired back : ℕ) (us ts : List Class)
     → length us ≡ length before → length before < bracket_room

@@ -11,41 +11,41 @@ abbrev pub is_on : Class → Bool
 is_on ON = true
 is_on _ = false
 
--- U+2329 counts as U+3008 and U+232A as U+3009, as they are canonically equivalent
+-- BD16: U+2329 and U+232A are canonically equivalent to U+3008 and U+3009, and compared as these
 abbrev pub canonical : ℕ → ℕ
 canonical c = if c == 0x2329 then 0x3008 else (if c == 0x232a then 0x3009 else c)
 
--- a pair among pairs that are ordered by their openers
+-- BD16: pairs are sorted by opener
 abbrev pub insert_pair : ℕ × ℕ → List (ℕ × ℕ) → List (ℕ × ℕ)
 insert_pair p [] = p ∷ []
 insert_pair p (q ∷ qs) = elim (nat_lt p.0 q.0) [ true ↦ p ∷ q ∷ qs | false ↦ q ∷ insert_pair p qs ]
 
--- the openers so far, the latest first, each its index and its closer; the pairs found so far, ordered by their openers;
--- and whether the search has ended for want of room
+-- the openers so far, the latest first, each its index and its closer; the pairs so far, sorted by opener; and whether the
+-- search has ended at a full stack
 pub record Search : Type 0 where
   pub openers : List (ℕ × ℕ)
   pub pairs : List (ℕ × ℕ)
   pub is_over : Bool
 
--- an opener is open if no pair found begins at it or has it inside
+-- an opener is open if no pair begins at it or encloses it
 abbrev pub is_open : List (ℕ × ℕ) → (ℕ × ℕ) → Bool
 is_open pairs o = not (list_any (λ p. nat_le p.0 o.0 && nat_lt o.0 p.1) pairs)
 
 abbrev pub open_openers : Search → List (ℕ × ℕ)
 open_openers s = filter (is_open s.pairs) s.openers
 
--- BD16: the stack has room for this many openers
+-- BD16: the capacity of the stack
 abbrev pub bracket_room : ℕ
 bracket_room = 63
 
--- BD16: an opener at index `j` is taken where there is room for it, and else ends the search
+-- BD16: an opener at index `j` is pushed if the stack has room, else the search ends
 abbrev pub meet_opener : Search → ℕ → ℕ → Search
 meet_opener s j closer = elim (nat_lt (length (open_openers s)) bracket_room) [
   | true ↦ record s { openers = (j, canonical closer) ∷ s.openers }
   | false ↦ record s { is_over = true }
 ]
 
--- BD16: a closer at index `j` makes a pair with the nearest open opener that it matches
+-- BD16: a closer at index `j` pairs with the nearest open opener that it matches
 abbrev pub meet_closer : Search → ℕ → ℕ → Search
 meet_closer s j c = elim (find (λ o. o.1 == canonical c) (open_openers s)) [
   | None ↦ s
@@ -57,7 +57,7 @@ meet s j c None = s
 meet s j c (Some (Opener, m)) = meet_opener s j m
 meet s j c (Some (Closer, m)) = meet_closer s j c
 
--- BD14, BD15: a character is a bracket only where its type is ON
+-- BD14, BD15: a character is a bracket only if its current type is ON
 abbrev pub bracket_at : (ℕ → Option (Side × ℕ)) → ℕ → Class → Option (Side × ℕ)
 bracket_at bracket c t = elim (is_on t) [ true ↦ bracket c | false ↦ None ]
 
@@ -69,6 +69,6 @@ search_from bracket s j (c ∷ cs) (t ∷ ts) = elim (s.is_over) [
   | false ↦ search_from bracket (meet s j c (bracket_at bracket c t)) (j + 1) cs ts
 ]
 
--- the bracket pairs of a sequence, each the indexes of its opener and its closer
+-- BD16: the bracket pairs of a sequence, each the indexes of its opener and its closer
 abbrev pub pairs : (ℕ → Option (Side × ℕ)) → List ℕ → List Class → List (ℕ × ℕ)
 pairs bracket cs ts = (search_from bracket (record { openers = []; pairs = []; is_over = false }) 0 cs ts).pairs

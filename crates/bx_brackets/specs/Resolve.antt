@@ -12,7 +12,7 @@ abbrev pub is_left : Class → Bool
 is_left L = true
 is_left _ = false
 
--- R, with EN and AN counted as R. An AL that is handed in is neither direction: W3 has made each one R before N0
+-- N0: EN and AN count as R. W3 leaves no AL; an AL passed in counts as neither direction
 abbrev pub is_right : Class → Bool
 is_right R = true
 is_right EN = true
@@ -23,7 +23,7 @@ is_right _ = false
 abbrev pub counts_as : Class → Class → Bool
 counts_as d t = elim (is_left d) [ true ↦ is_left t | false ↦ is_right t ]
 
--- the nearest direction in a list whose nearest element stands first, or `sos`
+-- the first direction in a list, nearest first, or `sos`
 abbrev pub nearest : Class → List Class → Class
 nearest sos [] = sos
 nearest sos (t ∷ ts) = elim (is_left t) [ true ↦ L | false ↦ elim (is_right t) [ true ↦ R | false ↦ nearest sos ts ] ]
@@ -33,15 +33,15 @@ abbrev pub pair_direction : Class → Class → List Class → Option Class
 pair_direction embedding context inside = elim (list_any (counts_as embedding) inside) [
   -- b: a type inside counts as the embedding direction
   | true ↦ Some embedding
-  -- c: one inside counts as the other direction. c1: so does the context, and the pair takes it. c2: else the embedding
+  -- c: one inside counts as the other direction. c1: the context does too, and the pair takes it. c2: else the embedding
   | false ↦ elim (list_any (counts_as (opposite embedding)) inside) [
     | true ↦ elim (counts_as embedding context) [ true ↦ Some embedding | false ↦ Some (opposite embedding) ]
-    -- d: there is neither, and N1 and N2 are to give it a type
+    -- d: none counts as either direction, and N1 and N2 resolve the pair
     | false ↦ None
   ]
 ]
 
--- the types after a bracket: those that were NSM, one after another, change with it
+-- N0: characters that were NSM before W1 and directly follow a changed bracket change with it
 abbrev pub change_marks : Class → List Bool → List Class → List Class
 change_marks d [] ts = ts
 change_marks d (false ∷ was) ts = ts
@@ -51,26 +51,26 @@ change_marks d (true ∷ was) (t ∷ ts) = d ∷ change_marks d was ts
 abbrev pub change_bracket : Class → List Bool → List Class → ℕ → List Class
 change_bracket d was ts p = take p ts ++ d ∷ change_marks d (drop (p + 1) was) (drop (p + 1) ts)
 
--- a pair in a context
+-- the types after a pair is resolved in a context
 abbrev pub resolve_in : Class → Class → List Bool → ℕ × ℕ → List Class → List Class
 resolve_in embedding context was pq ts = elim (pair_direction embedding context (take (pq.1 - pq.0 - 1) (drop (pq.0 + 1) ts))) [
   | None ↦ ts
   | Some d ↦ change_bracket d was (change_bracket d was ts pq.0) pq.1
 ]
 
--- the context of an index
+-- the context of an index: the nearest direction before it
 abbrev pub context_of : Class → List Class → ℕ → Class
 context_of sos ts p = nearest sos (reverse (take p ts))
 
 abbrev pub resolve_pair : Class → Class → List Bool → ℕ × ℕ → List Class → List Class
 resolve_pair embedding sos was pq ts = resolve_in embedding (context_of sos ts pq.0) was pq ts
 
--- N0, pair by pair: later pairs see what earlier ones changed
+-- N0: pairs are resolved in order, and later pairs see the changes of earlier ones
 abbrev pub resolve_pairs : Class → Class → List Bool → List (ℕ × ℕ) → List Class → List Class
 resolve_pairs embedding sos was [] ts = ts
 resolve_pairs embedding sos was (p ∷ ps) ts = resolve_pairs embedding sos was ps (resolve_pair embedding sos was p ts)
 
--- a pair stands inside a list
+-- a pair lies inside a list of length n
 pub record IsPairWithin (n : ℕ) (pq : ℕ × ℕ) : Type 0 where
   pub ordered : pq.0 < pq.1
   pub ends : pq.1 < n

@@ -1,4 +1,4 @@
--- The search by a stack of the openers that are open, the last one first.
+-- The search by a stack of unmatched openers, the last one first.
 use Rattle.std.specs.Prelude.{◌≡◌, ℕ, ◌+◌, ◌%◌, ◌==◌, ◌<◌, ◌≤◌, ◌⊎◌, nat_lt, not, find}
 use Rattle.std.specs.Prelude.{Bool, true, false, List, [], ◌∷◌, Option, Some, None, length, slice_set, All}
 use Rattle.std.specs.Prelude.{slice_index_or}
@@ -8,7 +8,7 @@ use Rattle.bx_ucd.specs.declared.class.Class.{Class}
 use Rattle.bx_brackets.specs.Pairs.{bracket_room, canonical, bracket_at, insert_pair}
 use Rattle.bx_brackets.specs.Resolve.{IsPairWithin}
 
--- what is below the first that passes
+-- the openers below the first one that passes
 abbrev pub below_first : ((ℕ × ℕ) → Bool) → List (ℕ × ℕ) → List (ℕ × ℕ)
 below_first p [] = []
 below_first p (o ∷ os) = elim (p o) [ true ↦ os | false ↦ below_first p os ]
@@ -16,27 +16,27 @@ below_first p (o ∷ os) = elim (p o) [ true ↦ os | false ↦ below_first p os
 abbrev pub is_for : ℕ → ℕ × ℕ → Bool
 is_for c o = o.1 == c
 
--- the opener at an index, from the first one on
+-- the opener at an index of the list, if there is an index
 abbrev pub opener_at : List (ℕ × ℕ) → Option ℕ → Option (ℕ × ℕ)
 opener_at os None = None
 opener_at os (Some k) = Some (slice_index_or os k (0, 0))
 
--- the closers that are noted, each at its remainder, meet no opener
+-- each noted closer is at its remainder and matches no opener
 abbrev pub AreMissed : List (Option ℕ) → List (ℕ × ℕ) → Type 0
 AreMissed missed os = (k c : ℕ) → slice_index_or missed k None ≡ Some c → (c % 31 ≡ k) × (find (is_for c) os ≡ None)
 
--- the index of the opener that a closer meets
+-- the index of the opener that a closer matches
 abbrev pub index_of : Option (ℕ × ℕ) → Option ℕ
 index_of None = None
 index_of (Some o) = Some o.0
 
--- the openers that a closer leaves
+-- the openers left after a closer
 abbrev pub left_by : Option (ℕ × ℕ) → ℕ → List (ℕ × ℕ) → List (ℕ × ℕ)
 left_by None c os = os
 left_by (Some o) c os = below_first (is_for c) os
 
--- the openers that are open, each its index and its closer; the pairs found so far; and whether the search has ended for
--- want of room
+-- the unmatched openers, each its index and its closer; the pairs found so far; and whether the search has ended at a full
+-- stack
 pub record Progress : Type 0 where
   pub openers : List (ℕ × ℕ)
   pub pairs : List (ℕ × ℕ)
@@ -45,16 +45,16 @@ pub record Progress : Type 0 where
 abbrev pub progress : List (ℕ × ℕ) → List (ℕ × ℕ) → Bool → Progress
 progress os ps over = record { openers = os; pairs = ps; is_over = over }
 
--- the pairs with that of a closer at index `j` and the opener that it meets
+-- the pairs, with a new one for a closer at index `j` that matches an opener
 abbrev pub found_by : Option (ℕ × ℕ) → ℕ → List (ℕ × ℕ) → List (ℕ × ℕ)
 found_by None j ps = ps
 found_by (Some o) j ps = insert_pair (o.0, j) ps
 
--- the openers with one at index `j`, where there is room for it
+-- the openers, with a new one at index `j` if the stack has room
 abbrev pub opened : ℕ → ℕ → List (ℕ × ℕ) → List (ℕ × ℕ)
 opened j m os = elim (nat_lt (length os) bracket_room) [ true ↦ (j, canonical m) ∷ os | false ↦ os ]
 
--- what the character at index `j` makes of it, where the search goes on
+-- the progress after the character at index `j`, unless the search has ended
 abbrev pub turn : ℕ → ℕ → Option (Side × ℕ) → Progress → Progress
 turn j c None p = p
 turn j c (Some (Opener, m)) p = record p { openers = opened j m p.openers; is_over = not (nat_lt (length p.openers) bracket_room) }
@@ -66,29 +66,29 @@ turn j c (Some (Closer, m)) p = record p {
 abbrev pub after : ℕ → ℕ → Option (Side × ℕ) → Progress → Progress
 after j c b p = elim p.is_over [ true ↦ p | false ↦ turn j c b p ]
 
--- the pairs once the rest of the sequence is met, from index `j` on
+-- the pairs after the rest of the sequence, from index `j` on
 abbrev pub pairs_after : (ℕ → Option (Side × ℕ)) → Progress → ℕ → List ℕ → List Class → List (ℕ × ℕ)
 pairs_after bracket p j [] ts = p.pairs
 pairs_after bracket p j (c ∷ cs) [] = p.pairs
 pairs_after bracket p j (c ∷ cs) (t ∷ ts) = pairs_after bracket (after j c (bracket_at bracket c t) p) (j + 1) cs ts
 
--- each opener stands before `j`, and before those above it
+-- each opener is before `j`, and before the openers above it
 abbrev pub IsFalling : ℕ → List (ℕ × ℕ) → Type 0
 IsFalling j [] = Unit {0}
 IsFalling j (o ∷ os) = (o.0 < j) × IsFalling o.0 os
 
--- pairs are ordered by their openers, from `k` on
+-- pairs are sorted by opener, from `k` on
 abbrev pub AreSorted : ℕ → List (ℕ × ℕ) → Type 0
 AreSorted k [] = Unit {0}
 AreSorted k (p ∷ ps) = (k ≤ p.0) × AreSorted p.0 ps
 
--- what holds of the openers and the pairs before index `j`
+-- the invariant of the openers and pairs before index `j`
 pub record AreFound (j : ℕ) (os ps : List (ℕ × ℕ)) : Type 0 where
   pub falling : IsFalling j os
   pub sorted : AreSorted 0 ps
   pub within : All (IsPairWithin j) ps
 
--- the pairs by a list of closers: at the index of an opener that of its closer, and else none behind the index itself
+-- the pairs in a list of closers: an entry greater than its index is the closer of the opener there
 abbrev pub pairs_in : ℕ → List ℕ → List (ℕ × ℕ)
 pairs_in k [] = []
 pairs_in k (c ∷ cs) = elim (nat_lt k c) [ true ↦ (k, c) ∷ pairs_in (k + 1) cs | false ↦ pairs_in (k + 1) cs ]
@@ -106,7 +106,7 @@ abbrev pub AreUnclosed : List ℕ → List (ℕ × ℕ) → Type 0
 AreUnclosed cs [] = Unit {0}
 AreUnclosed cs (o ∷ os) = IsUnclosed cs o.0 × AreUnclosed cs os
 
--- what holds of the openers and the closers of a sequence of so many characters, of which those before `next` are met
+-- the invariant of the openers and closers of a sequence of `count` characters, taken up to `next`
 pub record IsSearched (count next : ℕ) (os : List (ℕ × ℕ)) (cs : List ℕ) : Type 0 where
   pub falling : IsFalling next os
   pub unclosed : AreUnclosed cs os
@@ -114,7 +114,7 @@ pub record IsSearched (count next : ℕ) (os : List (ℕ × ℕ)) (cs : List ℕ
   pub within : All (λ c. c < count) cs
   pub met : All (λ c. c ≤ next) cs
 
--- a search: what it has found, the first index that is not met, and how many characters the sequence has
+-- a search: its progress, the first index not taken yet, and the number of characters of the sequence
 pub record Searching : Type 0 where
   pub progress : Progress
   pub next : ℕ

@@ -1,6 +1,6 @@
-//! The refusal of the calls that take memory.
+//! The error of the calls that allocate.
 
 use bx_terms::OutOfMemory;
 
-/// Why bracket pairs could not be found: memory ran out.
+/// The only error of finding bracket pairs: an allocation failed.
 pub type BracketError = OutOfMemory;

@@ -1,4 +1,4 @@
-//! Bracket pairs and their types (UAX #9, 3.1.3 and 3.3.5).
+//! Bracket pairs and the types they resolve to (UAX #9, 3.1.3 and 3.3.5).
 #![tactic(auto)]
 
 mod error;

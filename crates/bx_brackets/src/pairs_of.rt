@@ -10,7 +10,7 @@ use bx_ucd::{BidiData, Class, Side};
 use std::alloc::{AllocError, Global};
 use std::marker::Model;
 
-/// The character that a bracket counts as.
+/// The character that a bracket is compared as: angle brackets have canonical equivalents (BD16).
 pub fn canonical(c: char) -> char
     ensures { result ≡ canonical c }
 {
@@ -21,7 +21,7 @@ pub fn canonical(c: char) -> char
     }
 }
 
-/// The bracket at a character of a type.
+/// The side and counterpart of a character that is a bracket of type ON.
 #[inline(always)]
 pub fn bracket_at<D: BidiData>(tables: &D, c: char, t: Class) -> Option<(Side, char)>
     ensures { result ≡ bracket_at (D.data tables.now).bracket c t }
@@ -32,21 +32,21 @@ pub fn bracket_at<D: BidiData>(tables: &D, c: char, t: Class) -> Option<(Side, c
     }
 }
 
-/// How many openers the stack has room for (BD16).
+/// The capacity of the stack of openers (BD16).
 const BRACKET_ROOM: usize = 63;
 
-/// How many remainders of closers are told apart.
+/// The modulus that maps a closer to its slot in `missed`.
 const REMAINDERS: usize = 31;
 
-/// The openers that are open.
+/// The stack of unmatched openers, each an index and the closer that it waits for.
 #[derive(Drop)]
 pub struct OpenStack {
     openers: ArrayVec<(usize, char), BRACKET_ROOM>,
-    /// At each remainder a closer that none of the openers is for, so that it is looked for once.
+    /// At each remainder, a closer that no opener waits for, so that repeats of it skip the search.
     missed: [Option<char>; REMAINDERS],
 }
 
-// Clauses see the openers, the last one first.
+// Its value is the openers, the last one first.
 impl Model for OpenStack {
     ghost Value = { List (ℕ × ℕ) };
 
@@ -55,7 +55,7 @@ impl Model for OpenStack {
     ghost invariant = { λ s. AreMissed s.missed (reverse s.openers.items) };
 }
 
-/// The index of the last opener for a closer, where the first ones stand first.
+/// The index in `openers` of the last opener that waits for a closer.
 #[tactic(auto, using(crate::proofs::Close::find_here, crate::proofs::Close::find_more, crate::proofs::Close::below_here, crate::proofs::Close::below_more, crate::proofs::Close::take_it))]
 fn last_for(openers: &[(usize, char)], closer: char) -> Option<usize>
     ensures within { IfSome result (λ k. k < length openers.now) }
@@ -73,7 +73,7 @@ fn last_for(openers: &[(usize, char)], closer: char) -> Option<usize>
 }
 
 impl OpenStack {
-    /// No opener.
+    /// An empty stack.
     pub fn new() -> Self
         ensures { result ≡ [] }
     {
@@ -83,21 +83,21 @@ impl OpenStack {
         }
     }
 
-    /// Takes all openers off.
+    /// Pops all openers.
     pub fn clear(&mut self)
         ensures { self.new ≡ [] }
     {
         self.openers.clear();
     }
 
-    /// Whether there is no room.
+    /// Whether the stack is full.
     pub fn is_full(&self) -> bool
         ensures { result ≡ not (nat_lt (length self.now) bracket_room) }
     {
         self.openers.is_full()
     }
 
-    /// Adds an opener.
+    /// Pushes the opener at `index`, which waits for `closer`.
     pub fn push(&mut self, index: usize, closer: char)
         requires { length self.old < bracket_room }
         ensures { self.new ≡ (index, closer) ∷ self.old }
@@ -106,7 +106,7 @@ impl OpenStack {
         self.openers.push((index, closer));
     }
 
-    /// Takes off the last opener that the closer meets, with what stands above it.
+    /// Pops the last opener that waits for the closer, and all openers above it. Returns its index in the sequence.
     #[inline(always)]
     pub fn close(&mut self, closer: char) -> Option<usize>
         ensures index { result ≡ index_of (find (is_for closer) self.old) }
@@ -130,7 +130,7 @@ impl OpenStack {
     }
 }
 
-/// The index of a new pair among pairs that are ordered by their openers.
+/// The position of a new pair among pairs sorted by opener.
 #[tactic(auto, using(crate::proofs::Insert::insert_here, crate::proofs::Insert::insert_start))]
 fn index_for(found: &[(usize, usize)], pair: (usize, usize)) -> usize
     requires sorted { AreSorted 0 found.now }
@@ -147,7 +147,7 @@ fn index_for(found: &[(usize, usize)], pair: (usize, usize)) -> usize
     0
 }
 
-/// Adds a pair to pairs that are ordered by their openers.
+/// Inserts a pair into pairs sorted by opener.
 fn insert_pair(found: &mut Vec<(usize, usize)>, pair: (usize, usize)) -> Result<(), AllocError>
     requires sorted { AreSorted 0 found.old.items }
     ensures { OnOk result (found.new.items ≡ insert_pair pair found.old.items) }
@@ -157,7 +157,7 @@ fn insert_pair(found: &mut Vec<(usize, usize)>, pair: (usize, usize)) -> Result<
     Ok(())
 }
 
-/// Takes a closer at an index.
+/// Takes the closer at `index`.
 #[tactic(auto, using(crate::proofs::Insert::close_some, crate::proofs::Insert::close_none))]
 fn meet_closer(
     open: &mut OpenStack,
@@ -179,7 +179,7 @@ fn meet_closer(
     }
 }
 
-/// Takes one character of a sequence, with its bracket. Whether the search ends there, for want of room.
+/// Takes one character of a sequence, with its bracket. True if the search ends here because the stack is full.
 #[tactic(auto, using(crate::proofs::Insert::found_later, crate::proofs::Insert::found_push))]
 fn meet(
     open: &mut OpenStack,
@@ -208,8 +208,8 @@ fn meet(
     }
 }
 
-/// The bracket pairs of a sequence (BD14 to BD16) from its characters and their current types: the indexes of the opener
-/// and the closer in the sequence, ordered by openers.
+/// The bracket pairs of a sequence (BD14 to BD16), from its characters and their current types. A pair is the indexes of
+/// its opener and its closer in the sequence, and pairs are sorted by opener.
 pub fn pairs<D: BidiData>(
     alloc: Global,
     chars: &[char],

@@ -20,14 +20,14 @@ fn opposite(d: Class) -> Class
     }
 }
 
-/// Whether a type counts as R.
+/// Whether a type counts as R: EN and AN do.
 fn is_right(t: Class) -> bool
     ensures { result ≡ is_right t }
 {
     matches!(t, Class::R | Class::EN | Class::AN)
 }
 
-/// Whether a type counts as the direction.
+/// Whether a type counts as the direction `d`.
 fn counts_as(d: Class, t: Class) -> bool
     ensures { result ≡ counts_as d t }
 {
@@ -37,22 +37,22 @@ fn counts_as(d: Class, t: Class) -> bool
     }
 }
 
-/// A range of indexes that is known to have no type of a direction.
+/// A range of indexes, `from..to`, without any type that counts as a direction.
 #[derive(Clone, Copy, PartialEq, Eq, Debug)]
 struct Clear {
     from: usize,
     to: usize,
 }
 
-/// The ranges known to have no type of the embedding direction, and none of the other.
+/// A range clear of the embedding direction, and a range clear of the other.
 #[derive(Clone, Copy, PartialEq, Eq, Debug)]
 struct Clears {
     embedding: Clear,
     other: Clear,
 }
 
-/// Whether a type in a range counts as the direction, and what is then known to be clear of it. Indexes that are known
-/// to be clear are not looked at again.
+/// Whether a type in `from..to` counts as the direction, and the range then known to be clear of it. Skips indexes that
+/// are known to be clear.
 fn has(d: Class, clear: Clear, types: &[Class], from: usize, to: usize) -> (bool, Clear)
     requires within { to ≤ length types.now }
     requires known { IsClear d types.now clear }
@@ -69,7 +69,7 @@ fn has(d: Class, clear: Clear, types: &[Class], from: usize, to: usize) -> (bool
     (k < to, Clear { from, to: k })
 }
 
-/// What is left of a clear range between two changes, the first of which ends at `from` and the second begins at `to`.
+/// The part of a clear range between two changes, the first ending at `from` and the second beginning at `to`.
 fn between(clear: Clear, from: usize, to: usize) -> Clear
     ensures { result ≡ between clear from to }
 {
@@ -79,7 +79,7 @@ fn between(clear: Clear, from: usize, to: usize) -> Clear
     }
 }
 
-/// The nearest direction before the list's end.
+/// The last direction in the list, or `sos`.
 #[tactic(auto, using(crate::proofs::Marks::nearest_left, crate::proofs::Marks::nearest_right, crate::proofs::Marks::nearest_none, crate::proofs::Marks::take_it))]
 fn nearest(sos: Class, types: &[Class]) -> Class
     ensures { result ≡ nearest sos (reverse types.now) }
@@ -97,7 +97,7 @@ fn nearest(sos: Class, types: &[Class]) -> Class
     sos
 }
 
-/// The context of an index: the nearest direction before it, where that of an earlier index is known.
+/// The context of an index: the nearest direction before it. A known context of an earlier index shortens the search.
 #[tactic(auto, using(crate::proofs::Context::context_later))]
 fn context(sos: Class, known: (usize, Class), types: &[Class], index: usize) -> Class
     requires within { index ≤ length types.now }
@@ -112,7 +112,7 @@ fn context(sos: Class, known: (usize, Class), types: &[Class], index: usize) -> 
     }
 }
 
-/// The direction that a pair takes in a context, if any, and what is then known to be clear.
+/// The direction that a pair takes in a context, if any, and the ranges then known to be clear.
 fn pair_direction(
     embedding: Class,
     context: Class,
@@ -149,7 +149,7 @@ fn pair_direction(
     }
 }
 
-/// Changes a bracket, with the marks after it. The end of what is changed.
+/// Sets the type of a bracket and of the marks after it. Returns the end of the changed range.
 #[tactic(auto, using(crate::proofs::Marks::marks_more, crate::proofs::Marks::marks_stop, crate::proofs::Marks::marks_all, crate::proofs::Marks::marks_start))]
 fn change_bracket(types: &mut [Class], was_nsm: &[bool], d: Class, p: usize) -> usize
     requires within { p < length types.old }
@@ -167,7 +167,7 @@ fn change_bracket(types: &mut [Class], was_nsm: &[bool], d: Class, p: usize) -> 
     types.len()
 }
 
-/// What is clear after the brackets of a pair took a direction.
+/// The ranges that stay clear after the brackets of a pair took a direction.
 fn clear_after(embedding: Class, d: Class, clears: Clears, from: usize, to: usize) -> Clears
     ensures { result ≡ clear_after embedding d clears from to }
 {
@@ -184,7 +184,7 @@ fn clear_after(embedding: Class, d: Class, clears: Clears, from: usize, to: usiz
     }
 }
 
-/// Gives a pair its direction in a context. What is then known to be clear.
+/// Gives a pair its direction in a context, and returns the ranges then known to be clear.
 fn resolve_in(
     types: &mut [Class],
     was_nsm: &[bool],
@@ -212,7 +212,7 @@ fn resolve_in(
     }
 }
 
-/// What a walk over the pairs knows: the context of an index, and what is clear.
+/// State that a walk over the pairs carries: the context of an index, and the clear ranges.
 #[derive(Clone, Copy, PartialEq, Eq, Debug)]
 struct Known {
     index: usize,
@@ -220,7 +220,7 @@ struct Known {
     clears: Clears,
 }
 
-/// What is known before the first pair.
+/// The state before the first pair.
 fn known_first(sos: Class) -> Known
     ensures { result ≡ known_first sos }
 {
@@ -236,7 +236,7 @@ fn known_first(sos: Class) -> Known
     }
 }
 
-/// Gives the next pair its types, and notes what is then known.
+/// Gives the next pair its types, and updates the state.
 #[inline(always)]
 fn resolve_next(
     types: &mut [Class],
@@ -259,9 +259,9 @@ fn resolve_next(
     known.clears = resolve_in(types, was_nsm, embedding, before, known.clears, pair);
 }
 
-/// Gives the bracket pairs of a sequence their types, pair by pair (N0), in the list. `types` are those after W7,
-/// among which W3 has left no AL (one that is handed in counts as neither direction), `was_nsm` says which characters
-/// were NSM before W1, and `sos` is the type before the sequence of level `level`.
+/// Resolves the bracket pairs of a sequence in place, pair by pair (N0). `types` are the types after W7; W3 leaves no AL,
+/// and an AL passed in counts as neither direction. `was_nsm` tells which characters were NSM before W1, and `sos` is the
+/// type before the sequence, whose level is `level`.
 #[tactic(auto, using(crate::proofs::Marks::pairs_more, crate::proofs::Marks::pairs_all, crate::proofs::Context::first_known))]
 pub fn resolve_pairs(
     types: &mut [Class],
@@ -281,7 +281,7 @@ pub fn resolve_pairs(
     }
 }
 
-/// The same, where pairs are given by a list with the index of each opener's closer.
+/// The same, with the pairs as a list that has at each opener's index the index of its closer.
 #[tactic(auto, using(crate::proofs::Context::first_known))]
 pub fn resolve_closers(
     types: &mut [Class],

@@ -1,4 +1,4 @@
-//! A search for bracket pairs that is given one character at a time.
+//! A search for bracket pairs that takes one character at a time.
 ghost use Rattle.std.specs.Prelude.{◌≡◌, ℕ, ◌+◌, ◌^◌, ◌<◌, ◌≤◌, ◌⊎◌, IfOk, OnOk, OnErr, IfSome, List, length, [], false, find, replicate, Option, Some};
 ghost use Rattle.bx_ucd.specs.declared.class.Class.{Class};
 ghost use Rattle.bx_ucd.specs.Class.{direction};
@@ -16,8 +16,7 @@ use bx_ucd::{BidiData, Class, Side};
 use std::alloc::{AllocError, Global};
 use std::marker::Model;
 
-/// Makes an entry for the closer of each character, with none in it. The room grows to what is needed, and by a quarter at
-/// least.
+/// Fills the list with `count` empty entries. Capacity grows to the need, and by a quarter at least.
 #[inline(never)]
 fn make_entries(closers: &mut Vec<u32>, count: usize) -> Result<(), AllocError>
     requires none { length closers.old.items ≡ 0 }
@@ -31,7 +30,7 @@ fn make_entries(closers: &mut Vec<u32>, count: usize) -> Result<(), AllocError>
     closers.resize(count, 0)
 }
 
-/// Makes the entries for closers, unless they are made.
+/// Makes the entries on the first call of a search.
 fn need_entries(closers: &mut Vec<u32>, count: usize) -> Result<(), AllocError>
     requires long { (length closers.old.items ≡ 0) ⊎ (length closers.old.items ≡ count) }
     ensures long { OnOk result (length closers.new.items ≡ count) }
@@ -45,7 +44,7 @@ fn need_entries(closers: &mut Vec<u32>, count: usize) -> Result<(), AllocError>
     Ok(())
 }
 
-/// Takes an opener at an index. Whether the search ends there, for want of room.
+/// Takes the opener at `index`. True if the search ends here because the stack is full.
 #[inline(always)]
 fn meet_opener(
     open: &mut OpenStack,
@@ -70,7 +69,7 @@ fn meet_opener(
     Ok(false)
 }
 
-/// Writes the closer of an opener, if there is an opener.
+/// Records the index of an opener's closer.
 fn note_closer(closers: &mut Vec<u32>, opener: Option<usize>, closer: usize)
     requires within { IfSome opener (λ k. k < length closers.old.items) }
     requires small { closer < 2 ^ 32 }
@@ -81,7 +80,7 @@ fn note_closer(closers: &mut Vec<u32>, opener: Option<usize>, closer: usize)
     }
 }
 
-/// Takes a closer at an index.
+/// Takes the closer at `index`.
 #[inline(always)]
 #[tactic(auto, using(crate::proofs::Closers::found_pair))]
 fn meet_closer(
@@ -102,7 +101,7 @@ fn meet_closer(
     note_closer(closers, opener, index);
 }
 
-/// Takes a bracket at an index. Whether the search ends there, for want of room.
+/// Takes the bracket at `index`. True if the search ends here because the stack is full.
 #[inline(always)]
 fn meet_bracket(
     open: &mut OpenStack,
@@ -130,20 +129,20 @@ fn meet_bracket(
     }
 }
 
-/// What searches for bracket pairs work in, one after another, and the pairs that the last one found.
+/// A search for bracket pairs, and the pairs found. Its buffers are reused from sequence to sequence.
 #[derive(Drop)]
 pub struct PairSearch {
     openers: OpenStack,
-    /// At the index of an opener that of its closer, and else 0. Empty before the first opener.
+    /// At each opener's index, the index of its closer; 0 elsewhere. Empty before the first opener.
     closers: Vec<u32>,
-    /// How many characters the sequence has.
+    /// The number of characters of the sequence.
     count: usize,
-    /// The first index that is not met.
+    /// The first index not taken yet.
     next: usize,
     is_over: bool,
 }
 
-// Clauses see what is found so far.
+// Its value is the progress of the search.
 impl Model for PairSearch {
     ghost Value = { Searching };
 
@@ -153,7 +152,7 @@ impl Model for PairSearch {
 }
 
 impl PairSearch {
-    /// A search of a sequence of no characters.
+    /// A search of an empty sequence.
     pub fn new(alloc: Global) -> Self {
         PairSearch {
             openers: OpenStack::new(),
@@ -164,7 +163,7 @@ impl PairSearch {
         }
     }
 
-    /// Begins a search of a sequence of so many characters, each of whose indexes has room in 4 bytes. It takes no memory.
+    /// Begins a search of a sequence of `count` characters, whose indexes must fit in 4 bytes. Does not allocate.
     pub fn begin(&mut self, count: usize)
         requires small { count ≤ 2 ^ 32 }
         ensures next { self.new.next ≡ 0 }
@@ -179,9 +178,9 @@ impl PairSearch {
         self.is_over = false;
     }
 
-    /// Takes the character of the sequence at an index, of a current type. Those whose type is not ON may be left out.
-    /// Memory is taken at the first opener, 4 bytes for each character of the longest sequence so far, and want of it is the
-    /// only refusal: then the search is as it was, and the character can be taken again.
+    /// Takes the character at `index`, with its current type. Characters of other types than ON may be left out.
+    /// Allocates at the first opener, 4 bytes per character of the longest sequence so far. A failed allocation is the only
+    /// error; it leaves the search unchanged, and the call can be repeated.
     #[inline(always)]
     pub fn meet<D: BidiData>(
         &mut self,
@@ -215,8 +214,8 @@ impl PairSearch {
         Ok(())
     }
 
-    /// Gives the pairs that are found their types, pair by pair (N0), in the list. `types` are those after W7, `was_nsm` says
-    /// which characters were NSM before W1, and `sos` is the type before the sequence of level `level`.
+    /// Resolves the pairs found in place, pair by pair (N0). `types` are the types after W7, `was_nsm` tells which characters
+    /// were NSM before W1, and `sos` is the type before the sequence, whose level is `level`.
     pub fn resolve(&self, types: &mut [Class], was_nsm: &[bool], level: u8, sos: Class)
         requires count { length types.old ≡ self.now.count }
         requires as_long { length was_nsm.now ≡ length types.old }

@@ -1,4 +1,4 @@
--- The pairs from index `k` on begin behind the new one.
+-- The pairs from index `k` on begin after the new one.
 use Rattle.std.proofs.Common.{◌≤◌, ◌<◌, get_or, length}
 use Rattle.bx_brackets.proofs.pairs_of.index_for.Given as goal
 

@@ -1,4 +1,4 @@
--- The opener is not among those from index `k` on.
+-- No opener from index `k` on waits for the closer.
 use Rattle.std.proofs.Common.{◌≡◌, ◌≤◌, take, reverse, length}
 use Rattle.std.specs.Prelude.{find}
 use Rattle.bx_brackets.specs.Search.{is_for, below_first}

@@ -1,4 +1,4 @@
--- What is found, and what the turns find in the rest.
+-- The pairs found so far, and those that the turns find in the rest.
 use Rattle.std.proofs.Common.{◌≡◌, drop, false}
 use Rattle.bx_brackets.specs.Pairs.{pairs}
 use Rattle.bx_brackets.specs.Search.{progress, pairs_after, AreFound}

@@ -1,4 +1,4 @@
--- The pairs so far are resolved, and what is known is true of the types.
+-- The pairs so far are resolved, and the walk's state is right for the types.
 use Rattle.std.proofs.Common.{◌≡◌, drop}
 use Rattle.bx_brackets.specs.Resolve.{resolve_pairs}
 use Rattle.bx_brackets.specs.Clear.{IsKnown}
