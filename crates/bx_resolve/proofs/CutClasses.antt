@@ -1,4 +1,4 @@
--- When what stands between two strong types leaves the pairs around it as they are, by its classes.
+-- Classes between two strong types that keep the pairs around them unchanged.
 use Rattle.std.proofs.Common.{◌≡◌, ◌+◌, ◌∙◌, ◌⊎◌, inl, inr, ℕ, suc, List, [], ◌∷◌, ◌++◌, length, take, drop, refl, ap, ap₂, sym, arith, Bool}
 use Rattle.std.proofs.Common.{true, false, Option, Some, None, length-append, append_assoc}
 use Rattle.std.specs.Prelude.{◌||◌}
@@ -29,7 +29,7 @@ first_cut : (x : Class) (whole back before after : List Class) → length before
 first_cut x whole back [] after l w b = w ∙ sym b
 first_cut x whole back (t ∷ ts) after l w b = absurd (omega arith)
 
--- behind a strong type the start of sequence is not seen
+-- after a strong type the start of sequence has no effect
 sos_free : (x : Class) → is_strong x ≡ true → (sos other : Class) (ts : List Class) → weak sos (x ∷ ts) ≡ weak other (x ∷ ts)
 sos_free x e sos other ts =
     let c : IsCut (w3_at x) 0 (weak sos (x ∷ ts)) (weak sos (x ∷ [])) (weak other (x ∷ ts)) =
@@ -40,7 +40,7 @@ or_true : (b : Bool) → (b || true) ≡ true
 or_true true = refl
 or_true false = refl
 
--- two sides of two directions: both are there, whatever stands between
+-- two sides of two directions: both occur, with any types between
 any_last : (p : Class → Bool) (ts : List Class) (y : Class) → p y ≡ true → list_any p (ts ++ y ∷ []) ≡ true
 any_last p ts y e = list_any-append p ts (y ∷ []) ∙ ap (λ b. list_any p ts || (b || false)) e ∙ or_true (list_any p ts)
 
@@ -139,7 +139,7 @@ module _ (bracket : ℕ → Option (Side × ℕ)) (level : ℕ) (sos eos x y : C
   inside_length cm m = levels_length bracket level sos eos (cx ∷ (cm ++ cy ∷ [])) (x ∷ (m ++ y ∷ []))
       ∙ ap (λ n. suc n) (length-append m (y ∷ [])) ∙ omega arith
 
-  -- an edit between the two types: the levels before and behind stay, and what stands between is resolved by itself
+  -- an edit between the two types: the levels before and after stay, and the text between is resolved alone
   pub cut_edit : (cm cn : List ℕ) (m k : List Class) → length cm ≡ length m → length cn ≡ length k → IsCutOff bracket cf x cm m y cb
       → IsCutOff bracket cf x cn k y cb
       → levels_of cn k ≡ take (length u) (levels_of cm m) ++ (levels_inside cn k ++ drop (length u + (length m + 2)) (levels_of cm m))

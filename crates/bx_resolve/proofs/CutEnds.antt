@@ -1,4 +1,4 @@
--- The ends of a sequence are as strong types: with its sos before it, or its eos behind it, each level is as it was.
+-- The ends of a sequence act like strong types: with its sos put before it, or its eos after it, each level stays the same.
 use Rattle.std.proofs.Common.{◌≡◌, ◌∙◌, ℕ, List, [], ◌∷◌, ◌++◌, refl, ap, ap₂}
 use Rattle.std.proofs.Common.{Bool, true, false}
 use Rattle.std.proofs.lemmas.List.{map-append}
@@ -62,7 +62,7 @@ side_start : (x : Class) (c : List Class) → is_left_or_right x ≡ true → si
 side_start x [] e = if_not (is_neutral x) x (side_of x) (turned_no_neutral x e) ∙ side_same x e
 side_start x (t ∷ c) e = ap (λ s. elim (is_neutral t) as (λ z. Class) [ true ↦ s | false ↦ side_of t ]) (side_start x c e)
 
--- W4 asks of what stands beside only whether it is a number
+-- W4 needs of the adjacent types only whether they are numbers
 separator_before : (x t a : Class) → is_left_or_right x ≡ true → separator x t a ≡ separator ON t a
 separator_before L ES a e = refl
 separator_before L CS a e = refl
@@ -156,7 +156,7 @@ module _ (x : Class) (e : is_left_or_right x ≡ true) where
   ends_start level embedding eos ts = ap (λ zs. implicit level (n2 embedding zs)) (n1_start eos ts)
       ∙ ap (λ z. implicit_at level z ∷ implicit level (n2 embedding (n1 x eos ts))) (n2_same embedding)
 
-  -- eos behind it
+  -- eos after it
   w1_end : (sos : Class) (ts : List Class) → w1 sos (ts ++ x ∷ []) ≡ w1 sos ts ++ x ∷ []
   w1_end sos = at_end (w1_at sos) x (λ b. w1_first sos b []) (λ b t a. refl) []
 

@@ -147,7 +147,7 @@ module _ (class : ℕ → Class) (bracket : ℕ → Option (Side × ℕ)) (level
       by_types (cn ++ cy ∷ cb) (map class cn ++ y ∷ v) (more cn (cy ∷ cb) hn hb) (map-append class cn (cy ∷ cb)) ∙ ap (map found) (cut cn none_new)
       ∙ map-append found (front cn) back ∙ ap₂ (λ xs ys. xs ++ ys) (sym mid) (sym rest)
 
-  -- an edit behind the last one
+  -- an edit after the last one
   pub edit_end_levels : (cf : List ℕ) (cx : ℕ) (cm cn : List ℕ) → is_strong (class cx) ≡ true
       → all_pass is_unformatted (map class (cf ++ (cx ∷ cm))) ≡ true → all_pass is_unformatted (map class cn) ≡ true
       → list_any (is_listed bracket) cm ≡ false → list_any (is_listed bracket) cn ≡ false
@@ -177,7 +177,7 @@ module _ (class : ℕ → Class) (bracket : ℕ → Option (Side × ℕ)) (level
       by_types (cf ++ (cx ∷ cn)) (u ++ (x ∷ map class cn)) (more cf (cx ∷ cn) hf (x_un, hn)) (map-append class cf (cx ∷ cn)) ∙ ap (map found) (cut cn none_new)
       ∙ map-append found front (back cn) ∙ ap₂ (λ xs ys. xs ++ ys) (sym rest) (sym mid)
 
--- the paragraph level is that of its first strong character, whatever stands behind that
+-- the paragraph level follows from its first strong character, for any text after that
 no_initiator : (c : Class) → is_unformatted c ≡ true → is_initiator c ≡ false
 no_initiator LRI e = absurd (cc)
 no_initiator RLI e = absurd (cc)

@@ -1,4 +1,4 @@
--- Each kept character stands in one isolating run sequence, once.
+-- Each kept character is in exactly one isolating run sequence, once.
 use Rattle.std.proofs.Common.{◌≡◌, ◌≤◌, ◌+◌, ◌-◌, ◌∙◌, ℕ, suc, List, [], ◌∷◌, ◌++◌, length, drop, take, reverse, refl, ap, ap₂, sym, subst, arith}
 use Rattle.std.proofs.Common.{Bool, true, false, ◌==◌, Option, Some, None, append-nil, append_assoc}
 use Rattle.std.specs.Prelude.{All}
@@ -24,7 +24,7 @@ use Rattle.bx_resolve.specs.Laws.{all_indexes}
 
 -- the level runs hold the kept characters, in order
 module _ (kept : List (Option Kept)) where
-  -- what the first run holds, from index `k` on
+  -- the indexes of the first run, from `k` on
   abbrev HoldsFrom : ℕ → List (Option Kept) → List Run → Type 0
   HoldsFrom k g [] = Unit {0}
   HoldsFrom k g (r ∷ rs) = kept_indexes k (take (r.last + 1 - k) g) ≡ indexes_of kept r
@@ -83,7 +83,7 @@ module _ (kept : List (Option Kept)) where
   runs_hold : chain_indexes kept (runs_from 0 kept) ≡ kept_indexes 0 kept
   runs_hold = (holds_all kept 0 refl).1
 
--- a list goes behind the next one
+-- a list moves after the next one
 moves_behind : (a x y : List ℕ) → IsPermutation (a ++ (x ++ y)) (x ++ (a ++ y))
 moves_behind a x y = subst (λ l. IsPermutation l (x ++ (a ++ y))) (append_assoc a x y)
     (subst (λ l. IsPermutation ((a ++ x) ++ y) l) (append_assoc x a y) (IsPermutation-append_left y (a ++ x) (x ++ a) (IsPermutation-append_comm a x)))
@@ -92,7 +92,7 @@ pub indexes_append : (xs ys : List RunSequence) → all_indexes (xs ++ ys) ≡ a
 indexes_append [] ys = refl
 indexes_append (s ∷ xs) ys = ap (λ ps. s.indexes ++ ps) (indexes_append xs ys) ∙ sym (append_assoc s.indexes (all_indexes xs) (all_indexes ys))
 
--- in whatever order the sequences are given
+-- in any order of the sequences
 given_indexes : (given all : List RunSequence) → AreGiven given all → IsPermutation (all_indexes given) (all_indexes all)
 given_indexes [] all a = subst (λ ss. IsPermutation [] (all_indexes ss)) (sym a) (IsPermutation-refl [])
 given_indexes (s ∷ given) all a =

@@ -1,4 +1,4 @@
--- The levels of a paragraph after an edit, by the indexes of a strong character before the edit and of one behind it.
+-- The levels of a paragraph after an edit, by the indexes of a strong character before the edit and one after it.
 use Rattle.std.proofs.Common.{append_assoc, ◌≡◌, ◌<◌, ◌+◌, ◌-◌, ◌∙◌, ℕ, List, [], ◌∷◌, ◌++◌, length, take, drop, map, get_or, ap}
 use Rattle.std.proofs.Common.{ap₂, sym, subst, arith, true, false, Option, length-append, length-drop}
 use Rattle.std.specs.List.{list_any}
@@ -100,7 +100,7 @@ module _ (class : ℕ → Class) (bracket : ℕ → Option (Side × ℕ)) where
         (subst (λ xs. Each is_unformatted (map class xs)) (sym (take-append-drop i a)) ua) in
         level_stays base a (inserted ++ b) (removed ++ b) i in_a x_is (pass_each is_unformatted (map class (take i a)) uf)
 
-    -- all levels after the edit, by those before it and those of the piece
+    -- all levels after the edit, from the levels before it and the levels of the piece
     pub edited_under : levels_under class bracket base (a ++ (inserted ++ b))
         ≡ take i (levels_under class bracket base (a ++ (removed ++ b)))
         ++ (paragraph_levels class bracket (paragraph_level_under class base (a ++ (removed ++ b))) (piece a i inserted b j)
@@ -109,7 +109,7 @@ module _ (class : ℕ → Class) (bracket : ℕ → Option (Side × ℕ)) where
         ap (λ l. paragraph_levels class bracket l (a ++ (inserted ++ b))) edited_paragraph_level
         ∙ edited_levels (paragraph_level_under class base (a ++ (removed ++ b))) a removed inserted b i j in_a in_b x_is y_is old new safe_old safe_new
 
-  -- no strong character before the edit, or none behind it
+  -- no strong character before the edit, or none after it
   join_back : (s b : List ℕ) (j : ℕ) → j < length b → s ++ b ≡ (s ++ take j b) ++ (get_or b j 0 ∷ drop (j + 1) b)
   join_back s b j h = ap (λ xs. s ++ xs) (split_at b j h) ∙ sym (append_assoc s (take j b) (get_or b j 0 ∷ drop (j + 1) b))
 
@@ -174,7 +174,7 @@ module _ (class : ℕ → Class) (bracket : ℕ → Option (Side × ℕ)) where
         ∙ ap₂ (λ k xs. take k (levels xs) ++ levels (cx ∷ (ma ++ inserted))) lf (sym was)
         ∙ ap (λ xs. take i (levels (a ++ removed)) ++ levels (xs ++ inserted)) (sym (at_drop_more (λ xs. xs) a i 0 in_a))
 
-  -- the same with a text before the edit that stays, or one behind it
+  -- the same with an unchanged text before the edit, or after it
   module _ (base : Base) (a removed inserted b : List ℕ) (j : ℕ) (in_b : j < length b) (y_is : is_strong (class (get_or b j 0)) ≡ true)
       (old : HasNoFormatting class (a ++ (removed ++ b))) (new : HasNoFormatting class inserted)
       (safe_old : list_any (is_listed bracket) (a ++ (removed ++ take j b)) ≡ false)

@@ -1,4 +1,4 @@
--- The levels that follow an edit are those of the new text.
+-- The levels updated after an edit are the levels of the new text.
 use Rattle.std.proofs.Common.{◌≡◌, ◌∙◌, ℕ, List, ◌++◌, take, drop, ap, ap₂, sym, Option}
 use Rattle.bx_ucd.specs.declared.class.Class.{Class}
 use Rattle.bx_ucd.specs.declared.data.Side.{Side}

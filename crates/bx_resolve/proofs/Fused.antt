@@ -19,7 +19,7 @@ map_run : {S : Type 0} (next : S → Class → S) (out : S → Class → List Cl
 map_run next out f s [] = refl
 map_run next out f s (t ∷ ts) = ap (λ r. f (out s t ts) ∷ r) (map_run next out f (next s t) ts)
 
--- the second rule looks at what the first makes of the rest
+-- the second rule looks at the result of the first on the rest
 module _ {S U : Type 0} (n : S → Class → S) (o : S → Class → List Class → Class) (m : U → Class → U) (p : U → Class → List Class → Class)
     (early : S → Class → Class) (same : (s : S) (t : Class) (a : List Class) → o s t a ≡ early s t) where
   abbrev next_both : S × U → Class → S × U
@@ -56,7 +56,7 @@ neutral_run embedding sos eos ts = ap (n2 embedding) (n1_run sos eos ts) ∙ map
 pub keeps_other : (embedding t : Class) → is_neutral t ≡ false → n2_at embedding t ≡ t
 keeps_other embedding t e = rw (e, n2_at)
 
--- a run whose state sees what is left
+-- a run whose state depends on the rest
 module _ {S : Type 0} (next : S → Class → List Class → S) (out : S → Class → List Class → Class) where
   abbrev pub go : S → List Class → List Class
   go s [] = []
@@ -73,7 +73,7 @@ module _ {S : Type 0} (next : S → Class → List Class → S) (out : S → Cla
       append_assoc (take i ts) (x ∷ []) (go u (drop (i + 1) ts)) in
       cc
 
--- W4 makes no ET, and after an ET it changes nothing that tells whether an EN is next
+-- W4 makes no ET, and after an ET it does not change whether the next other type is EN
 et_of : (b t a : Class) → is_et (separator b t a) ≡ true → t ≡ ET
 et_of b ES a e = (elim (is_en b && is_en a) as (λ v. is_et (elim v as (λ x. Class) [ true ↦ EN | false ↦ ES ]) ≡ true → ES ≡ ET)
     [ true ↦ λ h. absurd (cc) | false ↦ λ h. absurd (cc) ]) e
@@ -105,7 +105,7 @@ after_w5_by p b t a true e =
     ap (terminator_of p) (ap (λ u. is_en_past (run next_beside out_separator u a)) s ∙ past_same a)
 after_w5_by p b t a false e = refl
 
--- W4 to W7: the type before, whether an EN stands before the run of ET, and the nearest L or R
+-- W4 to W7: the type before, whether an EN precedes the run of ET, and the nearest L or R
 abbrev pub last_written : Class → Bool → Class → List Class → Class
 last_written b p t a = w6_at (after_w5 (after_w4 b t a) p (ahead (after_w4 b t a) a))
 
@@ -182,7 +182,7 @@ seen_et : (mark strong : Class) (ts : List Class) (i : ℕ) → i < length ts �
 seen_et mark strong ts i h e = ap is_en_past (w3_more mark strong ts i h)
     ∙ past_at (seen mark strong (get_or ts i L)) (rest_seen mark strong (get_or ts i L) (drop (i + 1) ts)) true e
 
--- what is an ET after W3 is not strong
+-- an ET after W3 is not strong
 et_not_strong : (strong t : Class) → is_et (w3_at (after_w2 strong t)) ≡ true → strong_next strong t ≡ strong
 et_not_strong strong L e = absurd (cc)
 et_not_strong strong R e = absurd (cc)
@@ -202,7 +202,7 @@ past_other mark strong ts i h e = ap is_en_past (w3_more mark strong ts i h)
 pub past_end : (mark strong : Class) (ts : List Class) → is_en_past (rest_after_w3 mark strong (drop (length ts) ts)) ≡ false
 past_end mark strong ts = ap (λ xs. is_en_past (rest_after_w3 mark strong xs)) (drop-length ts)
 
--- what is known of one ET is known of the next of its run
+-- the lookahead of one ET serves the next of its run
 pub known_next : (mark strong b y x m u : Class) (ts rest : List Class) (i : ℕ) (known : Option Bool) → i < length ts → m ≡ mark_next mark (get_or ts i L)
     → u ≡ strong_next strong (after_w1 mark (get_or ts i L)) → x ≡ separator b (seen mark strong (get_or ts i L)) y → rest ≡ drop (i + 1) ts
     → MatchOption known (Unit {0}) (λ a. a ≡ is_en_past (rest_after_w3 mark strong (drop i ts)))

@@ -95,7 +95,7 @@ flagged_kept k (Some c ∷ g) =
     ap₂ (λ b gs. ((b || list_any (λ p. p == k) (kept_indexes (k + 1) g)) || false) ∷ gs) here
     (flagged_before (k + 1) k (kept_indexes (k + 1) g) (replicate (length g) false) (omega arith) ∙ flagged_kept (k + 1) g)
 
--- what the explicit rules keep
+-- the characters that the explicit rules keep
 kept_one : (c : Class) (s t : State) → is_some (kept_by (role_of c) c s t) ≡ is_kept c
 kept_one L s t = refl
 kept_one R s t = refl

@@ -1,4 +1,4 @@
--- What the laws tell by themselves, of single texts.
+-- Consequences of the laws for single texts.
 use Rattle.std.proofs.Common.{◌≡◌, ℕ, List, [], ◌∷◌, Some, refl, arith}
 use Rattle.std.specs.Prelude.{All}
 use Rattle.std.specs.List.Sorted.{IsPermutation}
@@ -16,11 +16,11 @@ use Rattle.bx_resolve.specs.Laws.{all_indexes, HaveEachOnce, LeftTextsHave}
 abbrev in_sequences : List Class → List ℕ
 in_sequences cs = all_indexes (sequences 0 cs (explicit_levels 0 cs))
 
--- a RLI B PDI c: each stands in a sequence, once
+-- a RLI B PDI c: each character is in one sequence, once
 isolate_in_sequences : HaveEachOnce → IsPermutation (0 ∷ 1 ∷ 2 ∷ 3 ∷ 4 ∷ []) (in_sequences (L ∷ RLI ∷ R ∷ PDI ∷ L ∷ []))
 isolate_in_sequences law = law 0 (L ∷ RLI ∷ R ∷ PDI ∷ L ∷ []) (omega arith)
 
--- a RLE B PDF c: those that X9 removes stand in none
+-- a RLE B PDF c: the characters that X9 removes are in none
 embedding_in_sequences : HaveEachOnce → IsPermutation (0 ∷ 2 ∷ 4 ∷ []) (in_sequences (L ∷ RLE ∷ R ∷ PDF ∷ L ∷ []))
 embedding_in_sequences law = law 0 (L ∷ RLE ∷ R ∷ PDF ∷ L ∷ []) (omega arith)
 

@@ -21,7 +21,7 @@ use Rattle.bx_resolve.specs.Laws.{LeftTextsHave}
 use Rattle.bx_resolve.proofs.NoBrackets.{no_pairs}
 use Rattle.bx_resolve.proofs.PlainLevels.{found, unformatted_levels}
 
--- so many characters of class L
+-- `n` characters of class L
 abbrev lefts : ℕ → List Class
 lefts n = replicate n L
 

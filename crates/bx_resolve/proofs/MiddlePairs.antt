@@ -1,4 +1,4 @@
--- N0 of a list with more in its middle: the parts before and behind the middle become what they become without it.
+-- N0 over a list with an addition in its middle: the parts before and after the middle get the same types as without it.
 use Rattle.std.proofs.Common.{append_assoc, ◌≡◌, ◌<◌, ◌≤◌, ◌+◌, ◌-◌, ◌∙◌, ◌⊎◌, inl, inr, ℕ, List}
 use Rattle.std.proofs.Common.{[], ◌∷◌, ◌++◌, length, take, drop, reverse, map, refl, ap, ap₂}
 use Rattle.std.proofs.Common.{sym, subst, arith, Bool, false, Option, Some, None, length-append}
@@ -44,7 +44,7 @@ abbrev pub AreApart : ℕ → ℕ → ℕ → Type 0 → List (ℕ × ℕ) → T
 AreApart n k l same [] = Unit {0}
 AreApart n k l same (p ∷ ps) = IsApart n k l same p × AreApart n k l same ps
 
--- the two middles: `mid` has `m` more than `other`, each begins with what was no mark, and behind each the nearest direction is `y`
+-- the two middles: `mid` has `m` more types than `other`, neither begins with a mark, and after each the nearest direction is `y`
 module _ (e sos y : Class) (n l m : ℕ) (wf wm wo wb : List Bool) (mid other : List Class)
     (wf_is : length wf ≡ n) (wb_is : length wb ≡ l) (wm_is : length (false ∷ wm) ≡ length mid) (wo_is : length (false ∷ wo) ≡ length other)
     (more : length mid ≡ length other + m)
@@ -138,7 +138,7 @@ module _ (e sos y : Class) (n l m : ℕ) (wf wm wo wb : List Bool) (mid other : 
       (around_at wm mid a.front a.back whole i j wm_is a.whole_is a.front_is h ∙ ap (λ x. changed_both x wf wb i j a.front mid a.back) d)
       (around_at wo other a.front a.back short i j wo_is a.short_is a.front_is h)
 
-  -- where the middle's last type of `other` stands, there `m` more stand in `mid`
+  -- at the last type of `other`, `mid` has `m` more
   abbrev move : ℕ → ℕ
   move j = shift (n + length other) m j
 

@@ -1,4 +1,4 @@
--- The bracket pairs of a list in whose middle stands more without brackets: the same, with the indexes behind the middle moved.
+-- The bracket pairs of a list with an addition without brackets in its middle: the same, with the indexes after the middle moved.
 use Rattle.std.proofs.Common.{◌≡◌, ◌<◌, ◌≤◌, ◌+◌, ◌∙◌, inl, inr, ℕ, suc, List, [], ◌∷◌, ◌++◌, length, map, refl, ap, ap₂, sym, arith, Bool}
 use Rattle.std.proofs.Common.{true, false, cond, Option, Some, None}
 use Rattle.std.specs.Prelude.{◌&&◌, ◌||◌, ◌==◌, not, nat_lt, nat_le, filter, find}
@@ -163,7 +163,7 @@ shift_step n m k h =
     let b : shift n m (k + 1) ≡ k + 1 + m = shift_from n m (k + 1) (omega arith) in
     omega arith
 
--- what stands before `n` is not moved
+-- an index before `n` is not moved
 openers_stay : (n m j : ℕ) (os : List (ℕ × ℕ)) → j ≤ n → IsFalling j os → map (moved_opener (shift n m)) os ≡ os
 openers_stay n m j [] l h = refl
 openers_stay n m j (o ∷ os) l h =

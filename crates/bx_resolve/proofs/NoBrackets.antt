@@ -1,4 +1,4 @@
--- Where no type is ON there is no bracket.
+-- Without a type ON there is no bracket.
 use Rattle.std.proofs.Common.{◌≡◌, ◌+◌, ℕ, List, [], ◌∷◌, refl, ap, true, false, Option, None}
 use Rattle.std.specs.Prelude.{◌||◌}
 use Rattle.std.specs.List.{list_any}

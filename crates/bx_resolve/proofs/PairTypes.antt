@@ -1,4 +1,4 @@
--- What holds of each index where a type is ON holds at both ends of each bracket pair.
+-- A property of each index with type ON holds at both ends of each bracket pair.
 use Rattle.std.proofs.Common.{◌≡◌, ◌+◌, ℕ, List, [], ◌∷◌, length, refl, subst, Bool, true, false, Option, Some, None}
 use Rattle.std.specs.Prelude.{find, filter, cond, nat_lt, ◌==◌}
 use Rattle.bx_ucd.specs.declared.class.Class.{Class}

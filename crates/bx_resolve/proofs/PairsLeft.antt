@@ -1,4 +1,4 @@
--- What a search finds in what is left of a run.
+-- The pairs that a search finds in the rest of a run.
 use Rattle.std.proofs.Common.{◌≡◌, ◌<◌, ◌≤◌, ◌+◌, ◌∙◌, ℕ, zero, suc, List, [], ◌∷◌, ◌++◌}
 use Rattle.std.proofs.Common.{length, get_or, drop, refl, ap, sym, arith, Option, Some, None, true, rules}
 use Rattle.std.specs.Prelude.{◌==◌}
@@ -52,7 +52,7 @@ pub run_removed : (level k : ℕ) (kept : List (Option Kept)) → k < length kep
     → level_indexes level k (drop k kept) ≡ level_indexes level (k + 1) (drop (k + 1) kept)
 run_removed level k kept h e = at_drop_more (level_indexes level k) kept k None h ∙ ap (λ x. level_indexes level k (x ∷ drop (k + 1) kept)) e
 
--- what a search finds behind it
+-- the pairs that a search finds after it
 module _ (bracket : ℕ → Option (Side × ℕ)) (all : List ℕ) (kept : List (Option Kept)) (ts : List Class) (level k met : ℕ) (p : Progress) (h : k < length kept)
     (more : List ℕ) where
   pub kept_left : (c : ℕ) (g : Kept) (q : Progress) → get_or kept k None ≡ Some g → g.level ≡ level → met < length ts → c ≡ get_or all k 0

@@ -32,7 +32,7 @@ pub explicit_plain : (p : ℕ) (cs : List Class) → Each is_unformatted cs → 
 explicit_plain p [] h = refl
 explicit_plain p (c ∷ cs) h = plain_step p c cs h.0 ∙ ap (λ ks. kept_as p c ∷ ks) (explicit_plain p cs h.1)
 
--- what stands at all indexes is the list
+-- the items at all indexes are the list
 drop_get : {A : Type 0} (d : A) (whole : List A) (k : ℕ) (x : A) (xs : List A) → drop k whole ≡ x ∷ xs
     → (get_or whole k d ≡ x) × (drop (suc k) whole ≡ xs)
 drop_get d [] zero x xs e = absurd (cc)

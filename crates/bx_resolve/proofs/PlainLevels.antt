@@ -41,7 +41,7 @@ one_longer [] y n e = omega arith
 one_longer (x ∷ xs) y zero e = absurd (omega arith)
 one_longer (x ∷ xs) y (suc n) e = let h : length (xs ++ y ∷ []) ≡ n + 1 = one_longer xs y n (omega arith) in omega arith
 
--- levels written from index `k` on, after those before it
+-- levels written from index `k` on, after the earlier ones
 write_all : (ls : List ℕ) (ys : List (Option ℕ)) (k : ℕ) → length ys ≡ k
     → with_levels (indexes_from k (length ls)) ls (ys ++ replicate (length ls) None) ≡ ys ++ map found ls
 write_all [] ys k e = refl

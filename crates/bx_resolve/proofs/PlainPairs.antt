@@ -1,4 +1,4 @@
--- The bracket pairs of any list stand inside it.
+-- The bracket pairs of any list lie inside it.
 use Rattle.std.proofs.Common.{◌≡◌, ◌<◌, ◌≤◌, ◌+◌, ℕ, List, [], ◌∷◌, length, arith, true, false, Option, Some, None, refl}
 use Rattle.std.specs.Prelude.{find, nat_lt, ◌==◌}
 use Rattle.bx_ucd.specs.declared.class.Class.{Class}
@@ -8,7 +8,7 @@ use Rattle.bx_brackets.specs.Pairs.{bracket_room, Search, insert_pair, is_open, 
 use Rattle.bx_brackets.specs.Search.{IsFalling}
 use Rattle.bx_brackets.proofs.Stack.{falling_later, falling_filter, found_below}
 
--- each pair stands in order and ends before `n`
+-- each pair is in order and ends before `n`
 abbrev pub AreInside : ℕ → List (ℕ × ℕ) → Type 0
 AreInside n [] = Unit {0}
 AreInside n (p ∷ ps) = (p.0 < p.1) × (p.1 < n) × AreInside n ps
@@ -25,7 +25,7 @@ inside_insert n p (q ∷ qs) a b h = elim (nat_lt p.0 q.0) as
       | false ↦ (h.0, h.1, inside_insert n p qs a b h.2)
     ]
 
--- what holds of a search that has come to index `j`
+-- the invariant of a search at index `j`
 pub record IsSound (j : ℕ) (s : Search) : Type 0 where
   pub falling : IsFalling j s.openers
   pub inside : AreInside j s.pairs

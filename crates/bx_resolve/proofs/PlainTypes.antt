@@ -1,4 +1,4 @@
--- A sequence of plain classes from left to right: what each rule leaves.
+-- A left-to-right sequence of plain classes, after each rule.
 use Rattle.std.proofs.Common.{◌≡◌, ◌<◌, ◌+◌, ◌-◌, ◌∙◌, ℕ, zero, suc, List, [], ◌∷◌, ◌++◌, length, drop, take, map, replicate, refl, ap, sym, arith, subst, Bool}
 use Rattle.std.proofs.Common.{true, false, Option, Some, None, ◌⊎◌, inl, inr}
 use Rattle.std.specs.Prelude.{◌&&◌}
@@ -31,7 +31,7 @@ pub each_map : (p q : Class → Bool) (f : Class → Class) → ((t : Class) →
 each_map p q f turns [] h = tt
 each_map p q f turns (t ∷ ts) h = (turns t h.0, each_map p q f turns ts h.1)
 
--- the plain classes but NSM; those that W6 leaves; those that W7 leaves
+-- the plain classes but NSM; the ones left after W6; the ones left after W7
 abbrev is_unmarked : Class → Bool
 is_unmarked L = true
 is_unmarked EN = true

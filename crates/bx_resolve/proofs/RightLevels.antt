@@ -22,7 +22,7 @@ use Rattle.bx_resolve.proofs.PlainTypes.{each_by_rule, each_map, each_take, each
 use Rattle.bx_resolve.proofs.PairTypes.{AreOn, HaveEnds, pairs_ends}
 use Rattle.bx_resolve.proofs.RightMarks.{AreMarksLow, AreLow, weak_low}
 
--- those classes but NSM; those that W3 leaves; those that W6 leaves
+-- these classes but NSM; the ones left after W3; the ones left after W6
 abbrev is_unmarked : Class → Bool
 is_unmarked R = true
 is_unmarked AL = true
@@ -377,7 +377,7 @@ by_rises : (ts : List Class) → implicit 1 ts ≡ map (λ n. 1 + n) (rises ts)
 by_rises [] = refl
 by_rises (t ∷ ts) = ap (λ ls. implicit_at 1 t ∷ ls) (by_rises ts)
 
--- the levels of a sequence without L at level 1 are told from the types after W7
+-- the levels of a sequence without L at level 1 follow from the types after W7
 pub right_sequence : (bracket : ℕ → Option (Side × ℕ)) (chars : List ℕ) (ts : List Class) → Each is_from_right ts
     → sequence_levels bracket 1 R R chars ts ≡ implicit 1 (weak R ts)
 right_sequence bracket chars ts h =

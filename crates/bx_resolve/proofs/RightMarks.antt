@@ -1,4 +1,4 @@
--- W1 to W7 at an odd level: an NSM behind a type that does not rise does not rise either.
+-- W1 to W7 at an odd level: an NSM after a type that does not rise does not rise either.
 use Rattle.std.proofs.Common.{◌≡◌, ℕ, List, [], ◌∷◌, map, refl, sym, subst, arith, Bool, true, false, ◌⊎◌, inl, inr}
 use Rattle.bx_ucd.specs.declared.class.Class.{Class}
 use Rattle.bx_ucd.specs.declared.class.Class.TheVariants.{L, AL, EN, ET, AN, NSM, ON, LRI, RLI, FSI, PDI}
@@ -14,7 +14,7 @@ AreMarksLow (false ∷ was) rs = Unit {0}
 AreMarksLow (true ∷ was) [] = Unit {0}
 AreMarksLow (true ∷ was) (r ∷ rs) = (r ≡ 0) × AreMarksLow was rs
 
--- nor do those behind each type that does not rise
+-- nor do the marks after each type that does not rise
 abbrev pub AreLow : List Bool → List ℕ → Type 0
 AreLow [] rs = Unit {0}
 AreLow (m ∷ was) [] = Unit {0}
@@ -38,7 +38,7 @@ same_low b s u p EN r e = let n : rise_odd (left_number s) ≡ 1 = number_rises 
 same_low b s u p ET r e = terminator_low s u p (is_en_past r) e
 same_low b s u p _ r e = refl
 
--- what W1 to W3 make of an NSM is the type before it, or ON
+-- after W1 to W3 an NSM has the type before it, or ON
 two_low : (b s u : Class) (p : Bool) (x y : Class) (r : List Class) → (y ≡ x) ⊎ (y ≡ ON) → rise_odd (after_w7 s (last_written b p x (y ∷ r))) ≡ 0
     → rise_odd (after_w7 u (last_written x (past_next p (after_w4 b x (y ∷ r))) y r)) ≡ 0
 two_low b s u p x y r (inl e) = subst (λ z. rise_odd (after_w7 s (last_written b p x (z ∷ r))) ≡ 0

@@ -1,4 +1,4 @@
--- A sequence of classes that are plain from right to left: what each rule leaves.
+-- A right-to-left sequence of plain classes, after each rule.
 use Rattle.std.proofs.Common.{◌≡◌, ◌∙◌, ℕ, List, [], ◌∷◌, length, replicate, refl, ap, Bool, true, false}
 use Rattle.std.proofs.Common.{Option}
 use Rattle.std.specs.Prelude.{◌&&◌}
@@ -15,7 +15,7 @@ use Rattle.bx_resolve.proofs.PlainLengths.{weak_length}
 use Rattle.bx_resolve.proofs.RightLevels.{right_sequence}
 use Rattle.bx_resolve.proofs.PlainTypes.{each_by_rule, each_map}
 
--- the plain classes but NSM; those that W3 leaves; those that W6 leaves
+-- the plain classes but NSM; the ones left after W3; the ones left after W6
 abbrev is_unmarked : Class → Bool
 is_unmarked R = true
 is_unmarked AL = true
@@ -99,7 +99,7 @@ w3_turns WS e = refl
 w3_turns ON e = refl
 w3_turns _ e = absurd (cc)
 
--- beside a separator stands no number
+-- no number is adjacent to a separator
 no_number : (b : List Class) → Each is_weak b → (is_en (beside b) ≡ false) × (is_an (beside b) ≡ false)
 no_number [] h = (refl, refl)
 no_number (R ∷ b) h = (refl, refl)
@@ -135,7 +135,7 @@ w4_turns b WS a hb e ha = refl
 w4_turns b ON a hb e ha = refl
 w4_turns b _ a hb e ha = absurd (cc)
 
--- nor does one stand beside a run of ET
+-- no number is adjacent to a run of ET
 no_en_past : (b : List Class) → Each is_weak b → is_en_past b ≡ false
 no_en_past [] h = refl
 no_en_past (ET ∷ b) h = no_en_past b h.1

@@ -8,7 +8,7 @@ use Rattle.bx_explicit.specs.Sequences.{RunSequence}
 pub few_chars : (bs : List ℕ) → IsUtf8 bs → length (chars bs) ≤ length bs
 few_chars bs utf8 = omega (arith, length-le-encodes (chars bs), ap length (encodes-chars bs utf8))
 
--- of the sequences that are left, the next one and those behind it
+-- of the sequences left, the next one and the ones after it
 pub next_is_few : (n : ℕ) (left rest : List RunSequence) (s : RunSequence) → All (λ (u : RunSequence). length u.indexes ≤ n) left → left ≡ s ∷ rest
     → length s.indexes ≤ n
 next_is_few n left rest s a e = All-head (λ (u : RunSequence). length u.indexes ≤ n) s rest (subst (All (λ (u : RunSequence). length u.indexes ≤ n)) e a)

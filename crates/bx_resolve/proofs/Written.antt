@@ -46,7 +46,7 @@ written_all : (level : ℕ) (ps : List ℕ) (ts : List Class) (i : ℕ) (each : 
     → with_levels ps (implicit level (drop i ts)) each ≡ each
 written_all level ps ts i each h = ap (λ xs. with_levels ps (implicit level xs) each) (drop_all i ts h) ∙ no_levels ps each
 
--- no type is left, whatever the indexes are
+-- no type is left, for any indexes
 pub written_out : (level : ℕ) (ps rest : List ℕ) (ts : List Class) (i : ℕ) (each : List (Option ℕ)) → length ts ≤ i
     → with_levels ps (implicit level (drop i ts)) each ≡ with_levels rest (implicit level (drop i ts)) each
 written_out level ps rest ts i each h = written_all level ps ts i each h ∙ sym (written_all level rest ts i each h)

@@ -1,8 +1,8 @@
--- A rule that decides at each index by itself, from the list before the rule.
+-- A rule applied at each index, to the types before the rule.
 use Rattle.std.specs.Prelude.{List, [], ◌∷◌}
 use Rattle.bx_ucd.specs.declared.class.Class.{Class}
 
--- `before` has what stands before it, the nearest first
+-- `before` has the types before the index, the nearest first
 abbrev pub at_each : (List Class → Class → List Class → Class) → List Class → List Class → List Class
 at_each rule before [] = []
 at_each rule before (t ∷ after) = rule before t after ∷ at_each rule (t ∷ before) after

@@ -1,4 +1,4 @@
--- Edits of a paragraph's text that leave all levels but those between two strong characters as they are.
+-- Edits of a paragraph's text that change no level outside the text between two strong characters.
 use Rattle.std.specs.Prelude.{◌≡◌, ◌⊎◌, ◌<◌, ℕ, ◌+◌, Bool, true, false, List, ◌++◌, Option, Some, None}
 use Rattle.std.specs.Prelude.{length, take, drop, map, slice_index_or}
 use Rattle.std.specs.List.{list_any}
@@ -11,7 +11,7 @@ use Rattle.bx_resolve.specs.declared.paragraph.Levels.{Levels}
 use Rattle.bx_resolve.specs.Levels.{levels_under, paragraph_level_under}
 use Rattle.bx_resolve.specs.Plain.{is_plain, is_from_right, is_unformatted, all_pass}
 
--- an edit of a text: what stands before it, what it removes and what it inserts, and what stands behind it
+-- an edit of a text: the text before it, the removed and the inserted text, and the text after it
 pub record Edit : Type 0 where
   pub before : List ℕ
   pub removed : List ℕ
@@ -36,40 +36,41 @@ is_listed_as (Some b) = true
 abbrev pub is_listed : (ℕ → Option (Side × ℕ)) → ℕ → Bool
 is_listed bracket c = is_listed_as (bracket c)
 
--- between two types of one direction stands nothing that is or becomes of the other: a number is L behind L, and else R
+-- `m`, between two types of one direction, has no type that is or becomes of the other direction: a number counts as L after
+-- L, else as R
 abbrev pub one_way : Class → Class → List Class → Bool
 one_way x y m = elim (is_left x) [
   | true ↦ elim (is_left y) [ true ↦ all_pass is_plain m | false ↦ true ]
   | false ↦ elim (is_left y) [ true ↦ true | false ↦ all_pass is_from_right m ]
 ]
 
--- what stands between `x` and `y` has no bracket, and no pair of brackets around both sees it: it is of one way, or there is no bracket
--- before `x`, or none behind `y`
+-- the text between `x` and `y` has no bracket, and no pair of brackets around it sees it: it is of one direction, or no bracket is before
+-- `x`, or none is after `y`
 abbrev pub IsCutOff : (ℕ → Option (Side × ℕ)) → List ℕ → Class → List ℕ → List Class → Class → List ℕ → Type 0
 IsCutOff bracket before x chars m y behind = (list_any (is_listed bracket) chars ≡ false)
     × ((one_way x y m ≡ true) ⊎ ((list_any (is_listed bracket) before ≡ false) ⊎ (list_any (is_listed bracket) behind ≡ false)))
 
--- with `s` at the place of the edit, between `a` and `b`: the text from the character at index `i` of `a` to that at index `j` of `b`
+-- of the text `a`, `s`, `b`, with `s` at the edit: the piece from the character at index `i` of `a` through the one at index `j` of `b`
 abbrev pub piece : List ℕ → ℕ → List ℕ → List ℕ → ℕ → List ℕ
 piece a i s b j = drop i a ++ (s ++ take (j + 1) b)
 
--- without the two
+-- the piece without these two characters
 abbrev pub between : List ℕ → ℕ → List ℕ → List ℕ → ℕ → List ℕ
 between a i s b j = drop (i + 1) a ++ (s ++ take j b)
 
--- from the start of the text, and to its end
+-- the pieces from the start of the text, and to its end
 abbrev pub start_piece : List ℕ → List ℕ → List ℕ → ℕ → List ℕ
 start_piece a s b j = a ++ (s ++ take (j + 1) b)
 
 abbrev pub end_piece : List ℕ → ℕ → List ℕ → List ℕ → List ℕ
 end_piece a i s b = drop i a ++ (s ++ b)
 
--- what stands between the two characters is cut off
+-- the text between the two characters is cut off
 abbrev pub IsSafe : (ℕ → Class) → (ℕ → Option (Side × ℕ)) → List ℕ → ℕ → List ℕ → List ℕ → ℕ → Type 0
 IsSafe class bracket a i s b j = IsCutOff bracket (take i a) (class (slice_index_or a i 0)) (between a i s b j) (map class (between a i s b j))
     (class (slice_index_or b j 0)) (drop (j + 1) b)
 
--- an edit that is cut off by the strong characters at index `i` of what stands before it and at index `j` of what stands behind it
+-- an edit cut off by two strong characters: at index `i` of the text before it and at index `j` of the text after it
 pub record IsCutBetween (class : ℕ → Class) (bracket : ℕ → Option (Side × ℕ)) (e : Edit) (i j : ℕ) : Type 0 where
   pub in_before : i < length e.before
   pub in_behind : j < length e.behind
@@ -80,7 +81,7 @@ pub record IsCutBetween (class : ℕ → Class) (bracket : ℕ → Option (Side 
   pub old_safe : IsSafe class bracket e.before i e.removed e.behind j
   pub new_safe : IsSafe class bracket e.before i e.inserted e.behind j
 
--- one with no bracket between the start of the text and the strong character at index `j` behind it, under a base that keeps the paragraph level
+-- an edit without brackets between the start of the text and the strong character at index `j` after it, which keeps the paragraph level
 pub record IsCutFromStart (class : ℕ → Class) (bracket : ℕ → Option (Side × ℕ)) (base : Base) (e : Edit) (j : ℕ) : Type 0 where
   pub in_behind : j < length e.behind
   pub strong_behind : is_strong (class (slice_index_or e.behind j 0)) ≡ true
@@ -90,7 +91,7 @@ pub record IsCutFromStart (class : ℕ → Class) (bracket : ℕ → Option (Sid
   pub new_bare : list_any (is_listed bracket) (e.before ++ (e.inserted ++ take j e.behind)) ≡ false
   pub same_level : paragraph_level_under class base (new_text e) ≡ paragraph_level_under class base (old_text e)
 
--- one with no bracket between the strong character at index `i` before it and the end of the text
+-- an edit without brackets between the strong character at index `i` before it and the end of the text
 pub record IsCutToEnd (class : ℕ → Class) (bracket : ℕ → Option (Side × ℕ)) (e : Edit) (i : ℕ) : Type 0 where
   pub in_before : i < length e.before
   pub strong_before : is_strong (class (slice_index_or e.before i 0)) ≡ true
@@ -99,17 +100,17 @@ pub record IsCutToEnd (class : ℕ → Class) (bracket : ℕ → Option (Side ×
   pub old_bare : list_any (is_listed bracket) (drop (i + 1) e.before ++ (e.removed ++ e.behind)) ≡ false
   pub new_bare : list_any (is_listed bracket) (drop (i + 1) e.before ++ (e.inserted ++ e.behind)) ≡ false
 
--- the levels of a text under a base
+-- `levels` are the levels of a text under a base direction
 pub record AreLevelsOf (class : ℕ → Class) (bracket : ℕ → Option (Side × ℕ)) (base : Base) (chars : List ℕ) (levels : Levels) : Type 0 where
   pub paragraph_is : levels.paragraph ≡ paragraph_level_under class base chars
   pub each_is : levels.each.items ≡ levels_under class bracket base chars
 
--- the index behind the character at index `j` of what stands behind an edit, in the old text
+-- the index in the old text after the character at index `j` of the text after the edit
 abbrev pub old_index : Edit → ℕ → ℕ
 old_index e j = length e.before + length e.removed + (j + 1)
 
--- from the levels of the old text come those of the new one, whatever edit puts `chars` in the place of what stood from the strong character
--- at index `first` to the one before index `last`
+-- if `was` are the levels of the old text, `now` are the levels of the new one, for any edit that puts `chars` in the place of the old text
+-- from the strong character at index `first` through the one before index `last`
 abbrev pub FollowsBetween : (ℕ → Class) → (ℕ → Option (Side × ℕ)) → List ℕ → ℕ → ℕ → Levels → Levels → Type 0
 FollowsBetween class bracket chars first last was now = (base : Base) (e : Edit) (j : ℕ) → IsCutBetween class bracket e first j
     → chars ≡ piece e.before first e.inserted e.behind j → last ≡ old_index e j
@@ -121,7 +122,7 @@ FollowsFromStart class bracket chars last was now = (base : Base) (e : Edit) (j 
     → chars ≡ start_piece e.before e.inserted e.behind j → last ≡ old_index e j
     → AreLevelsOf class bracket base (old_text e) was → AreLevelsOf class bracket base (new_text e) now
 
--- and to its end
+-- the same to the end of the text
 abbrev pub FollowsToEnd : (ℕ → Class) → (ℕ → Option (Side × ℕ)) → List ℕ → ℕ → Levels → Levels → Type 0
 FollowsToEnd class bracket chars first was now = (base : Base) (e : Edit) → IsCutToEnd class bracket e first
     → chars ≡ end_piece e.before first e.inserted e.behind

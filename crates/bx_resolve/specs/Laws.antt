@@ -1,4 +1,4 @@
--- What holds of the isolating run sequences of every text, and of the levels of a text of class L.
+-- Laws of the isolating run sequences of every text, and of the levels of a text of class L.
 use Rattle.std.specs.Prelude.{◌≡◌, ◌≤◌, ℕ, List, [], ◌∷◌, ◌++◌, All, Option, Some, length, replicate}
 use Rattle.std.specs.List.Sorted.{IsPermutation}
 use Rattle.bx_ucd.specs.declared.class.Class.{Class}
@@ -10,17 +10,17 @@ use Rattle.bx_explicit.specs.Runs.{kept_indexes}
 use Rattle.bx_explicit.specs.Sequences.{RunSequence, sequences}
 use Rattle.bx_resolve.specs.Levels.{paragraph_level_under, levels_under}
 
--- the indexes of sequences, one sequence after another
+-- the indexes of all sequences, concatenated
 abbrev pub all_indexes : List RunSequence → List ℕ
 all_indexes [] = []
 all_indexes (s ∷ ss) = s.indexes ++ all_indexes ss
 
--- each character that X9 keeps stands in one sequence, once, and no other character stands in any
+-- each character that X9 keeps is in exactly one sequence, once, and no other character is in any
 abbrev pub HaveEachOnce : Type 0
 HaveEachOnce = (level : ℕ) (cs : List Class) → level ≤ 1
     → IsPermutation (kept_indexes 0 (explicit_levels level cs)) (all_indexes (sequences level cs (explicit_levels level cs)))
 
--- under a base a text whose characters are all of class L has this paragraph level, and each of its characters this level
+-- under the base direction, a text of class L alone has the given paragraph level, and each character the given level
 abbrev pub LeftTextsHave : Base → ℕ → ℕ → Type 0
 LeftTextsHave base paragraph level = (class : ℕ → Class) (bracket : ℕ → Option (Side × ℕ)) (chars : List ℕ) → All (λ c. class c ≡ L) chars
     → (paragraph_level_under class base chars ≡ paragraph) × (levels_under class bracket base chars ≡ replicate (length chars) (Some level))

@@ -1,9 +1,9 @@
--- The byte that keeps a character's level, or that there is none.
+-- The byte that stores a character's level, or none.
 use Rattle.std.specs.Prelude.{◌≡◌, ◌==◌, ℕ, true, false, Option, Some, None}
 use Rattle.std.proofs.Common.{refl, sym, ap, eqb-true}
 use Rattle.bx_resolve.specs.declared.paragraph.Level.TheInside.{Inside}
 
--- 255, which is no level, stands for none
+-- 255, which is no level, encodes none
 abbrev kept_in : ℕ → Option ℕ
 kept_in byte = elim (byte == 255) [ true ↦ None | false ↦ Some byte ]
 

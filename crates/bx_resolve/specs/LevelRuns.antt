@@ -1,15 +1,15 @@
--- What is done at the indexes of a level run, one after another, before the rest of its sequence is.
+-- Steps over the indexes of a level run, before the rest of its sequence.
 use Rattle.std.specs.Prelude.{◌≡◌, ℕ, List, ◌++◌, Option, drop}
 use Rattle.bx_ucd.specs.declared.class.Class.{Class}
 use Rattle.bx_ucd.specs.declared.data.Side.{Side}
 use Rattle.bx_brackets.specs.Search.{Progress, pairs_after}
 use Rattle.bx_resolve.specs.Levels.{chars_at, with_levels}
 
--- levels are written at the indexes `ps`: what is left of them goes on from there
+-- after levels are written at the indexes `ps`, the levels left go to the rest of the indexes
 abbrev pub WritesRun : List ℕ → List ℕ → List (Option ℕ) → List ℕ → List (Option ℕ) → Type 0
 WritesRun ps levels each left new_each = (rest : List ℕ) → with_levels (ps ++ rest) levels each ≡ with_levels rest left new_each
 
--- the characters at the indexes `ps` are handed to a search, which goes on from there
+-- after the characters at the indexes `ps` are passed to a search, it continues with the rest
 abbrev pub MeetsRun : (ℕ → Option (Side × ℕ)) → List ℕ → List Class → List ℕ → Progress → ℕ → Progress → ℕ → Type 0
 MeetsRun bracket chars ts ps before met after new_met = (rest : List ℕ)
     → pairs_after bracket before met (chars_at chars (ps ++ rest)) (drop met ts) ≡ pairs_after bracket after new_met (chars_at chars rest) (drop new_met ts)

@@ -1,4 +1,4 @@
--- The levels of a paragraph: all rules, one after another.
+-- The levels of a paragraph, by all rules in order.
 use Rattle.std.specs.Prelude.{ℕ, ◌+◌, Bool, true, false, List, [], ◌∷◌, Option, Some, None, length, map, replicate, slice_index_or, slice_set}
 use Rattle.bx_ucd.specs.declared.class.Class.{Class}
 use Rattle.bx_ucd.specs.declared.class.Class.TheVariants.{BN, LRE, LRO, ON, PDF, RLE, RLO}
@@ -18,14 +18,14 @@ abbrev pub type_of : Option Kept → Class
 type_of None = ON
 type_of (Some k) = k.class
 
--- the characters at indexes, and their types after overrides
+-- the characters at some indexes, and their types after overrides
 abbrev pub chars_at : List ℕ → List ℕ → List ℕ
 chars_at chars ps = map (λ p. slice_index_or chars p 0) ps
 
 abbrev pub types_at : List (Option Kept) → List ℕ → List Class
 types_at kept ps = map (λ p. type_of (slice_index_or kept p None)) ps
 
--- the types of a sequence that I1 and I2 see, from its characters and types: W1 to W7, N0, and N1 and N2
+-- the resolved types of a sequence, from its characters and types: W1 to W7, N0, N1 and N2
 abbrev pub sequence_types : (ℕ → Option (Side × ℕ)) → ℕ → Class → Class → List ℕ → List Class → List Class
 sequence_types bracket level sos eos chars ts =
     let embedding = direction level in
@@ -33,40 +33,40 @@ sequence_types bracket level sos eos chars ts =
     let paired = resolve_pairs embedding sos (map is_nsm ts) (pairs bracket chars weak_types) weak_types in
     n2 embedding (n1 sos eos paired)
 
--- the levels of its characters, by I1 and I2
+-- the levels of a sequence, by I1 and I2
 abbrev pub sequence_levels : (ℕ → Option (Side × ℕ)) → ℕ → Class → Class → List ℕ → List Class → List ℕ
 sequence_levels bracket level sos eos chars ts = implicit level (sequence_types bracket level sos eos chars ts)
 
--- the same of a sequence of a paragraph
+-- the same for a sequence of a paragraph
 abbrev pub levels_in : (ℕ → Option (Side × ℕ)) → List ℕ → List (Option Kept) → RunSequence → List ℕ
 levels_in bracket chars kept s = sequence_levels bracket s.level s.sos s.eos (chars_at chars s.indexes) (types_at kept s.indexes)
 
--- levels written at their indexes
+-- each level written at its index
 abbrev pub with_levels : List ℕ → List ℕ → List (Option ℕ) → List (Option ℕ)
 with_levels [] ls each = each
 with_levels (p ∷ ps) [] each = each
 with_levels (p ∷ ps) (l ∷ ls) each = with_levels ps ls (slice_set each p (Some l))
 
--- those of all sequences
+-- the levels of all sequences written
 abbrev pub with_sequences : (ℕ → Option (Side × ℕ)) → List ℕ → List (Option Kept) → List RunSequence → List (Option ℕ) → List (Option ℕ)
 with_sequences bracket chars kept [] each = each
 with_sequences bracket chars kept (s ∷ ss) each = with_sequences bracket chars kept ss (with_levels s.indexes (levels_in bracket chars kept s) each)
 
--- each character's level, or nothing where X9 removes it, in a paragraph of a level
+-- the level of each character, or nothing where X9 removes it, given the paragraph level
 abbrev pub paragraph_levels : (ℕ → Class) → (ℕ → Option (Side × ℕ)) → ℕ → List ℕ → List (Option ℕ)
 paragraph_levels class bracket paragraph chars =
     let cs = map class chars in
     let kept = explicit_levels paragraph cs in
     with_sequences bracket chars kept (sequences paragraph cs kept) (replicate (length chars) None)
 
--- the paragraph level under a base, and each character's level
+-- the paragraph level under a base direction, and the level of each character
 abbrev pub paragraph_level_under : (ℕ → Class) → Base → List ℕ → ℕ
 paragraph_level_under class base chars = base_level base (map class chars)
 
 abbrev pub levels_under : (ℕ → Class) → (ℕ → Option (Side × ℕ)) → Base → List ℕ → List (Option ℕ)
 levels_under class bracket base chars = paragraph_levels class bracket (paragraph_level_under class base chars) chars
 
--- X9 keeps a character of a class, which so has a level
+-- X9 keeps characters of the class, which then have a level
 abbrev pub is_kept : Class → Bool
 is_kept RLE = false
 is_kept LRE = false
@@ -76,6 +76,6 @@ is_kept PDF = false
 is_kept BN = false
 is_kept _ = true
 
--- the highest level: I1 and I2 raise the highest explicit one, which is odd, by one, and the one below it by two
+-- the highest level: I2 raises the highest explicit level, which is odd, by one, and I1 the one below it by two
 abbrev pub max_level : ℕ
 max_level = max_depth + 1

@@ -6,30 +6,30 @@ use Rattle.bx_ucd.specs.declared.class.Class.TheVariants.{L, R, EN, AN}
 use Rattle.bx_ucd.specs.Class.{is_neutral}
 use Rattle.bx_resolve.specs.AtEach.{at_each}
 
--- the direction that a type counts as beside neutrals: EN and AN are R
+-- the direction that a type counts as beside neutrals: EN and AN count as R
 abbrev pub side_of : Class → Class
 side_of L = L
 side_of _ = R
 
--- the nearest side of a run of neutrals, or the sequence's end
+-- the direction next to a run of neutrals, or the sequence's sos or eos
 abbrev pub side : Class → List Class → Class
 side end [] = end
 side end (t ∷ ts) = elim (is_neutral t) [ true ↦ side end ts | false ↦ side_of t ]
 
--- the direction of both sides, if it is one
+-- the direction of both sides, if they agree
 abbrev pub agreed : Class → Class → Class → Class
 agreed t L L = L
 agreed t R R = R
 agreed t _ _ = t
 
--- N1: a neutral takes the direction of both sides of its run
+-- N1: a neutral takes the direction of both sides of its run, if they agree
 abbrev pub n1_at : Class → Class → List Class → Class → List Class → Class
 n1_at sos eos before t after = elim (is_neutral t) [ true ↦ agreed t (side sos before) (side eos after) | false ↦ t ]
 
 abbrev pub n1 : Class → Class → List Class → List Class
 n1 sos eos ts = at_each (n1_at sos eos) [] ts
 
--- N2: the others take the embedding direction
+-- N2: any remaining neutral takes the embedding direction
 abbrev pub n2_at : Class → Class → Class
 n2_at embedding t = elim (is_neutral t) [ true ↦ embedding | false ↦ t ]
 
@@ -41,14 +41,14 @@ is_en_or_an EN = true
 is_en_or_an AN = true
 is_en_or_an _ = false
 
--- I1: at an even level
+-- I1: at an even level, R goes up one level, and AN and EN go up two
 abbrev pub rise_even : Class → ℕ
 rise_even R = 1
 rise_even AN = 2
 rise_even EN = 2
 rise_even _ = 0
 
--- I2: at an odd level
+-- I2: at an odd level, L, EN and AN go up one level
 abbrev pub rise_odd : Class → ℕ
 rise_odd L = 1
 rise_odd EN = 1

@@ -1,9 +1,9 @@
--- Texts in which some rules have nothing to do.
+-- Texts that some rules leave unchanged.
 use Rattle.std.specs.Prelude.{Bool, true, false, List, [], ◌∷◌}
 use Rattle.bx_ucd.specs.declared.class.Class.{Class}
 use Rattle.bx_ucd.specs.declared.class.Class.TheVariants.{L, R, AL, EN, ES, ET, AN, CS, NSM, B, S, WS, ON}
 
--- the explicit rules have nothing to do with it: all but the formatting classes and BN
+-- no explicit rule applies to the class: all but the formatting classes and BN
 abbrev pub is_unformatted : Class → Bool
 is_unformatted L = true
 is_unformatted R = true
@@ -20,7 +20,7 @@ is_unformatted WS = true
 is_unformatted ON = true
 is_unformatted _ = false
 
--- of those, the ones that leave a text from left to right as it is: all but R, AL and AN
+-- the unformatted classes that keep level 0 in a left-to-right text: all but R, AL and AN
 abbrev pub is_plain : Class → Bool
 is_plain L = true
 is_plain EN = true
@@ -34,7 +34,7 @@ is_plain WS = true
 is_plain ON = true
 is_plain _ = false
 
--- and those that leave a text from right to left as it is: all but L and the numbers
+-- the unformatted classes that keep level 1 in a right-to-left text: all but L, EN and AN
 abbrev pub is_plain_right : Class → Bool
 is_plain_right R = true
 is_plain_right AL = true
@@ -48,7 +48,7 @@ is_plain_right WS = true
 is_plain_right ON = true
 is_plain_right _ = false
 
--- and those of a text from right to left without L
+-- the unformatted classes of a right-to-left text without L
 abbrev pub is_from_right : Class → Bool
 is_from_right R = true
 is_from_right AL = true
@@ -64,7 +64,7 @@ is_from_right WS = true
 is_from_right ON = true
 is_from_right _ = false
 
--- each class passes a test
+-- each class passes the test
 abbrev pub all_pass : (Class → Bool) → List Class → Bool
 all_pass p [] = true
 all_pass p (c ∷ cs) = elim (p c) [ true ↦ all_pass p cs | false ↦ false ]

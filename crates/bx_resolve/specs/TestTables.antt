@@ -1,2 +1,2 @@
--- The small tables of the worked examples and the tests: classes and brackets by code point.
+-- Small tables for the worked examples and the tests: class and bracket of each code point.
 pub use Rattle.bx_ucd.specs.SmallTables.{class, bracket}

@@ -1,4 +1,4 @@
--- W1 to W7: each from the types of a sequence to its types.
+-- W1 to W7, over the types of a sequence.
 use Rattle.std.specs.Prelude.{◌&&◌, Bool, true, false, List, [], ◌∷◌, map}
 use Rattle.bx_ucd.specs.declared.class.Class.{Class}
 use Rattle.bx_ucd.specs.declared.class.Class.TheVariants.{L, R, AL, EN, ES, ET, AN, CS, NSM, B, S, WS, ON, LRI, RLI, FSI, PDI}
@@ -26,7 +26,7 @@ is_left_or_right L = true
 is_left_or_right R = true
 is_left_or_right _ = false
 
--- the types that the rules leave as they are, whatever stands beside them
+-- the types that W1 to W7 keep in any context
 abbrev pub is_settled : Class → Bool
 is_settled L = true
 is_settled R = true
@@ -36,12 +36,12 @@ is_settled WS = true
 is_settled ON = true
 is_settled _ = false
 
--- the nearest type that passes, or `sos`
+-- the nearest type that passes the test, or `sos`
 abbrev pub nearest_that : (Class → Bool) → Class → List Class → Class
 nearest_that p sos [] = sos
 nearest_that p sos (t ∷ ts) = elim (p t) [ true ↦ t | false ↦ nearest_that p sos ts ]
 
--- W1: what an NSM becomes after a character
+-- W1: an NSM takes the type of the previous character, or ON after an isolate initiator or PDI
 abbrev pub mark_after : Class → Class
 mark_after LRI = ON
 mark_after RLI = ON
@@ -49,7 +49,7 @@ mark_after FSI = ON
 mark_after PDI = ON
 mark_after t = t
 
--- what an NSM becomes: by the nearest character before it that is none
+-- the type of an NSM, by the nearest character before it that is no NSM
 abbrev pub mark_class : Class → List Class → Class
 mark_class sos [] = sos
 mark_class sos (t ∷ before) = elim (is_nsm t) [ true ↦ mark_class sos before | false ↦ mark_after t ]
@@ -57,7 +57,7 @@ mark_class sos (t ∷ before) = elim (is_nsm t) [ true ↦ mark_class sos before
 abbrev pub w1_at : Class → List Class → Class → List Class → Class
 w1_at sos before t after = elim (is_nsm t) [ true ↦ mark_class sos before | false ↦ t ]
 
--- W2: EN is AN where the nearest strong type before it is AL
+-- W2: an EN changes to AN if the first strong type before it is AL
 abbrev pub number_after : Class → Class
 number_after AL = AN
 number_after _ = EN
@@ -65,17 +65,17 @@ number_after _ = EN
 abbrev pub w2_at : Class → List Class → Class → List Class → Class
 w2_at sos before t after = elim (is_en t) [ true ↦ number_after (nearest_that is_strong sos before) | false ↦ t ]
 
--- W3: AL is R
+-- W3: AL changes to R
 abbrev pub w3_at : Class → Class
 w3_at AL = R
 w3_at t = t
 
--- the type beside an index, or ON at the sequence's end
+-- the adjacent type, or ON at the end of the sequence
 abbrev pub beside : List Class → Class
 beside [] = ON
 beside (t ∷ ts) = t
 
--- W4: one separator between two numbers of a kind: ES between two EN, CS between two EN or two AN
+-- W4: a single ES between two EN changes to EN; a single CS between two numbers of the same type changes to that type
 abbrev pub separator : Class → Class → Class → Class
 separator b ES a = elim (is_en b && is_en a) [ true ↦ EN | false ↦ ES ]
 separator b CS a = elim (is_en b && is_en a) [ true ↦ EN | false ↦ elim (is_an b && is_an a) [ true ↦ AN | false ↦ CS ] ]
@@ -84,12 +84,12 @@ separator b t a = t
 abbrev pub w4_at : List Class → Class → List Class → Class
 w4_at before t after = separator (beside before) t (beside after)
 
--- the nearest type that is no ET is EN
+-- the nearest type other than ET is EN
 abbrev pub is_en_past : List Class → Bool
 is_en_past [] = false
 is_en_past (t ∷ ts) = elim (is_et t) [ true ↦ is_en_past ts | false ↦ is_en t ]
 
--- W5: an ET of a run that is next to an EN is EN
+-- W5: a sequence of ET adjacent to an EN changes to EN
 abbrev pub terminator_of : Bool → Bool → Class
 terminator_of true _ = EN
 terminator_of false true = EN
@@ -98,14 +98,14 @@ terminator_of false false = ET
 abbrev pub w5_at : List Class → Class → List Class → Class
 w5_at before t after = elim (is_et t) [ true ↦ terminator_of (is_en_past before) (is_en_past after) | false ↦ t ]
 
--- W6: the separators and terminators that are left are ON
+-- W6: remaining separators and terminators change to ON
 abbrev pub w6_at : Class → Class
 w6_at ES = ON
 w6_at ET = ON
 w6_at CS = ON
 w6_at t = t
 
--- W7: EN is L where the nearest strong type before it is L
+-- W7: an EN changes to L if the first strong type before it is L
 abbrev pub left_number : Class → Class
 left_number L = L
 left_number _ = EN
@@ -135,6 +135,6 @@ w6 ts = map w6_at ts
 abbrev pub w7 : Class → List Class → List Class
 w7 sos ts = at_each (w7_at sos) [] ts
 
--- each to the list after the one before
+-- each rule is applied to the result of the one before
 abbrev pub weak : Class → List Class → List Class
 weak sos ts = w7 sos (w6 (w5 (w4 (w3 (w2 sos (w1 sos ts))))))

@@ -1,4 +1,4 @@
-//! What stands at the indexes of a sequence.
+//! Characters, types and levels at the indexes of a sequence.
 ghost use Rattle.std.specs.Prelude.{◌≡◌, ◌<◌, ◌≤◌, IfOk, All, None, length, slice_index_or};
 ghost use Rattle.bx_resolve.specs.Levels.{type_of, chars_at, max_level, types_at, with_levels};
 
@@ -7,7 +7,7 @@ use bx_explicit::Kept;
 use bx_ucd::Class;
 use std::alloc::{AllocError, Global};
 
-/// The characters at indexes.
+/// The characters at these indexes of the paragraph.
 pub fn chars_at(alloc: Global, chars: &[char], indexes: &[usize]) -> Result<Vec<char>, AllocError>
     requires { All (λ p. p < length chars.now) indexes.now }
     ensures { IfOk result (λ v. v.items ≡ chars_at chars.now indexes.now) }
@@ -19,7 +19,7 @@ pub fn chars_at(alloc: Global, chars: &[char], indexes: &[usize]) -> Result<Vec<
     Ok(found)
 }
 
-/// The type of the character at an index, after overrides.
+/// The type of the character at an index, after overrides; ON where X9 removes it.
 fn type_at(kept: &[Option<Kept>], index: usize) -> Class
     requires { index < length kept.now }
     ensures { result ≡ type_of (slice_index_or kept.now index None) }
@@ -30,7 +30,7 @@ fn type_at(kept: &[Option<Kept>], index: usize) -> Class
     }
 }
 
-/// The types of the characters at indexes, after overrides.
+/// The types of the characters at these indexes, after overrides.
 pub fn types_at(
     alloc: Global,
     kept: &[Option<Kept>],
@@ -46,7 +46,7 @@ pub fn types_at(
     Ok(types)
 }
 
-/// Writes levels at their indexes.
+/// Writes each level at its index.
 pub fn write_levels(each: &mut Vec<Level>, indexes: &[usize], levels: &[u8])
     requires inside { All (λ p. p < length each.old.items) indexes.now }
     requires low { All (λ n. n ≤ max_level) levels.now }

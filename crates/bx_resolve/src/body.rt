@@ -6,8 +6,8 @@ use bx_ucd::{BidiData, Class};
 use std::alloc::{AllocError, Global};
 use std::marker::Model;
 
-/// How many characters a text has, as far as room for them goes: each begins with a byte that is no continuation. Short
-/// pieces are counted in bytes, of which many are added at once.
+/// The number of characters of a text, as the capacity for them: it counts bytes that are no UTF-8 continuation. Chunks of
+/// 128 bytes are counted in a byte, so that the loop vectorizes.
 fn count_for_room(text: &str) -> usize {
     let mut count: usize = 0;
     for piece in text.as_bytes().chunks(128) {
@@ -46,7 +46,7 @@ pub fn chars_of(alloc: Global, text: &str) -> Result<Vec<char>, AllocError>
     Ok(found)
 }
 
-/// The first character of a text, and the text behind it.
+/// The first character of a text, and the rest.
 #[inline(always)]
 pub fn first_char(text: &str) -> Option<(char, &str)>
     ensures { MatchOption result ((chars text.now ≡ []) × (length text.now ≡ 0))
@@ -59,7 +59,7 @@ pub fn first_char(text: &str) -> Option<(char, &str)>
     }
 }
 
-/// The text behind so many characters, or the empty text at its end.
+/// The text after `count` characters, or the empty text at its end.
 #[tactic(auto, using(crate::proofs::TextEnds::end_self, crate::proofs::TextEnds::end_of_end, crate::proofs::TextEnds::drop_cons, crate::proofs::TextEnds::drop_none))]
 fn skip(text: &str, count: usize) -> &str
     ensures chars { chars result.now ≡ drop count (chars text.now) }
@@ -78,10 +78,10 @@ fn skip(text: &str, count: usize) -> &str
     rest
 }
 
-/// How many characters stand between two whose offsets are kept.
+/// Every 8th character has its offset stored.
 const STEP: usize = 8;
 
-/// The offset of each 8th character of a text.
+/// The byte offset of every 8th character of a text.
 fn offsets_of(alloc: Global, text: &str) -> Result<Vec<u32>, AllocError>
     requires small { length text.now < 2 ^ 32 }
     ensures { IfOk result (λ v. AreOffsets text.now v.items) }
@@ -95,15 +95,15 @@ fn offsets_of(alloc: Global, text: &str) -> Result<Vec<u32>, AllocError>
     Ok(offsets)
 }
 
-/// A paragraph body, with the offset of each 8th character once they are asked for.
+/// A paragraph body, with the byte offset of every 8th character once `read` has run.
 #[derive(Drop)]
 pub struct Body<'t> {
     text: &'t str,
-    /// Nothing yet, or all of them.
+    /// Empty before `read`.
     offsets: Vec<u32>,
 }
 
-// Clauses see its characters.
+// Its value is its characters.
 impl<'t> Model for Body<'t> {
     ghost Value = { List ℕ };
 
@@ -113,7 +113,7 @@ impl<'t> Model for Body<'t> {
 }
 
 impl<'t> Body<'t> {
-    /// A body of which no offset is known.
+    /// A body without offsets.
     pub fn new(alloc: Global, text: &'t str) -> Self
         requires small { length text.now < 2 ^ 32 }
         ensures { result ≡ chars text.now }
@@ -124,7 +124,7 @@ impl<'t> Body<'t> {
         }
     }
 
-    /// Reads the offsets, unless they are read already.
+    /// Computes the offsets on the first call.
     pub fn read(&mut self) -> Result<(), AllocError>
         ensures { self.new ≡ self.old }
     {
@@ -134,8 +134,8 @@ impl<'t> Body<'t> {
         Ok(())
     }
 
-    /// The text from the character at an index on. It walks over less than 8 characters where the offsets are read, and else
-    /// over all before the index.
+    /// The text from the character at an index on. It walks over fewer than 8 characters after `read`, else over all before
+    /// the index.
     pub fn rest_from(&self, index: usize) -> &str
         ensures { chars result.now ≡ drop index self.now }
     {

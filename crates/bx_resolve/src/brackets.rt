@@ -1,4 +1,4 @@
-//! The bracket pairs of a sequence, found as its characters are read from the body.
+//! N0 for a sequence whose characters are read from the body.
 ghost use Rattle.std.specs.Prelude.{◌≡◌, ℕ, ◌≤◌, ◌^◌, ◌++◌, List, IfOk, OnOk, chars, drop, length};
 ghost use Rattle.bx_ucd.specs.Class.{direction};
 ghost use Rattle.bx_brackets.specs.Pairs.{pairs};
@@ -15,7 +15,7 @@ use bx_brackets::{BracketError, PairSearch};
 use bx_explicit::Kept;
 use bx_ucd::{BidiData, Class};
 
-/// Hands the characters of a text to a search, each with its type.
+/// Passes the characters of a text to a search, each with its type.
 fn meet_text<D: BidiData>(
     search: &mut PairSearch,
     text: &str,
@@ -38,8 +38,8 @@ fn meet_text<D: BidiData>(
     Ok(())
 }
 
-/// Hands the characters of a run of a level to a search, from its first index on, where so many characters of the sequence
-/// are met already. It says how many are met then.
+/// Passes the characters of the run that begins at index `first` to a search, after `met` characters of the sequence.
+/// Returns the new count.
 fn meet_run<D: BidiData>(
     search: &mut PairSearch,
     body: &Body<'_>,
@@ -82,7 +82,7 @@ fn meet_run<D: BidiData>(
     Ok(met)
 }
 
-/// Hands the characters of a sequence of a level to a search, from the first indexes of its runs, each with its type.
+/// Passes the characters of a sequence to a search, each with its type. `firsts` has the first index of each run.
 fn meet_sequence<D: BidiData>(
     search: &mut PairSearch,
     body: &Body<'_>,
@@ -106,8 +106,8 @@ fn meet_sequence<D: BidiData>(
     Ok(())
 }
 
-/// Gives the bracket pairs of a text that is one sequence their types (N0), in the list. The text is read again only where one
-/// of its characters may be a bracket.
+/// Resolves the bracket pairs of a body that is one sequence, in place (N0). Reads the body only if one of its characters may
+/// be a bracket.
 #[tactic(auto, using(crate::proofs::NoBrackets::no_pairs))]
 pub fn resolve_brackets_of<D: BidiData>(
     scratch: &mut Scratch,
@@ -130,7 +130,7 @@ pub fn resolve_brackets_of<D: BidiData>(
     Ok(())
 }
 
-/// Gives the bracket pairs of a sequence their types (N0), in the list. Its characters are read where one may be a bracket.
+/// Resolves the bracket pairs of a sequence in place (N0). Reads its characters only if one of them may be a bracket.
 #[tactic(auto, using(crate::proofs::NoBrackets::no_pairs))]
 pub fn resolve_brackets_in<D: BidiData>(
     scratch: &mut Scratch,

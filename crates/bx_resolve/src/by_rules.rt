@@ -1,4 +1,4 @@
-//! The levels of a paragraph, by the rules one after another.
+//! The levels of a paragraph, with each rule as a pass of its own.
 ghost use Rattle.std.specs.Prelude.{◌≡◌, ◌≤◌, ◌<◌, IfOk, All, chars, length};
 ghost use Rattle.bx_explicit.specs.Stack.{max_depth};
 ghost use Rattle.bx_resolve.specs.Levels.{levels_in, max_level, paragraph_level_under, levels_under};
@@ -48,7 +48,7 @@ fn levels_in<D: BidiData>(
     Ok(implicit(alloc, &types, level)?)
 }
 
-/// The levels of a paragraph body under a base, by the rules one after another.
+/// The levels of a paragraph body under a base direction, with each rule as a pass of its own.
 pub fn levels_by_rules<D: BidiData>(
     alloc: Global,
     body: &str,

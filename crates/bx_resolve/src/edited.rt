@@ -1,5 +1,5 @@
-//! Levels that follow an edit of the text: strong characters cut the resolution, so only what stands between two of them is
-//! resolved again.
+//! Updates levels after an edit of the text: the strong characters around the edit cut it off, so only the text between them
+//! is resolved again.
 ghost use Rattle.std.specs.Prelude.{◌≡◌, ◌≤◌, ◌++◌, IfOk, OnErr, OnOk, chars, drop, length, take};
 ghost use Rattle.std.specs.List.{splice};
 ghost use Rattle.bx_resolve.specs.Levels.{paragraph_levels};
@@ -13,7 +13,7 @@ use bx_explicit::Base;
 use bx_ucd::BidiData;
 use std::alloc::Global;
 
-/// The levels of a piece of a paragraph of a level, by itself.
+/// The levels of a piece of text resolved alone, under a paragraph level.
 fn piece_levels<D: BidiData>(
     alloc: Global,
     piece: &str,
@@ -31,7 +31,7 @@ fn piece_levels<D: BidiData>(
     Ok(levels.each)
 }
 
-/// Puts the levels that a piece of text has by itself in the place of those of a span.
+/// Replaces the levels of a span by those of a piece of text resolved alone.
 fn resolve_span<D: BidiData>(
     levels: &mut Levels,
     tables: &D,
@@ -52,10 +52,10 @@ fn resolve_span<D: BidiData>(
     Ok(())
 }
 
-/// Has the levels of a text follow an edit between two strong characters (L, R or AL). The piece is the new text from the
-/// one to the other, with both, and the span the old places from the one to the other.
+/// Updates the levels of a text after an edit between two strong characters (L, R or AL). `piece` is the new text from the
+/// first of them through the second, and `span` has the old indexes of that text.
 ///
-/// Errors: `OutOfMemory`, and nothing has changed.
+/// Errors: `OutOfMemory`; the levels are unchanged.
 pub fn follow_between<D: BidiData>(
     levels: &mut Levels,
     tables: &D,
@@ -76,10 +76,10 @@ pub fn follow_between<D: BidiData>(
     Ok(())
 }
 
-/// Has the levels of a text follow an edit before which no strong character stands. The piece is the new text from its start
-/// to a strong character behind the edit, with that, whose old place is before `last`.
+/// Updates the levels of a text after an edit with no strong character before it. `piece` is the new text from its start
+/// through a strong character after the edit, whose old index is `last` - 1.
 ///
-/// Errors: `OutOfMemory`, and nothing has changed.
+/// Errors: `OutOfMemory`; the levels are unchanged.
 pub fn follow_from_start<D: BidiData>(
     levels: &mut Levels,
     tables: &D,
@@ -98,10 +98,10 @@ pub fn follow_from_start<D: BidiData>(
     Ok(())
 }
 
-/// Has the levels of a text follow an edit behind which no strong character stands. The piece is the new text from a strong
-/// character before the edit, at `first`, to its end.
+/// Updates the levels of a text after an edit with no strong character after it. `piece` is the new text from a strong
+/// character before the edit, at index `first`, to its end.
 ///
-/// Errors: `OutOfMemory`, and nothing has changed.
+/// Errors: `OutOfMemory`; the levels are unchanged.
 #[tactic(auto, using(crate::proofs::Spliced::splice_to_end))]
 pub fn follow_to_end<D: BidiData>(
     levels: &mut Levels,

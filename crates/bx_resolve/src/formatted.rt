@@ -17,8 +17,8 @@ use bx_explicit::{Explicit, Kept, SequenceWalk, explicit};
 use bx_ucd::{BidiData, Class};
 use std::alloc::{AllocError, Global};
 
-/// Makes room for one type more, of at most `left` to come. Doubling may leave half of the room unused: so it grows by a
-/// quarter.
+/// Reserves room for one more type, of at most `left` to come. Capacity grows by a quarter: doubling may leave half of it
+/// unused.
 fn make_room(types: &mut Vec<Class>, left: usize) -> Result<(), AllocError>
     ensures { types.new.items ≡ types.old.items }
 {
@@ -29,7 +29,7 @@ fn make_room(types: &mut Vec<Class>, left: usize) -> Result<(), AllocError>
     Ok(())
 }
 
-/// Takes the types of a run of a level, from its first index on.
+/// Appends the types of the run that begins at index `first`.
 fn gather_types(
     types: &mut Vec<Class>,
     kept: &[Option<Kept>],
@@ -52,7 +52,7 @@ fn gather_types(
     Ok(())
 }
 
-/// Takes the types of a sequence's characters after overrides, from the first indexes of its runs.
+/// Collects the types of a sequence's characters after overrides. `firsts` has the first index of each run.
 fn sequence_types(
     types: &mut Vec<Class>,
     kept: &[Option<Kept>],
@@ -68,8 +68,8 @@ fn sequence_types(
     Ok(())
 }
 
-/// Writes the levels of a run's resolved types, from its first index on, where so many types are written already. It
-/// says how many are written then.
+/// Writes the levels of the run that begins at index `first`, from its resolved types, after `written` types of the
+/// sequence. Returns the new count.
 fn write_run(
     each: &mut Vec<Level>,
     kept: &[Option<Kept>],
@@ -99,7 +99,7 @@ fn write_run(
     written
 }
 
-/// Writes the levels of resolved types at the indexes of runs that begin at some indexes.
+/// Writes the levels of a sequence from its resolved types. `firsts` has the first index of each run.
 fn write_levels(
     each: &mut Vec<Level>,
     kept: &[Option<Kept>],
@@ -117,7 +117,7 @@ fn write_levels(
     }
 }
 
-/// Writes the levels of the lent sequence's characters, of these types, at their indexes.
+/// Resolves the types of the lent sequence and writes its levels.
 fn write_sequence<D: BidiData>(
     each: &mut Vec<Level>,
     scratch: &mut Scratch,
@@ -150,7 +150,7 @@ fn write_sequence<D: BidiData>(
     Ok(())
 }
 
-/// What sequences are resolved in, one after another.
+/// Buffers reused from sequence to sequence.
 #[derive(Drop)]
 struct Room<'t> {
     body: Body<'t>,
@@ -158,7 +158,7 @@ struct Room<'t> {
     scratch: Scratch,
 }
 
-/// Writes the levels of the sequence that a walk lends.
+/// Writes the levels of the sequence that the walk lends.
 fn write_lent<D: BidiData>(
     each: &mut Vec<Level>,
     room: &mut Room<'_>,
@@ -187,7 +187,7 @@ fn write_lent<D: BidiData>(
     )
 }
 
-/// The levels of all characters, each at its index, one sequence after another.
+/// The levels of all characters, resolved sequence by sequence.
 #[tactic(auto, using(crate::proofs::Apart::given_written, crate::proofs::Written::levels_length))]
 fn each_level<D: BidiData>(
     alloc: Global,
@@ -213,7 +213,7 @@ fn each_level<D: BidiData>(
     Ok(each)
 }
 
-/// The levels of a paragraph body of a level, from its characters' classes.
+/// The levels of a paragraph body, given the classes of its characters and the paragraph level.
 pub fn formatted_levels<D: BidiData>(
     alloc: Global,
     body: &str,

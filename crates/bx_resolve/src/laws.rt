@@ -1,15 +1,15 @@
-//! What holds of the isolating run sequences of every text, and of the levels of a text of class L. The functions do nothing:
-//! their contracts are the laws.
+//! Laws of the isolating run sequences of every text, and of the levels of a text of class L. The functions do nothing: their
+//! contracts are the laws.
 
 ghost use Rattle.bx_explicit.specs.declared.base.Base.TheVariants.{Auto, Ltr, Rtl};
 ghost use Rattle.bx_resolve.specs.Laws.{HaveEachOnce, LeftTextsHave};
 
-/// Each character that X9 keeps is in exactly one isolating run sequence (BD13), and no other character is in any.
+/// Each character that X9 keeps is in exactly one isolating run sequence (BD13); a removed character is in none.
 pub fn each_in_one_sequence()
     ensures { HaveEachOnce }
 {}
 
-/// A text of class L alone has level 0 throughout, but in a paragraph from right to left level 2.
+/// A text of class L alone has level 0 throughout, or level 2 in a right-to-left paragraph.
 pub fn left_texts_are_flat()
     ensures auto { LeftTextsHave Auto 0 0 }
     ensures ltr { LeftTextsHave Ltr 0 0 }

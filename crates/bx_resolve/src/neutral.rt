@@ -1,4 +1,4 @@
-//! The rules for neutral types and the implicit levels.
+//! The rules for neutral types (N1, N2) and implicit levels (I1, I2).
 ghost use Rattle.std.specs.Prelude.{◌≡◌, ◌≤◌, ◌+◌, All, IfOk, Some};
 ghost use Rattle.bx_explicit.specs.Stack.{max_depth};
 ghost use Rattle.bx_resolve.specs.Levels.{max_level};
@@ -9,7 +9,7 @@ use bx_ucd::Class;
 use bx_ucd::class::is_neutral;
 use std::alloc::{AllocError, Global};
 
-/// The direction that a class counts as, beside neutrals.
+/// The direction that a class counts as beside neutrals: numbers count as R.
 fn side_of(t: Class) -> Class
     ensures { result ≡ side_of t }
 {
@@ -19,7 +19,7 @@ fn side_of(t: Class) -> Class
     }
 }
 
-/// The direction of the first class that is not neutral, or of the end.
+/// The direction of the first class that is not neutral, or `end`.
 fn side(end: Class, types: &[Class]) -> Class
     ensures { result ≡ side end types.now }
 {
@@ -31,7 +31,7 @@ fn side(end: Class, types: &[Class]) -> Class
     end
 }
 
-/// What a neutral becomes between two directions.
+/// The type of a neutral between two directions, by N1.
 fn agreed(t: Class, before: Class, after: Class) -> Class
     ensures { result ≡ agreed t before after }
 {
@@ -42,7 +42,7 @@ fn agreed(t: Class, before: Class, after: Class) -> Class
     }
 }
 
-/// N1: neutrals between two of one direction.
+/// N1: neutrals between two equal directions take that direction.
 #[tactic(auto, using(crate::proofs::Run::run_write, crate::proofs::Run::run_keep, crate::proofs::Run::n1_run, crate::proofs::Run::side_more))]
 pub fn n1(types: &mut [Class], sos: Class, eos: Class)
     ensures { types.new ≡ n1 sos eos types.old }
@@ -65,7 +65,7 @@ pub fn n1(types: &mut [Class], sos: Class, eos: Class)
     }
 }
 
-/// N2: the neutrals that are left.
+/// N2: the remaining neutrals take the embedding direction.
 pub fn n2(types: &mut [Class], embedding: Class)
     ensures { types.new ≡ n2 embedding types.old }
 {
@@ -76,7 +76,7 @@ pub fn n2(types: &mut [Class], embedding: Class)
     }
 }
 
-/// What N1 and N2 make of a neutral between two directions.
+/// The type of a neutral between two directions, by N1 and N2.
 fn taken(t: Class, before: Class, after: Class, embedding: Class) -> Class
     ensures { result ≡ n2_at embedding (agreed t before after) }
 {
@@ -121,7 +121,7 @@ fn is_en_or_an(t: Class) -> bool
     is_european | is_arabic
 }
 
-/// By how much an even level rises (I1). It is told with no branch, as is the next, so that many levels are written at once.
+/// The rise of an even level (I1). This and `rise_odd` have no branch, so that the loop over types vectorizes.
 #[inline(always)]
 fn rise_even(t: Class) -> u8
     ensures { result ≡ rise_even t }
@@ -130,7 +130,7 @@ fn rise_even(t: Class) -> u8
     u8::from(is_right) + 2 * u8::from(is_en_or_an(t))
 }
 
-/// By how much an odd level rises (I2).
+/// The rise of an odd level (I2).
 #[inline(always)]
 fn rise_odd(t: Class) -> u8
     ensures { result ≡ rise_odd t }
@@ -152,7 +152,7 @@ pub fn implicit_at(level: u8, t: Class) -> u8
     }
 }
 
-/// The same as a level that is kept.
+/// The same, as a `Level`.
 #[inline(always)]
 #[tactic(auto, using(crate::proofs::KeptLevels::implicit_low))]
 pub fn found_level(level: u8, t: Class) -> Level
@@ -162,7 +162,7 @@ pub fn found_level(level: u8, t: Class) -> Level
     Level::of(implicit_at(level, t))
 }
 
-/// I1 and I2: the levels of resolved types in a sequence of a level.
+/// I1 and I2: the levels of the resolved types of a sequence at `level`.
 pub fn implicit(alloc: Global, types: &[Class], level: u8) -> Result<Vec<u8>, AllocError>
     requires { level ≤ max_depth }
     ensures { IfOk result (λ v. v.items ≡ implicit level types.now) }

@@ -4,10 +4,10 @@ ghost use Rattle.bx_resolve.specs.Levels.{max_level};
 
 use std::marker::Model;
 
-/// The byte that stands for no level.
+/// The byte of no level.
 const NONE: u8 = 255;
 
-/// The level of a character, or none where X9 removes the character, in one byte.
+/// The level of a character, or none where X9 removes it, in one byte.
 #[derive(Clone, Copy, PartialEq, Eq, Debug)]
 pub struct Level {
     byte: u8,
@@ -27,7 +27,7 @@ impl Model for Level {
 }
 
 impl Level {
-    /// None, for a character that X9 removes.
+    /// No level, for a character that X9 removes.
     pub fn none() -> Level
         ensures { result ≡ None }
     {
@@ -43,7 +43,7 @@ impl Level {
         Level { byte: level }
     }
 
-    /// The level, if there is one.
+    /// The level, or `None` where X9 removes the character.
     #[inline(always)]
     pub fn get(self) -> Option<u8>
         ensures { result ≡ self }

@@ -1,10 +1,10 @@
-//! Texts in which some rules have nothing to do.
+//! Tests for texts that some rules leave unchanged.
 ghost use Rattle.std.specs.Prelude.{◌≡◌};
 ghost use Rattle.bx_resolve.specs.Plain.{is_plain, is_plain_right, is_from_right, is_unformatted, all_pass};
 
 use bx_ucd::Class;
 
-/// Whether a class leaves a text from left to right as it is.
+/// Whether a class keeps level 0 in a left-to-right text of such classes.
 fn is_plain(class: Class) -> bool
     ensures { result ≡ is_plain class }
 {
@@ -15,7 +15,7 @@ fn is_plain(class: Class) -> bool
     }
 }
 
-/// Whether a class leaves a text from right to left as it is.
+/// Whether a class keeps level 1 in a right-to-left text of such classes.
 fn is_plain_right(class: Class) -> bool
     ensures { result ≡ is_plain_right class }
 {
@@ -26,7 +26,7 @@ fn is_plain_right(class: Class) -> bool
     }
 }
 
-/// Whether a class stands in texts from right to left without L.
+/// Whether a class is not L, BN or a formatting class.
 fn is_from_right(class: Class) -> bool
     ensures { result ≡ is_from_right class }
 {
@@ -38,8 +38,8 @@ fn is_from_right(class: Class) -> bool
     }
 }
 
-/// Whether the explicit rules have nothing to do with a class. Each test is of one range, so that many classes are told at
-/// once.
+/// Whether no explicit rule applies to a class. Each `matches!` is one range test, so that the loop over classes
+/// vectorizes.
 fn is_unformatted(class: Class) -> bool
     ensures { result ≡ is_unformatted class }
 {
@@ -59,7 +59,7 @@ fn is_unformatted(class: Class) -> bool
     !(is_boundary | is_formatting)
 }
 
-/// Whether all classes leave a text from left to right as it is.
+/// Whether all classes are plain, so that a left-to-right text of them has level 0 throughout.
 #[tactic(auto, using(crate::proofs::PlainLevels::pass_more, crate::proofs::PlainLevels::pass_stop, crate::proofs::PlainLevels::pass_all))]
 pub fn are_plain(classes: &[Class]) -> bool
     ensures { result ≡ all_pass is_plain classes.now }
@@ -72,7 +72,7 @@ pub fn are_plain(classes: &[Class]) -> bool
     true
 }
 
-/// Whether all classes leave a text from right to left as it is.
+/// Whether all classes are plain right to left, so that a right-to-left text of them has level 1 throughout.
 #[tactic(auto, using(crate::proofs::PlainLevels::pass_more, crate::proofs::PlainLevels::pass_stop, crate::proofs::PlainLevels::pass_all))]
 pub fn are_plain_right(classes: &[Class]) -> bool
     ensures { result ≡ all_pass is_plain_right classes.now }
@@ -85,7 +85,7 @@ pub fn are_plain_right(classes: &[Class]) -> bool
     true
 }
 
-/// Whether all classes are those of a text from right to left without L.
+/// Whether no class is L, BN or a formatting class.
 #[tactic(auto, using(crate::proofs::PlainLevels::pass_more, crate::proofs::PlainLevels::pass_stop, crate::proofs::PlainLevels::pass_all))]
 pub fn are_from_right(classes: &[Class]) -> bool
     ensures { result ≡ all_pass is_from_right classes.now }
@@ -98,7 +98,7 @@ pub fn are_from_right(classes: &[Class]) -> bool
     true
 }
 
-/// Whether the explicit rules have nothing to do with any of the classes. The scan goes on to the end, since most texts pass.
+/// Whether no explicit rule applies to any of the classes. The scan does not stop early, since most texts pass.
 #[tactic(auto, using(crate::proofs::PlainLevels::both_pass, crate::proofs::PlainLevels::pass_all))]
 pub fn are_unformatted(classes: &[Class]) -> bool
     ensures { result ≡ all_pass is_unformatted classes.now }

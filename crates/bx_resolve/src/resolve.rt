@@ -21,7 +21,7 @@ use bx_ucd::class::direction;
 use bx_ucd::{BidiData, Class};
 use std::alloc::{AllocError, Global};
 
-/// Writes the levels of resolved types in a sequence of a level.
+/// Writes the levels of the resolved types of a sequence at `level`.
 #[tactic(auto, using(crate::proofs::Mapped::mapped_more, crate::proofs::Mapped::mapped_all))]
 fn write_found(each: &mut [Level], types: &[Class], level: u8)
     requires level { level ≤ max_depth }
@@ -33,7 +33,7 @@ fn write_found(each: &mut [Level], types: &[Class], level: u8)
     }
 }
 
-/// The levels of resolved types in a sequence of a level, each found.
+/// The levels of the resolved types of a sequence at `level`.
 fn found_levels(alloc: Global, types: &[Class], level: u8) -> Result<Vec<Level>, AllocError>
     requires { level ≤ max_depth }
     ensures { IfOk result (λ v. v.items ≡ map (λ t. Some (implicit_at level t)) types.now) }
@@ -43,8 +43,8 @@ fn found_levels(alloc: Global, types: &[Class], level: u8) -> Result<Vec<Level>,
     Ok(each)
 }
 
-/// The levels of a text from right to left without L: I2 asks for the types after W7 alone, since numbers count as R in N0
-/// and N1.
+/// The levels of a right-to-left text without L. It needs only W1 to W7 and I2: since numbers count as R, N0 to N2 make
+/// every neutral R.
 fn levels_from_right(alloc: Global, classes: &mut [Class]) -> Result<Vec<Level>, AllocError>
     ensures { IfOk result (λ v. v.items ≡ map (λ t. Some (implicit_at 1 t)) (weak Class.R classes.old)) }
 {
@@ -52,7 +52,7 @@ fn levels_from_right(alloc: Global, classes: &mut [Class]) -> Result<Vec<Level>,
     found_levels(alloc, classes, 1)
 }
 
-/// The levels of a paragraph body of a level that has no formatting characters, and so is one sequence.
+/// The levels of a paragraph body without formatting characters, which is one sequence.
 #[tactic(auto, using(crate::proofs::PlainLengths::weak_length))]
 fn unformatted_levels<D: BidiData>(
     alloc: Global,
@@ -82,9 +82,9 @@ fn unformatted_levels<D: BidiData>(
     Ok(Levels { paragraph, each })
 }
 
-/// The levels of a paragraph body under a base. A text of one direction in which no class needs a rule pays for none, one
-/// from right to left without L for W1 to W7 alone, and one with no formatting characters for no explicit rule. A body of
-/// 4 GiB goes by the rules one after another.
+/// The levels of a paragraph body under a base direction. Shortcuts: a text of one plain direction runs no rule, a
+/// right-to-left text without L only W1 to W7 and I2, and a text without formatting characters no explicit rule. A body of
+/// 4 GiB or more takes `levels_by_rules`.
 #[tactic(auto, using(crate::proofs::PlainLevels::plain_levels, crate::proofs::PlainLevels::plain_right_levels, crate::proofs::PlainLevels::from_right_levels))]
 fn resolved_levels<D: BidiData>(
     alloc: Global,
@@ -118,7 +118,7 @@ fn resolved_levels<D: BidiData>(
     formatted_levels(alloc, body, tables, classes, paragraph)
 }
 
-/// The levels of a paragraph body under a base (UAX #9, 3.3).
+/// The levels of a paragraph body under a base direction (UAX #9, 3.3).
 pub fn levels<D: BidiData>(
     alloc: Global,
     body: &str,

@@ -1,4 +1,4 @@
-//! The rules W1 to N2 over one sequence after another, in lists that later sequences use again.
+//! The rules W1 to N2, with buffers that later sequences reuse.
 ghost use Rattle.std.specs.Prelude.{◌≡◌, OnOk, length, map};
 ghost use Rattle.std.specs.List.{list_any};
 ghost use Rattle.bx_ucd.specs.Class.{direction};
@@ -14,7 +14,7 @@ use bx_ucd::Class;
 use bx_ucd::class::direction;
 use std::alloc::{AllocError, Global};
 
-/// The level of a sequence and the types before and after it.
+/// The level of a sequence, and its sos and eos.
 #[derive(Clone, Copy, PartialEq, Eq, Debug)]
 pub struct Ends {
     pub level: u8,
@@ -22,14 +22,14 @@ pub struct Ends {
     pub eos: Class,
 }
 
-/// Which characters of a sequence were NSM, and the search for its bracket pairs.
+/// Buffers of a sequence: which characters were NSM before W1, and the search for bracket pairs.
 #[derive(Drop)]
 pub struct Scratch {
     pub marks: Vec<bool>,
     pub search: PairSearch,
 }
 
-/// Writes which types are NSM.
+/// Marks the types that are NSM.
 #[tactic(auto, using(crate::proofs::Mapped::mapped_more, crate::proofs::Mapped::mapped_all))]
 fn mark_each(marks: &mut [bool], types: &[Class])
     requires { length marks.old ≡ length types.now }
@@ -40,7 +40,7 @@ fn mark_each(marks: &mut [bool], types: &[Class])
     }
 }
 
-/// Notes which types are NSM. The room grows to what is needed, and by a quarter at least.
+/// Fills the list with a mark for each type that is NSM. Capacity grows to the need, and by a quarter at least.
 fn note_marks(marks: &mut Vec<bool>, types: &[Class]) -> Result<(), AllocError>
     ensures { OnOk result (marks.new.items ≡ map is_nsm types.now) }
 {
@@ -55,7 +55,7 @@ fn note_marks(marks: &mut Vec<bool>, types: &[Class]) -> Result<(), AllocError>
 }
 
 impl Scratch {
-    /// Empty lists.
+    /// Empty buffers.
     pub fn new(alloc: Global) -> Self {
         Scratch {
             marks: Vec::new(alloc),
@@ -63,7 +63,7 @@ impl Scratch {
         }
     }
 
-    /// Gives the types of a sequence those after W7, in the list, and notes which were NSM.
+    /// Applies W1 to W7 in place, and records which types were NSM.
     pub fn resolve_weak(&mut self, types: &mut [Class], sos: Class) -> Result<(), AllocError>
         ensures types { OnOk result (types.new ≡ weak sos types.old) }
         ensures marks { OnOk result (self.new.marks.items ≡ map is_nsm types.old) }
@@ -73,7 +73,7 @@ impl Scratch {
         Ok(())
     }
 
-    /// Gives the bracket pairs that are found their types (N0), in the list, where the marks are noted.
+    /// Resolves the bracket pairs that the search found, in place (N0).
     pub fn resolve_brackets(&self, types: &mut [Class], ends: Ends)
         requires count { length types.old ≡ self.now.search.count }
         requires marks { length self.now.marks.items ≡ length types.old }
@@ -84,14 +84,14 @@ impl Scratch {
     }
 }
 
-/// Whether a type may be that of a bracket.
+/// Whether any character may be a bracket: its type is ON.
 pub fn may_have_brackets(types: &[Class]) -> bool
     ensures { result ≡ list_any is_on types.now }
 {
     types.iter().any(|t| *t == Class::ON)
 }
 
-/// Gives neutral types those after N2, in the list.
+/// Applies N1 and N2 in place.
 pub fn resolve_neutral(types: &mut [Class], ends: Ends)
     ensures { types.new ≡ n2 (direction ends.level) (n1 ends.sos ends.eos types.old) }
 {

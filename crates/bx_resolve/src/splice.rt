@@ -1,19 +1,19 @@
-//! Levels in the place of others.
+//! Replaces a span of levels.
 ghost use Rattle.std.specs.Prelude.{◌≡◌, ◌≤◌, OnErr, OnOk, length};
 ghost use Rattle.std.specs.List.{splice};
 
 use crate::paragraph::Level;
 use std::alloc::AllocError;
 
-/// Which levels give way to others: those from an index up to another.
+/// A span of indexes, `first..last`.
 #[derive(Clone, Copy, PartialEq, Eq, Debug)]
 pub struct Span {
     pub first: usize,
-    /// The index behind the last one.
+    /// The index after the last one.
     pub last: usize,
 }
 
-/// Makes room for more levels. It grows by an eighth at least, so that a row of edits moves few of them.
+/// Reserves room for `more` levels, and grows by an eighth at least, so that consecutive edits rarely reallocate.
 fn make_room(levels: &mut Vec<Level>, more: usize) -> Result<(), AllocError>
     ensures { levels.new.items ≡ levels.old.items }
 {
@@ -24,7 +24,7 @@ fn make_room(levels: &mut Vec<Level>, more: usize) -> Result<(), AllocError>
     Ok(())
 }
 
-/// Puts levels in the place of those of a span. What has no room changes nothing.
+/// Replaces the levels of a span. After an error the levels are unchanged.
 pub fn replace_span(
     levels: &mut Vec<Level>,
     span: Span,

@@ -1,4 +1,4 @@
-//! The rules for weak types (W1 to W7), each over a whole sequence.
+//! The rules for weak types (W1 to W7), each as a pass over a sequence, and all in one pass.
 ghost use Rattle.std.specs.Prelude.{◌≡◌, IfOk, MatchOption, map, true};
 ghost use Rattle.bx_resolve.specs.Turns.{rest_after_w3, after_w1, mark_next, after_w2, strong_next, ahead, after_w5, past_next, after_w7, side_next};
 ghost use Rattle.bx_resolve.specs.Weak.{is_nsm, is_en, is_an, is_et, is_settled, mark_after, number_after, w3_at, beside, separator, is_en_past, terminator_of};
@@ -7,7 +7,7 @@ ghost use Rattle.bx_resolve.specs.Weak.{w6_at, left_number, w1, w2, w3, w4, w5, 
 use bx_ucd::Class;
 use std::alloc::{AllocError, Global};
 
-/// What an NSM becomes after a character.
+/// The type of an NSM after a character of type `t` (W1).
 fn mark_after(t: Class) -> Class
     ensures { result ≡ mark_after t }
 {
@@ -17,7 +17,7 @@ fn mark_after(t: Class) -> Class
     }
 }
 
-/// What an EN becomes after the nearest strong type.
+/// The type of an EN after the nearest strong type (W2).
 fn number_after(strong: Class) -> Class
     ensures { result ≡ number_after strong }
 {
@@ -27,7 +27,7 @@ fn number_after(strong: Class) -> Class
     }
 }
 
-/// What a character becomes between two.
+/// The type of a character between two others (W4).
 fn separator(before: Class, t: Class, after: Class) -> Class
     ensures { result ≡ separator before t after }
 {
@@ -38,7 +38,7 @@ fn separator(before: Class, t: Class, after: Class) -> Class
     }
 }
 
-/// Whether the nearest type that is no ET is EN.
+/// Whether the first type other than ET is EN.
 fn is_en_past(types: &[Class]) -> bool
     ensures { result ≡ is_en_past types.now }
 {
@@ -52,7 +52,7 @@ fn is_en_past(types: &[Class]) -> bool
     false
 }
 
-/// Which types are NSM.
+/// A mark for each type that is NSM.
 pub fn marks(alloc: Global, types: &[Class]) -> Result<Vec<bool>, AllocError>
     ensures { IfOk result (λ v. v.items ≡ map is_nsm types.now) }
 {
@@ -62,7 +62,7 @@ pub fn marks(alloc: Global, types: &[Class]) -> Result<Vec<bool>, AllocError>
         .collect(alloc)
 }
 
-/// W1: nonspacing marks.
+/// W1: an NSM takes the type of the character before it, or ON after an isolate initiator or PDI.
 #[tactic(auto, using(crate::proofs::Run::run_write, crate::proofs::Run::run_keep, crate::proofs::Run::w1_run))]
 pub fn w1(types: &mut [Class], sos: Class)
     ensures { types.new ≡ w1 sos types.old }
@@ -77,7 +77,7 @@ pub fn w1(types: &mut [Class], sos: Class)
     }
 }
 
-/// W2: numbers after Arabic letters.
+/// W2: an EN whose nearest strong type before it is AL becomes AN.
 #[tactic(auto, using(crate::proofs::Run::run_write, crate::proofs::Run::run_keep, crate::proofs::Run::w2_run))]
 pub fn w2(types: &mut [Class], sos: Class)
     ensures { types.new ≡ w2 sos types.old }
@@ -92,7 +92,7 @@ pub fn w2(types: &mut [Class], sos: Class)
     }
 }
 
-/// W3: Arabic letters.
+/// W3: AL becomes R.
 pub fn w3(types: &mut [Class])
     ensures { types.new ≡ w3 types.old }
 {
@@ -113,7 +113,7 @@ fn after_w1(mark: Class, t: Class) -> Class
     }
 }
 
-/// What a later NSM becomes.
+/// The type of an NSM after `t`.
 fn mark_next(mark: Class, t: Class) -> Class
     ensures { result ≡ mark_next mark t }
 {
@@ -133,7 +133,7 @@ fn after_w2(strong: Class, t: Class) -> Class
     }
 }
 
-/// The nearest strong type from now on.
+/// For the type after `t`: the nearest strong type before it.
 fn strong_next(strong: Class, t: Class) -> Class
     ensures { result ≡ strong_next strong t }
 {
@@ -153,7 +153,7 @@ fn after_w3(t: Class) -> Class
     }
 }
 
-/// W4: single separators between numbers.
+/// W4: a single separator between two numbers of the same type takes their type.
 #[tactic(auto, using(crate::proofs::Run::run_write, crate::proofs::Run::run_keep, crate::proofs::Run::w4_run))]
 pub fn w4(types: &mut [Class])
     ensures { types.new ≡ w4 types.old }
@@ -171,7 +171,7 @@ pub fn w4(types: &mut [Class])
     }
 }
 
-/// What an ET becomes beside numbers.
+/// The type of an ET, given whether an EN is before or after its run (W5).
 fn terminator_of(before: bool, after: bool) -> Class
     ensures { result ≡ terminator_of before after }
 {
@@ -182,7 +182,7 @@ fn terminator_of(before: bool, after: bool) -> Class
     }
 }
 
-/// What an EN becomes after the nearest L or R.
+/// The type of an EN after the nearest L or R (W7).
 fn left_number(strong: Class) -> Class
     ensures { result ≡ left_number strong }
 {
@@ -192,7 +192,7 @@ fn left_number(strong: Class) -> Class
     }
 }
 
-/// W5: terminators beside numbers.
+/// W5: a run of ET beside an EN becomes EN.
 #[tactic(auto, using(crate::proofs::Run::run_write, crate::proofs::Run::run_keep, crate::proofs::Run::w5_run, crate::proofs::Run::past_more))]
 pub fn w5(types: &mut [Class])
     ensures { types.new ≡ w5 types.old }
@@ -215,7 +215,7 @@ pub fn w5(types: &mut [Class])
     }
 }
 
-/// W6: the separators and terminators that are left.
+/// W6: remaining separators and terminators become ON.
 pub fn w6(types: &mut [Class])
     ensures { types.new ≡ w6 types.old }
 {
@@ -227,7 +227,7 @@ pub fn w6(types: &mut [Class])
     }
 }
 
-/// W7: numbers after L.
+/// W7: an EN whose nearest strong type before it is L becomes L.
 #[tactic(auto, using(crate::proofs::Run::run_write, crate::proofs::Run::run_keep, crate::proofs::Run::w7_run))]
 pub fn w7(types: &mut [Class], sos: Class)
     ensures { types.new ≡ w7 sos types.old }
@@ -242,7 +242,7 @@ pub fn w7(types: &mut [Class], sos: Class)
     }
 }
 
-/// The type after W3 of the first character of a list, or ON where there is none.
+/// The type after W3 of the first character of the rest, or ON at the end.
 fn beside_ahead(mark: Class, strong: Class, types: &[Class]) -> Class
     ensures { result ≡ beside (rest_after_w3 mark strong types.now) }
 {
@@ -252,7 +252,7 @@ fn beside_ahead(mark: Class, strong: Class, types: &[Class]) -> Class
     }
 }
 
-/// The type after W4, where the one before is `before` after W3. Only a separator looks ahead.
+/// The type after W4; `before` and `t` are types after W3. Only a separator looks ahead.
 fn after_w4(before: Class, t: Class, mark: Class, strong: Class, rest: &[Class]) -> Class
     ensures { result ≡ separator before t (beside (rest_after_w3 mark strong rest.now)) }
 {
@@ -262,7 +262,8 @@ fn after_w4(before: Class, t: Class, mark: Class, strong: Class, rest: &[Class])
     }
 }
 
-/// Whether the nearest type after W3 that is no ET is EN. None of those before it is strong.
+/// Whether the first type other than ET is EN, by the types after W3. `strong` stays the same over the run, since no type
+/// before that one is strong.
 #[tactic(auto, using(crate::proofs::Fused::past_et, crate::proofs::Fused::past_other, crate::proofs::Fused::past_end))]
 fn is_en_ahead(mark: Class, strong: Class, types: &[Class]) -> bool
     ensures { result ≡ is_en_past (rest_after_w3 mark strong types.now) }
@@ -278,7 +279,7 @@ fn is_en_ahead(mark: Class, strong: Class, types: &[Class]) -> bool
     false
 }
 
-/// Whether the run of ET that `t` is of stands before an EN, where that may be known.
+/// Whether the run of ET that `t` is in is followed by an EN; `None` where `t` is no ET.
 fn look_ahead(
     known: Option<bool>,
     t: Class,
@@ -308,7 +309,7 @@ fn after_w5(t: Class, before: bool, ahead: Option<bool>) -> Class
     }
 }
 
-/// Whether an EN stands before a run of ET, from now on.
+/// For the type after `t`: whether an EN precedes its run of ET.
 fn past_next(past: bool, t: Class) -> bool
     ensures { result ≡ past_next past t }
 {
@@ -338,7 +339,7 @@ fn after_w7(side: Class, t: Class) -> Class
     }
 }
 
-/// The nearest L or R from now on.
+/// For the type after `t`: the nearest L or R before it.
 fn side_next(side: Class, t: Class) -> Class
     ensures { result ≡ side_next side t }
 {
@@ -348,7 +349,7 @@ fn side_next(side: Class, t: Class) -> Class
     }
 }
 
-/// Whether the rules leave a type as it is, whatever stands beside it.
+/// Whether W1 to W7 keep a type in any context.
 fn is_settled(t: Class) -> bool
     ensures { result ≡ is_settled t }
 {
@@ -366,7 +367,7 @@ fn is_number(t: Class) -> bool
     t == Class::EN
 }
 
-/// W1 to W7 in one pass. Types that are settled pass by themselves: of those only the last, and the last L or R, are kept.
+/// W1 to W7 in one pass. An inner loop skips settled types; only the last of them and the last L or R matter later.
 #[tactic(auto, using(crate::proofs::Fused::go_write, crate::proofs::Fused::weak_run, crate::proofs::Fused::known_after, crate::proofs::Fused::settled_keep))]
 pub fn weak_in_one_pass(types: &mut [Class], sos: Class)
     ensures { types.new ≡ weak sos types.old }

@@ -1,4 +1,4 @@
--- What is written so far, and what is left to write.
+-- The levels written so far, and those left to write.
 use Rattle.std.proofs.Common.{◌≡◌, drop, length}
 use Rattle.bx_resolve.specs.Levels.{with_levels}
 use Rattle.bx_resolve.proofs.at_indexes.write_levels.Given as goal

@@ -1,4 +1,4 @@
--- The offsets so far, and the text behind them.
+-- The offsets so far, and the text after them.
 use Rattle.std.proofs.Common.{◌≡◌, ◌*◌, drop, chars, length}
 use denote.Text.{Utf8}
 use denote.Shadow.{shadow}

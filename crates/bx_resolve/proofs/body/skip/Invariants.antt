@@ -1,4 +1,4 @@
--- What is left, and how many characters of it are still to be left out.
+-- The rest, and the number of its characters still to be skipped.
 use Rattle.std.proofs.Common.{◌≡◌, ◌<◌, ◌≤◌, drop, chars, length}
 use denote.Text.{Utf8}
 use denote.Shadow.{shadow}

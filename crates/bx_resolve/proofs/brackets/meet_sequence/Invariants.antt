@@ -1,4 +1,4 @@
--- What is met so far, and what is left to meet.
+-- The characters met so far, and those left to meet.
 use Rattle.std.proofs.Common.{◌≡◌, ◌≤◌, drop}
 use Rattle.bx_brackets.specs.Search.{pairs_after}
 use Rattle.bx_explicit.specs.LevelIndexes.{indexes_from}

@@ -1,4 +1,4 @@
--- What is met so far, and what is left to meet.
+-- The characters met so far, and those left to meet.
 use Rattle.std.proofs.Common.{◌≡◌, ◌≤◌, drop, chars}
 use denote.Text.{Utf8}
 use denote.Shadow.{shadow}

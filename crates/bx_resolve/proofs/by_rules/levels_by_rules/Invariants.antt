@@ -1,4 +1,4 @@
--- The sequences written so far, and those that are left.
+-- The sequences written so far, and the sequences left.
 use Rattle.std.proofs.Common.{◌≡◌, drop, length, replicate, None}
 use Rattle.bx_resolve.specs.Levels.{with_sequences}
 use Rattle.bx_resolve.proofs.by_rules.levels_by_rules.Given as goal

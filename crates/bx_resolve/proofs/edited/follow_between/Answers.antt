@@ -1,4 +1,4 @@
--- The levels that are put together are those of the new text.
+-- The spliced levels are the levels of the new text.
 use Rattle.std.proofs.Common.{chars}
 use Rattle.bx_resolve.proofs.FollowedEdits.{follows_between}
 use Rattle.bx_resolve.proofs.edited.follow_between.Goals as goal

@@ -1,4 +1,4 @@
--- What is written, and what the sequences that are left write over it.
+-- The levels written so far, and those that the sequences left will write.
 use Rattle.std.proofs.Common.{◌≡◌, ◌≤◌, chars, length, replicate, None}
 use Rattle.std.specs.Prelude.{All}
 use Rattle.bx_explicit.specs.Sequences.{RunSequence, sequences}

@@ -1,4 +1,4 @@
--- What is gathered so far, and what is left to gather.
+-- The types collected so far, and those left to collect.
 use Rattle.std.proofs.Common.{◌≡◌, ◌-◌, ◌++◌, drop, length}
 use Rattle.bx_explicit.specs.LevelIndexes.{level_indexes}
 use Rattle.bx_resolve.specs.Levels.{types_at}

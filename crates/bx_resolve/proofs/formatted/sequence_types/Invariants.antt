@@ -1,4 +1,4 @@
--- What is gathered so far, and what is left to gather.
+-- The types collected so far, and those left to collect.
 use Rattle.std.proofs.Common.{◌≡◌, ◌++◌, drop}
 use Rattle.bx_explicit.specs.LevelIndexes.{indexes_from}
 use Rattle.bx_resolve.specs.Levels.{types_at}

@@ -1,4 +1,4 @@
--- What is written so far, and what is left to write.
+-- The levels written so far, and those left to write.
 use Rattle.std.proofs.Common.{◌≡◌, ◌-◌, ◌++◌, ℕ, List, drop, length}
 use Rattle.bx_explicit.specs.LevelIndexes.{level_indexes}
 use Rattle.bx_resolve.specs.Neutral.{implicit}

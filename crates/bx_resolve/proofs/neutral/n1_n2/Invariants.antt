@@ -1,4 +1,4 @@
--- What is done so far, and what the rules make of the rest.
+-- The types done so far, and the result of the rules on the rest.
 use Rattle.std.proofs.Common.{◌≡◌, ◌++◌, take, drop, MatchOption}
 use Rattle.bx_resolve.specs.Neutral.{n1, n2, side}
 use Rattle.bx_resolve.proofs.Run.{run, next_neutral}

@@ -1,4 +1,4 @@
--- Whether the classes so far pass, and what is left.
+-- Whether the classes so far pass, and the rest.
 use Rattle.std.proofs.Common.{◌≡◌, drop}
 use Rattle.std.specs.Prelude.{◌&&◌}
 use Rattle.bx_resolve.specs.Plain.{is_unformatted, all_pass}

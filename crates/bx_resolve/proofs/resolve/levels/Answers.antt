@@ -1,4 +1,4 @@
--- What the levels of every text are like.
+-- Properties of the levels of every text.
 use Rattle.std.proofs.Common.{chars}
 use Rattle.bx_resolve.proofs.KeptLevels.{levels_kept, levels_stay_low}
 use Rattle.bx_resolve.proofs.resolve.levels.Goals as goal

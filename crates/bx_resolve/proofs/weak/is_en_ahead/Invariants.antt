@@ -1,4 +1,4 @@
--- What the rest tells.
+-- All types so far are ET, so the rest has the same answer.
 use Rattle.std.proofs.Common.{◌≡◌, drop}
 use Rattle.bx_resolve.specs.Weak.{is_en_past}
 use Rattle.bx_resolve.specs.Turns.{rest_after_w3}

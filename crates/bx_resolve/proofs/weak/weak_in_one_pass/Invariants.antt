@@ -1,4 +1,4 @@
--- What is done so far, and what the rules make of the rest.
+-- The types done so far, and the result of the rules on the rest.
 use Rattle.std.proofs.Common.{◌≡◌, ◌<◌, ◌⊎◌, ◌++◌, ◌-◌, false, length, take, drop, MatchOption}
 use Rattle.bx_resolve.specs.Weak.{weak, is_en_past}
 use Rattle.bx_resolve.specs.Turns.{rest_after_w3}
