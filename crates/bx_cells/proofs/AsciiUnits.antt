@@ -1,4 +1,4 @@
--- The unit of a printable byte that stands before another one.
+-- The unit of a printable byte before another one.
 use Rattle.std.proofs.Common.{◌≡◌, ℕ, ◌+◌, ◌<◌, true, false, List, [], ◌∷◌, ◌++◌, length, drop, get_or, encode_utf8, sym, ap, ◌∙◌, arith}
 use Rattle.bx_terms.specs.Characters.{is_ascii_printable}
 use Rattle.std.specs.Str.{IsUtf8, IsCharBoundary}
@@ -17,7 +17,7 @@ use Rattle.bx_cells.proofs.RangeFacts.{of_common}
 pub begins_ascii : (c : ℕ) → is_ascii_printable c ≡ true → (begins c ≡ true) × (own_columns c ≡ 1)
 begins_ascii c h = of_common c (printable_common c h)
 
--- the byte, and what stands behind it
+-- the byte, and the bytes after it
 pub left_at : (body : List ℕ) (at : ℕ) → at < length body → is_ascii_printable (get_or body at 0) ≡ true
     → drop at body ≡ encode_utf8 (get_or body at 0) ++ drop (at + 1) body
 left_at body at less h =

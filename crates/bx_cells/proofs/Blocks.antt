@@ -1,4 +1,4 @@
--- A block of printable bytes behind others.
+-- A block of printable bytes after others.
 use Rattle.std.proofs.Common.{◌≡◌, ℕ, zero, suc, ◌+◌, ◌-◌, ◌<◌, ◌≤◌, Bool, true, false, nat_lt}
 use Rattle.std.proofs.Common.{List, [], ◌∷◌, length, take, drop, get_or, slice_range, refl, ap, subst, ◌∙◌, arith}
 use Rattle.bx_terms.specs.Characters.{are_ascii_printable, is_ascii_printable}

@@ -1,4 +1,4 @@
--- What the tables give to each character, as far as the rules that look back are concerned.
+-- The tables' values for each character, for the rules that look back.
 use Rattle.std.proofs.Common.{◌≡◌, ℕ, Bool, true, false, not, ◌&&◌, ◌||◌, refl}
 use Rattle.std.proofs.lemmas.Bool.{and_parts, not-true}
 use Rattle.ucd_table.proofs.Computing.{tables}
@@ -17,14 +17,14 @@ use Rattle.ucd_emoji.proofs.BinaryLemmas.{is_extended_pictographic_stepped}
 use Rattle.unicode_segmentation.specs.Grapheme.{is_extend, is_zwj}
 use Rattle.bx_cells.proofs.RangeFacts.{implied}
 
--- it breaks from all behind it, but for a line feed
+-- a break follows it, except before a line feed
 abbrev pub is_breaking : GraphemeClusterBreak → Bool
 is_breaking breaks.Control = true
 is_breaking breaks.Cr = true
 is_breaking breaks.Lf = true
 is_breaking _ = false
 
--- it stays on what is before it, but for those
+-- it stays on the cluster before it, except after those classes
 abbrev pub stays : GraphemeClusterBreak → Bool
 stays g = is_extend g || is_zwj g
 
@@ -63,7 +63,7 @@ breaking_ends_pass : (c : ℕ) → breaking_ends c ≡ true
 unfolding tables breaking_ends_stepped grapheme_cluster_break_stepped indic_conjunct_break_stepped is_extended_pictographic_stepped
 breaking_ends_pass = Stepped-everywhere breaking_ends breaking_ends_stepped refl
 
--- a character that goes on a conjunct stays on what is before it
+-- a character that extends a conjunct stays on the cluster before it
 pub stays-extend : (c : ℕ) → extends_conjunct (indic_conjunct_break c) ≡ true → stays (grapheme_cluster_break c) ≡ true
 stays-extend c h = implied (extends_conjunct (indic_conjunct_break c)) (stays (grapheme_cluster_break c)) (extend_stays_pass c) h
 

@@ -1,4 +1,4 @@
--- What stands before a break has no part in the breaks behind it, so the clusters of what is left are its own.
+-- The text before a break does not affect the breaks after it, so the clusters of the rest are its own.
 use Rattle.std.proofs.Common.{◌≡◌, ℕ, Bool, true, false, not, ◌&&◌, ◌||◌, cond, List, [], ◌∷◌, ◌++◌, map, unwrap_or, refl, sym, ap, ap₂, ◌∙◌, true≢false}
 use Rattle.std.proofs.Common.{append-nil}
 use Rattle.std.specs.List.{concat}
@@ -16,7 +16,7 @@ use Rattle.unicode_segmentation.specs.Grapheme.{joins_emoji, ends_in_half_flag, 
 use Rattle.unicode_segmentation.specs.Segments.{prepend, cut}
 use Rattle.bx_cells.proofs.BreakTables.{is_breaking, stays, extends_conjunct, is_no_part, stays-extend, ends-breaking}
 
--- behind `last`, the rules that look back see the same before it, be it `b` or `d`
+-- after `last`, the rules that look back find the same before it, whether `b` or `d`
 pub record IsAlike (last : ℕ) (b d : List ℕ) : Type 0 where
   pub linker : ends_in_linker (map indic_conjunct_break (last ∷ b)) ≡ ends_in_linker (map indic_conjunct_break (last ∷ d))
   pub emoji : (is_zwj (grapheme_cluster_break last) && ends_in_pictograph b) ≡ (is_zwj (grapheme_cluster_break last) && ends_in_pictograph d)
@@ -150,7 +150,7 @@ regional_from_test breaks.SpacingMark h = cc
 regional_from_test breaks.T h = cc
 regional_from_test breaks.V h = cc
 
--- what stands before a character that stays, where it breaks
+-- `p` and the characters before it end in no linker and no pictograph
 record EndsBefore (p : ℕ) (before : List ℕ) : Type 0 where
   linker : ends_in_linker (map indic_conjunct_break (p ∷ before)) ≡ false
   pictograph : ends_in_pictograph (p ∷ before) ≡ false
@@ -195,7 +195,7 @@ IsAlike-at_break p c before after e =
           (λ f. regional_from_test g (and_parts (is_regional g) (not (ends_in_half_flag before)) f).0) e));
     }
 
--- the characters behind a break are cut as a text of their own
+-- the characters after a break are cut as a text of their own
 pub cut-own : (before : List ℕ) (c : ℕ) (cs : List ℕ) → is_grapheme_break true before (c ∷ cs) ≡ true
     → cut (is_grapheme_break true) before (c ∷ cs) [] ≡ cut (is_grapheme_break true) [] (c ∷ cs) []
 unfolding cut
@@ -204,7 +204,7 @@ cut-own (p ∷ before) c cs e =
     let at = IsAlike-at_break p c before cs e in
     ap₂ (λ t rest. cond t ((c ∷ []) ∷ rest) (prepend (c ∷ []) rest)) (breaks-alike c (p ∷ before) [] (cs ++ []) at) (cut-alike c (p ∷ before) [] cs [] at)
 
--- ---- the clusters behind the first are those of what is left
+-- ---- the clusters after the first are the clusters of the rest
 
 concat_step : (t : Bool) (c : ℕ) (rest : List (List ℕ)) → concat (cond t ((c ∷ []) ∷ rest) (prepend (c ∷ []) rest)) ≡ c ∷ concat rest
 concat_step true c rest = refl
@@ -217,7 +217,7 @@ concat-own before [] = refl
 concat-own before (c ∷ cs) = concat_step (is_grapheme_break true (c ∷ before) (cs ++ [])) c (cut (is_grapheme_break true) (c ∷ before) cs [])
     ∙ ap (λ xs. c ∷ xs) (concat-own (c ∷ before) cs)
 
--- the lists are the clusters of what they make up
+-- the lists are the clusters of their concatenation
 abbrev pub AreOwn : List (List ℕ) → Type 0
 AreOwn gs = gs ≡ cut (is_grapheme_break true) [] (concat gs) []
 

@@ -91,7 +91,7 @@ cut_at_end before c (m ∷ ms) s h =
 
 -- ---- reading it
 
--- the character c stands at an offset, and marks up to what is left
+-- the character c is at an offset, followed by marks up to the rest
 pub record IsOpen (body : List ℕ) (start c : ℕ) (is_marked : Bool) (rest : List ℕ) : Type 0 where
   pub marks : List ℕ
   pub bytes : drop start body ≡ encode_utf8_all (c ∷ marks) ++ rest

@@ -1,4 +1,4 @@
--- A body's clusters one after another: the first of what is left, and the units of what is left behind it.
+-- A body's clusters one after another: the first cluster of the rest, and the units after it.
 use Rattle.std.proofs.Common.{◌≡◌, ℕ, zero, suc, ◌+◌, ◌<◌, ◌≤◌, true, List, [], ◌∷◌, ◌++◌, map, length, drop, refl, sym, ap, ap₂, subst, ◌∙◌, arith}
 use Rattle.std.proofs.Common.{append_assoc, append-nil, length-append, encode_utf8, encode_utf8_all}
 use Rattle.std.specs.List.{concat}
@@ -85,7 +85,7 @@ no-cluster bs u h =
 
 -- ---- units
 
--- the cluster at an offset of a body, and what is left behind it
+-- the cluster at an offset of a body, and the rest after it
 pub record IsNext (class : ℕ → Class) (w : ℕ) (body : List ℕ) (at : ℕ) (p : List ℕ) (ps : List (List ℕ)) : Type 0 where
   pub units : units_from class w body at ≡ unit_at class w (at, p) ∷ units_from class w body (at + length p)
   pub own : ps ≡ graphemes true (drop (at + length p) body)
@@ -140,9 +140,9 @@ pub unit-next : (class : ℕ → Class) (w : ℕ) (body : List ℕ) (at : ℕ) (
 unit-next class w body at p ps f n e = n.units
     ∙ ap (λ x. record { start = at; stop = at + length p; face = x } ∷ units_from class w body (at + length p)) (sym e)
 
--- ---- a unit among those of what is left
+-- ---- a unit among the units of the rest
 
--- the unit is the first of those from its own offset on, and `rest` are behind it
+-- the unit is the first one from its own offset on, and `rest` are the ones after it
 pub record IsUnitAt (class : ℕ → Class) (w : ℕ) (body : List ℕ) (u : Unit) (rest : List Unit) : Type 0 where
   pub units : units_from class w body u.start ≡ u ∷ rest
   pub boundary : IsCharBoundary body u.start

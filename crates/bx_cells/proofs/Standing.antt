@@ -31,9 +31,9 @@ faces-units class w body u =
 pub faces_if_units : (class : ℕ → Class) (w : ℕ) (body : List ℕ) (us : List Unit) → IsUtf8 body → us ≡ units class w body → All (HasFace class w body) us
 faces_if_units class w body us u e = All-same (HasFace class w body) us (units class w body) e (faces-units class w body u)
 
--- ---- the units of what is left from an offset on
+-- ---- the units from an offset on
 
--- the bytes of the first cluster of what is left
+-- the bytes of the first cluster of the rest
 first-bytes : (body : List ℕ) (at : ℕ) (p : List ℕ) (ps : List (List ℕ)) → IsUtf8 body → IsCharBoundary body at → graphemes true (drop at body) ≡ p ∷ ps
     → p ≡ slice_range body at (at + length p)
 first-bytes body at p ps u b e =
@@ -41,7 +41,7 @@ first-bytes body at p ps u b e =
     let len : (at + length p) - at ≡ length p = omega arith in
     sym (ap (take (length p)) f.bytes ∙ take_at p (drop (length p) (drop at body)) (length p) refl) ∙ ap (λ n. take n (drop at body)) (sym len)
 
--- what holds of the unit of each cluster at its offset holds of all from an offset on
+-- a property of the unit of each cluster at its offset holds of all units from an offset on
 all-from : (P : Unit → Type 0) (class : ℕ → Class) (w : ℕ) (body : List ℕ) → IsUtf8 body
     → ((at : ℕ) (p : List ℕ) → IsCharBoundary body at → IsCharBoundary body (at + length p) → p ≡ slice_range body at (at + length p)
     → P (unit_at class w (at, p)))

@@ -1,4 +1,4 @@
--- What a grapheme cluster shows in a window of `w` columns. A cluster is its bytes.
+-- The face of a grapheme cluster in a window of `w` columns. A cluster is given as its bytes.
 use Rattle.std.specs.Prelude.{ℕ, ◌==◌, nat_lt, Bool, true, false, List, [], ◌∷◌, Option, Some, None, chars}
 use Rattle.std.specs.List.{list_any}
 use Rattle.bx_ucd.specs.declared.class.Class.{Class}
@@ -8,7 +8,7 @@ use Rattle.unicode_width.specs.Width.{str_width}
 use Rattle.bx_cells.specs.declared.unit.Face.{Face}
 use Rattle.bx_cells.specs.declared.unit.Face.TheVariants.{Tab, Mark, Own}
 
--- the only character of a text, if it has just one
+-- the character of a text that has exactly one
 abbrev pub only_char : List ℕ → Option ℕ
 only_char (c ∷ []) = Some c
 only_char _ = None
@@ -36,11 +36,11 @@ abbrev pub format_letter : (ℕ → Class) → Option ℕ → Option ℕ
 format_letter class None = None
 format_letter class (Some c) = letter_of (class c)
 
--- the columns of a text, ambiguous characters being narrow
+-- the columns of a text, with ambiguous characters narrow
 abbrev pub columns_of : List ℕ → ℕ
 columns_of cs = str_width false cs
 
--- a text of n columns: `~` for none, `#` for more than the window has, else the text itself
+-- a text of n columns: the mark `~` for none, the mark `#` for more than the window has, else the text itself
 abbrev pub sized_face : ℕ → ℕ → Face
 sized_face w n = elim (n == 0) [ true ↦ Mark 126 | false ↦ elim (nat_lt w n) [ true ↦ Mark 35 | false ↦ Own n ] ]
 

@@ -8,7 +8,7 @@ use Rattle.bx_cells.specs.Simple.{own_columns}
 use Rattle.bx_cells.specs.SimpleFace.{simple_face}
 use Rattle.bx_cells.specs.Units.{units_from}
 
--- the cluster is the first of those of a body from an offset on
+-- `s` is the first cluster of a body from an offset on
 pub record IsSimpleAt (body : List ℕ) (at : ℕ) (s : SimpleCluster) : Type 0 where
   pub units : (class : ℕ → Class) (w : ℕ) → units_from class w body at
       ≡ record { start = at; stop = s.stop; face = simple_face class w s.first s.is_marked } ∷ units_from class w body s.stop

@@ -1,4 +1,4 @@
--- What a cluster of simple characters shows.
+-- The face of a cluster of simple characters.
 use Rattle.std.specs.Prelude.{ℕ, Bool, true, false, cond, List, [], ◌∷◌, Some, None}
 use Rattle.bx_ucd.specs.declared.class.Class.{Class}
 use Rattle.bx_cells.specs.declared.unit.Face.{Face}
@@ -6,12 +6,12 @@ use Rattle.bx_cells.specs.declared.unit.Face.TheVariants.{Mark}
 use Rattle.bx_cells.specs.Faces.{format_letter, sized_face}
 use Rattle.bx_cells.specs.Simple.{own_columns}
 
--- there is a mark behind the first character
+-- a mark follows the first character
 abbrev pub is_some_mark : List ℕ → Bool
 is_some_mark [] = false
 is_some_mark (m ∷ ms) = true
 
--- the face of a character that begins, with marks behind it or alone
+-- the face of a cluster that begins with the character `c`, with marks or without
 abbrev pub simple_face : (ℕ → Class) → ℕ → ℕ → Bool → Face
 simple_face class w c is_marked = elim (format_letter class (cond is_marked None (Some c))) [
   | Some letter ↦ Mark letter

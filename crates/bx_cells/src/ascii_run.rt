@@ -1,4 +1,4 @@
-//! Units of printable ASCII, a byte each.
+//! Units of printable ASCII, one byte each.
 ghost use Rattle.std.specs.Prelude.{◌≡◌, ◌≤◌, ◌<◌, ◌++◌, ℕ, IfOk, get_or, length, false, true};
 ghost use Rattle.bx_terms.specs.Characters.{is_ascii_printable};
 ghost use Rattle.std.specs.Str.{IsCharBoundary};
@@ -11,10 +11,10 @@ use bx_terms::is_ascii_printable;
 use bx_ucd::BidiData;
 use std::alloc::AllocError;
 
-/// How many bytes are tested at once.
+/// Bytes tested at once.
 const BLOCK: usize = 16;
 
-/// The offset behind the whole blocks of printable ASCII that stand from an offset on.
+/// The end of the whole blocks of printable ASCII that begin at byte offset `at`.
 #[inline(always)]
 #[tactic(auto, using(crate::proofs::Blocks::block_more))]
 fn blocks_stop(bytes: &[u8], at: usize) -> usize
@@ -34,7 +34,7 @@ fn blocks_stop(bytes: &[u8], at: usize) -> usize
     stop
 }
 
-/// The offset behind the printable ASCII that stands from an offset on.
+/// The end of the printable ASCII that begins at byte offset `at`.
 pub fn printable_stop(bytes: &[u8], at: usize) -> usize
     requires { at ≤ length bytes.now }
     ensures order { at ≤ result }
@@ -49,8 +49,8 @@ pub fn printable_stop(bytes: &[u8], at: usize) -> usize
     stop
 }
 
-/// Adds the units of the printable ASCII that stands from an offset on, but for the last byte, behind which a mark may
-/// stand; gives the offset of what is left.
+/// Appends a unit for each byte of the printable ASCII that begins at `at`, except the last, which a mark may follow.
+/// Returns the offset of the rest.
 pub(crate) fn push_ascii<D: BidiData>(
     units: &mut Vec<Unit>,
     body: &str,

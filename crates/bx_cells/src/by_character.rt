@@ -1,4 +1,4 @@
-//! Units from simple characters, each known by itself.
+//! Units of simple characters, found without the rules on breaks.
 ghost use Rattle.std.specs.Prelude.{◌≡◌, ◌≤◌, ◌<◌, ◌++◌, IfOk, MatchOption, encode_utf8, length};
 ghost use Rattle.std.specs.Str.{IsCharBoundary};
 ghost use Rattle.bx_cells.specs.Simple.{own_columns};
@@ -11,7 +11,7 @@ use crate::unit::{Face, Unit};
 use bx_ucd::BidiData;
 use std::alloc::AllocError;
 
-/// The first character of a text, and the text behind it.
+/// The first character of a text, and the rest.
 #[inline(always)]
 pub fn first_char(text: &str) -> Option<(char, &str)>
     ensures { MatchOption result (length text.now ≡ 0) (λ (c, rest). (text.now ≡ encode_utf8 c ++ rest.now) × (length rest.now < length text.now)) }
@@ -23,7 +23,7 @@ pub fn first_char(text: &str) -> Option<(char, &str)>
     }
 }
 
-/// The face of a cluster that begins with a character of these columns, with marks behind it or alone.
+/// The face of a cluster whose first character takes `columns` columns; `is_marked` if marks follow it.
 #[inline(always)]
 pub fn simple_face<D: BidiData>(
     first: char,
@@ -44,8 +44,8 @@ pub fn simple_face<D: BidiData>(
     }
 }
 
-/// Adds the units of the simple clusters that stand from an offset on, up to one whose end the characters do not tell by
-/// themselves; gives the offset of what is left.
+/// Appends the units of simple clusters from `at`, and stops before a cluster that is not simple or whose end needs the
+/// rules on breaks. Returns the offset of the rest.
 pub(crate) fn push_simple<D: BidiData>(
     units: &mut Vec<Unit>,
     body: &str,

@@ -1,4 +1,4 @@
-//! Units from the rules on breaks, by the kit's clusters.
+//! Units by the rules on grapheme cluster breaks (`unicode_segmentation`).
 ghost use Rattle.std.specs.Prelude.{◌≡◌, ◌≤◌, ◌<◌, ◌++◌, ◌∷◌, IfOk, length};
 ghost use Rattle.std.specs.Str.{IsCharBoundary};
 ghost use Rattle.bx_cells.specs.Units.{units_from};
@@ -10,7 +10,7 @@ use bx_ucd::BidiData;
 use std::alloc::AllocError;
 use unicode_segmentation::UnicodeSegmentation;
 
-/// Whether a cluster may be found by its characters alone.
+/// Whether a cluster may be simple, by its first character.
 #[inline]
 fn may_be_simple(cluster: &str) -> bool {
     match cluster.chars().next() {
@@ -19,8 +19,8 @@ fn may_be_simple(cluster: &str) -> bool {
     }
 }
 
-/// Adds the units of the clusters that stand from an offset on, one at least if any is left, up to the second of two that may
-/// be simple, so that a blank between words that are not is no end; gives the offset of what is left.
+/// Appends units from `at`, at least one, and stops before the second of two adjacent simple clusters: a single blank
+/// between other words does not end the run. Returns the offset of the rest.
 pub(crate) fn push_by_rules<D: BidiData>(
     units: &mut Vec<Unit>,
     body: &str,
@@ -53,7 +53,7 @@ pub(crate) fn push_by_rules<D: BidiData>(
     Ok(start)
 }
 
-/// The unit that begins at an offset of a body, by the rules on breaks.
+/// The unit that begins at byte offset `at`, by the rules on breaks.
 pub fn ruled_unit<D: BidiData>(body: &str, at: usize, tables: &D, w: u16) -> Unit
     requires start { IsCharBoundary body.now at }
     requires some { at < length body.now }

@@ -10,10 +10,10 @@ use crate::unit::Unit;
 use bx_ucd::BidiData;
 use std::alloc::Global;
 
-/// How many units have room at once; a body of more bytes may take more room while it is read.
+/// The largest initial capacity, in units; a longer list reallocates while the body is read.
 pub(crate) const FIRST_ROOM: usize = 256;
 
-/// The units of a body: by its characters where these tell them, else by the rules on breaks.
+/// The units of a body: by simple characters where possible, else by the rules on breaks.
 fn listed<D: BidiData>(
     alloc: Global,
     body: &str,
@@ -32,8 +32,8 @@ fn listed<D: BidiData>(
     Ok(units)
 }
 
-/// The units of a paragraph's body in a window of `w` columns: its extended grapheme clusters, each with its face. It is
-/// refused only where memory runs out.
+/// The units of a paragraph's body in a window of `w` columns: its extended grapheme clusters, each with its face. The
+/// only error is a failed allocation.
 #[tactic(auto, using(crate::proofs::Standing::stand_if_units, crate::proofs::Standing::faces_if_units))]
 pub fn units<D: BidiData>(
     alloc: Global,

@@ -1,6 +1,6 @@
-//! The refusal of the calls that take memory.
+//! The error of the calls that allocate.
 
 use bx_terms::OutOfMemory;
 
-/// Why units could not be found: memory ran out.
+/// The error of finding units: out of memory.
 pub type CellError = OutOfMemory;

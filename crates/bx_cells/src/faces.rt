@@ -1,4 +1,4 @@
-//! Faces.
+//! The face of a cluster.
 ghost use Rattle.std.specs.Prelude.{◌≡◌, chars, false, length, None, ◌≤◌};
 ghost use Rattle.std.specs.List.{list_any};
 ghost use Rattle.bx_terms.specs.Characters.{is_control};
@@ -9,7 +9,7 @@ use bx_terms::is_control;
 use bx_ucd::{BidiData, Class};
 use unicode_width::UnicodeWidthStr;
 
-/// The letter of an explicit formatting character.
+/// The letter that a mark shows for an explicit formatting character.
 pub(crate) fn letter_of(class: Class) -> Option<u8>
     ensures { result ≡ letter_of class }
 {
@@ -27,7 +27,7 @@ pub(crate) fn letter_of(class: Class) -> Option<u8>
     }
 }
 
-/// Whether a class is that of an explicit formatting character, or another whose letter is still to be asked.
+/// Whether a class may have a letter; false only if it has none.
 #[inline(always)]
 fn may_have_letter(class: Class) -> bool
     ensures { result ≡ false → letter_of class ≡ None }
@@ -46,7 +46,7 @@ fn may_have_letter(class: Class) -> bool
     )
 }
 
-/// The letter of an explicit formatting character, with a short test for the many classes that have none.
+/// `letter_of`, with a short inlined test for the many classes that have no letter.
 #[inline(always)]
 pub(crate) fn letter_if_any(class: Class) -> Option<u8>
     ensures { result ≡ letter_of class }
@@ -58,7 +58,7 @@ pub(crate) fn letter_if_any(class: Class) -> Option<u8>
     }
 }
 
-/// The face of a character of few columns, one of them mostly.
+/// `sized_face` for a simple cluster, with a shortcut for one column.
 #[inline(always)]
 pub(crate) fn small_face(w: u16, columns: u8) -> Face
     ensures { result ≡ sized_face w columns }
@@ -69,7 +69,7 @@ pub(crate) fn small_face(w: u16, columns: u8) -> Face
     sized_face(w, usize::from(columns))
 }
 
-/// The face of a text of these columns that is neither a tab nor a control nor a formatting character.
+/// The face of a text of these columns that is no tab, control or formatting character.
 pub(crate) fn sized_face(w: u16, columns: usize) -> Face
     ensures { result ≡ sized_face w columns }
 {
@@ -82,7 +82,7 @@ pub(crate) fn sized_face(w: u16, columns: usize) -> Face
     }
 }
 
-/// The only character of a text, if it has just one.
+/// The character of a text that has exactly one.
 #[tactic(auto, using(crate::proofs::FaceSteps::only_of_none, crate::proofs::FaceSteps::only_of_one, crate::proofs::FaceSteps::only_of_more))]
 pub fn only_char(text: &str) -> Option<char>
     ensures { result ≡ only_char (chars text.now) }
@@ -97,7 +97,7 @@ pub fn only_char(text: &str) -> Option<char>
     }
 }
 
-/// Whether a text holds a control character.
+/// Whether a text has a control character.
 fn has_control(text: &str) -> bool
     ensures { result ≡ list_any is_control (chars text.now) }
 {
@@ -114,7 +114,7 @@ fn is_tab(only: Option<char>) -> bool
     }
 }
 
-/// The letter of an explicit formatting character that stands alone.
+/// The letter of a cluster that is one explicit formatting character.
 fn format_letter<D: BidiData>(only: Option<char>, tables: &D) -> Option<u8>
     ensures { result ≡ format_letter (D.data tables.now).class only }
 {

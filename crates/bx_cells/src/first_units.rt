@@ -1,4 +1,4 @@
-//! The first units of what a body has from an offset on.
+//! The first units of a body from an offset on.
 ghost use Rattle.std.specs.Prelude.{◌≡◌, ◌<◌, ◌∷◌, All, IfOk, length, take};
 ghost use Rattle.std.specs.Str.{IsCharBoundary};
 ghost use Rattle.bx_cells.specs.Units.{HasFace, StandsIn, units_from};
@@ -12,7 +12,7 @@ use crate::unit::Unit;
 use bx_ucd::BidiData;
 use std::alloc::{AllocError, Global};
 
-/// The unit that begins at an offset of a body: by its characters where these tell it, else by the rules on breaks.
+/// The unit that begins at byte offset `at`: by simple characters if possible, else by the rules on breaks.
 fn unit_at<D: BidiData>(body: &str, at: usize, tables: &D, w: u16) -> Unit
     requires start { IsCharBoundary body.now at }
     requires some { at < length body.now }
@@ -29,7 +29,7 @@ fn unit_at<D: BidiData>(body: &str, at: usize, tables: &D, w: u16) -> Unit
     }
 }
 
-/// The first units of what a body has from an offset on, `count` of them, or all if there are fewer.
+/// The first `count` units from byte offset `at` on, or all if the body has fewer.
 fn listed_from<D: BidiData>(
     alloc: Global,
     body: &str,
@@ -51,9 +51,9 @@ fn listed_from<D: BidiData>(
     Ok(units)
 }
 
-/// The first units of what a body has from an offset on, taken as a text of its own, in a window of `w` columns: `count` of
-/// them, or all if there are fewer. From an offset at which a unit of the body begins they are the body's own. What stands
-/// before the offset is not read. It is refused only where memory runs out.
+/// The first `count` units of a body from byte offset `at` on, or all if it has fewer, in a window of `w` columns. The text
+/// from `at` on is taken as a text of its own and nothing before it is read; if a unit of the body begins at `at`, the
+/// result is the body's own units. The only error is a failed allocation.
 #[tactic(auto, using(crate::proofs::Standing::stand_if_taken, crate::proofs::Standing::faces_if_taken))]
 pub fn units_from<D: BidiData>(
     alloc: Global,

@@ -1,6 +1,6 @@
 //! The units of a paragraph's body: its grapheme clusters, each with the face that it shows.
 //!
-//! Only the functions that answer a `Result` take memory.
+//! Only functions that return a `Result` allocate.
 #![tactic(auto)]
 
 mod ascii_run;

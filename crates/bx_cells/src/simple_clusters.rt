@@ -6,8 +6,8 @@ ghost use Rattle.bx_cells.specs.SimpleAt.{IsSimpleAt};
 use crate::by_character::first_char;
 use crate::simple::{Simple, simple_kind};
 
-/// A cluster of simple characters: the first of them and its columns, whether marks stand behind it, and the offset behind
-/// the cluster.
+/// A cluster of simple characters: its first character and columns, whether marks follow, and the byte offset where the
+/// cluster ends.
 #[derive(Clone, Copy, PartialEq, Eq, Debug)]
 pub struct SimpleCluster {
     pub first: char,
@@ -16,7 +16,7 @@ pub struct SimpleCluster {
     pub stop: usize,
 }
 
-/// The cluster that begins at an offset of a body, where its characters tell it. An answer of none tells nothing.
+/// The cluster that begins at byte offset `at`, if it is simple. `None` leaves it to the rules on breaks.
 #[inline(always)]
 pub fn simple_cluster(body: &str, at: usize) -> Option<SimpleCluster>
     requires { IsCharBoundary body.now at }

@@ -1,4 +1,4 @@
--- The units of what is left are still to be added, and there is room for those of the printable bytes.
+-- The units of the rest are still to be appended, and the list has room for the printable bytes.
 use Rattle.std.proofs.Common.{◌≡◌, ◌≤◌, ◌+◌, ◌-◌, ◌++◌, vec_len, vec_capacity}
 use Rattle.std.specs.Str.{IsCharBoundary}
 use Rattle.bx_cells.specs.Units.{units_from}

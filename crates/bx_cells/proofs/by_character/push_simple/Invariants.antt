@@ -1,4 +1,4 @@
--- A cluster is open, and its unit and those behind it are still to be added.
+-- A cluster is open; its unit and the ones after it are still to be appended.
 use Rattle.std.proofs.Common.{◌≡◌, ◌≤◌, ◌++◌, length}
 use denote.Text.{Utf8}
 use denote.Shadow.{shadow}

@@ -1,4 +1,4 @@
--- The clusters that are still to come are those of what is left, taken as a text of its own.
+-- The clusters still to come are the clusters of the rest, taken as a text of its own.
 use Rattle.std.proofs.Common.{◌≡◌, ◌≤◌, ◌++◌, true, drop}
 use Rattle.std.specs.Str.{IsCharBoundary}
 use Rattle.unicode_segmentation.specs.Grapheme.{graphemes}

@@ -1,4 +1,4 @@
--- The units so far, and those of what is left, are the body's.
+-- The units so far and the units of the rest are the body's.
 use Rattle.std.proofs.Common.{◌≡◌, ◌++◌, ◌-◌, length}
 use Rattle.std.specs.Str.{IsCharBoundary}
 use Rattle.bx_cells.specs.Units.{units, units_from}

@@ -1,4 +1,4 @@
--- The units so far, and the first of those of what is left, are the first of the units from the offset on.
+-- The units so far, and the first units of the rest, are the first units from the offset on.
 use Rattle.std.proofs.Common.{◌≡◌, ◌≤◌, ◌++◌, ◌-◌, length, take}
 use Rattle.std.specs.Str.{IsCharBoundary}
 use Rattle.bx_cells.specs.Units.{units_from}
