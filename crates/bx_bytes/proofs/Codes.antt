@@ -1,4 +1,4 @@
--- The bytes of a character, by its first one, and the character that they are.
+-- The bytes of a character, by its lead byte, and the character that they encode.
 use Rattle.std.proofs.Common.{◌≡◌, ℕ, ◌+◌, ◌-◌, ◌*◌, ◌<◌, ◌≤◌, inl, inr, true, false, cond, nat_eq, nat_lt, List, [], ◌∷◌, ◌++◌, length, get_or, refl, sym, ◌∙◌}
 use Rattle.std.proofs.Common.{arith}
 use Rattle.std.specs.Char.{InScalarRange}
@@ -192,7 +192,7 @@ too_long a b c d e rest = elim (cases_lt a 0xC2) [
   ]
 ]
 
--- three bytes that one more makes a character
+-- three bytes that a fourth completes
 pub three_before : (xs : List ℕ) (b : ℕ) → 3 ≤ length xs → fate_in characters (xs ++ b ∷ []) ≡ Ends → xs ≡ get_or xs 0 0 ∷ get_or xs 1 0 ∷ get_or xs 2 0 ∷ []
 three_before [] b l h = absurd (omega arith)
 three_before (x ∷ []) b l h = absurd (omega arith)

@@ -1,4 +1,4 @@
--- The rows of UTF-8 have the encodings of the scalar values, and nothing else.
+-- The rows of UTF-8 match exactly the encodings of the scalar values.
 use Rattle.std.proofs.Common.{◌≡◌, ℕ, ◌+◌, ◌-◌, ◌*◌, ◌/◌, ◌%◌, ◌<◌, ◌≤◌, ◌⊎◌, inl, inr, Bool, true, false, cond, nat_eq, nat_lt, List, [], ◌∷◌, refl, ap, sym}
 use Rattle.std.proofs.Common.{◌∙◌, arith}
 use Rattle.std.specs.Char.{IsScalar, InScalarRange, encode_utf8}

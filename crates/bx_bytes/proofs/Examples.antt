@@ -1,4 +1,4 @@
--- UTF-8 of worked examples, computed, and what each law gives of them.
+-- UTF-8 of worked examples, computed, and each law applied to them.
 use Rattle.std.proofs.Common.{◌≡◌, ℕ, inl, inr, true, false, List, [], ◌∷◌, ◌++◌, refl, ◌∙◌}
 use Rattle.std.proofs.lemmas.Bool.{both_ways, cases_Bool}
 use Rattle.std.proofs.lemmas.List.{append-nil}
@@ -39,7 +39,7 @@ pub wide_printable : are_printable (0xE4 ∷ 0xB8 ∷ 0x96 ∷ []) ≡ true
 unfolding chars
 wide_printable = refl
 
--- ---- what each law gives
+-- ---- each law, applied
 
 abbrev pub GrammarsBegin : Type 0
 GrammarsBegin = (patterns : List (List Piece)) → is_grammar patterns ≡ true → BeginsByMore patterns

@@ -7,7 +7,7 @@ use Rattle.std.proofs.lemmas.Bool.Decides.{nat_tests}
 use Rattle.bx_bytes.specs.Pattern.{Piece, One, Many, is_within, past, matches, begins, matches_any, begins_any}
 use Rattle.bx_bytes.specs.Grammar.{needs_byte, are_disjoint, excludes, is_sound, are_apart, all_apart, is_grammar, BeginsByMore, NoneBeginsLonger}
 
--- ---- as many bytes of a range as stand there
+-- ---- runs of bytes of a range
 
 past_by : (t : Bool) (low high b : ℕ) (bs cs : List ℕ) → is_within low high b ≡ t → (past low high bs ≡ [] → past low high (bs ++ cs) ≡ past low high cs)
     → past low high (b ∷ bs) ≡ [] → past low high (b ∷ bs ++ cs) ≡ past low high cs
@@ -26,7 +26,7 @@ past_left low high (b ∷ bs) cs = elim (cases_Bool (is_within low high b)) [
   | inr outside ↦ inr (rw outside refl)
 ]
 
--- ---- what is of a pattern begins it, and so does each front
+-- ---- a match begins a match, and so does each front of it
 
 begins_nil : (p : List Piece) → begins p [] ≡ true
 begins_nil [] = refl
@@ -64,7 +64,7 @@ past_outside : (low high : ℕ) (bs : List ℕ) → starts_outside low high bs �
 past_outside low high [] h = refl
 past_outside low high (b ∷ bs) h = let out : is_within low high b ≡ false = grind (arith, nat_tests) in rw out refl
 
--- what is still wanted after the bytes, the least of each range
+-- the bytes still missing, the least of each range
 abbrev completion : List Piece → List ℕ → List ℕ
 completion [] bs = []
 completion (One low high ∷ p) [] = low ∷ completion p []

@@ -1,4 +1,4 @@
--- What bytes are to a grammar, as far as they are read.
+-- The state of a grammar's reader after the bytes read so far.
 use Rattle.std.specs.Prelude.{ℕ, List, if◌then◌else◌}
 use Rattle.bx_bytes.specs.Pattern.{Piece, matches_any, begins_any}
 use Rattle.bx_bytes.specs.declared.fate.Fate.{Fate}

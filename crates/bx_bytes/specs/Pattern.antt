@@ -1,19 +1,19 @@
--- Patterns of bytes: ranges, one after another.
+-- Patterns of bytes: sequences of ranges.
 use Rattle.std.specs.Prelude.{ℕ, Bool, true, false, ◌&&◌, List, [], ◌∷◌, if◌then◌else◌}
 use Rattle.std.specs.List.{list_any}
 pub use Rattle.bx_terms.specs.Characters.{is_within}
 
--- one byte of a range, or as many as stand there
+-- one byte of a range, or the longest run of such bytes, maybe empty
 pub data Piece : Type 0 where
   One : (low high : ℕ) → Piece
   Many : (low high : ℕ) → Piece
 
--- the bytes from the first on that is outside the range
+-- the bytes from the first one outside the range
 abbrev pub past : ℕ → ℕ → List ℕ → List ℕ
 past low high [] = []
 past low high (b ∷ bs) = if is_within low high b then past low high bs else b ∷ bs
 
--- the bytes are of the pattern
+-- the bytes match the pattern
 abbrev pub matches : List Piece → List ℕ → Bool
 matches [] [] = true
 matches [] (b ∷ bs) = false
@@ -21,7 +21,7 @@ matches (One low high ∷ ps) [] = false
 matches (One low high ∷ ps) (b ∷ bs) = is_within low high b && matches ps bs
 matches (Many low high ∷ ps) bs = matches ps (past low high bs)
 
--- the bytes begin some bytes that are of the pattern, or are of it
+-- the bytes begin a match of the pattern, or are one
 abbrev pub begins : List Piece → List ℕ → Bool
 begins [] [] = true
 begins [] (b ∷ bs) = false
@@ -29,7 +29,7 @@ begins (One low high ∷ ps) [] = true
 begins (One low high ∷ ps) (b ∷ bs) = is_within low high b && begins ps bs
 begins (Many low high ∷ ps) bs = begins ps (past low high bs)
 
--- the same of a grammar, a list of patterns
+-- the same for a grammar, a list of patterns
 abbrev pub matches_any : List (List Piece) → List ℕ → Bool
 matches_any patterns bs = list_any (λ p. matches p bs) patterns
 

@@ -27,10 +27,10 @@ characters = (One 0x00 0x7F ∷ []) ∷ long_characters
 abbrev pub is_character : List ℕ → Bool
 is_character bs = matches_any characters bs
 
--- bytes that a character begins with, or its bytes
+-- the first bytes of a character, or all of them
 abbrev pub begins_character : List ℕ → Bool
 begins_character bs = begins_any characters bs
 
--- the rows have the encodings of the Unicode scalar values, and nothing else
+-- the rows match exactly the encodings of the Unicode scalar values
 abbrev pub AreEncodings : Type 0
 AreEncodings = (bs : List ℕ) → (is_character bs ≡ true) ↔ ((c : ℕ) × IsScalar c × (encode_utf8 c ≡ bs))

@@ -1,12 +1,12 @@
-//! What a grammar makes of bytes that it has read so far.
+//! The state of a grammar's reader after the bytes read so far.
 
-/// What bytes are to a grammar, as far as they are read.
+/// The state of a grammar's reader after some bytes.
 #[derive(Clone, Copy, PartialEq, Eq, Debug)]
 pub enum Fate {
-    /// They begin something, and are not the whole of it: more may follow.
+    /// The bytes begin an item and are not the whole of it: more may follow.
     Waits,
-    /// They are something whole.
+    /// The bytes are a whole item.
     Ends,
-    /// They begin nothing.
+    /// The bytes begin no item.
     Breaks,
 }

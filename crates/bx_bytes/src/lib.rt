@@ -1,7 +1,7 @@
 //! Grammars of bytes, and the well-formed byte sequences of UTF-8.
 //!
-//! A reader of a stream asks of each byte what it makes of the bytes before it: do they wait for more, end something
-//! whole, or break? [`Fate`] is the answer, and [`character_fate`] gives it for characters.
+//! A reader of a stream asks after each byte whether the bytes so far wait for more, are a whole item, or begin none.
+//! [`Fate`] is the answer, and [`character_fate`] computes it for characters.
 #![tactic(auto)]
 
 mod fate;

@@ -8,7 +8,7 @@ ghost use Rattle.bx_bytes.specs.Utf8.{characters};
 
 use crate::fate::Fate;
 
-/// What a byte makes of the beginning of a character, or of nothing.
+/// The state after one more byte, where `read` is empty or begins a character.
 pub fn character_fate(read: &[u8], byte: u8) -> Fate
     requires { fate_in characters read.now ≡ Fate.Waits }
     ensures { result ≡ fate_in characters (read.now ++ byte ∷ []) }
@@ -43,7 +43,7 @@ fn fate_of_first(byte: u8) -> Fate
     }
 }
 
-/// No overlong form (after E0, F0), no surrogate (after ED), and at most U+10FFFF (after F4).
+/// Refuses overlong forms (after E0 and F0), surrogates (after ED) and codes above U+10FFFF (after F4).
 fn fate_of_second(lead: u8, byte: u8) -> Fate
     requires { fate_in characters (lead ∷ []) ≡ Fate.Waits }
     ensures { result ≡ fate_in characters (lead ∷ byte ∷ []) }
@@ -77,7 +77,7 @@ fn fate_of_third(lead: u8, second: u8, byte: u8) -> Fate
     }
 }
 
-/// The character whose last byte this is, after the bytes before it.
+/// The character whose last byte is `byte`, after the bytes of `read`.
 pub fn character(read: &[u8], byte: u8) -> char
     requires { fate_in characters (read.now ++ byte ∷ []) ≡ Fate.Ends }
     ensures { chars (read.now ++ byte ∷ []) ≡ result ∷ [] }
