@@ -212,7 +212,7 @@ pieces_within (suc n) (b ∷ bs) ys l =
       ]
     ]
 
--- however input is cut in two, its keys are the keys of the first part and then those of what waited and the second
+-- input cut in two has the keys of the first part, then those of the bytes that waited and the second
 pub in_pieces : (bs ys : List ℕ) → decoding (bs ++ ys)
     ≡ record { keys = (decoding bs).keys ++ (decoding ((decoding bs).rest ++ ys)).keys; rest = (decoding ((decoding bs).rest ++ ys)).rest }
 in_pieces bs ys = pieces_within (length bs) bs ys (omega arith)

@@ -1,4 +1,4 @@
--- Keys of worked examples of input, and what each law gives of them.
+-- Keys of worked examples of input, and each law applied to them.
 use Rattle.std.proofs.Common.{◌≡◌, ◌≢◌, ℕ, inl, inr, true, false, List, [], ◌∷◌, ◌++◌, Some, None, refl, ap, sym, ◌∙◌, arith}
 use Rattle.std.proofs.lemmas.Bool.{both_ways, cases_Bool}
 use Rattle.std.specs.Prelude.{codes, Option}
@@ -69,7 +69,7 @@ dropped = refl
 pub other_escapes_give_no_key : keys (codes "\u{1b}(Bx\u{1b} !0y\u{1b}Mz") ≡ Insert 0x78 ∷ Insert 0x79 ∷ Insert 0x7A ∷ []
 other_escapes_give_no_key = refl
 
--- ---- what each law gives
+-- ---- each law, applied
 
 -- a size that is half read begins an item
 pub of_beginnings : BeginsByMore items → begins_item (codes "\u{1b}[8;24") ≡ true

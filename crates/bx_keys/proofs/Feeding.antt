@@ -1,4 +1,4 @@
--- What the definition makes of bytes that wait and one more.
+-- The definition, applied to bytes that wait and one more.
 use Rattle.std.proofs.Common.{◌≡◌, ℕ, max, Bool, true, false, cond, nat_eq, List, [], ◌∷◌, ◌++◌, length, take, drop, Option, Some, None, refl, ap, sym, ◌∙◌}
 use Rattle.std.proofs.Common.{zero, suc, arith, length-append}
 use Rattle.std.specs.Option.{option_to_list}
@@ -13,7 +13,7 @@ use Rattle.bx_keys.specs.Keys.{Decoding, key_of, with_key, beginning_up_to, begi
 use Rattle.bx_keys.specs.Waiting.{fate}
 use Rattle.bx_keys.specs.declared.key.Key.{Key}
 
--- ---- what a fate says
+-- ---- the meaning of a fate
 
 pub record IsBeginning (bs : List ℕ) : Type 0 where
   pub not_item : is_item bs ≡ false
@@ -107,7 +107,7 @@ feeds_waiting rest b h =
     let is = waits_decoding (rest ++ b ∷ []) h in
     record { is_key = ap (λ (d : Decoding). first_key d.keys) is; is_rest = ap (λ (d : Decoding). d.rest) is }
 
--- what nothing begins with is dropped
+-- a lone byte that begins no item is dropped
 pub alone_dropped : (n b : ℕ) → fate (b ∷ []) ≡ Breaks → decoding_within (suc n) (b ∷ []) ≡ record { keys = []; rest = [] }
 alone_dropped n b h =
     let none : begins_item (b ∷ []) ≡ false = (breaks_by (is_item (b ∷ [])) (begins_item (b ∷ [])) h).1 in
@@ -157,7 +157,7 @@ broken_decoding (x ∷ xs) b h g =
     let longer : length (xs ++ b ∷ []) ≡ suc (length xs) = omega (arith, length-append xs (b ∷ [])) in
     ap (λ n. decoding_within (suc n) (x ∷ (xs ++ b ∷ []))) longer ∙ broken_cut (length xs) x xs b h g
 
--- the byte that breaks what waits is read afresh
+-- the byte that breaks off the waiting bytes is read afresh
 pub feeds_break : (rest : List ℕ) (b : ℕ) → fate rest ≡ Waits → fate (rest ++ b ∷ []) ≡ Breaks → Feeds rest b (key_after [] b) (rest_after [] b)
 feeds_break rest b h g =
     let is = broken_decoding rest b h g in

@@ -1,4 +1,4 @@
--- The first twelve bytes of what waits do what all of it does.
+-- The first twelve waiting bytes give the same keys as all of them.
 use Rattle.std.proofs.Common.{◌≡◌, ℕ, ◌+◌, ◌-◌, ◌≤◌, ◌⊎◌, inl, inr, Bool, true, false, ◌&&◌, nat_eq, nat_le, List, [], ◌∷◌, ◌++◌, length, take, None, refl, ap}
 use Rattle.std.proofs.Common.{sym, ◌∙◌, zero, suc, arith, length-append}
 use Rattle.std.specs.Prelude.{codes}
@@ -110,7 +110,7 @@ head_fate rest b h = elim (whole_or_cut rest h) [
       ∙ ap (λ bs. fate (bs ++ b ∷ [])) (sym cut.bytes))
 ]
 
--- ---- no key comes of so many bytes
+-- ---- a sequence this long has no key
 
 no_plain_key : (x y z : ℕ) (bs : List ℕ) → find (λ k. bytes_eq k.0 (x ∷ y ∷ z ∷ bs)) sequence_keys ≡ None
 no_plain_key x y z bs = grind (arith, nat_tests)
@@ -167,7 +167,7 @@ long_escape_key x bs l = elim (cases_Bool (nat_eq x 0x5B)) [
   | inr other ↦ cond-false (nat_eq x 0x5B) (sequence_key bs) None other
 ]
 
--- what is kept gives the key that all of it gives
+-- the kept bytes give the same key as all of them
 pub head_key : (rest : List ℕ) (b : ℕ) → fate rest ≡ Waits → key_of (head_of rest ++ b ∷ []) ≡ key_of (rest ++ b ∷ [])
 head_key rest b h = elim (whole_or_cut rest h) [
   | inl whole ↦ ap (λ bs. key_of (bs ++ b ∷ [])) whole

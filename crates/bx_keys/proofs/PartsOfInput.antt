@@ -1,4 +1,4 @@
--- Input is cut into items, what is dropped, and what waits.
+-- Input is cut into items, dropped bytes, and waiting bytes.
 use Rattle.std.proofs.Common.{◌≡◌, ℕ, ◌+◌, ◌<◌, ◌≤◌, inl, inr, max, true, false, List, [], ◌∷◌, ◌++◌, length, take, drop}
 use Rattle.std.proofs.Common.{refl, ap, sym, ◌∙◌, subst, zero, suc, arith, append_assoc, drop-cons}
 use Rattle.std.specs.Option.{option_to_list}
@@ -21,7 +21,7 @@ use Rattle.bx_keys.proofs.Cuts.{in_pieces, item_first, waits_first, dropped_firs
 abbrev continued : Decoding → List ℕ → Decoding
 continued d more = record { keys = d.keys ++ (decoding (d.rest ++ more)).keys; rest = (decoding (d.rest ++ more)).rest }
 
--- a byte that breaks what waits is read afresh
+-- a byte that breaks off the waiting bytes is read afresh
 broken_off : (part : List ℕ) (b : ℕ) (more : List ℕ) → fate part ≡ Waits → fate (part ++ b ∷ []) ≡ Breaks → decoding (part ++ b ∷ more) ≡ decoding (b ∷ more)
 broken_off part b more w h =
     ap decoding (sym (append_assoc part (b ∷ []) more))

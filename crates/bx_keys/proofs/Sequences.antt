@@ -1,4 +1,4 @@
--- What one byte more makes of an escape sequence.
+-- The state of an escape sequence after one byte more.
 use Rattle.std.proofs.Common.{◌≡◌, ℕ, ◌≤◌, Bool, true, false, cond, List, [], ◌∷◌, ◌++◌, length, get_or, refl, ap, sym, ◌∙◌, arith}
 use Rattle.std.proofs.lemmas.Bool.Decides.{nat_tests}
 use Rattle.bx_bytes.specs.Pattern.{One, is_within, past}
@@ -6,7 +6,7 @@ use Rattle.bx_bytes.specs.Fate.{fate_in}
 use Rattle.bx_bytes.specs.declared.fate.Fate.TheVariants.{Waits}
 use Rattle.bx_keys.specs.Waiting.{fate}
 
--- ---- as many bytes of a range as stand there
+-- ---- runs of bytes of a range
 
 pub past_by : (t : Bool) (low high b : ℕ) (bs : List ℕ) → is_within low high b ≡ t → past low high (b ∷ bs) ≡ []
     → (is_within low high b ≡ true) × (past low high bs ≡ [])
@@ -30,7 +30,7 @@ only_waits low high (b ∷ c ∷ bs) h = absurd (grind (arith, nat_tests, h))
 pub after_intermediate : (m : ℕ) (bs : List ℕ) → 0x20 ≤ m → m ≤ 0x2F → fate (0x1B ∷ m ∷ bs) ≡ fate_in ((One 0x30 0x7E ∷ []) ∷ []) (past 0x20 0x2F bs)
 after_intermediate m bs l h = grind (arith, nat_tests)
 
--- however many bytes stand between CSI and a byte, it does what it does right after CSI
+-- a byte has the same effect after any bytes of a control sequence as right after CSI
 pub control_more : (sequence : List ℕ) (b : ℕ) → 1 ≤ length sequence → get_or sequence 0 0 ≡ 0x5B → fate (0x1B ∷ sequence) ≡ Waits
     → fate (0x1B ∷ (sequence ++ b ∷ [])) ≡ fate (0x1B ∷ 0x5B ∷ b ∷ [])
 control_more [] b l e h = absurd (omega arith)
@@ -46,7 +46,7 @@ shift_more (x ∷ bs) b l e h =
     let waits : fate (0x1B ∷ 0x4F ∷ bs) ≡ Waits = rw e at h in
     ap (λ y. fate (0x1B ∷ y ∷ (bs ++ b ∷ []))) e ∙ ap (λ ys. fate (0x1B ∷ 0x4F ∷ (ys ++ b ∷ []))) (only_waits 0x20 0x7E bs waits)
 
--- what ESC waits with, but CSI and SS3
+-- the bytes after which ESC waits, except those of CSI and SS3
 pub after_escape : (x : ℕ) (bs : List ℕ) → (x ≡ 0x5B → ⊥) → (x ≡ 0x4F → ⊥) → fate (0x1B ∷ x ∷ bs) ≡ Waits → (0x20 ≤ x) × (x ≤ 0x2F)
 after_escape x bs not_csi not_ss3 h = grind (arith, nat_tests)
 

@@ -78,7 +78,7 @@ fields_size h w = elim (one_or_more w) [
   | inr more ↦ ap (λ fields. size_key (codes "8" ∷ h ∷ fields)) more.fields ∙ sym (no_side h w more.no_digits)
 ]
 
--- where the first semicolon stands
+-- the index of the first semicolon
 pub size_by_sides : (sides : List ℕ) (i : ℕ) → position semicolon sides ≡ Some i
     → size_key (codes "8" ∷ slice_split semicolon sides) ≡ sized (take i sides) (drop (i + 1) sides)
 size_by_sides sides i h =

@@ -1,4 +1,4 @@
--- A decoder that stands for bytes that wait does with a byte what the definition does.
+-- A decoder that keeps bytes that wait reads a byte as the definition does.
 use Rattle.std.proofs.Common.{◌≡◌, ℕ, ◌≤◌, List, [], ◌∷◌, ◌++◌, length, None, refl, ap, sym, ◌∙◌}
 use Rattle.std.proofs.lemmas.List.{take_all}
 use Rattle.bx_bytes.specs.declared.fate.Fate.{Fate}
@@ -39,7 +39,7 @@ ending_rest v rest b s h =
     let left : rest_after rest b ≡ [] = (feeds_end rest b (same_fate v rest b s ∙ h)).is_rest in
     record { waits = ap fate left; is_head = ap head_of (sym left) }
 
--- ---- a byte that breaks what waits
+-- ---- a byte that breaks off the waiting bytes
 
 fresh_by : (f : Fate) (b : ℕ) → fate (b ∷ []) ≡ f → StandsFor (rest_after [] b) (rest_after [] b)
 fresh_by Waits b h =

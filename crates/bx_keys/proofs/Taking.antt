@@ -8,7 +8,7 @@ use Rattle.bx_keys.specs.declared.key.Key.{Key}
 use Rattle.bx_keys.proofs.Feeding.{waits_decoding}
 use Rattle.bx_keys.proofs.Cuts.{byte_by_byte}
 
--- whatever the first decoder stood for, these are the keys, and the second stands for what is left
+-- whatever bytes wait in the first decoder, these are the keys, and the second has the bytes left over
 pub record HasTaken (before bytes : List ℕ) (keys : List Key) (after : List ℕ) : Type 0 where
   pub are_keys : (rest : List ℕ) → StandsFor before rest → keys ≡ (decoding (rest ++ bytes)).keys
   pub stands : (rest : List ℕ) → StandsFor before rest → StandsFor after (decoding (rest ++ bytes)).rest

@@ -1,4 +1,4 @@
--- What a decoder keeps, as its fields have it.
+-- The fields of a decoder, and the bytes that they hold.
 use Rattle.std.specs.Prelude.{◌≡◌, ℕ, ◌-◌, ◌≤◌, List, ◌++◌, length, take, drop, replicate}
 use Rattle.std.proofs.Common.{ap, ◌∙◌, arith}
 use Rattle.std.proofs.lemmas.List.{length-take-le, take-append-drop}
@@ -8,7 +8,7 @@ use Rattle.bx_keys.specs.declared.decoder.Decoder.TheInside.{Inside}
 abbrev pub head_bytes : Inside → List ℕ
 head_bytes d = take d.len d.bytes
 
--- bytes that wait, and zeros
+-- bytes that wait, padded with zeros
 pub record IsDecoder (d : Inside) : Type 0 where
   pub len_fits : d.len ≤ 12
   pub len_bytes : length d.bytes ≡ 12

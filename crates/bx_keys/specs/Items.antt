@@ -3,7 +3,7 @@ use Rattle.std.specs.Prelude.{ℕ, Bool, List, [], ◌∷◌, ◌++◌}
 use Rattle.bx_bytes.specs.Pattern.{Piece, One, Many, matches_any, begins_any}
 use Rattle.bx_bytes.specs.Utf8.{long_characters}
 
--- one byte, but ESC
+-- one byte below 80, except ESC
 abbrev pub single_bytes : List (List Piece)
 single_bytes = (One 0x00 0x1A ∷ []) ∷ (One 0x1C 0x7F ∷ []) ∷ []
 
@@ -22,7 +22,7 @@ single_shift = escape ∷ One 0x4F 0x4F ∷ One 0x20 0x7E ∷ []
 abbrev pub long_escape : List Piece
 long_escape = escape ∷ One 0x20 0x2F ∷ Many 0x20 0x2F ∷ One 0x30 0x7E ∷ []
 
--- ESC and a final byte, but those of CSI and SS3
+-- ESC and a final byte, except those of CSI and SS3
 abbrev pub short_escapes : List (List Piece)
 short_escapes =
     (escape ∷ One 0x30 0x4E ∷ [])

@@ -21,7 +21,7 @@ control_keys =
 abbrev pub single_key : ℕ → Option Key
 single_key b = if is_ascii_printable b then Some (Insert b) else option_map (λ k. k.1) (find (λ k. k.0 == b) control_keys)
 
--- what stands after CSI
+-- the bytes after CSI, with their keys
 abbrev pub sequence_keys : List (List ℕ × Key)
 sequence_keys =
     (codes "A", Up) ∷ (codes "B", Down) ∷ (codes "C", Right) ∷ (codes "D", Left) ∷ (codes "H", RowHome) ∷ (codes "F", RowEnd)
@@ -44,7 +44,7 @@ final_byte body = slice_index body (length body - 1)
 abbrev pub before_final : List ℕ → List ℕ
 before_final body = take (length body - 1) body
 
--- of what stands after CSI
+-- the key of the bytes after CSI
 abbrev pub sequence_key : List ℕ → Option Key
 sequence_key body =
     if final_byte body == 0x74 then size_key (slice_split (λ b. b == 0x3B) (before_final body))
@@ -69,12 +69,12 @@ HasSides _ = Unit {0}
 
 -- ---- the keys of input
 
--- the greatest number up to n of first bytes that begin an item
+-- the length of the longest prefix that begins an item, at most n
 abbrev pub beginning_up_to : ℕ → List ℕ → ℕ
 beginning_up_to zero bs = 0
 beginning_up_to (suc n) bs = if begins_item (take (suc n) bs) then suc n else beginning_up_to n bs
 
--- how many first bytes are the longest that begin an item
+-- the length of the longest prefix that begins an item
 abbrev pub beginning : List ℕ → ℕ
 beginning bs = beginning_up_to (length bs) bs
 
@@ -96,8 +96,8 @@ decoding_within (suc n) (b ∷ bs) =
     else if long == length (b ∷ bs) then record { keys = []; rest = b ∷ bs }
     else decoding_within n (drop (max 1 long) (b ∷ bs))
 
--- The longest front that begins an item gives its key if it is an item, waits if no byte follows it, and is
--- else dropped, at least one byte. Each cut takes a byte or more.
+-- The longest prefix that begins an item gives its key if it is an item, waits if no byte follows it, and is
+-- dropped otherwise, at least one byte. Each cut takes a byte or more.
 abbrev pub decoding : List ℕ → Decoding
 decoding bs = decoding_within (length bs) bs
 
@@ -107,19 +107,19 @@ abbrev pub first_key : List Key → Option Key
 first_key [] = None
 first_key (key ∷ keys) = Some key
 
--- the key that a byte ends after bytes that wait; no byte ends two
+-- the key that a byte completes after bytes that wait; no byte completes two
 abbrev pub key_after : List ℕ → ℕ → Option Key
 key_after rest b = first_key (decoding (rest ++ b ∷ [])).keys
 
--- the bytes that wait then
+-- the bytes that wait after it
 abbrev pub rest_after : List ℕ → ℕ → List ℕ
 rest_after rest b = (decoding (rest ++ b ∷ [])).rest
 
--- what is kept of bytes that wait: the first twelve, since a sequence of which more wait gives no key, however it goes on
+-- the waiting bytes that a decoder keeps: the first twelve, since a sequence with more of them gives no key
 abbrev pub head_of : List ℕ → List ℕ
 head_of rest = take 12 rest
 
--- the keys that bytes end one after another, where of what waits only that head is kept
+-- the keys of bytes read one by one, where only that head of the waiting bytes is kept
 abbrev pub keys_from : List ℕ → List ℕ → List Key
 keys_from rest [] = []
 keys_from rest (b ∷ bs) = option_to_list (key_after rest b) ++ keys_from (head_of (rest_after rest b)) bs

@@ -1,4 +1,4 @@
--- What holds of items, of bytes that wait, of input in pieces and of the parts of input.
+-- Laws of items, of bytes that wait, of input in pieces and of the parts of input.
 use Rattle.std.specs.Prelude.{◌≡◌, ◌↔◌, ℕ, ◌≤◌, List, [], ◌∷◌, ◌++◌, length, take, filter, flat_map, option_to_list}
 use Rattle.std.specs.List.{concat}
 use Rattle.bx_bytes.specs.declared.fate.Fate.{Fate}
@@ -8,12 +8,12 @@ use Rattle.bx_keys.specs.Keys.{Decoding, decoding, key_of}
 use Rattle.bx_keys.specs.Waiting.{fate, IsWaiting}
 use Rattle.bx_keys.specs.declared.key.Key.{Key}
 
--- what the definition leaves waits, and what waits is left as it is
+-- the bytes that input leaves wait, and bytes that wait are left as they are
 pub record RestsWait : Type 0 where
   pub left : (bs : List ℕ) → IsWaiting (decoding bs).rest
   pub same : (rest : List ℕ) → IsWaiting rest ↔ (decoding rest ≡ record { keys = []; rest = rest })
 
--- cut in two, input has the keys of the first part, and then those of what waited and the second
+-- input cut in two has the keys of the first part, then those of the bytes that waited and the second
 abbrev pub ComesInPieces : Type 0
 ComesInPieces = (bs more : List ℕ) →
     let first : Decoding = decoding bs in
@@ -31,16 +31,16 @@ IsPartBy Breaks part after = length part ≡ 1
 abbrev pub IsPart : List ℕ → List ℕ → Type 0
 IsPart part after = IsPartBy (fate part) part after
 
--- parts one after another, and behind them bytes that wait
+-- a sequence of parts, and then bytes that wait
 abbrev pub AreParts : List (List ℕ) → List ℕ → Type 0
 AreParts [] rest = IsWaiting rest
 AreParts (part ∷ parts) rest = IsPart part (concat parts ++ rest) × AreParts parts rest
 
--- only the whole items have keys: all other parts are dropped
+-- only whole items have keys: all other parts are dropped
 abbrev pub keys_of_items : List (List ℕ) → List Key
 keys_of_items parts = flat_map (λ item. option_to_list (key_of item)) (filter is_item parts)
 
--- Input is its parts and what waits behind them. However it is cut so, its keys are those of its items.
+-- Input is a sequence of parts, and then bytes that wait. However it is divided so, its keys are those of its items.
 pub record HasParts : Type 0 where
   pub cut : (bs : List ℕ) → (parts : List (List ℕ)) × (concat parts ++ (decoding bs).rest ≡ bs) × AreParts parts (decoding bs).rest
   pub decoded : (parts : List (List ℕ)) (rest : List ℕ) → AreParts parts rest

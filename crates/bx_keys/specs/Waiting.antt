@@ -1,4 +1,4 @@
--- Bytes that wait for more, and what a decoder keeps of them.
+-- Bytes that wait for more, and those that a decoder keeps.
 use Rattle.std.specs.Prelude.{◌≡◌, ℕ, List}
 use Rattle.bx_bytes.specs.Fate.{fate_in}
 use Rattle.bx_bytes.specs.declared.fate.Fate.{Fate}
@@ -9,11 +9,11 @@ pub use Rattle.bx_keys.specs.Keys.{head_of}
 abbrev pub fate : List ℕ → Fate
 fate bs = fate_in items bs
 
--- nothing, or the beginning of an item and not the whole of it
+-- no bytes, or the beginning of an item and not the whole of it
 abbrev pub IsWaiting : List ℕ → Type 0
 IsWaiting rest = fate rest ≡ Waits
 
--- bytes that wait, of which the decoder keeps what it is seen as
+-- the decoder keeps the head of these waiting bytes
 pub record StandsFor (decoder rest : List ℕ) : Type 0 where
   pub waits : IsWaiting rest
   pub is_head : decoder ≡ head_of rest

@@ -12,10 +12,10 @@ use bx_bytes::Fate;
 use std::alloc::{AllocError, Global};
 use std::marker::Model;
 
-/// How many bytes that wait are kept: one more than wait before the last byte of the longest sequence with a key.
+/// Capacity for waiting bytes: one more than come before the last byte of the longest sequence with a key.
 const HEAD_LEN: usize = 12;
 
-/// The bytes that wait for more, as far as a key can still come of them.
+/// The bytes of an unfinished item, or the first 12 of a longer one, which gives no key.
 #[derive(Clone, Copy, PartialEq, Eq, Debug)]
 pub struct Decoder {
     bytes: [u8; HEAD_LEN],
@@ -57,7 +57,7 @@ impl Decoder {
         }
     }
 
-    /// Takes the next byte, and gives the key that it ends.
+    /// Reads the next byte and returns the key that it completes.
     pub fn feed(&mut self, byte: u8) -> Option<Key>
         ensures own { StandsFor self.old self.old }
         ensures key { (rest : List ℕ) → StandsFor self.old rest → result ≡ key_after rest byte }
@@ -81,8 +81,8 @@ impl Decoder {
         }
     }
 
-    /// Takes all these bytes, and gives the keys that they end, in order. An error is want of memory, and leaves the
-    /// decoder as it was.
+    /// Reads the bytes and returns the keys that they complete, in order. Running out of memory is an error and leaves
+    /// the decoder as it was.
     pub fn feed_all(&mut self, alloc: Global, bytes: &[u8]) -> Result<Vec<Key>, AllocError>
         ensures keys { IfOk result (λ keys. (rest : List ℕ) → StandsFor self.old rest → keys.items ≡ (decoding (rest ++ bytes.now)).keys) }
         ensures rest { OnOk result ((rest : List ℕ) → StandsFor self.old rest → StandsFor self.new (decoding (rest ++ bytes.now)).rest) }
@@ -97,7 +97,7 @@ impl Decoder {
         Ok(keys)
     }
 
-    /// A byte where none waits.
+    /// Reads a byte where none waits.
     fn begin(&mut self, byte: u8) -> Option<Key>
         requires { self.old ≡ [] }
         ensures key { result ≡ key_after [] byte }

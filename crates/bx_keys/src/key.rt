@@ -1,25 +1,25 @@
 //! The keys of the editor.
 
-/// What the user asks for.
+/// A command of the user.
 #[derive(Clone, Copy, PartialEq, Eq, Debug)]
 pub enum Key {
-    /// The character goes in at the place.
+    /// Inserts the character at the place.
     Insert(char),
-    /// The unit before the place goes.
+    /// Removes the unit before the place.
     Erase,
-    /// The unit at the place goes.
+    /// Removes the unit at the place.
     Delete,
-    /// One unit back in the order of the text.
+    /// One unit back in text order.
     Back,
-    /// One unit forward in the order of the text.
+    /// One unit forward in text order.
     Forward,
     /// One row up.
     Up,
     /// One row down.
     Down,
-    /// One step to the right as the row is seen.
+    /// One step to the right on the screen.
     Right,
-    /// One step to the left as the row is seen.
+    /// One step to the left on the screen.
     Left,
     /// To the row's first offset.
     RowHome,
@@ -33,10 +33,10 @@ pub enum Key {
     Quit,
     Undo,
     Redo,
-    /// The whole picture is painted again.
+    /// Paints the whole picture again.
     Repaint,
-    /// The next of the directions that a paragraph may be given.
+    /// Switches to the next direction that paragraphs may be given.
     Direction,
-    /// The window has so many rows and columns, each from 1 to 500.
+    /// The window's size in rows and columns, each from 1 to 500.
     Size(u16, u16),
 }

@@ -1,9 +1,9 @@
 //! Keys, decoded from the bytes that a terminal sends.
 //!
 //! Input is made of items: control characters, characters in UTF-8, and escape sequences (ECMA-35, ECMA-48). No item is
-//! a proper prefix of another. The longest front of the input that begins an item gives its key if it is an item, waits
-//! for more if it is all of the input, and is else dropped, at least one byte. `specs/Keys.antt` says so, and [`Decoder`]
-//! is proved to give those keys, however the bytes come.
+//! a proper prefix of another. The longest prefix of the input that begins an item gives its key if it is an item, waits
+//! for more if it is all of the input, and is dropped otherwise, at least one byte. `specs/Keys.antt` defines this, and
+//! [`Decoder`] is proved to give those keys, however the input is split.
 #![tactic(auto)]
 
 mod decoder;

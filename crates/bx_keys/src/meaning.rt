@@ -14,7 +14,7 @@ use crate::sequence::ESC;
 use bx_bytes::{Fate, character};
 use bx_terms::{is_ascii_printable, is_side};
 
-/// The key of the item whose last byte this is.
+/// The key of the item that `byte` completes, if it has one.
 pub fn key_of(waiting: &[u8], byte: u8) -> Option<Key>
     requires { fate (waiting.now ++ byte ∷ []) ≡ Fate.Ends }
     ensures value { result ≡ spec.key_of (waiting.now ++ byte ∷ []) }
@@ -48,7 +48,7 @@ fn single_key(byte: u8) -> Option<Key>
     }
 }
 
-/// After ESC. Only control sequences have keys.
+/// The key of a sequence after ESC. Only control sequences have keys.
 fn sequence_key(sequence: &[u8], byte: u8) -> Option<Key>
     ensures value { result ≡ spec.key_of (0x1B ∷ (sequence.now ++ byte ∷ [])) }
     ensures sides { IfSome result HasSides }

@@ -1,4 +1,4 @@
-//! What a byte makes of the bytes that wait: characters and escape sequences (ECMA-35, ECMA-48).
+//! The state after one more byte: in characters and in escape sequences (ECMA-35, ECMA-48).
 
 ghost use Rattle.std.specs.Prelude.{◌≡◌, ◌∷◌, [], ◌++◌};
 ghost use Rattle.bx_keys.specs.Waiting.{fate};
@@ -7,7 +7,7 @@ use bx_bytes::{Fate, character_fate};
 
 pub const ESC: u8 = 0x1B;
 
-/// What the byte makes of the bytes that wait.
+/// The state after the waiting bytes and `byte`.
 pub fn fate_after(waiting: &[u8], byte: u8) -> Fate
     requires { fate waiting.now ≡ Fate.Waits }
     ensures { result ≡ fate (waiting.now ++ byte ∷ []) }
@@ -19,7 +19,7 @@ pub fn fate_after(waiting: &[u8], byte: u8) -> Fate
     }
 }
 
-/// After ESC and these bytes.
+/// The state after ESC, `sequence` and `byte`.
 fn fate_in_sequence(sequence: &[u8], byte: u8) -> Fate
     requires { fate (0x1B ∷ sequence.now) ≡ Fate.Waits }
     ensures { result ≡ fate (0x1B ∷ (sequence.now ++ byte ∷ [])) }
