@@ -1,4 +1,4 @@
--- Totals and cuts of sequences that are put together.
+-- Totals and cuts of concatenated sequences.
 use Rattle.std.proofs.Common.{◌≡◌, ℕ, ◌+◌, ◌-◌, ◌<◌, ◌≤◌, Bool, true, false, nat_le, List, [], ◌∷◌, ◌++◌, refl, ap, ◌∙◌, ◌==◌, if◌then◌else◌, arith}
 use Rattle.std.proofs.lemmas.Bool.Decides.{nat_tests}
 use Rattle.std.proofs.lemmas.List.{append-nil}
@@ -9,7 +9,7 @@ pub total_append : (xs ys : List Piece) → total (xs ++ ys) ≡ total xs + tota
 total_append [] ys = omega arith
 total_append (x ∷ xs) ys = omega (arith, total_append xs ys)
 
--- ---- what stands at an offset
+-- ---- the piece at an offset
 
 -- a test, as the number on its left is at most the one on its right or not
 pub le_true : (a b : ℕ) → a ≤ b → nat_le a b ≡ true
@@ -23,12 +23,12 @@ holding_first_at : (fits : Bool) (x : Piece) (xs ys : List Piece) (k : ℕ) → 
 holding_first_at true x xs ys k e inside more = let le : x.len ≤ k = grind (arith, nat_tests) in rw e (more (omega arith))
 holding_first_at false x xs ys k e inside more = rw e refl
 
--- it stands in the first of two sequences
+-- it is in the first of two sequences
 pub holding_first : (xs ys : List Piece) (k : ℕ) → k < total xs → holding (xs ++ ys) k ≡ holding xs k
 holding_first [] ys k inside = absurd (omega arith)
 holding_first (x ∷ xs) ys k inside = holding_first_at (nat_le x.len k) x xs ys k refl inside (λ h. holding_first xs ys (k - x.len) h)
 
--- it stands in the second
+-- it is in the second
 pub holding_past : (xs ys : List Piece) (k : ℕ) → total xs ≤ k → holding (xs ++ ys) k ≡ holding ys (k - total xs)
 holding_past [] ys k past = let e : k - 0 ≡ k = omega arith in rw e refl
 holding_past (x ∷ xs) ys k past =

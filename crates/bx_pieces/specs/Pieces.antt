@@ -1,27 +1,27 @@
--- Sequences of pieces, cut at offsets in bytes.
+-- Sequences of pieces, split at offsets in bytes.
 use Rattle.std.specs.Prelude.{◌^◌, ◌<◌, ◌&&◌, ℕ, ◌+◌, ◌-◌, Bool, true, false, nat_le, ◌==◌, List, [], ◌∷◌, ◌++◌, Option, Some, None, if◌then◌else◌}
 use Rattle.bx_pieces.specs.declared.piece.Buffer.{Buffer}
 use Rattle.bx_pieces.specs.declared.piece.Buffer.TheVariants.{Opened, Added}
 use Rattle.bx_pieces.specs.declared.piece.Piece.{Piece}
 
--- how many bytes the pieces have
+-- the length of the pieces in bytes
 abbrev pub total : List Piece → ℕ
 total [] = 0
 total (p ∷ ps) = p.len + total ps
 
--- the piece that the byte at offset k stands in, and how many bytes of it stand before that one
+-- the piece with the byte at offset k, and the offset of that byte in the piece
 abbrev pub holding : List Piece → ℕ → Option (Piece × ℕ)
 holding [] k = None
 holding (p ∷ ps) k = if nat_le p.len k then holding ps (k - p.len) else Some (p, k)
 
--- the first bytes of a piece, and those after them
+-- the first k bytes of a piece, and those after them
 abbrev pub first_of : Piece → ℕ → Piece
 first_of p k = record p { len = k }
 
 abbrev pub rest_of : Piece → ℕ → Piece
 rest_of p k = record p { start = p.start + k; len = p.len - k }
 
--- the pieces of the first k bytes, and those of the bytes after them: a piece that has bytes on both sides is cut in two
+-- the pieces of the first k bytes, and those of the bytes after them; a piece with bytes on both sides is split
 abbrev pub front : List Piece → ℕ → List Piece
 front [] k = []
 front (p ∷ ps) k = if nat_le p.len k then p ∷ front ps (k - p.len) else if k == 0 then [] else first_of p k ∷ []
@@ -30,7 +30,7 @@ abbrev pub back : List Piece → ℕ → List Piece
 back [] k = []
 back (p ∷ ps) k = if nat_le p.len k then back ps (k - p.len) else if k == 0 then p ∷ ps else rest_of p k ∷ ps
 
--- a piece begins where another one ends
+-- a piece begins where another one ends, in the same buffer
 abbrev pub are_same : Buffer → Buffer → Bool
 are_same Opened Opened = true
 are_same Opened Added = false
@@ -45,13 +45,13 @@ last_of [] = None
 last_of (p ∷ []) = Some p
 last_of (p ∷ x ∷ ps) = last_of (x ∷ ps)
 
--- the last piece with so many bytes more
+-- the last piece gets n bytes longer
 abbrev pub longer : List Piece → ℕ → List Piece
 longer [] n = []
 longer (p ∷ []) n = record p { len = p.len + n } ∷ []
 longer (p ∷ x ∷ ps) n = p ∷ longer (x ∷ ps) n
 
--- one piece more: where it begins where the last one ends, that one is made longer; a piece of no byte is left out
+-- a piece is appended, or lengthens the last one if it begins where that one ends; an empty piece is ignored
 abbrev pub pushed_after : Option Piece → List Piece → Piece → List Piece
 pushed_after None ps q = ps ++ q ∷ []
 pushed_after (Some p) ps q = if goes_on p q then longer ps q.len else ps ++ q ∷ []
@@ -59,7 +59,7 @@ pushed_after (Some p) ps q = if goes_on p q then longer ps q.len else ps ++ q �
 abbrev pub pushed : List Piece → Piece → List Piece
 pushed ps q = if q.len == 0 then ps else pushed_after (last_of ps) ps q
 
--- each piece ends at an offset that a machine can count
+-- each piece ends at an offset below 2^64
 abbrev pub IsAddressable : List Piece → Type 0
 IsAddressable [] = Unit {0}
 IsAddressable (p ∷ ps) = (p.start + p.len < 2 ^ 64) × IsAddressable ps

@@ -1,4 +1,4 @@
-//! Trees cut at an offset.
+//! Splits trees at an offset.
 
 ghost use Rattle.std.specs.Prelude.{◌≡◌, ◌∷◌, ◌++◌, ◌+◌, ◌<◌, ◌≤◌, ◌^◌};
 ghost use Rattle.bx_pieces.specs.Pieces.{total, front, back, first_of, rest_of, IsAddressable};
@@ -9,7 +9,7 @@ use crate::piece::Piece;
 use crate::spares::Spares;
 use crate::tree::{Link, Tree, len, take_apart};
 
-/// The first bytes of a piece, and those after them.
+/// Splits a piece after `count` bytes.
 fn split_piece(piece: Piece, count: usize) -> (Piece, Piece)
     requires inside { count ≤ piece.len }
     requires fits { piece.start + piece.len < 2 ^ 64 }
@@ -27,7 +27,7 @@ fn split_piece(piece: Piece, count: usize) -> (Piece, Piece)
     (first, rest)
 }
 
-/// The pieces of the bytes before an offset, and those of the bytes after it. No memory.
+/// Splits a tree at an offset in bytes. Allocates nothing.
 #[cycle(cutting)]
 pub fn cut(tree: Link, at: usize, spares: &mut Spares) -> (Link, Link)
     requires spare { 0 < spares.old }
@@ -46,7 +46,7 @@ pub fn cut(tree: Link, at: usize, spares: &mut Spares) -> (Link, Link)
     }
 }
 
-/// The same of a piece between two sides, which comes to hang in the tree at hand again.
+/// The same for a piece and its two sides. Reuses `node`.
 #[cycle(cutting)]
 fn cut_fork(
     node: Box<Tree>,

@@ -1,4 +1,4 @@
-//! Trees joined: the deeper one takes the other in where it is as deep.
+//! Joins trees: the shallower one goes into the deeper one, at a subtree of about its depth.
 
 ghost use Rattle.std.specs.Prelude.{◌≡◌, [], ◌∷◌, ◌++◌, ◌+◌, ◌<◌, ◌≤◌, ◌^◌};
 ghost use Rattle.bx_pieces.specs.Pieces.{total};
@@ -7,8 +7,7 @@ ghost use Rattle.bx_pieces.specs.Tree.{sequence, depth_of, DifferByAtMost, IsJoi
 use crate::piece::Piece;
 use crate::tree::{Link, Tree, hang, height, take_apart};
 
-/// A piece between a side and one that is deeper by two: the deeper one's piece, or that of its left side,
-/// comes up.
+/// Rotates left where the right side is deeper by two: once, or twice if its inner side is the deeper one.
 #[tactic(auto, using(crate::proofs::Cuts::total_append))]
 fn lean_left(node: Box<Tree>, left: Link, piece: Piece, mut right: Box<Tree>) -> Box<Tree>
     requires some { 0 < piece.len }
@@ -30,7 +29,7 @@ fn lean_left(node: Box<Tree>, left: Link, piece: Piece, mut right: Box<Tree>) ->
     hang(top, Some(first), highest, Some(rest))
 }
 
-/// The same where the left side is the deeper one.
+/// Rotates right where the left side is deeper by two.
 #[tactic(auto, using(crate::proofs::Cuts::total_append))]
 fn lean_right(node: Box<Tree>, mut left: Box<Tree>, piece: Piece, right: Link) -> Box<Tree>
     requires some { 0 < piece.len }
@@ -52,7 +51,7 @@ fn lean_right(node: Box<Tree>, mut left: Box<Tree>, piece: Piece, right: Link) -
     hang(top, Some(first), highest, Some(rest))
 }
 
-/// A piece between two sides of which one may be deeper by two.
+/// Builds a tree of a piece and two sides, one of which may be deeper by two.
 fn balance(node: Box<Tree>, left: Link, piece: Piece, right: Link) -> Box<Tree>
     requires some { 0 < piece.len }
     requires differ { DifferByAtMost 2 (depth_of left) (depth_of right) }
@@ -70,8 +69,8 @@ fn balance(node: Box<Tree>, left: Link, piece: Piece, right: Link) -> Box<Tree>
     hang(node, left, piece, right)
 }
 
-/// A piece between any two sides, in a tree that is at hand. It goes down the deeper side as far as that is
-/// deeper. No memory.
+/// Builds a tree of a piece and any two sides in `node`. Goes down the deeper side while that is deeper by
+/// more than one. Allocates nothing.
 #[cycle(joining)]
 pub fn join(node: Box<Tree>, left: Link, piece: Piece, right: Link) -> Box<Tree>
     requires some { 0 < piece.len }
@@ -119,7 +118,7 @@ fn join_into_left(node: Box<Tree>, mut left: Box<Tree>, piece: Piece, right: Lin
     balance(left, outer, up, Some(inner))
 }
 
-/// A sequence without its last piece, that piece, and a tree to hang it in.
+/// A sequence without its last piece, that piece, and a node for reuse.
 struct Last {
     before: Link,
     piece: Piece,
@@ -155,7 +154,7 @@ fn split_last(mut tree: Box<Tree>) -> Last
     }
 }
 
-/// One sequence after another. No memory.
+/// Concatenates two sequences. Allocates nothing.
 #[tactic(auto, using(crate::proofs::Cuts::total_append))]
 pub fn join_links(first: Link, second: Link) -> Link
     requires { total (sequence first) + total (sequence second) < 2 ^ 64 }

@@ -1,4 +1,4 @@
-//! A sequence of pieces of text, found and cut by offset, in a balanced tree.
+//! A sequence of pieces of text in a balanced tree, searched and split by offset.
 #![tactic(auto)]
 
 mod cutting;

@@ -3,27 +3,27 @@
 ghost use Rattle.std.specs.Prelude.{◌≡◌};
 ghost use Rattle.bx_pieces.specs.Pieces.{goes_on};
 
-/// Where the bytes of a piece stand.
+/// The buffer that holds the bytes of a piece.
 #[derive(Clone, Copy, PartialEq, Eq, Debug)]
 pub enum Buffer {
     /// The text as it was opened.
     Opened,
-    /// All that was added since.
+    /// All text added since.
     Added,
 }
 
-/// A stretch of a buffer.
+/// A span of a buffer.
 #[derive(Clone, Copy, PartialEq, Eq, Debug)]
 pub struct Piece {
     pub buffer: Buffer,
-    /// Where it begins in the buffer, in bytes from 0.
+    /// Offset of its first byte in the buffer, from 0.
     pub start: usize,
-    /// How many bytes it has.
+    /// Length in bytes.
     pub len: usize,
 }
 
 impl Piece {
-    /// Whether another piece begins where this one ends.
+    /// Whether `next` begins where this piece ends, in the same buffer.
     pub fn goes_on(&self, next: &Piece) -> bool
         ensures { result ≡ goes_on self.now next.now }
     {

@@ -10,8 +10,8 @@ use crate::spares::Spares;
 use crate::tree::{self, Link};
 use std::marker::Model;
 
-/// Pieces in order, each with a byte at least. Finding, cutting and joining cost about the logarithm of how
-/// many there are.
+/// Pieces in order, each of at least one byte. A search, a split or a join takes time logarithmic in the
+/// number of pieces.
 #[derive(Drop)]
 pub struct Pieces {
     tree: Link,
@@ -28,14 +28,14 @@ impl Model for Pieces {
 }
 
 impl Pieces {
-    /// No piece. No memory.
+    /// No piece. Allocates nothing.
     pub fn new() -> Pieces
         ensures { result ≡ [] }
     {
         Pieces { tree: None }
     }
 
-    /// One piece, in a spare tree; none where it has no byte. No memory.
+    /// One piece, in a spare node; none if it is empty. Allocates nothing.
     pub fn of(piece: Piece, spares: &mut Spares) -> Pieces
         requires { 0 < spares.old }
         ensures pieces { result ≡ pushed [] piece }
@@ -46,16 +46,15 @@ impl Pieces {
         pieces
     }
 
-    /// How many bytes the pieces have. No memory.
+    /// Length of all pieces in bytes. Allocates nothing.
     pub fn len(&self) -> usize
         ensures { result ≡ total self.now }
     {
         tree::len(&self.tree)
     }
 
-    /// How many pieces stand one below another in the tree that holds them: so many calls deep goes each
-    /// search, cut, join and drop. It is at most about twice the logarithm of how many pieces there are, and
-    /// below 130. No memory.
+    /// Height of the tree, which bounds the recursion of each search, split, join and drop. It is at most
+    /// about twice the logarithm of the number of pieces, and below 130. Allocates nothing.
     pub fn depth(&self) -> u8
         ensures logarithmic { 2 ^ (result / 2) ≤ length self.now + 1 }
         ensures no_more_than_bytes { length self.now ≤ total self.now }
@@ -64,7 +63,7 @@ impl Pieces {
         tree::height(&self.tree)
     }
 
-    /// These pieces and then others. No memory.
+    /// Appends other pieces. Allocates nothing.
     pub fn join(self, others: Pieces) -> Pieces
         requires { total self + total others < 2 ^ 64 }
         ensures { result ≡ self ++ others }
@@ -74,8 +73,8 @@ impl Pieces {
         }
     }
 
-    /// Adds a piece behind them: where it begins where the last one ends, that one is made longer. A piece
-    /// of no byte is left out. No memory.
+    /// Appends a piece, or lengthens the last one if the piece begins where that one ends. Ignores an empty
+    /// piece. Allocates nothing.
     pub fn push(&mut self, piece: Piece, spares: &mut Spares)
         requires spare { 0 < spares.old }
         requires fits { total self.old + piece.len < 2 ^ 64 }
@@ -95,16 +94,16 @@ impl Pieces {
         self.tree = Some(join(spares.node(), self.tree.take(), piece, None));
     }
 
-    /// The piece that the byte at an offset stands in, and how many bytes of it stand before that one;
-    /// none at or past the end. No memory.
+    /// The piece with the byte at an offset, and the offset of that byte in the piece; none at or past the
+    /// end. Allocates nothing.
     pub fn holding(&self, at: usize) -> Option<(Piece, usize)>
         ensures { result ≡ holding self.now at }
     {
         tree::holding(&self.tree, at)
     }
 
-    /// The pieces of the bytes before an offset, and those of the bytes after it: a piece that has bytes
-    /// on both sides is cut in two, which takes a spare tree. No memory.
+    /// The pieces before an offset in bytes, and those after it. A piece with bytes on both sides is split,
+    /// which takes a spare node. Allocates nothing.
     pub fn cut(self, at: usize, spares: &mut Spares) -> (Pieces, Pieces)
         requires spare { 0 < spares.old }
         requires fits { IsAddressable self }

@@ -1,4 +1,4 @@
-//! Trees that were made ahead, so that adding and cutting a piece take no memory.
+//! Nodes allocated ahead, so that appending and splitting pieces allocate nothing.
 
 ghost use Rattle.std.specs.Prelude.{◌≡◌, ◌+◌, ◌<◌, ◌≤◌, OnOk, OnErr};
 
@@ -6,7 +6,7 @@ use crate::tree::Tree;
 use std::alloc::{AllocError, Global};
 use std::marker::Model;
 
-/// Trees that were made ahead. It is seen as how many there are.
+/// Nodes allocated ahead. Contracts see their number.
 #[derive(Drop)]
 pub struct Spares {
     trees: Vec<Box<Tree>>,
@@ -21,7 +21,7 @@ impl Model for Spares {
 }
 
 impl Spares {
-    /// None yet.
+    /// No node yet.
     pub fn new(alloc: Global) -> Spares
         ensures { result ≡ 0 }
     {
@@ -40,14 +40,14 @@ impl Spares {
         Ok(())
     }
 
-    /// How many there are. No memory.
+    /// Number of nodes. Allocates nothing.
     pub fn count(&self) -> usize
         ensures { result ≡ self.now }
     {
         self.trees.len()
     }
 
-    /// Makes as many as are missing. Where memory runs out some of them may be made.
+    /// Allocates nodes until there are `count`. If memory runs out, it keeps those already allocated.
     pub fn fill(&mut self, count: usize) -> Result<(), AllocError>
         ensures enough { OnOk result (count ≤ self.new) }
         ensures no_fewer { self.old ≤ self.new }
@@ -58,7 +58,7 @@ impl Spares {
         Ok(())
     }
 
-    /// One of them, to hang a piece in. No memory.
+    /// Takes a node. Allocates nothing.
     pub(crate) fn node(&mut self) -> Box<Tree>
         requires { 0 < self.old }
         ensures { self.new + 1 ≡ self.old }

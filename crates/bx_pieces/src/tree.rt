@@ -1,4 +1,4 @@
-//! The tree: pieces in order, whose two sides are about as deep at each piece (an AVL tree).
+//! An AVL tree of pieces in order.
 
 ghost use Rattle.std.specs.Prelude.{◌≡◌, ◌∷◌, ◌++◌, ◌+◌, ◌<◌, ◌≤◌, ◌^◌, length};
 ghost use Rattle.bx_pieces.specs.Pieces.{total, holding, last_of, longer};
@@ -8,19 +8,19 @@ use crate::piece::{Buffer, Piece};
 use std::marker::Model;
 use std::mem;
 
-/// A tree, or none.
+/// A subtree, or none.
 pub type Link = Option<Box<Tree>>;
 
-/// Pieces in order. It is seen as them and its depth.
+/// Pieces in order. Contracts see the pieces and the depth.
 #[cycle(tree)]
 #[derive(Drop)]
 pub struct Tree {
     left: Option<Box<Tree>>,
     piece: Piece,
     right: Option<Box<Tree>>,
-    // how many bytes all of them have
+    // length of all its pieces, in bytes
     len: usize,
-    // how many of them stand one below another on the longest way down
+    // number of pieces on the longest path down
     height: u8,
 }
 
@@ -42,7 +42,7 @@ impl Model for Tree {
 }
 
 impl Tree {
-    /// A piece between two sides that are about as deep.
+    /// A tree of a piece and two sides whose depths differ by at most one.
     #[tactic(auto, using(crate::proofs::Cuts::total_append))]
     pub fn new(left: Link, piece: Piece, right: Link) -> Tree
         requires balanced { DifferByAtMost 1 (depth_of left) (depth_of right) }
@@ -61,7 +61,7 @@ impl Tree {
         }
     }
 
-    /// A tree whose piece nobody reads.
+    /// A placeholder, whose piece is never read.
     pub fn unused() -> Tree {
         let piece = Piece {
             buffer: Buffer::Opened,
@@ -72,7 +72,7 @@ impl Tree {
     }
 }
 
-/// How many bytes the pieces have.
+/// Length of all its pieces, in bytes.
 pub fn len(tree: &Link) -> usize
     ensures { result ≡ total (sequence tree.now) }
 {
@@ -82,7 +82,7 @@ pub fn len(tree: &Link) -> usize
     }
 }
 
-/// How many pieces stand one below another on the longest way down.
+/// Number of pieces on the longest path down.
 pub fn height(tree: &Link) -> u8
     ensures depth { result ≡ depth_of tree.now }
     ensures shallow { IsShallow (depth_of tree.now) (sequence tree.now) }
@@ -95,7 +95,7 @@ pub fn height(tree: &Link) -> u8
     }
 }
 
-/// The piece that a tree hangs from, with its two sides. What is left is not for use.
+/// Moves out the root's piece and its two sides, and leaves a placeholder.
 pub fn take_apart(tree: &mut Tree) -> (Link, Piece, Link)
     ensures shape { tree.old ≡ fork result.0 result.1 result.2 }
     ensures balanced { DifferByAtMost 1 (depth_of result.0) (depth_of result.2) }
@@ -110,7 +110,7 @@ pub fn take_apart(tree: &mut Tree) -> (Link, Piece, Link)
     (left, piece, right)
 }
 
-/// A piece between two sides that are about as deep, in a tree that is at hand.
+/// `Tree::new` in a node that is already allocated.
 pub fn hang(mut node: Box<Tree>, left: Link, piece: Piece, right: Link) -> Box<Tree>
     requires balanced { DifferByAtMost 1 (depth_of left) (depth_of right) }
     requires some { 0 < piece.len }
@@ -121,7 +121,7 @@ pub fn hang(mut node: Box<Tree>, left: Link, piece: Piece, right: Link) -> Box<T
     node
 }
 
-/// The last piece. No memory.
+/// The last piece. Allocates nothing.
 #[cycle(ending)]
 pub fn last(tree: &Link) -> Option<Piece>
     ensures { result ≡ last_of (sequence tree.now) }
@@ -140,7 +140,7 @@ fn last_in(tree: &Tree) -> Option<Piece>
     last(&tree.right).or(Some(tree.piece))
 }
 
-/// Makes the last piece so many bytes longer. No memory.
+/// Lengthens the last piece by `by` bytes. Allocates nothing.
 #[tactic(auto, using(crate::proofs::Cuts::total_append, crate::proofs::Ends::longer_here, crate::proofs::Ends::longer_later, crate::proofs::Ends::total_longer, crate::proofs::Ends::length_longer))]
 pub fn lengthen(tree: &mut Tree, by: usize)
     requires { total tree.old.pieces + by < 2 ^ 64 }
@@ -155,8 +155,8 @@ pub fn lengthen(tree: &mut Tree, by: usize)
     }
 }
 
-/// The piece that the byte at an offset stands in, and how many bytes of it stand before that one;
-/// none at or past the end. No memory.
+/// The piece with the byte at an offset, and the offset of that byte in the piece; none at or past the
+/// end. Allocates nothing.
 #[cycle(finding)]
 pub fn holding(tree: &Link, at: usize) -> Option<(Piece, usize)>
     ensures { result ≡ holding (sequence tree.now) at }
