@@ -18,7 +18,7 @@ pub IsCharBoundary-drop : (xs : List ℕ) (i k : ℕ) → IsCharBoundary xs (i +
 IsCharBoundary-drop xs i k c =
     (omega (arith, length-drop i xs, c.0), λ inside high. omega (arith, get_or-drop i xs k 0, length-drop i xs, c.1))
 
--- what was put in stands between two offsets
+-- the inserted bytes are between two boundaries
 pub IsRange-splice : (text new : List ℕ) (start len : ℕ) → IsUtf8 text → IsUtf8 new → IsRange text start (start + len)
     → IsRange (splice text start (start + len) new) start (start + length new)
 IsRange-splice text new start len utf8 more r =

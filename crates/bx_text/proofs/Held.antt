@@ -92,7 +92,7 @@ module _ (b : Buffers) (ps : List Piece) (k : ℕ) (p : Piece) (j : ℕ) (h : Ho
       (subst IsUtf8 (sym (take-add p.start p.len text))
       (IsUtf8-append (take p.start text) (piece_bytes b p) (IsUtf8-take text p.start utf8 start) h.in_buffers.utf8))
 
--- what a text goes on with, up to a boundary of characters
+-- whole characters of a text from a boundary on end at a boundary
 pub rest_bounds : (text : List ℕ) (k : ℕ) (rest : List ℕ) → IsUtf8 text → IsCharBoundary text k → IsUtf8 rest → take (length rest) (drop k text) ≡ rest
     → IsCharBoundary text (k + length rest)
 rest_bounds text k rest utf8 c rest_utf8 e =

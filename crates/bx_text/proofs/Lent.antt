@@ -20,7 +20,7 @@ range_split text s at stop e h =
 pub range_whole : (text : List ℕ) → slice_range text 0 (length text) ≡ text
 range_whole text = take_all (length text - 0) text (omega arith)
 
--- ---- what all calls lend
+-- ---- the slices of all calls
 
 lent_from : (ss : List (Bor (List ℕ))) (s t : List ℕ) → Yields lends s ss t → t ≡ [] → joined ss ≡ s
 lent_from [] s t y e = sym (y ∙ e)

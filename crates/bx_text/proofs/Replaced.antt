@@ -81,7 +81,7 @@ module _ (b : Buffers) (ps : List Piece) (more : List ℕ) (start len before aft
     rw back_again (AreSteps-grown b more (bytes_of b ps) ss steps),
   )
 
--- what the text is seen as after the edit
+-- the model of the text after the edit
 pub edited_after : (b : Buffers) (ps : List Piece) (more : List ℕ) (start len before after : ℕ) → AreInBuffers b ps → IsUtf8 more
     → IsRange (bytes_of b ps) start (start + len)
     → (ss : List Step) (future : List Edit) → AreSteps b (bytes_of b ps) ss

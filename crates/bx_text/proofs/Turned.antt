@@ -89,7 +89,7 @@ module _ (b : Buffers) (ps : List Piece) (s : Step) (in_buffers : AreInBuffers b
 reverse_last : (rest items : List Step) (s : Step) → items ≡ rest ++ s ∷ [] → reverse items ≡ s ∷ reverse rest
 reverse_last rest items s e = ap reverse e ∙ reverse-append rest (s ∷ [])
 
--- what a step puts in fits beside the text
+-- the span of a step fits beside the text
 pub span_short : (b : Buffers) (ps : List Piece) (items rest : List Step) (s : Step) → AreInBuffers b ps → length (bytes_of b ps) ≤ largest_text
     → AreSteps b (bytes_of b ps) (reverse items) → items ≡ rest ++ s ∷ [] → total ps + total s.span < 2 ^ 64
 span_short b ps items rest s in_buffers short steps e =
@@ -145,7 +145,7 @@ redone_view b ps from to P from' to' in_buffers from_steps t =
     let h : AreSteps b (bytes_of b ps) (s ∷ reverse from') = subst (AreSteps b (bytes_of b ps)) next from_steps in
     rw (t.2, reverse_last to to' (turned_step ps s) t.3, next) (redone_is b ps s in_buffers h.0 h.1 (reverse to) (reverse from'))
 
--- what a step turned leads to
+-- the change that a step makes
 step_leads : (b : Buffers) (ps : List Piece) (s : Step) (place : ℕ) → AreInBuffers b ps → IsRange (bytes_of b ps) s.start (s.start + s.len)
     → AreInBuffers b s.span
     → Leads (bytes_of b ps) (record { start = s.start; removed = s.len; added = total s.span; place = place }) (bytes_of b (turned_pieces ps s))

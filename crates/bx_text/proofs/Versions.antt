@@ -1,4 +1,4 @@
--- Versions of a text: what a swap leaves, how it is taken back, and that what is added later changes none of them.
+-- Versions of a text: the result of a swap, its reversal, and that text added later changes no version.
 use Rattle.std.proofs.Common.{◌≡◌, ℕ, ◌+◌, ◌≤◌, List, [], ◌∷◌, ◌++◌, length, take, drop, refl, ap, sym, subst, ◌∙◌, append_assoc, length-append, arith}
 use Rattle.std.proofs.lemmas.List.{length-take-le, length-drop, drop-drop, take-append-drop, take_at, drop_at, take-append-le, drop-append-le}
 use Rattle.bx_pieces.specs.declared.piece.Buffer.{Buffer}
@@ -15,13 +15,13 @@ use Rattle.bx_text.proofs.Bytes.{bytes_of-append, bytes_of-front, bytes_of-back,
 
 -- ---- a swap
 
--- the end of what gives way, from its start on
+-- the end of the bytes to replace, counted from their start
 back_bounds : (b : Buffers) (ps : List Piece) (start len : ℕ) → AreInBuffers b ps → IsRange (bytes_of b ps) start (start + len)
     → IsCharBoundary (bytes_of b (back ps start)) len
 back_bounds b ps start len h r =
     subst (λ xs. IsCharBoundary xs len) (sym (bytes_of-back b ps start h)) (IsCharBoundary-drop (bytes_of b ps) start len r.stop_bounds)
 
--- what stands behind it
+-- the bytes after it
 pub last_bytes : (b : Buffers) (ps : List Piece) (start len : ℕ) → AreInBuffers b ps → IsCharBoundary (bytes_of b ps) start
     → bytes_of b (back (back ps start) len) ≡ drop (start + len) (bytes_of b ps)
 last_bytes b ps start len h c =
@@ -69,7 +69,7 @@ length-splice text new start len h =
       length-drop (start + len) text,
     )
 
--- what stands before and after what was put in
+-- the bytes before and after the inserted ones
 pub splice_before : (text new : List ℕ) (start stop : ℕ) → start ≤ length text → take start (splice text start stop new) ≡ take start text
 splice_before text new start stop h =
     ap (take start) (append_assoc (take start text) new (drop stop text))

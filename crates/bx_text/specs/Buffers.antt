@@ -1,4 +1,4 @@
--- The bytes that pieces stand for.
+-- The bytes of pieces.
 use Rattle.std.specs.Prelude.{◌≡◌, ℕ, ◌+◌, ◌<◌, ◌≤◌, List, [], ◌++◌, ◌∷◌, length, take, drop, IsCharBoundary}
 use Rattle.std.specs.Str.{IsUtf8}
 use Rattle.bx_pieces.specs.declared.piece.Buffer.{Buffer}
@@ -21,7 +21,7 @@ abbrev pub bytes_of : Buffers → List Piece → List ℕ
 bytes_of b [] = []
 bytes_of b (p ∷ ps) = piece_bytes b p ++ bytes_of b ps
 
--- the piece stands in its buffer, and is made of whole characters
+-- the piece lies in its buffer, and consists of whole characters
 pub record IsInBuffer (b : Buffers) (p : Piece) : Type 0 where
   pub inside : p.start + p.len ≤ length (buffer_bytes b p.buffer)
   pub utf8 : IsUtf8 (piece_bytes b p)
@@ -30,11 +30,11 @@ abbrev pub AreInBuffers : Buffers → List Piece → Type 0
 AreInBuffers b [] = Unit {0}
 AreInBuffers b (p ∷ ps) = IsInBuffer b p × AreInBuffers b ps
 
--- the pieces with so many added bytes behind them, which stand in their buffer from an offset on
+-- the pieces, and then len bytes of the added text from offset start
 abbrev pub with_added : List Piece → ℕ → ℕ → List Piece
 with_added ps start len = pushed ps (record { buffer = Added; start = start; len = len })
 
--- some bytes that the text goes on with from an offset on, up to one between two characters
+-- the bytes of the text from an offset to a later character boundary
 pub record IsRest (text : List ℕ) (at : ℕ) (rest : List ℕ) : Type 0 where
   pub bytes : take (length rest) (drop at text) ≡ rest
   pub not_empty : 0 < length rest

@@ -1,4 +1,4 @@
--- What a text is seen as: its bytes with past and future, and the room that was made for the next edit.
+-- The model of a text: its bytes with past and future, and the room made for the next edit.
 use Rattle.std.specs.Prelude.{ℕ, ◌+◌, ◌≤◌, List, length, reverse, Option, None, Some, IfSome, string_bytes, string_len, string_capacity, vec_len, vec_capacity}
 use Rattle.bx_text.specs.declared.text.Text.TheInside.{Inside}
 use Rattle.bx_text.specs.Buffers.{Buffers, bytes_of, AreInBuffers}
@@ -7,7 +7,7 @@ use Rattle.bx_text.specs.Steps.{past_of, future_of, AreSteps}
 
 pub record TextState : Type 0 where
   pub edited : Edited
-  -- where it is Some of a number, the next edit that inserts at most so many bytes takes no memory
+  -- if it is Some n, the next edit that inserts at most n bytes allocates nothing
   pub room : Option ℕ
 
 abbrev pub buffers_of : Inside → Buffers
@@ -26,7 +26,7 @@ text_of t = record {
   room = t.room;
 }
 
--- there is room for so many bytes more, for one step more, and for the trees of one edit
+-- there is room for these bytes more, for one step more, and for the nodes of one edit
 pub record HasRoom (t : Inside) (bytes : ℕ) : Type 0 where
   pub bytes_fit : string_len t.added + bytes ≤ string_capacity t.added
   pub step_fits : vec_len t.past + 1 ≤ vec_capacity t.past
@@ -39,7 +39,7 @@ pub record IsText (t : Inside) : Type 0 where
   pub future_steps : AreSteps (buffers_of t) (bytes_in t) (reverse t.future.items)
   pub has_room : IfSome t.room (HasRoom t)
 
--- room was made for so many bytes
+-- room was made for these bytes
 abbrev pub HasRoomFor : Option ℕ → ℕ → Type 0
 HasRoomFor None bytes = ⊥
 HasRoomFor (Some room) bytes = bytes ≤ room

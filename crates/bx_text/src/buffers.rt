@@ -1,4 +1,4 @@
-//! The two buffers that pieces stand in, read.
+//! Reads the two buffers of the pieces.
 
 ghost use Rattle.std.specs.Prelude.{◌≡◌, ◌<◌, ◌↔◌, IsSome, IfSome, length, IsCharBoundary};
 ghost use Rattle.bx_text.specs.Buffers.{Buffers, buffer_bytes, bytes_of, AreInBuffers, IsRest};
@@ -14,8 +14,8 @@ fn buffer_of<'a>(opened: &'a str, added: &'a str, buffer: Buffer) -> &'a str
     }
 }
 
-/// The rest, from an offset on, of the piece that holds it; none where the offset bounds no character, is
-/// the end of the pieces' text or is past it.
+/// The text of the piece at an offset, from that offset on; none if the offset is inside a character, or
+/// at or past the end of the text.
 pub fn rest_in<'a>(opened: &'a str, added: &'a str, pieces: &Pieces, at: usize) -> Option<&'a str>
     requires { AreInBuffers (record { opened = opened.now; added = added.now }) pieces.now }
     ensures there { let text = bytes_of (record { opened = opened.now; added = added.now }) pieces.now in

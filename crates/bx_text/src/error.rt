@@ -3,10 +3,10 @@
 use std::alloc::AllocError;
 use thiserror::Error;
 
-/// Why a text was not opened or edited: it is unchanged.
+/// Why a text was not opened or edited. An error leaves it unchanged.
 #[derive(Clone, Copy, PartialEq, Eq, Debug, Error)]
 pub enum TextError {
-    /// An offset bounds no character, is past the end, or is past the one that it should come before.
+    /// An offset is inside a character or past the end, or a range's start is past its end.
     #[error("not a boundary of characters")]
     NotABoundary,
     /// The text would have more than 16,777,216 bytes.

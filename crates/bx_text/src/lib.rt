@@ -1,6 +1,6 @@
 //! A text under edits, with undo and redo: a piece table.
 //!
-//! Only the functions that answer a `Result` take memory.
+//! Only functions that return a `Result` allocate.
 #![tactic(auto)]
 
 mod buffers;

@@ -1,4 +1,4 @@
-//! The pieces of a text, lent one after another.
+//! An iterator over the pieces of a text.
 
 ghost use Rattle.std.specs.Prelude.{◌≡◌, length, slice_range};
 ghost use Rattle.std.specs.Iterator.{at_most};
@@ -7,8 +7,8 @@ ghost use Rattle.bx_text.specs.Edits.{IsRange};
 use crate::text::Text;
 use std::marker::Model;
 
-/// The pieces of a text from one offset to another, lent in order, none of them empty. It is seen as the
-/// bytes that are left. Each call finds its piece by offset, and takes no memory.
+/// Iterates over the pieces of a text between two offsets, none of them empty. Contracts see the bytes that
+/// are left. Each call finds its piece by offset, and allocates nothing.
 #[derive(Drop)]
 pub struct Slices<'a> {
     text: &'a Text,

@@ -1,15 +1,15 @@
-//! An edit that can be taken back or made again.
+//! An edit to undo or redo.
 
 use bx_pieces::Pieces;
 
-/// An edit that can be taken back, or made again: where and with what.
+/// An edit to undo or redo: its position and its replacement.
 #[derive(Drop)]
 pub struct Step {
-    /// The first byte's offset.
+    /// Offset of the first byte to replace.
     pub start: usize,
-    /// What is to stand there.
+    /// The replacement.
     pub span: Pieces,
-    /// How many bytes are to give way.
+    /// Number of bytes to replace.
     pub len: usize,
     /// The place before the edit: the cursor's offset.
     pub before: usize,

@@ -1,4 +1,4 @@
-//! Pieces instead of others.
+//! Replaces pieces by others.
 
 ghost use Rattle.std.specs.Prelude.{◌≡◌, ◌++◌, ◌+◌, ◌<◌, ◌≤◌, ◌^◌, OnOk, OnErr, length, vec_len, vec_capacity, string_len, string_capacity, string_bytes};
 ghost use Rattle.bx_text.specs.Buffers.{with_added};
@@ -10,7 +10,7 @@ use crate::step::Step;
 use bx_pieces::{Buffer, Piece, Pieces, Spares};
 use std::mem;
 
-/// Puts a span instead of so many bytes, and gives what stood there.
+/// Replaces `len` bytes by a span, and returns the pieces replaced.
 pub fn swap(
     pieces: &mut Pieces,
     start: usize,
@@ -31,7 +31,7 @@ pub fn swap(
     old
 }
 
-/// Appends text to the buffer of what was added, and puts it behind some pieces.
+/// Appends text to the buffer `added`, and its piece to `pieces`.
 fn add(pieces: &mut Pieces, added: &mut String, text: &str, spares: &mut Spares)
     requires room { string_len added.old + length text.now ≤ string_capacity added.old }
     requires spare { 1 ≤ spares.old }
@@ -49,7 +49,7 @@ fn add(pieces: &mut Pieces, added: &mut String, text: &str, spares: &mut Spares)
     pieces.push(piece, spares);
 }
 
-/// Puts text instead of so many bytes, and gives what stood there.
+/// Replaces `len` bytes by text, and returns the pieces replaced.
 pub fn put(
     pieces: &mut Pieces,
     start: usize,
@@ -73,8 +73,8 @@ pub fn put(
     old
 }
 
-/// Makes the last of some steps, and adds the step that takes it back to others. Where memory runs out
-/// nothing has changed.
+/// Applies the last step of `from`, and pushes its inverse to `to`. If memory runs out, both and the pieces
+/// are unchanged.
 pub fn turn(
     pieces: &mut Pieces,
     from: &mut Vec<Step>,

@@ -23,9 +23,9 @@ use std::marker::Model;
 /// A text under edits, with its past and its future.
 #[derive(Drop)]
 pub struct Text {
-    // what was opened, which never changes
+    // the text as opened, which never changes
     opened: String,
-    // all that was put in since
+    // all text inserted since
     added: String,
     pieces: Pieces,
     // the latest last
@@ -49,7 +49,7 @@ impl Model for Text {
 }
 
 impl Text {
-    /// A text that has no past and no future. A refusal drops the string.
+    /// Opens a text, with no past and no future. An error drops the string.
     ///
     /// Errors: `TooLong` above 16,777,216 bytes; `OutOfMemory`.
     pub fn open(alloc: Global, text: String) -> Result<Text, TextError>
@@ -81,7 +81,7 @@ impl Text {
         })
     }
 
-    /// How many bytes the text has.
+    /// Length in bytes.
     pub fn len(&self) -> usize
         ensures len { result ≡ length self.now.edited.text }
         ensures short { length self.now.edited.text ≤ largest_text }
@@ -90,7 +90,7 @@ impl Text {
         self.pieces.len()
     }
 
-    /// What `undo` would do next; none where there is nothing to take back.
+    /// The change that `undo` would make next; none if the past is empty.
     pub fn next_undo(&self) -> Option<Change>
         ensures { result ≡ next_undo self.now.edited }
     {
@@ -103,7 +103,7 @@ impl Text {
         })
     }
 
-    /// What `redo` would do next; none where there is nothing to make again.
+    /// The change that `redo` would make next; none if the future is empty.
     pub fn next_redo(&self) -> Option<Change>
         ensures { result ≡ next_redo self.now.edited }
     {
@@ -116,7 +116,7 @@ impl Text {
         })
     }
 
-    /// Makes the growths of an edit that inserts so many bytes. Nothing of the text changes.
+    /// Reserves memory for an edit that inserts `bytes` bytes. The text is unchanged.
     fn grow(&mut self, bytes: usize) -> Result<(), AllocError>
         ensures edited { self.new.edited ≡ self.old.edited }
         ensures ok { OnOk result (self.new.room ≡ Some bytes) }
@@ -129,7 +129,7 @@ impl Text {
         Ok(())
     }
 
-    /// Makes room: after Ok the next edit that inserts at most so many bytes takes no memory.
+    /// Makes room: after Ok the next edit that inserts at most `bytes` bytes allocates nothing.
     ///
     /// Errors: `OutOfMemory`, and the text and the room made before are unchanged.
     pub fn ready(&mut self, bytes: usize) -> Result<(), TextError>
@@ -143,7 +143,7 @@ impl Text {
         }
     }
 
-    /// Whether room was made for so many bytes.
+    /// Whether room was made for `bytes` bytes.
     fn has_room_for(&self, bytes: usize) -> bool
         ensures { IsTrue result ↔ HasRoomFor self.now.room bytes }
     {
@@ -153,7 +153,7 @@ impl Text {
         }
     }
 
-    /// Puts text instead of so many bytes: one edit.
+    /// Replaces `len` bytes by text, as one edit.
     fn replace(
         &mut self,
         start: usize,
@@ -195,8 +195,8 @@ impl Text {
         }
     }
 
-    /// The rest, from an offset on, of the piece of the text that holds it; none where the offset bounds no
-    /// character, is the text's end or is past it.
+    /// The text of the piece at an offset, from that offset on; none if the offset is inside a character, or
+    /// at or past the text's end.
     pub fn piece_at(&self, offset: usize) -> Option<&str>
         ensures there { IsSome result ↔ (IsCharBoundary self.now.edited.text offset × (offset < length self.now.edited.text)) }
         ensures bytes { IfSome result (λ s. take (length s.now) (drop offset self.now.edited.text) ≡ s.now) }
@@ -215,7 +215,7 @@ impl Text {
         at == self.len() || self.piece_at(at).is_some()
     }
 
-    /// Whether two offsets bound characters and stand in order.
+    /// Whether two offsets are character boundaries, in order.
     fn is_range(&self, start: usize, stop: usize) -> bool
         ensures range { IsTrue result ↔ IsRange self.now.edited.text start stop }
         ensures short { length self.now.edited.text ≤ largest_text }
@@ -225,7 +225,7 @@ impl Text {
         start <= stop && stop <= len && self.is_boundary(start) && self.is_boundary(stop)
     }
 
-    /// What stands from an offset on, as far as the piece that holds it goes, up to a later offset.
+    /// The text from one offset to a later one, or to the end of the first piece if that comes before.
     pub fn part_at(&self, at: usize, stop: usize) -> &str
         requires range { IsRange self.now.edited.text at stop }
         requires before { at < stop }
@@ -246,7 +246,7 @@ impl Text {
         Slices::new(self, 0, self.len())
     }
 
-    /// A copy of what stands from one offset to another, both between two characters.
+    /// Copies the text between two character boundaries.
     ///
     /// Errors: `NotABoundary`, also where `start > stop`; `OutOfMemory`.
     pub fn copy_range(&self, start: usize, stop: usize) -> Result<String, TextError>
@@ -266,7 +266,7 @@ impl Text {
         Ok(copy)
     }
 
-    /// Room for so many bytes, unless it was made before.
+    /// Makes room for `bytes` bytes, unless it was made before.
     fn make_room(&mut self, bytes: usize) -> Result<(), TextError>
         ensures ok { OnOk result ((self.new.edited ≡ self.old.edited) × HasRoomFor self.new.room bytes) }
         ensures err { OnErr result ((self.new ≡ self.old) × (result ≡ Err TextError.OutOfMemory)) }
@@ -278,11 +278,11 @@ impl Text {
         self.ready(bytes)
     }
 
-    /// Puts text in at an offset, between two characters: one edit, also of no bytes. It empties the
-    /// future. `before` and `after` are the places that stand before and after it.
+    /// Inserts text at a character boundary, as one edit even if it has no bytes. Empties the future. `before`
+    /// and `after` are the places before and after the edit.
     ///
     /// Errors, in this order, each leaving all unchanged: `NotABoundary`; `TooLong` where the text would
-    /// pass 16,777,216 bytes; `OutOfMemory`, which does not come where `ready` made room.
+    /// exceed 16,777,216 bytes; `OutOfMemory`, unless `ready` made room.
     pub fn insert(
         &mut self,
         pos: usize,
@@ -295,7 +295,7 @@ impl Text {
         ensures leads { IfOk result (λ c. Leads self.old.edited.text c self.new.edited.text) }
         ensures err { OnErr result (self.new ≡ self.old) }
 
-        // Which refusal comes, and that no other cause refuses.
+        // Each error comes for its own cause alone.
         ensures not_a_boundary { IsErrOf result TextError.NotABoundary → ¬ (IsCharBoundary self.old.edited.text pos) }
         ensures boundary { ¬ (IsCharBoundary self.old.edited.text pos) → IsErrOf result TextError.NotABoundary }
         ensures too_long { IsErrOf result TextError.TooLong → fits self.old.edited.text pos pos text.now ≡ false }
@@ -312,11 +312,11 @@ impl Text {
         Ok(self.replace(pos, 0, text, before, after))
     }
 
-    /// Takes out what stands from one offset to another, both between two characters: one edit, also of no
-    /// bytes. It empties the future. `before` and `after` are the places that stand before and after it.
+    /// Removes the text between two character boundaries, as one edit even if it has no bytes. Empties the
+    /// future. `before` and `after` are the places before and after the edit.
     ///
-    /// Errors, each leaving all unchanged: `NotABoundary`, also where `start > stop`; `OutOfMemory`,
-    /// which does not come where `ready` made room.
+    /// Errors, each leaving all unchanged: `NotABoundary`, also where `start > stop`; `OutOfMemory`, unless
+    /// `ready` made room.
     pub fn remove(
         &mut self,
         start: usize,
@@ -329,7 +329,7 @@ impl Text {
         ensures leads { IfOk result (λ c. Leads self.old.edited.text c self.new.edited.text) }
         ensures err { OnErr result (self.new ≡ self.old) }
 
-        // Which refusal comes, and that no other cause refuses.
+        // Each error comes for its own cause alone.
         ensures range { OnOk result (IsRange self.old.edited.text start stop) }
         ensures not_a_boundary { IsErrOf result TextError.NotABoundary → ¬ (IsRange self.old.edited.text start stop) }
         ensures boundary { ¬ (IsRange self.old.edited.text start stop) → IsErrOf result TextError.NotABoundary }
@@ -343,7 +343,7 @@ impl Text {
         Ok(self.replace(start, stop - start, "", before, after))
     }
 
-    /// Takes back the latest edit, with its place; none where there is nothing to take back.
+    /// Undoes the latest edit; none if the past is empty.
     ///
     /// Errors: `OutOfMemory`, leaving all unchanged.
     pub fn undo(&mut self) -> Result<Option<Change>, TextError>
@@ -367,7 +367,7 @@ impl Text {
         Ok(change)
     }
 
-    /// Makes the next edit again, with its place; none where there is nothing to make again.
+    /// Redoes the next edit; none if the future is empty.
     ///
     /// Errors: `OutOfMemory`, leaving all unchanged.
     pub fn redo(&mut self) -> Result<Option<Change>, TextError>
