@@ -153,7 +153,7 @@ move_asked ds es line column some more all every el ec =
     rw (parts.0, parts.1, number_of_digits ds some all, number_of_digits es more every) refl in
     ap (λ n. Move n column) el ∙ ap (λ n. Move (min 1000 (digits_value 10 ds)) n) ec ∙ sym (ap capped is)
 
--- the numbers of so many digits each, a semicolon between them and an H after them
+-- two numbers of m and k digits, with a semicolon between them and an H after them
 pub move_told : (body rest : List ℕ) (m k line column : ℕ) → 0 < m → m < length body → get_or body m 0 ≡ 0x3B → all_ascii_digits (take m body) ≡ true
     → line ≡ min 1000 (digits_value 10 (take m body)) → rest ≡ drop (m + 1) body → 0 < k → k < length rest → get_or rest k 0 ≡ 0x48
     → all_ascii_digits (take k rest) ≡ true → column ≡ min 1000 (digits_value 10 (take k rest))

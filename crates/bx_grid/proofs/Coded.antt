@@ -169,7 +169,7 @@ alike_wide (Glyph text columns offset negative) z xs ys h e = λ first.
     let two : columns ≡ 2 = count_is text columns offset 2 negative h e in
     rw two refl
 
--- what codes at an index tell of two rows
+-- two rows, compared by their codes at an index
 pub inside_told : (xs ys : List Col) (i a b : ℕ) → i < length xs → i < length ys → a ≡ code_of (get_or xs i Unknown) → b ≡ code_of (get_or ys i Unknown)
     → are_same_code a b ≡ true → 0 < offset_in a → BeginAlike (drop i xs) (drop i ys)
 inside_told xs ys i a b low also ea eb h some =

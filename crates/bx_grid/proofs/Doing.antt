@@ -1,4 +1,4 @@
--- What a terminal that reads does to its columns, along with the state that it comes to.
+-- The effects of reading on a terminal's columns, along with its state after it.
 use Rattle.std.proofs.Common.{◌≡◌, ℕ, true, List, [], ◌∷◌, ◌++◌, refl, ap, sym, ◌∙◌, append_assoc}
 use Rattle.std.specs.List.{list_all}
 use Rattle.std.proofs.lemmas.List.{append-nil}
@@ -7,7 +7,7 @@ use Rattle.bx_grid.specs.Effects.{Effect, pending_effects, effects_after, byte_e
 use Rattle.bx_grid.specs.Terminal.{Terminal, reads, byte_read, read_after, run_ended, after_command}
 use Rattle.bx_grid.proofs.Reading.{at, and_left, and_right, all-push, IsFinal, params_all, params_then}
 
--- a terminal, and what it has done
+-- a terminal, and its effects so far
 abbrev pub run : Terminal × List Effect → List ℕ → Terminal × List Effect
 run w [] = w
 run w (b ∷ bs) = run (byte_read w.0 b, w.1 ++ byte_effects w.0 b) bs

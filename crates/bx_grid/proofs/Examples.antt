@@ -1,4 +1,4 @@
--- Pictures, columns and what a terminal reads, on worked examples.
+-- Pictures, columns and reading, on worked examples.
 use Rattle.std.proofs.Common.{◌≡◌, ℕ, true, false, List, [], ◌∷◌, ◌++◌, replicate, Option, Some, None, refl}
 use Rattle.std.specs.Prelude.{codes, ◌*◌}
 use Rattle.std.specs.Str.{chars}

@@ -1,4 +1,4 @@
--- Grids: their sizes, a grid of blanks, and what putting one more glyph keeps.
+-- Grids: their sizes, a grid of blanks, and the invariant after putting one more glyph.
 use Rattle.std.proofs.Common.{◌≡◌, ℕ, ◌+◌, ◌*◌, ◌-◌, ◌<◌, ◌≤◌, Bool, true, List, [], ◌∷◌, ◌++◌, length, map, take, drop, set, get_or, replicate}
 use Rattle.std.proofs.Common.{zero, suc, refl, subst, ap, sym, ◌∙◌, append_assoc, arith}
 use Rattle.std.specs.Str.{IsUtf8}
@@ -34,7 +34,7 @@ pub set_seen : (items : List Column) (k : ℕ) (x : Column) (y : Col) → seen x
 set_seen items k x y is inside =
     map-set seen items k x ∙ set_is_paste (all_seen items) k (seen x) inside ∙ ap (λ z. paste (all_seen items) k (z ∷ [])) is
 
--- some columns of a row stand among all of them
+-- some columns of a row are among the grid's
 pub span_inside : (r k n h w all : ℕ) → all ≡ h * w → r < h → k + n ≤ w → r * w + k + n ≤ all
 span_inside r k n h w all e low left = omega (arith, e, mul-le-mul_right w (let below : r + 1 ≤ h = omega arith in below))
 

@@ -1,4 +1,4 @@
--- What half-read bytes look like, and what their token does.
+-- The form of half-read bytes, and the effect of their token.
 use Rattle.std.proofs.Common.{◌≡◌, ℕ, ◌≤◌, true, false, nat_le, min, List, [], ◌∷◌, ◌++◌, drop, get_or, inl, inr, refl, ap}
 use Rattle.std.proofs.Common.{sym, ◌∙◌, arith}
 use Rattle.std.proofs.lemmas.Bool.{cases_lt}

@@ -88,13 +88,13 @@ done_behind : (t : Terminal) (run : List ℕ) (token : Token) (tokens : List Tok
 done_behind t [] token tokens = refl
 done_behind t (b ∷ bs) token tokens = refl
 
--- ---- tokens of which each printable character is a run
+-- ---- tokens in which each printable character is a run
 
 abbrev rest_begun : Terminal → List ℕ → Terminal
 rest_begun t [] = t
 rest_begun t (b ∷ bs) = begun (nat_eq b 0x1B) t (b ∷ bs)
 
--- a terminal of which this is left half read
+-- a terminal with the rest of a cutting half read
 abbrev left : Terminal → Cutting → Terminal
 left t c = record (tokens_done t c.tokens) { run = c.run; half_read = c.rest }
 

@@ -77,7 +77,7 @@ no_item bs h = elim (cases_Bool (is_item bs)) [
 pub breaks_if : (bs : List ℕ) → begins_item bs ≡ false → fate bs ≡ Breaks
 breaks_if bs h = fate_is bs ∙ cond-false (is_item bs) Ends _ (no_item bs h) ∙ cond-false (begins_item bs) Waits Breaks h
 
--- what stands before another byte of a beginning waits
+-- the bytes before another byte of a beginning wait
 front_waits : (bs : List ℕ) (b : ℕ) (more : List ℕ) → begins_item (bs ++ b ∷ more) ≡ true → fate bs ≡ Waits
 front_waits bs b more h = elim (cases_Bool (is_item bs)) [
   | inl item ↦ absurd (both_ways (begins_item (bs ++ b ∷ more)) (none_begins_longer items items_are_grammar bs b more item) h)

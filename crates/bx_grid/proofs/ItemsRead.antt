@@ -1,4 +1,4 @@
--- What a terminal makes of the bytes of an item: of a beginning, of the whole, and of a byte that breaks it off.
+-- The terminal after bytes of an item: after a beginning, after the whole, and after a byte that breaks it off.
 use Rattle.std.proofs.Common.{◌≡◌, ℕ, ◌+◌, ◌*◌, ◌<◌, ◌&&◌, Bool, true, false, cond, nat_eq, nat_le, List, [], ◌∷◌, ◌++◌, length, drop, replicate, Option, Some, None}
 use Rattle.std.proofs.Common.{refl, ap, ap₂, sym, ◌∙◌, arith, append_assoc, length-append}
 use Rattle.std.proofs.lemmas.Bool.{cond-true, cond-false, eqb-true}
@@ -67,7 +67,7 @@ all_waits t b bs idle w =
 
 -- ---- an item that is whole
 
--- what a token does that is read behind a run
+-- the effect of a token that is read after a run
 abbrev pub token_met : Terminal → Token → Terminal
 token_met t (Run text) = record t { run = t.run ++ text }
 token_met t (Sequence bytes) = after_command (run_ended t) (command (drop 2 bytes))

@@ -1,4 +1,4 @@
--- Glyphs put one after another over blanks: what a caller's loop keeps.
+-- Glyphs put side by side over blanks: the invariant of a caller's loop.
 use Rattle.std.proofs.Common.{◌≡◌, ℕ, ◌+◌, ◌-◌, ◌≤◌, Bool, true, List, [], ◌∷◌, ◌++◌, length, take, drop, replicate, refl, ap, ◌∙◌, arith}
 use Rattle.std.proofs.Math.Seq.{take-append-add, drop-append-add}
 use Rattle.std.proofs.lemmas.List.{append-nil, drop-replicate, take-replicate}
@@ -24,7 +24,7 @@ plain_width negative [] h = absurd (cc h)
 plain_width negative (b ∷ []) h = rw h refl
 plain_width negative (b ∷ c ∷ rest) h = absurd (cc h)
 
--- ---- what is put so far, and then blanks
+-- ---- the glyphs put so far, and then blanks
 
 pub blank_next : (done : List Col) (k n m : ℕ) → k ≡ length done → n ≤ m → AreBlank k n (done ++ replicate m blank)
 blank_next done k n m at fits =

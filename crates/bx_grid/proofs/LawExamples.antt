@@ -74,7 +74,7 @@ pub of_sharing : ShareWhole → (q : PictureState) → IsPicture q → 1 ≡ q.h
 unfolding chars unicode_width
 of_sharing law q is h w same = (law (four wide_row) q wide_picture is h w 0 (omega arith) same).1.all
 
--- where a letter stands in its first column, the second one goes
+-- if a letter replaces its first column, the second changes too
 pub of_differing : DifferInWhole → (q : PictureState) → IsPicture q → 1 ≡ q.height → 4 ≡ q.width → slice_index_or q.columns 0 Unknown ≡ g 0x61
     → Glyph wide 2 1 false ≢ slice_index_or q.columns 1 Unknown
 of_differing law q is h w other =

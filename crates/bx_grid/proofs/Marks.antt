@@ -8,7 +8,7 @@ use Rattle.bx_terms.specs.Characters.{is_within}
 use Rattle.bx_grid.specs.Widths.{is_still, is_mark, is_letter}
 use Rattle.unicode_width.specs.Width.{char_width}
 
--- so many from one on pass
+-- n characters from c on pass the test
 all_from : (ℕ → Bool) → ℕ → ℕ → Bool
 all_from p c zero = true
 all_from p c (suc n) = p c && all_from p (suc c) n

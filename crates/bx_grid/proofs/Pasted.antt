@@ -1,4 +1,4 @@
--- Columns pasted over others: what stays on both sides, and whole glyphs over blanks.
+-- Columns pasted over others: both sides stay, and whole glyphs over blanks.
 use Rattle.std.proofs.Common.{◌≡◌, false, refl, ℕ, ◌+◌, ◌*◌, ◌-◌, ◌<◌, ◌≤◌, List, [], ◌∷◌, ◌++◌, length, take, drop, replicate, zero, suc, Result, Ok, Err, OnErr}
 use Rattle.std.proofs.Common.{subst, ap, sym, ◌∙◌, append_assoc, length-append, arith}
 use Rattle.std.proofs.Math.Seq.{take-append-add, drop-append-add}
@@ -9,7 +9,7 @@ use Rattle.bx_grid.proofs.Whole.{space, space_is, whole_along, whole-append, who
 
 -- ---- both sides
 
--- what stands before is kept
+-- the columns before stay
 pub paste_after : (a b news : List Col) (k q : ℕ) → k ≡ length a + q → paste (a ++ b) k news ≡ a ++ paste b q news
 paste_after a b news k q e =
     let there : k + length news ≡ length a + (q + length news) = omega (arith, e) in
@@ -19,7 +19,7 @@ paste_after a b news k q e =
     (append_assoc (a ++ take q b) news (drop (q + length news) b) ∙ append_assoc a (take q b) (news ++ drop (q + length news) b)
     ∙ ap (λ cs. a ++ cs) (sym (append_assoc (take q b) news (drop (q + length news) b))))
 
--- what stands behind is kept
+-- the columns after stay
 pub paste_before : (a b news : List Col) (k : ℕ) → k + length news ≤ length a → paste (a ++ b) k news ≡ paste a k news ++ b
 paste_before a b news k fits =
     let low : k ≤ length a = omega arith in
@@ -60,7 +60,7 @@ blanked_back xs ys k n same blanks =
     ∙ ap (λ cs. take k xs ++ (cs ++ drop (k + n) xs)) (sym blanks)
     ∙ sym (three_parts xs k n))
 
--- what stood where others are pasted does not matter
+-- the columns under a paste do not matter
 pub pasted_around : (xs ys news : List Col) (k n : ℕ) → AreSameAround k n xs ys → length news ≡ n → paste ys k news ≡ paste xs k news
 pasted_around xs ys news k n same len = rw (len, same.before, same.after) refl
 

@@ -18,14 +18,14 @@ drop_base : (row L : List Column) (k n : ℕ) → length L ≡ k → drop (k + n
 drop_base row L k n len =
     sym (drop-drop n k (L ++ drop k row)) ∙ ap (drop n) (drop_at L (drop k row) k len) ∙ drop-drop n k row
 
--- what stands after the columns that are put
+-- the columns after those that are put
 pub right_uncut : (row L : List Column) (k n : ℕ) → k + n ≤ length row → all_seen L ≡ cut_before (all_seen (take k row)) → AreUncut (all_seen row)
     → AreUncut (all_seen (take (length (L ++ drop k row) - (k + n)) (drop (k + n) (L ++ drop k row))))
 right_uncut row L k n fits hl h =
     let base : List Column = L ++ drop k row in
     rw (take_rest base (k + n), drop_base row L k n (left_len row L k (omega arith) hl)) (seen_drop row (k + n) h)
 
--- what was put over a list of three parts
+-- columns put over the middle of three parts
 paste_three : (a m z news : List Col) (k : ℕ) → length a ≡ k → length m ≡ length news → paste ((a ++ m) ++ z) k news ≡ a ++ news ++ z
 paste_three a m z news k ea em =
     let front : take k ((a ++ m) ++ z) ≡ a = ap (take k) (append_assoc a m z) ∙ take_at a (m ++ z) k ea in

@@ -1,4 +1,4 @@
--- Reading in parts, and the parts of what is read: characters from SPACE to TILDE, sequences and their numbers.
+-- Reading in parts: characters from SPACE to TILDE, sequences and their numbers.
 use Rattle.std.proofs.Common.{◌≡◌, ℕ, ◌<◌, Bool, true, false, ◌&&◌, nat_eq, List, [], ◌∷◌, ◌++◌, length, Some, refl, ap, ◌∙◌, arith, ◌^◌}
 use Rattle.std.specs.List.{list_all}
 use Rattle.std.specs.Fmt.{decimal}
@@ -105,7 +105,7 @@ all-append p [] ys h g = g
 all-append p (x ∷ xs) ys h g =
     rw (and_left (p x) (list_all p xs) h) (all-append p xs ys (and_right (p x) (list_all p xs) h) g)
 
--- what stands in `CSI line ; column H`
+-- the parts of `CSI line ; column H`
 abbrev pub move_params : ℕ → ℕ → List ℕ
 move_params line column = decimal line ++ 0x3B ∷ decimal column
 

@@ -83,7 +83,7 @@ rows_kept g r n news is low size new =
       rows = rows_put g.height g.width r n g.columns news is.sized.each low size new is.rows;
     }
 
--- what stands there already
+-- columns that are there already
 pub put_same : (xs news : List Col) (k n : ℕ) → take n (drop k xs) ≡ news → length news ≡ n → paste xs k news ≡ xs
 put_same xs news k n there len =
     ap (λ m. (take k xs ++ news) ++ drop (k + m) xs) len

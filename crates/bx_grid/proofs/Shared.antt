@@ -25,7 +25,7 @@ column_from text count (suc m) offset (suc i) negative low =
 column_of : (text : List ℕ) (count i : ℕ) (negative : Bool) → i < count → at (glyph_columns text count negative) i ≡ Glyph text count i negative
 column_of text count i negative low = column_from text count count 0 i negative low ∙ ap (λ o. Glyph text count o negative) (omega arith)
 
--- ---- each column stands with all of its glyph
+-- ---- each column has all of its glyph next to it
 
 later : (c : Col) (i j : ℕ) (front rest : List Col) → i ≡ length front + j → IsWholeAt c j rest → IsWholeAt c i (front ++ rest)
 later Unknown i j front rest e h = h
@@ -84,7 +84,7 @@ share old new size a b i low e = (
   subst (λ (c : Col). IsWholeAt c i new) (sym e) (stands_whole new b i (omega (arith, low, size))),
 )
 
--- a column of a glyph, from another that stands with it
+-- a column of a glyph, from another of the same glyph
 of_glyph : (text : List ℕ) (count offset : ℕ) (negative : Bool) (i k : ℕ) (columns : List Col) → StandsWhole text count offset negative i columns
     → i ≤ k + offset → k + offset < i + count → at columns k ≡ Glyph text count (k + offset - i) negative
 of_glyph text count offset negative i k columns h low high =
@@ -104,7 +104,7 @@ of_glyph text count offset negative i k columns h low high =
     ∙ ap (λ n. at (glyph_columns text n negative) j) len
     ∙ column_of text count j negative inside
 
--- all of a glyph's columns stand among these
+-- all of a glyph's columns are among these
 inside_all : (text : List ℕ) (count offset : ℕ) (negative : Bool) (i k : ℕ) (columns : List Col) → StandsWhole text count offset negative i columns
     → k + offset < i + count → k < length columns
 inside_all text count offset negative i k columns h high =

@@ -1,4 +1,4 @@
--- Columns of which nothing is known, one after another.
+-- Columns made unknown, one after another.
 use Rattle.bx_grid.specs.Seen.{seen, all_seen}
 use Rattle.bx_grid.specs.declared.column.Column.{Column}
 use Rattle.std.proofs.lemmas.Bool.Decides.{nat_tests}

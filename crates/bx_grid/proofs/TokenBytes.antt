@@ -1,4 +1,4 @@
--- The tokens of bytes, joined, are the bytes, and no run stands before another.
+-- The tokens of bytes, joined, are the bytes, and no two runs are adjacent.
 use Rattle.std.proofs.Common.{◌≡◌, ℕ, zero, suc, max, Bool, true, false, cond, nat_eq, List, [], ◌∷◌, ◌++◌, length, take, drop, flat_map, refl, ap, ap₂, sym, ◌∙◌}
 use Rattle.std.proofs.Common.{append_assoc, take-append-drop}
 use Rattle.std.proofs.lemmas.List.{append-nil}

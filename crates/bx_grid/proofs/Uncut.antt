@@ -1,4 +1,4 @@
--- Rows in which no glyph is cut: what putting and erasing leave of them, and how far a glyph reaches.
+-- Rows in which no glyph is cut: the rows after putting and erasing, and how far a glyph reaches.
 use Rattle.std.proofs.Common.{◌≡◌, ℕ, ◌+◌, ◌*◌, ◌-◌, ◌<◌, ◌≤◌, inl, inr, Bool, true, false, cond, nat_lt, List, [], ◌∷◌, ◌++◌, length, take, drop, replicate}
 use Rattle.std.proofs.Common.{set, get_or, zero, suc, refl, ap, sym, ◌∙◌, subst, length-append, append_assoc, arith}
 use Rattle.std.proofs.lemmas.Bool.Decides.{nat_tests}
@@ -16,7 +16,7 @@ use Rattle.bx_grid.specs.Seen.{seen, all_seen}
 use Rattle.bx_grid.specs.declared.column.Column.{Column}
 use Rattle.bx_grid.proofs.Spoils.{length-cut_before, length-cut_after, left_of_at, mixed, mixed_start, mixed_less, read_same}
 
--- ---- columns that share no glyph with what stands beside them
+-- ---- columns that share no glyph with those next to them
 
 abbrev last_after : List Col → ℕ
 last_after [] = 0
@@ -62,7 +62,7 @@ uncut-drop zero xs h = h
 uncut-drop (suc k) [] h = tt
 uncut-drop (suc k) (x ∷ xs) h = uncut-drop k xs h.1
 
--- ---- what is left of a row before and after what is put
+-- ---- a row before and after the columns that are put
 
 left_pair : (s t : Bool) (x y : Col) (d : ℕ) → nat_lt (suc d) (columns_after x) ≡ s → nat_lt d (columns_after y) ≡ t → Meet x y
     → Meet (cond s Unknown x) (cond t Unknown y)
@@ -193,9 +193,9 @@ uncut_at (suc h) w (suc r) cs below rows =
     let P : List Col → Type 0 = λ xs. AreUncut (take w xs) in
     subst P (sym next) (uncut_at h w r (drop w cs) (omega arith) rows.1)
 
--- ---- what is put
+-- ---- the columns that are put
 
--- a column of which all columns of a list are copies, alone in its glyph
+-- a column alone in its glyph, copied to a whole list
 abbrev IsAlone : Col → Type 0
 IsAlone x = (columns_after x ≡ 0) × (columns_before x ≡ 0)
 
@@ -261,7 +261,7 @@ uncut_blank h w = uncut_copies blank (refl, refl) h w
 
 -- ---- how far a glyph reaches
 
--- a glyph that stands before a column that does not reach the end does not reach it either
+-- if a column's glyph does not reach the end, no glyph before it does
 pub left_stop : (xs : List Col) (i : ℕ) (d : Col) → AreUncut xs → i < length xs → columns_after (get_or xs i d) ≤ length xs - 1 - i
     → (take (i + 1) (cut_before xs) ≡ take (i + 1) xs) × (columns_after (get_or xs 0 d) ≤ length xs - 1)
 left_stop [] i d h inside near = absurd (omega arith)

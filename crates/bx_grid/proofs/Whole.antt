@@ -1,4 +1,4 @@
--- Whole glyphs: what a glyph's columns are, and where columns of whole glyphs may be cut.
+-- Whole glyphs: the columns of a glyph, and where columns of whole glyphs may be cut.
 use Rattle.std.proofs.Common.{◌≡◌, ℕ, ◌+◌, ◌*◌, ◌-◌, ◌≤◌, Bool, true, false, not, ◌&&◌, ◌||◌, nat_le, nat_lt, nat_eq, List, [], ◌∷◌, ◌++◌, length, take, drop}
 use Rattle.std.proofs.Common.{replicate, zero, suc, refl, ap, sym, ◌∙◌, append_assoc, length-append, arith}
 use Rattle.std.specs.List.{list_all, All}
@@ -72,7 +72,7 @@ whole_glyph g h = record { glyphs = g ∷ []; each = All-cons IsGlyph g [] h (Al
 
 -- ---- where columns may be cut
 
--- columns past a glyph's first are no beginning: what stands before a first column has all of them
+-- columns past a glyph's first begin no glyph: all of them come before the next first column
 past : (text : List ℕ) (count n offset : ℕ) (negative : Bool) (later xs ys : List Col) (start : List ℕ) (columns : ℕ) (other : Bool) → 1 ≤ offset
     → glyph_columns_from text count negative offset n ++ later ≡ xs ++ Glyph start columns 0 other ∷ ys
     → (zs : List Col) × (xs ≡ glyph_columns_from text count negative offset n ++ zs) × (later ≡ zs ++ Glyph start columns 0 other ∷ ys)
@@ -85,7 +85,7 @@ past text count (suc n) offset negative later (x ∷ xs) ys start columns other 
     let cut = past text count n (offset + 1) negative later xs ys start columns other (omega arith) rest in
     (cut.0, ap (λ y. y ∷ xs) (sym first) ∙ ap (λ cs. Glyph text count offset negative ∷ cs) cut.1, cut.2)
 
--- the first glyph stands before a column that begins one, or that column is its first
+-- the first glyph comes before a column that begins one, or that column is its first
 first_cut : (g : WholeGlyph) (n : ℕ) (later xs ys : List Col) (x : Col) (text : List ℕ) (columns : ℕ) (negative : Bool) → 1 ≤ n
     → glyph_columns g.text n g.negative ++ later ≡ (x ∷ xs) ++ Glyph text columns 0 negative ∷ ys
     → (zs : List Col) × (x ∷ xs ≡ glyph_columns g.text n g.negative ++ zs) × (later ≡ zs ++ Glyph text columns 0 negative ∷ ys)
@@ -161,7 +161,7 @@ after_by g (suc n) ys low f a =
     let h = whole_head g.text (suc n) g.negative (glyph_columns_from g.text (suc n) g.negative 1 n ++ ys) (whole_along (columns_of g ++ ys) _ first a) in
     whole_along h.rest ys (append_cancel_left (columns_of g) h.rest ys (sym h.are ∙ sym first)) h.whole
 
--- what follows a glyph's columns
+-- the columns after a glyph's
 pub whole_after : (g : WholeGlyph) (ys : List Col) → IsGlyph g → AreWhole (columns_of g ++ ys) → AreWhole ys
 whole_after g ys h a =
     let f = columns_form g h in

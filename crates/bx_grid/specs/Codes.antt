@@ -1,4 +1,4 @@
--- The codes of columns, by which rows are compared at once.
+-- The codes of columns, numbers by which rows are compared.
 use Rattle.std.specs.Prelude.{ℕ, ◌+◌, ◌*◌, ◌/◌, ◌%◌, ◌==◌, Bool, ◌&&◌, nat_le, nat_lt, List, [], ◌∷◌, map, length, if◌then◌else◌}
 use Rattle.std.specs.List.{list_all}
 use Rattle.bx_grid.specs.Columns.{Col, Unknown, Glyph}
@@ -10,12 +10,12 @@ is_byte b = nat_lt b 256
 abbrev pub is_short : List ℕ → Bool
 is_short text = nat_le (length text) 7 && list_all is_byte text
 
--- the bytes as one number, the first lowest, below a 1 that tells how many they are
+-- the bytes as one number, the first lowest, below a 1 that marks their count
 abbrev pub packed : List ℕ → ℕ
 packed [] = 1
 packed (b ∷ bs) = packed bs * 256 + b
 
--- what has no code of its own
+-- the code of all columns that have none of their own
 abbrev pub no_code : ℕ
 no_code = 0x8000_0000_0000_0000
 
@@ -25,7 +25,7 @@ is_code code = nat_lt code no_code
 abbrev pub code_in : ℕ → ℕ → ℕ → Bool → ℕ
 code_in number columns offset negative = ((number * 4 + columns) * 4 + offset) * 2 + (if negative then 1 else 0)
 
--- one column of a short glyph that takes at most three
+-- a column has a code of its own if its glyph has a short text and at most three columns
 abbrev pub code_of : Col → ℕ
 code_of Unknown = no_code
 code_of (Glyph text columns offset negative) =
@@ -34,14 +34,14 @@ code_of (Glyph text columns offset negative) =
 abbrev pub codes_of : List Col → List ℕ
 codes_of columns = map code_of columns
 
--- the columns of the glyph of which a code tells a column
+-- the number of columns of the glyph, from the code of one of them
 abbrev pub columns_in : ℕ → ℕ
 columns_in code = (code / 8) % 4
 
--- which of its glyph's columns a code tells
+-- the index of a code's column in its glyph
 abbrev pub offset_in : ℕ → ℕ
 offset_in code = (code / 2) % 4
 
--- both are the code of one column
+-- both codes identify the same column
 abbrev pub are_same_code : ℕ → ℕ → Bool
 are_same_code code other = (code == other) && is_code code

@@ -1,4 +1,4 @@
--- What a column of a grid shows, and what putting a run of columns leaves.
+-- The content of columns, and a row after a run of columns was put in it.
 use Rattle.bx_grid.specs.Tokens.{is_only}
 pub use Rattle.bx_terms.specs.Characters.{is_ascii_printable, are_ascii_printable, is_ascii_glyph}
 pub use Rattle.bx_terms.specs.Glyphs.{run_width, is_one_glyph}
@@ -15,7 +15,7 @@ pub data Col : Type 0 where
 abbrev pub blank : Col
 blank = Glyph (32 ∷ []) 1 0 false
 
--- how many more columns of its glyph stand after a column, and before it
+-- the number of columns of its glyph after a column, and before it
 abbrev pub columns_after : Col → ℕ
 columns_after Unknown = 0
 columns_after (Glyph text columns offset negative) = columns - (offset + 1)
@@ -24,34 +24,34 @@ abbrev pub columns_before : Col → ℕ
 columns_before Unknown = 0
 columns_before (Glyph text columns offset negative) = offset
 
--- what is left of a row's columns before an index from which others are put: nothing is known of a glyph that reached it
+-- a row's columns before an index from which others are put: a glyph that reached past it becomes unknown
 abbrev pub cut_before : List Col → List Col
 cut_before [] = []
 cut_before (x ∷ xs) = (if nat_lt (length xs) (columns_after x) then Unknown else x) ∷ cut_before xs
 
--- the same of the columns after it, where d of them have been looked at
+-- the same for the columns after the new ones, d of which are passed
 abbrev pub cut_after : ℕ → List Col → List Col
 cut_after d [] = []
 cut_after d (x ∷ xs) = (if nat_lt d (columns_before x) then Unknown else x) ∷ cut_after (d + 1) xs
 
--- these instead of others, which are lost
+-- columns replaced from index k on
 abbrev pub paste : List Col → ℕ → List Col → List Col
 paste columns k new = take k columns ++ new ++ drop (k + length new) columns
 
--- so many columns from an index on are blanks
+-- count columns from index k on are blanks
 abbrev pub AreBlank : ℕ → ℕ → List Col → Type 0
 AreBlank k count columns = take count (drop k columns) ≡ replicate count blank
 
--- columns differ at most in so many from an index on
+-- the columns differ at most in the count from index k on
 pub record AreSameAround (k count : ℕ) (old new : List Col) : Type 0 where
   pub before : take k new ≡ take k old
   pub after : drop (k + count) new ≡ drop (k + count) old
 
--- a row with these put from a column on
+-- a row with columns put from index k on
 abbrev pub put_in_row : List Col → ℕ → List Col → List Col
 put_in_row row k new = cut_before (take k row) ++ new ++ cut_after 0 (drop (k + length new) row)
 
--- all columns, with these put in a row from a column on
+-- all columns, with some put in a row from a column on
 abbrev pub put : ℕ → List Col → ℕ → ℕ → List Col → List Col
 put width columns row column new =
     take (row * width) columns
@@ -65,7 +65,7 @@ abbrev pub bool_eq : Bool → Bool → Bool
 bool_eq true b = b
 bool_eq false b = not b
 
--- both show the same
+-- both columns show the same
 abbrev pub col_eq : Col → Col → Bool
 col_eq Unknown Unknown = true
 col_eq Unknown (Glyph text columns offset negative) = false
@@ -80,7 +80,7 @@ are_equal (c ∷ cs) (d ∷ ds) = col_eq c d && are_equal cs ds
 
 -- ---- glyphs
 
--- so many columns of a glyph, from this one on
+-- columns of a glyph, from an offset on
 abbrev pub glyph_columns_from : List ℕ → ℕ → Bool → ℕ → ℕ → List Col
 glyph_columns_from text columns negative offset zero = []
 glyph_columns_from text columns negative offset (suc count) =

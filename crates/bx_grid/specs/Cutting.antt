@@ -1,9 +1,9 @@
--- What a terminal reads, cut into tokens: printable runs as long as they are, whole control sequences, and all else.
+-- A terminal's input, cut into tokens: printable runs as long as possible, whole control sequences, and all else.
 use Rattle.std.specs.Prelude.{ℕ, zero, suc, max, Bool, ◌==◌, List, [], ◌∷◌, ◌++◌, length, take, drop, if◌then◌else◌}
 use Rattle.bx_bytes.specs.Pattern.{Piece, One, Many, matches_any, begins_any}
 use Rattle.bx_bytes.specs.Utf8.{long_characters, are_printable}
 
--- ---- items: characters in UTF-8 but ESC, and control sequences
+-- ---- items: characters in UTF-8 except ESC, and control sequences
 
 abbrev pub control_sequence : List Piece
 control_sequence = One 0x1B 0x1B ∷ One 0x5B 0x5B ∷ Many 0x30 0x3F ∷ Many 0x20 0x2F ∷ One 0x40 0x7E ∷ []
@@ -18,12 +18,12 @@ is_item bs = matches_any items bs
 abbrev pub begins_item : List ℕ → Bool
 begins_item bs = begins_any items bs
 
--- the greatest number up to n of first bytes that begin an item
+-- the length of the longest prefix that begins an item, at most n
 abbrev pub beginning_up_to : ℕ → List ℕ → ℕ
 beginning_up_to zero bs = 0
 beginning_up_to (suc n) bs = if begins_item (take (suc n) bs) then suc n else beginning_up_to n bs
 
--- how many first bytes are the longest that begin an item
+-- the length of the longest prefix that begins an item
 abbrev pub beginning : List ℕ → ℕ
 beginning bs = beginning_up_to (length bs) bs
 
@@ -34,10 +34,10 @@ pub data Token : Type 0 where
   Run : (text : List ℕ) → Token
   -- a control sequence
   Sequence : (bytes : List ℕ) → Token
-  -- a character that is not printable, or what was broken off
+  -- a character that is not printable, or bytes that were broken off
   Other : (bytes : List ℕ) → Token
 
--- the token that an item is
+-- the token of an item
 abbrev pub token_of : List ℕ → Token
 token_of [] = Other []
 token_of (b ∷ bs) = if b == 0x1B then Sequence (b ∷ bs) else if are_printable (b ∷ bs) then Run (b ∷ bs) else Other (b ∷ bs)
@@ -60,9 +60,9 @@ cut_within (suc n) (b ∷ bs) =
     else if long == length (b ∷ bs) then record { tokens = []; rest = b ∷ bs }
     else with_token (Other (take (max 1 long) (b ∷ bs))) (cut_within n (drop (max 1 long) (b ∷ bs)))
 
--- ---- runs as long as they are
+-- ---- runs as long as possible
 
--- tokens, a run behind them that may go on, and the bytes that wait for more
+-- tokens, then a run that may go on, then the bytes that wait for more
 pub record Cutting : Type 0 where
   pub tokens : List Token
   pub run : List ℕ
@@ -76,20 +76,20 @@ run_token (b ∷ bs) = Run (b ∷ bs) ∷ []
 abbrev pub with_tokens : List Token → Cutting → Cutting
 with_tokens tokens c = record { tokens = tokens ++ c.tokens; run = c.run; rest = c.rest }
 
--- the last run may go on, unless an escape is what waits behind it
+-- the last run may go on, unless an escape waits after it
 abbrev pub last_run : List ℕ → List ℕ → Cutting
 last_run run [] = record { tokens = []; run = run; rest = [] }
 last_run run (b ∷ bs) =
     if b == 0x1B then record { tokens = run_token run; run = []; rest = b ∷ bs } else record { tokens = []; run = run; rest = b ∷ bs }
 
--- tokens behind a run, with the runs that follow one another as one
+-- a run and tokens after it, with adjacent runs joined
 abbrev pub joined : List ℕ → List Token → List ℕ → Cutting
 joined run [] rest = last_run run rest
 joined run (Run text ∷ tokens) rest = joined (run ++ text) tokens rest
 joined run (Sequence bytes ∷ tokens) rest = with_tokens (run_token run ++ Sequence bytes ∷ []) (joined [] tokens rest)
 joined run (Other bytes ∷ tokens) rest = with_tokens (run_token run ++ Other bytes ∷ []) (joined [] tokens rest)
 
--- The longest front that begins an item is a token if it is an item, waits if no byte follows it, and is else broken off, at
--- least one byte. Printable characters that follow one another are one run.
+-- The longest prefix that begins an item is a token if it is an item, waits if no byte follows it, and is broken off otherwise,
+-- at least one byte. Adjacent printable characters are one run.
 abbrev pub cutting : List ℕ → Cutting
 cutting bs = let c = cut_within (length bs) bs in joined [] c.tokens c.rest

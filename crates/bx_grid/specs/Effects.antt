@@ -1,4 +1,4 @@
--- What a terminal does to its columns while it reads: each glyph that it puts, and each erasure.
+-- The effects of reading on a terminal's columns: each glyph that it puts, and each erasure.
 use Rattle.std.specs.Prelude.{ℕ, drop, ◌+◌, ◌*◌, Bool, true, false, ◌&&◌, nat_le, ◌==◌, List, [], ◌∷◌, ◌++◌, length, Option, Some, None, if◌then◌else◌}
 use Rattle.bx_grid.specs.Columns.{Col, Unknown, Glyph, run_columns}
 use Rattle.bx_grid.specs.Tokens.{fate, command}
@@ -19,7 +19,7 @@ pub data Effect : Type 0 where
   Clears : Effect
   Forgets : Effect
 
--- the glyphs of columns, the first of which stands at an index
+-- the glyphs of columns, the first of them at an index
 abbrev pub glyphs_at : ℕ → List Col → List Effect
 glyphs_at index [] = []
 glyphs_at index (Unknown ∷ cs) = glyphs_at (index + 1) cs
@@ -36,7 +36,7 @@ run_effects t (Some p) (Some negative) (b ∷ bs) = put_effects t p (run_columns
 run_effects t (Some p) None (b ∷ bs) = Forgets ∷ []
 run_effects t None negative (b ∷ bs) = Forgets ∷ []
 
--- of the run that is pending
+-- the effects of the pending run
 abbrev pub pending_effects : Terminal → List Effect
 pending_effects t = run_effects t t.position t.negative t.run
 
@@ -85,11 +85,11 @@ abbrev pub effects_after : Terminal → ℕ → List ℕ → List Effect
 effects_after t b [] = first_byte_effects t b
 effects_after t b (h ∷ half_read) = next_byte_effects t b (fate (h ∷ half_read ++ b ∷ []))
 
--- a token does what it does when it has ended
+-- a token takes effect at its end
 abbrev pub byte_effects : Terminal → ℕ → List Effect
 byte_effects t b = effects_after t b t.half_read
 
--- all that it does while it reads these bytes
+-- all effects of reading these bytes
 abbrev pub effects : Terminal → List ℕ → List Effect
 effects t [] = []
 effects t (b ∷ bs) = byte_effects t b ++ effects (byte_read t b) bs

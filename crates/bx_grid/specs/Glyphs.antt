@@ -1,4 +1,4 @@
--- Whole glyphs: columns that are glyphs, each with all its columns.
+-- Whole glyphs: lists of columns in which each glyph has all its columns.
 use Rattle.std.specs.Prelude.{◌≡◌, ◌≢◌, ◌+◌, ◌-◌, ◌<◌, ◌≤◌, length, slice_index_or, ℕ, zero, suc, Bool, true, List, [], ◌∷◌, ◌++◌, take, drop, All}
 use Rattle.std.specs.Str.{IsUtf8}
 use Rattle.bx_grid.specs.Columns.{Col, Unknown, Glyph, is_one_glyph, run_columns}
@@ -8,7 +8,7 @@ pub record WholeGlyph : Type 0 where
   pub text : List ℕ
   pub negative : Bool
 
--- one that a printable run can put
+-- a glyph that a printable run can put
 pub record IsGlyph (g : WholeGlyph) : Type 0 where
   pub utf8 : IsUtf8 g.text
   pub one : is_one_glyph g.text ≡ true
@@ -17,7 +17,7 @@ pub record IsGlyph (g : WholeGlyph) : Type 0 where
 abbrev pub columns_of : WholeGlyph → List Col
 columns_of g = run_columns g.negative g.text
 
--- the columns of glyphs, one after another
+-- the columns of glyphs, side by side
 abbrev pub all_columns : List WholeGlyph → List Col
 all_columns [] = []
 all_columns (g ∷ gs) = columns_of g ++ all_columns gs
@@ -28,14 +28,14 @@ pub record AreWhole (columns : List Col) : Type 0 where
   pub each : All IsGlyph glyphs
   pub are : all_columns glyphs ≡ columns
 
--- so are those of each of so many rows of this width
+-- each of these rows of this width is whole glyphs
 abbrev pub AreWholeRows : ℕ → ℕ → List Col → Type 0
 AreWholeRows zero width columns = Unit {0}
 AreWholeRows (suc rows) width columns = AreWhole (take width columns) × AreWholeRows rows width (drop width columns)
 
 -- ---- two lists of columns
 
--- a column at an index is one of a glyph that stands there with all its columns
+-- the column at an index belongs to a glyph that has all its columns there
 pub record StandsWhole (text : List ℕ) (count offset : ℕ) (negative : Bool) (index : ℕ) (columns : List Col) : Type 0 where
   pub glyph : IsGlyph (record { text = text; negative = negative })
   pub counted : count ≡ length (run_columns negative text)
@@ -47,12 +47,12 @@ abbrev pub IsWholeAt : Col → ℕ → List Col → Type 0
 IsWholeAt Unknown index columns = ⊥
 IsWholeAt (Glyph text count offset negative) index columns = StandsWhole text count offset negative index columns
 
--- a column that both have at an index is one of a glyph that both have there with all its columns
+-- a column that both have at an index belongs to a glyph that both have there whole
 abbrev pub ShareWholeGlyphs : List Col → List Col → Type 0
 ShareWholeGlyphs old new = (i : ℕ) → i < length old → slice_index_or old i Unknown ≡ slice_index_or new i Unknown
     → IsWholeAt (slice_index_or old i Unknown) i old × IsWholeAt (slice_index_or old i Unknown) i new
 
--- another index has a column of the glyph of which this column stands at an index
+-- another index lies in the glyph of this column, which is at an index
 abbrev pub IsOfGlyph : Col → ℕ → ℕ → Type 0
 IsOfGlyph Unknown index other = ⊥
 IsOfGlyph (Glyph text count offset negative) index other = (index ≤ other + offset) × (other + offset < index + count)
@@ -62,7 +62,7 @@ abbrev pub DifferInWholeGlyphs : List Col → List Col → Type 0
 DifferInWholeGlyphs old new = (i k : ℕ) → i < length old → IsOfGlyph (slice_index_or old i Unknown) i k
     → slice_index_or old i Unknown ≢ slice_index_or new i Unknown → slice_index_or old k Unknown ≢ slice_index_or new k Unknown
 
--- where the second columns begin with a glyph, the first ones begin with all its columns
+-- if the second list begins with a glyph, the first begins with all its columns
 abbrev pub BeginAlike : List Col → List Col → Type 0
 BeginAlike old [] = Unit {0}
 BeginAlike old (Unknown ∷ cs) = Unit {0}

@@ -1,4 +1,4 @@
--- What the program's terminal stands for.
+-- The model of the program's terminal.
 use Rattle.std.specs.Prelude.{◌≡◌, ◌<◌, length, IfSome, string_bytes}
 use Rattle.bx_grid.specs.Seen.{all_seen}
 use Rattle.bx_grid.specs.Tokens.{fate}

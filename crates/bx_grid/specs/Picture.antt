@@ -5,7 +5,7 @@ use Rattle.bx_grid.specs.Glyphs.{AreWholeRows}
 use Rattle.bx_terms.specs.Sizes.{is_side, largest_side}
 use Rattle.bx_grid.specs.Terminal.{Terminal, reads}
 
--- what a grid shows, row by row
+-- the columns of a grid, row by row
 pub record GridState : Type 0 where
   pub height : ℕ
   pub width : ℕ
@@ -24,7 +24,7 @@ pub record IsIdle (t : Terminal) : Type 0 where
   pub no_run : t.run ≡ []
   pub no_token : t.half_read ≡ []
 
--- after these bytes nothing is half read, if nothing was before
+-- these bytes leave nothing half read, if nothing was before
 abbrev pub AreWholeTokens : List ℕ → Type 0
 AreWholeTokens bytes = (t : Terminal) → IsIdle t → IsIdle (reads t bytes)
 
@@ -45,7 +45,7 @@ pub record IsSized (height width columns : ℕ) : Type 0 where
   pub wide : width ≤ largest_side
   pub each : columns ≡ height * width
 
--- a grid's columns are all known, and each row is glyphs that a printable run can put, with all their columns
+-- a grid's columns are all known, and each row is whole glyphs that a printable run can put
 pub record IsGrid (height width : ℕ) (columns : List Col) : Type 0 where
   pub sized : IsSized height width (length columns)
   pub rows : AreWholeRows height width columns
@@ -53,14 +53,14 @@ pub record IsGrid (height width : ℕ) (columns : List Col) : Type 0 where
 abbrev pub is_size : ℕ → ℕ → Bool
 is_size height width = is_side height && is_side width
 
--- a cell, from line 1 and column 1, stands in a grid of this size
+-- a cell, counted from line 1 and column 1, is in a grid of this size
 pub record IsWithin (height width line column : ℕ) : Type 0 where
   pub top : 1 ≤ line
   pub bottom : line ≤ height
   pub left : 1 ≤ column
   pub right : column ≤ width
 
--- so many columns from a cell on are in its row, and all are blanks
+-- count columns from a cell on are in its row, and all are blanks
 pub record HasRoom (g : GridState) (line column count : ℕ) : Type 0 where
   pub fits : column - 1 + count ≤ g.width
   pub blank : AreBlank ((line - 1) * g.width + (column - 1)) count g.columns

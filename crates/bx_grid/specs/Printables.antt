@@ -1,4 +1,4 @@
--- Texts with no control.
+-- Texts without controls.
 use Rattle.std.specs.Prelude.{◌≡◌, ◌≤◌, ◌<◌, ◌==◌, List, ℕ, Bool, true, length, take, get_or, if◌then◌else◌}
 use Rattle.std.specs.Str.{IsUtf8}
 use Rattle.bx_bytes.specs.Utf8.{are_printable}
@@ -8,7 +8,7 @@ pub record IsPrintable (bytes : List ℕ) : Type 0 where
   pub utf8 : IsUtf8 bytes
   pub printed : are_printable bytes ≡ true
 
--- the bytes begin with this text, behind which an escape stands
+-- the bytes begin with this text and then an escape
 pub record IsBeforeEscape (text bytes : List ℕ) : Type 0 where
   pub some : 1 ≤ length text
   pub within : length text < length bytes

@@ -1,4 +1,4 @@
--- What a screen stands for: a terminal, or nothing once it has failed.
+-- The model of a screen: a terminal, or none once it has failed.
 use Rattle.std.specs.Prelude.{Option, Some, None, if◌then◌else◌}
 use Rattle.bx_grid.specs.Terminal.{Terminal}
 use Rattle.bx_grid.specs.Picture.{PictureState, Shows}

@@ -1,4 +1,4 @@
--- The terminal: its state, what a token does to it, and what reading bytes leaves.
+-- The terminal: its state, the state after a token, and the state after reading bytes.
 use Rattle.std.specs.Prelude.{ℕ, ◌+◌, ◌-◌, ◌*◌, Bool, true, false, ◌&&◌, nat_le, nat_lt, ◌==◌, List, [], ◌∷◌, ◌++◌, length, drop, replicate, Option, Some, None}
 use Rattle.std.specs.Prelude.{if◌then◌else◌}
 use Rattle.bx_bytes.specs.Utf8.{are_printable}
@@ -34,7 +34,7 @@ all_unknown t = record {
   half_read = [];
 }
 
--- ---- what sequences do
+-- ---- sequences
 
 abbrev pub after_move : Terminal → ℕ → ℕ → Terminal
 after_move t line column =
@@ -63,13 +63,13 @@ after_command t Erase = after_erase t t.position t.negative
 after_command t (Render negative) = after_rendition t negative
 after_command t Other = all_unknown t
 
--- ---- what a printable run does
+-- ---- printable runs
 
 -- a cell in a row of this width; past its end it is unknown
 abbrev pub within : ℕ → ℕ → ℕ → Option (ℕ × ℕ)
 within width row column = if nat_lt column width then Some (row, column) else None
 
--- glyphs, in columns from the position on
+-- the terminal with glyphs put from a position on
 abbrev pub glyphs_put : Terminal → ℕ × ℕ → List Col → Terminal
 glyphs_put t p new =
     if nat_le 1 (length new) && nat_le (p.1 + length new) t.width
@@ -82,7 +82,7 @@ run_put t (Some p) (Some negative) (b ∷ bs) = glyphs_put t p (run_columns nega
 run_put t (Some p) None (b ∷ bs) = all_unknown t
 run_put t None negative (b ∷ bs) = all_unknown t
 
--- the run takes effect, if there is one
+-- the run takes effect, if it is not empty
 abbrev pub run_ended : Terminal → Terminal
 run_ended t = run_put t t.position t.negative t.run
 
@@ -123,7 +123,7 @@ abbrev pub reads : Terminal → List ℕ → Terminal
 reads t [] = t
 reads t (b ∷ bs) = reads (byte_read t b) bs
 
--- a window of another size, in which nothing is known; what is half read stays
+-- a window of another size, whose content is unknown; half-read bytes stay
 abbrev pub after_resize : Terminal → ℕ → ℕ → Terminal
 after_resize t height width = record {
   height = height;

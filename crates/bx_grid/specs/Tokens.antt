@@ -40,7 +40,7 @@ abbrev pub escape_fate : List ℕ → Fate
 escape_fate [] = Waits
 escape_fate (b ∷ body) = if b == 0x5B then final_fate (after_intermediates (after_params body)) else Breaks
 
--- what some bytes are, as far as they are read: a control sequence (ECMA-48: CSI, parameter bytes, intermediate bytes, a final
+-- the state of a token after some bytes: a control sequence (ECMA-48: CSI, parameter bytes, intermediate bytes, a final
 -- byte) or a character in UTF-8
 abbrev pub fate : List ℕ → Fate
 fate [] = Waits
@@ -84,7 +84,7 @@ command_of ps final =
     else Other)
     else Other
 
--- the command of what stands after 1B 5B
+-- the command of the bytes after 1B 5B
 abbrev pub command_at : List ℕ → List ℕ → Command
 command_at ps [] = Other
 command_at ps (b ∷ []) = command_of ps b

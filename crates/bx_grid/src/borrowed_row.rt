@@ -1,4 +1,4 @@
-//! A row of a grid, or a part of one, lent.
+//! A row of a grid, or a part of one, borrowed.
 
 ghost use Rattle.std.specs.Prelude.{◌≡◌, ℕ, ◌≤◌, ◌<◌, length, take, drop, true, false};
 ghost use Rattle.bx_grid.specs.Columns.{are_equal};
@@ -17,7 +17,7 @@ pub struct BorrowedRow<'g> {
     codes: &'g [u64],
 }
 
-// Clauses see what the columns show.
+// Contracts see the content of the columns.
 impl<'g> Model for BorrowedRow<'g> {
     ghost use Rattle.std.specs.Prelude.{◌≡◌, List};
     ghost use Rattle.bx_grid.specs.Columns.{Col};
@@ -32,7 +32,7 @@ impl<'g> Model for BorrowedRow<'g> {
 }
 
 impl<'g> BorrowedRow<'g> {
-    /// The row of these columns, whose codes these are.
+    /// A row of columns and their codes.
     pub(crate) fn new(columns: &'g [Column], codes: &'g [u64]) -> BorrowedRow<'g>
         requires { codes.now ≡ codes_of (all_seen columns.now) }
         ensures { result ≡ all_seen columns.now }
@@ -40,14 +40,14 @@ impl<'g> BorrowedRow<'g> {
         BorrowedRow { columns, codes }
     }
 
-    /// What stands in its columns, from the left.
+    /// Its columns, from the left.
     pub fn columns(&self) -> &'g [Column]
         ensures { all_seen result.now ≡ self.now }
     {
         self.columns
     }
 
-    /// Its first columns, or all where there are fewer.
+    /// Its first `count` columns, or all if it has fewer.
     pub fn front(&self, count: usize) -> BorrowedRow<'g>
         ensures { result ≡ take count self.now }
     {
@@ -55,7 +55,7 @@ impl<'g> BorrowedRow<'g> {
         BorrowedRow::new(&self.columns[..end], &self.codes[..end])
     }
 
-    /// Its columns from one on.
+    /// Its columns from the index `from` on.
     pub fn rest(&self, from: usize) -> BorrowedRow<'g>
         requires { from ≤ length self.now }
         ensures { result ≡ drop from self.now }
@@ -63,8 +63,8 @@ impl<'g> BorrowedRow<'g> {
         BorrowedRow::new(&self.columns[from..], &self.codes[from..])
     }
 
-    /// Whether codes tell that a glyph which begins in the other row at an index stands in this one too. It is true where no
-    /// glyph begins in a column that both have, and false where a glyph has more than two columns or no code of its own.
+    /// Whether the codes show that a glyph which begins at an index of the other row is in this row too. True where a shared
+    /// column begins no glyph; false where the glyph has more than two columns or no code of its own.
     pub fn begins_alike(&self, other: &BorrowedRow<'_>, index: usize) -> bool
         requires inside { index < length self.now }
         requires also { index < length other.now }
@@ -90,7 +90,7 @@ impl<'g> BorrowedRow<'g> {
         is_same_code(codes[next], others[next])
     }
 
-    /// Whether codes tell that both begin with different columns.
+    /// Whether the codes show that the first columns differ.
     pub fn begins_otherwise(&self, other: &BorrowedRow<'_>) -> bool
         ensures { result ≡ true → (n : ℕ) → 0 < n → are_equal (take n self.now) (take n other.now) ≡ false }
     {
@@ -102,7 +102,7 @@ impl<'g> BorrowedRow<'g> {
         }
     }
 
-    /// Whether both show the same.
+    /// Whether both rows show the same.
     pub fn is_same(&self, other: &BorrowedRow<'_>) -> bool
         ensures { result ≡ are_equal self.now other.now }
     {

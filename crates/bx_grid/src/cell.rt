@@ -1,4 +1,4 @@
-//! The place of a cell in a grid.
+//! The position of a cell in a grid.
 
 /// A cell of a grid: its line and its column.
 #[derive(Clone, Copy, PartialEq, Eq, Debug)]

@@ -1,4 +1,4 @@
-//! Codes: a number for each column, so that rows are compared at once.
+//! Codes: a number for each column, so that rows compare as arrays of numbers.
 
 ghost use Rattle.std.specs.Prelude.{◌≡◌, ◌≤◌, ◌-◌, ◌<◌, ◌^◌, [], ◌∷◌, ◌++◌, length, take, drop, replicate, set, true, IfOk};
 ghost use Rattle.std.specs.List.{list_all};
@@ -10,7 +10,7 @@ ghost use Rattle.bx_grid.specs.Seen.{seen, all_seen};
 use crate::column::{Column, all_same};
 use std::alloc::{AllocError, Global};
 
-/// The code of a column that has none of its own.
+/// The code of all columns that have none of their own.
 const NO_CODE: u64 = 0x8000_0000_0000_0000;
 
 fn code_in(number: u64, columns: u16, offset: u16, negative: bool) -> u64
@@ -50,14 +50,14 @@ pub fn set_column(columns: &mut Vec<Column>, codes: &mut Vec<u64>, index: usize,
     columns[index] = column;
 }
 
-/// The codes of so many blanks.
+/// The codes of `count` blanks. A blank is U+0020 (packed, 288), one column, offset 0, not negative: its code is 9224.
 pub fn blank_codes(alloc: Global, count: usize) -> Result<Vec<u64>, AllocError>
     ensures { IfOk result (λ codes. codes.items ≡ replicate count 9224) }
 {
     vec![in alloc; 9224; count]
 }
 
-/// Notes the codes of columns from an index up to another.
+/// Sets the codes of columns from an index up to another.
 pub fn note_codes(codes: &mut [u64], columns: &[Column], from: usize, to: usize)
     requires as_long { length codes.old ≡ length columns.now }
     requires order { from ≤ to }
@@ -69,14 +69,14 @@ pub fn note_codes(codes: &mut [u64], columns: &[Column], from: usize, to: usize)
     }
 }
 
-/// The bits in which codes differ from others, and those that some of them have.
+/// The bits in which two lists of codes differ, and those set in any code of the first list.
 #[derive(Clone, Copy)]
 struct Bits {
     differing: u64,
     any: u64,
 }
 
-/// The bits of codes beside others. The whole of both is read, which is faster than to stop.
+/// Compares two lists of codes. Reads both to the end, which is faster than an early exit.
 fn bits_of(codes: &[u64], others: &[u64]) -> Bits
     requires { length codes.now ≡ length others.now }
     ensures same { result.differing ≡ 0 → codes.now ≡ others.now }
@@ -94,7 +94,7 @@ fn bits_of(codes: &[u64], others: &[u64]) -> Bits
     bits
 }
 
-/// Whether columns show the same. Their codes tell it where they differ, and where all of them tell their columns.
+/// Whether two lists of columns show the same. Compares the columns only if their codes are equal and some is `NO_CODE`.
 pub fn are_same(columns: &[Column], codes: &[u64], others: &[Column], other_codes: &[u64]) -> bool
     requires codes { codes.now ≡ codes_of (all_seen columns.now) }
     requires others { other_codes.now ≡ codes_of (all_seen others.now) }
@@ -110,21 +110,21 @@ pub fn are_same(columns: &[Column], codes: &[u64], others: &[Column], other_code
     bits.any < NO_CODE || all_same(columns, others)
 }
 
-/// Whether both codes tell the same column.
+/// Whether both codes identify the same column.
 pub fn is_same_code(code: u64, other: u64) -> bool
     ensures { result ≡ are_same_code code other }
 {
     code == other && code < NO_CODE
 }
 
-/// How many columns the glyph takes of which a code tells one.
+/// Number of columns of the glyph, from the code of one of them.
 pub fn columns_in(code: u64) -> u64
     ensures { result ≡ columns_in code }
 {
     code / 8 % 4
 }
 
-/// Which of its glyph's columns a code tells, from 0.
+/// Index of a code's column in its glyph, from 0.
 pub fn offset_in(code: u64) -> u64
     ensures { result ≡ offset_in code }
 {

@@ -1,4 +1,4 @@
-//! What stands in one column of a grid, and when two columns are alike.
+//! The content of one column of a grid, and its comparison.
 
 ghost use Rattle.std.specs.Prelude.{◌≡◌, ◌↔◌, ◌∷◌, [], IsTrue, ◌≤◌, length, map, IfOk, true, false};
 ghost use Rattle.bx_grid.specs.Columns as spec;
@@ -8,11 +8,11 @@ ghost use Rattle.bx_grid.specs.Seen.{seen};
 use crate::glyph_text::GlyphText;
 use std::alloc::{AllocError, Global};
 
-/// What stands in one column of a grid.
+/// The content of one column of a grid.
 #[derive(Drop)]
 pub enum Column {
     Unknown,
-    /// One column of a glyph: its text, how many columns it takes, and which of them this is, from 0.
+    /// One column of a glyph: the glyph's text, its number of columns, and the index of this one, from 0.
     Glyph {
         text: GlyphText,
         columns: u16,
@@ -48,9 +48,9 @@ impl Column {
         }
     }
 
-    /// A copy. One of a text of at most seven bytes takes no memory.
+    /// A copy. A text of at most seven bytes needs no allocation.
     ///
-    /// Errors: want of memory.
+    /// Errors: out of memory.
     #[inline(always)]
     pub(crate) fn copy(&self, alloc: Global) -> Result<Column, AllocError>
         ensures { IfOk result (λ c. seen c ≡ seen self.now) }
@@ -71,7 +71,7 @@ impl Column {
         }
     }
 
-    /// Becomes a copy of another where both have short texts: whether it does.
+    /// Becomes a copy of another column if both have short texts, and returns whether it did.
     #[inline(always)]
     pub(crate) fn set_short(&mut self, other: &Column) -> bool
         ensures set { result ≡ true → seen self.new ≡ seen other.now }
@@ -120,7 +120,7 @@ impl Column {
         }
     }
 
-    /// Whether both show the same.
+    /// Whether both columns show the same.
     pub fn same(&self, other: &Column) -> bool
         ensures same { IsTrue result ↔ (seen self.now ≡ seen other.now) }
         ensures equal { result ≡ col_eq (seen self.now) (seen other.now) }

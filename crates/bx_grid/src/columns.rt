@@ -1,4 +1,4 @@
-//! Lists of columns: filling, putting, and forgetting what is left of a glyph.
+//! Lists of columns: filling them, putting glyphs, and forgetting the rest of an overwritten glyph.
 
 ghost use Rattle.std.specs.Prelude.{◌≡◌, ℕ, ◌+◌, ◌≤◌, [], ◌∷◌, length, take, drop, replicate, ◌-◌, ◌*◌, ◌<◌};
 ghost use Rattle.std.specs.Prelude.{true, nat_le, ◌&&◌, false, IfOk, IsOk, OnOk, OnErr, IsTrue};
@@ -51,7 +51,7 @@ pub fn fill_unknown(columns: &mut [Column])
     }
 }
 
-/// Blanks from an index up to another.
+/// Fills columns with blanks, from an index up to another.
 pub fn fill_blank(columns: &mut [Column], from: usize, to: usize)
     requires order { from ≤ to }
     requires inside { to ≤ length columns.old }
@@ -73,7 +73,7 @@ fn put_run(columns: &mut [Column], from: usize, run: &[u8], negative: bool)
     }
 }
 
-/// Puts a glyph of so many columns. Where memory runs out some of it is written, and nothing else.
+/// Puts a glyph of `count` columns. If memory runs out, part of the glyph is written, and nothing else.
 fn put_glyph(
     alloc: Global,
     columns: &mut [Column],
@@ -98,7 +98,7 @@ fn put_glyph(
     Ok(())
 }
 
-/// Puts a run, whose columns are counted. Where memory runs out some of it is written, and nothing else.
+/// Puts a run of `count` columns. If memory runs out, part of the run is written, and nothing else.
 #[inline(always)]
 fn put_glyphs(
     alloc: Global,
@@ -125,7 +125,7 @@ fn put_glyphs(
     put_glyph(alloc, columns, from, run, count, negative)
 }
 
-/// Whether all of these are blanks.
+/// Whether all columns are blanks.
 #[tactic(auto, using(crate::proofs::Blanks::blanks_told))]
 pub fn are_blank(columns: &[Column]) -> bool
     ensures { IsTrue result ↔ (all_seen columns.now ≡ replicate (length columns.now) blank) }
@@ -144,7 +144,7 @@ fn all_blank(columns: &[Column]) -> bool
     true
 }
 
-/// Puts a run over blanks. Where memory runs out they are blanks again.
+/// Puts a run over blanks. If memory runs out, they are blanks again.
 pub fn put_over_blanks(
     alloc: Global,
     columns: &mut [Column],
@@ -168,7 +168,7 @@ pub fn put_over_blanks(
 }
 
 impl Column {
-    /// How many more columns of its glyph stand after it.
+    /// Number of columns of its glyph after this one.
     fn after(&self) -> u16
         ensures { result ≡ columns_after (seen self.now) }
     {
@@ -191,7 +191,7 @@ impl Column {
         }
     }
 
-    /// Nothing is known of it from here on.
+    /// Makes the column unknown.
     fn forget(&mut self)
         ensures { seen self.new ≡ spec.Unknown }
     {
@@ -199,7 +199,7 @@ impl Column {
     }
 }
 
-/// Nothing is known of a glyph that goes on after these columns. Only its columns are looked at, and the one before them.
+/// Makes a glyph that reaches past these columns unknown. Reads only its columns and the one before them.
 fn forget_left(row: &mut [Column])
     requires { AreUncut (all_seen row.old) }
     ensures { all_seen row.new ≡ cut_before (all_seen row.old) }
@@ -212,7 +212,7 @@ fn forget_left(row: &mut [Column])
     }
 }
 
-/// Nothing is known of a glyph that began before these columns. Only its columns are looked at, and the one after them.
+/// Makes a glyph that began before these columns unknown. Reads only its columns and the one after them.
 fn forget_right(row: &mut [Column])
     requires { AreUncut (all_seen row.old) }
     ensures { all_seen row.new ≡ cut_after 0 (all_seen row.old) }
@@ -224,7 +224,7 @@ fn forget_right(row: &mut [Column])
     }
 }
 
-/// Puts a run in a row. Where memory runs out some of it is written.
+/// Puts a run in a row. If memory runs out, part of it is written.
 pub fn show_in_row(
     alloc: Global,
     row: &mut [Column],
@@ -253,7 +253,7 @@ pub fn erase_in_row(row: &mut [Column], from: usize)
     fill_blank(row, from, count);
 }
 
-/// Puts a run in a row of all columns. Where memory runs out nothing is known of any column.
+/// Puts a run in one row of a grid's columns. If memory runs out, all columns become unknown.
 pub fn show_at(
     alloc: Global,
     columns: &mut [Column],

@@ -1,4 +1,4 @@
-//! The text of a glyph, as a column keeps it.
+//! The text of a glyph, as a column stores it.
 
 ghost use Rattle.std.specs.Prelude.{◌≡◌, ◌+◌, ◌*◌, ◌^◌, ◌≤◌, ◌<◌, [], ◌∷◌, length, IfOk, IsOk, MatchOption, false, true};
 ghost use Rattle.std.specs.Str.{bytes_eq};
@@ -10,7 +10,7 @@ use bx_terms::is_ascii_printable;
 use std::alloc::{AllocError, Global};
 use std::marker::Model;
 
-/// The most bytes of a text that takes no memory of its own.
+/// Largest length in bytes of a text stored inline.
 pub(crate) const SHORT: usize = 7;
 
 /// A text of at most seven bytes.
@@ -70,20 +70,20 @@ impl ShortText {
     }
 }
 
-/// A short text stands in the column itself, any other in memory of its own.
+/// A short text is stored inline, any other on the heap.
 #[derive(Drop)]
 enum Stored {
     Short(ShortText),
     Long(String),
 }
 
-/// The text of a glyph. One of at most seven bytes takes no memory.
+/// The text of a glyph. Up to seven bytes are stored inline, without an allocation.
 #[derive(Drop)]
 pub struct GlyphText {
     stored: Stored,
 }
 
-// Clauses see the bytes.
+// Contracts see the bytes.
 impl Model for GlyphText {
     ghost use Rattle.std.specs.Prelude.{List, ℕ};
 
@@ -97,9 +97,9 @@ impl Model for GlyphText {
 }
 
 impl GlyphText {
-    /// A text. One of at most seven bytes takes no memory.
+    /// A text. At most seven bytes need no allocation.
     ///
-    /// Errors: want of memory.
+    /// Errors: out of memory.
     pub fn from_str(alloc: Global, text: &str) -> Result<GlyphText, AllocError>
         ensures ok { IfOk result (λ t. t ≡ text.now) }
         ensures short { length text.now ≤ 7 → IsOk result }
@@ -123,9 +123,9 @@ impl GlyphText {
         }
     }
 
-    /// A copy. One of at most seven bytes takes no memory.
+    /// A copy. At most seven bytes need no allocation.
     ///
-    /// Errors: want of memory.
+    /// Errors: out of memory.
     #[inline(always)]
     pub fn copy(&self, alloc: Global) -> Result<GlyphText, AllocError>
         ensures ok { IfOk result (λ t. t ≡ self.now) }
@@ -141,7 +141,7 @@ impl GlyphText {
         }
     }
 
-    /// Takes over another's text where both are short: whether it does.
+    /// Copies another text if both are short, and returns whether it did.
     #[inline(always)]
     pub(crate) fn set_short(&mut self, other: &GlyphText) -> bool
         ensures set { result ≡ true → self.new ≡ other.now }
@@ -176,14 +176,14 @@ impl GlyphText {
         }
     }
 
-    /// Whether both are the same text.
+    /// Whether the texts are equal.
     pub fn is_same(&self, other: &GlyphText) -> bool
         ensures { result ≡ bytes_eq self.now other.now }
     {
         self.as_bytes() == other.as_bytes()
     }
 
-    /// Whether it is one byte, and this one.
+    /// Whether it consists of this byte alone.
     pub(crate) fn is_byte(&self, byte: u8) -> bool
         ensures { result ≡ is_only byte self.now }
     {
@@ -203,7 +203,7 @@ impl GlyphText {
         }
     }
 
-    /// The number that tells a short text, and none for any other.
+    /// A number that identifies a short text; none for any other text.
     #[inline(always)]
     pub(crate) fn packed(&self) -> Option<u64>
         ensures { MatchOption result (is_short self.now ≡ false) (λ n. (n ≡ packed self.now) × (is_short self.now ≡ true) × (n < 2 ^ 57)) }
@@ -215,7 +215,7 @@ impl GlyphText {
     }
 }
 
-/// The number that tells at most seven bytes.
+/// A number that identifies at most seven bytes.
 #[inline(always)]
 fn packed_bytes(bytes: &[u8]) -> u64
     requires { length bytes.now ≤ 7 }
@@ -238,7 +238,7 @@ fn packed_bytes(bytes: &[u8]) -> u64
     }
 }
 
-/// A number with one more byte below it.
+/// Appends a byte below a number.
 fn under(high: u64, byte: u8) -> u64
     requires { high < 2 ^ 56 }
     ensures { result ≡ high * 256 + byte }

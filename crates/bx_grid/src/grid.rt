@@ -1,4 +1,4 @@
-//! A grid of columns that are all known.
+//! A grid of columns, all of them known.
 
 ghost use Rattle.std.specs.Prelude.{◌≡◌, ℕ, ◌*◌, ◌+◌, ◌-◌, ◌<◌, ◌≤◌, ◌↔◌, List, ◌++◌, length, replicate, take, drop, IfOk, OnOk, OnErr, IfErr, IsErrOf, IsOk};
 ghost use Rattle.std.specs.Prelude.{IsTrue, true, false};
@@ -18,7 +18,7 @@ use bx_terms::{OutOfMemory, is_side, run_width};
 use std::alloc::{AllocError, Global};
 use std::marker::Model;
 
-/// A grid of columns, row by row: each row is glyphs with all their columns.
+/// A grid of columns, row by row. Each row consists of whole glyphs.
 #[derive(Drop)]
 pub struct Grid {
     pub(crate) height: u16,
@@ -65,7 +65,7 @@ impl Grid {
 
     /// Puts a glyph at a cell, over blanks. A glyph is one character from SPACE to TILDE, which takes one column, or other
     /// text that a terminal shows as one piece: characters that are no controls and that take a column or more together
-    /// (`run_width`), not all of them from SPACE to TILDE. One of at most seven bytes takes no memory.
+    /// (`run_width`), not all of them from SPACE to TILDE. A glyph of at most seven bytes needs no allocation.
     ///
     /// Errors: `OutOfMemory`, and nothing has changed.
     pub fn put(&mut self, cell: Cell, text: &str, negative: bool) -> Result<(), OutOfMemory>
@@ -82,7 +82,7 @@ impl Grid {
         self.put_counted(cell, text, count, negative)
     }
 
-    /// `put`, where it is known how many columns the glyph takes.
+    /// `put` for a glyph of known width.
     ///
     /// Errors: `OutOfMemory`, and nothing has changed.
     pub fn put_counted(
@@ -127,7 +127,7 @@ impl Grid {
         Ok(())
     }
 
-    /// Whether a glyph of so many columns may be put at a cell: they are there, and all of them are blanks.
+    /// Whether a glyph of `count` columns may be put at a cell: it fits in the row, and covers blanks alone.
     pub fn has_room(&self, cell: Cell, count: usize) -> bool
         requires inside { IsWithin self.now.height self.now.width cell.line cell.column }
         ensures { IsTrue result ↔ HasRoom self.now cell.line cell.column count }
@@ -162,7 +162,7 @@ impl Grid {
         BorrowedRow::new(&self.columns[start..stop], &self.codes[start..stop])
     }
 
-    /// How many rows, from 1 to 500.
+    /// Number of rows, from 1 to 500.
     pub fn height(&self) -> u16
         ensures height { result ≡ self.now.height }
         ensures low { 1 ≤ result }
@@ -171,7 +171,7 @@ impl Grid {
         self.height
     }
 
-    /// How many columns a row has, from 1 to 500.
+    /// Number of columns of a row, from 1 to 500.
     pub fn width(&self) -> u16
         ensures width { result ≡ self.now.width }
         ensures low { 1 ≤ result }

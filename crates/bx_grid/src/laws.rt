@@ -1,9 +1,9 @@
-//! What holds of a terminal that reads, whatever the bytes. The functions do nothing: their contracts are the laws.
+//! Laws of a terminal that reads any bytes. Each function's contract is a law; its body is empty.
 
 ghost use Rattle.bx_grid.specs.Laws.{ReadsTokens, RunsAreLongest, TokensMakeBytes};
 
-/// Bytes are read as the tokens that they are cut into: each does what it does, one after another. The tokens joined, with
-/// what is left, are the bytes, and each printable run is as long as it can be.
+/// A terminal reads bytes token by token, in order. The tokens and the remaining bytes, concatenated, are the bytes read,
+/// and each printable run is as long as possible.
 pub fn reads_tokens()
     ensures reads { ReadsTokens }
     ensures bytes { TokensMakeBytes }

@@ -37,26 +37,26 @@ pub use owned_row::OwnedRow;
 pub use picture::Picture;
 pub use screen::Screen;
 
-/// However the bytes are cut, reading them piece by piece is reading them at once.
+/// Reading bytes piece by piece is the same as reading them at once.
 pub fn in_any_pieces()
     ensures { (t : Terminal) (xs ys : List ℕ) → reads t (xs ++ ys) ≡ reads (reads t xs) ys }
 {}
 
-/// A change of the window keeps what is half read.
+/// A change of the window's size keeps the half-read bytes.
 pub fn window_keeps_what_is_half_read()
     ensures { (t : Terminal) (height width : ℕ)
         → ((after_resize t height width).run ≡ t.run) × ((after_resize t height width).half_read ≡ t.half_read) }
 {}
 
-/// A text of printable characters, read where no token is half read, goes on with the run, however many bytes its
-/// characters have.
+/// A text of printable characters, read where no token is half read, extends the run, whatever the length of its
+/// characters in bytes.
 pub fn text_goes_on_with_the_run()
     ensures { (t : Terminal) (text : List ℕ) → IsUtf8 text → are_printable text ≡ true → t.half_read ≡ []
         → reads t text ≡ record t { run = t.run ++ text } }
 {}
 
-/// Two pictures of one size differ in whole glyphs: a column that both have is one of a glyph that both have with all
-/// its columns, and where a column differs, so do all columns of the glyph that either has there.
+/// Two pictures of one size differ in whole glyphs: a column that both have belongs to a glyph that both have whole,
+/// and where a column differs, so do all columns of the glyph that either has there.
 pub fn pictures_differ_in_whole_glyphs()
     ensures common { (p q : PictureState) → IsPicture p → IsPicture q → p.height ≡ q.height → p.width ≡ q.width
         → ShareWholeGlyphs p.columns q.columns }

@@ -73,7 +73,7 @@ impl Live {
         })
     }
 
-    /// Everything is unknown, and nothing is half read.
+    /// Makes the whole state unknown, with nothing half read.
     fn forget(&mut self)
         ensures { self.new ≡ all_unknown self.old }
     {
@@ -144,7 +144,7 @@ impl Live {
         }
     }
 
-    /// Puts a text's glyphs, in columns from an index on, and no run is left.
+    /// Puts a text's glyphs at a position, and empties the run.
     fn put_text(
         &mut self,
         row: u16,
@@ -182,7 +182,7 @@ impl Live {
         Ok(())
     }
 
-    /// Puts the run's glyphs, in columns from an index on.
+    /// Puts the run's glyphs at a position.
     fn put_run(&mut self, row: u16, column: u16, negative: bool) -> Result<(), AllocError>
         requires { (row < self.old.height) × (column < self.old.width) }
         ensures { OnOk result (self.new ≡ glyphs_put self.old (row, column) (run_columns negative self.old.run)) }
@@ -195,7 +195,7 @@ impl Live {
         Ok(())
     }
 
-    /// The run takes effect, if there is one.
+    /// Shows the run, if it is not empty.
     #[inline(always)]
     fn end_run(&mut self) -> Result<(), AllocError>
         ensures { OnOk result (self.new ≡ run_ended self.old) }
@@ -218,7 +218,7 @@ impl Live {
         }
     }
 
-    /// A text takes effect behind the run. Where there is no run it is not kept.
+    /// Shows the run and then a text, if possible without copying the text to the run.
     #[inline(always)]
     fn show(&mut self, text: &str) -> Result<(), AllocError>
         ensures { OnOk result (self.new ≡ run_ended (record self.old { run = self.old.run ++ text.now })) }
@@ -232,7 +232,7 @@ impl Live {
         self.end_run()
     }
 
-    /// The last byte of a character.
+    /// Reads the last byte of a character.
     fn end_character(&mut self, byte: u8) -> Result<(), AllocError>
         requires { fate_in characters (self.old.half_read ++ byte ∷ []) ≡ Fate.Ends }
         ensures { OnOk result (self.new ≡ character_read self.old (self.old.half_read ++ byte ∷ [])) }
@@ -247,7 +247,7 @@ impl Live {
         Ok(())
     }
 
-    /// The last byte of a sequence.
+    /// Reads the last byte of a sequence.
     fn end_sequence(&mut self, byte: u8) -> Result<(), AllocError>
         requires { self.old.half_read ++ byte ∷ [] ≡ 0x1B ∷ 0x5B ∷ drop 2 (self.old.half_read ++ byte ∷ []) }
         ensures { OnOk result (self.new ≡ token_read self.old (self.old.half_read ++ byte ∷ [])) }
@@ -259,7 +259,7 @@ impl Live {
         Ok(())
     }
 
-    /// A byte where no token is half read.
+    /// Reads a byte where no token is half read.
     fn begin(&mut self, byte: u8) -> Result<(), AllocError>
         requires { self.old.half_read ≡ [] }
         ensures { OnOk result (self.new ≡ after_first_byte self.old byte) }
@@ -277,7 +277,7 @@ impl Live {
         Ok(())
     }
 
-    /// A byte after the beginning of a token.
+    /// Reads a byte after the beginning of a token.
     fn go_on(&mut self, byte: u8) -> Result<(), AllocError>
         requires { 0 < length self.old.half_read }
         ensures { OnOk result (self.new ≡ after_next_byte self.old byte (fate (self.old.half_read ++ byte ∷ []))) }

@@ -1,4 +1,4 @@
-//! A row of columns that is kept apart from a grid, so that it can be put into one.
+//! A row of columns outside a grid, to be put into one.
 
 ghost use Rattle.std.specs.Prelude.{List, ◌≡◌, ◌+◌, ◌-◌, ◌*◌, ◌≤◌, ◌<◌, ◌++◌, length, take, drop, replicate, OnOk, OnErr};
 ghost use Rattle.bx_grid.specs.Columns.{Col, blank, paste, AreSameAround};
@@ -13,14 +13,14 @@ use bx_terms::OutOfMemory;
 use std::alloc::{AllocError, Global};
 use std::marker::Model;
 
-/// A row of columns, kept apart from a grid: whole glyphs side by side.
+/// A row of columns outside a grid: whole glyphs side by side.
 #[derive(Drop)]
 pub struct OwnedRow {
     columns: Vec<Column>,
     codes: Vec<u64>,
 }
 
-// Clauses see what the columns show.
+// Contracts see the content of the columns.
 impl Model for OwnedRow {
     ghost use Rattle.std.specs.Prelude.{◌≡◌, List};
     ghost use Rattle.bx_grid.specs.Columns.{Col};
@@ -36,14 +36,14 @@ impl Model for OwnedRow {
 }
 
 impl OwnedRow {
-    /// How many columns it has.
+    /// Number of columns.
     pub fn width(&self) -> usize
         ensures { result ≡ length self.now }
     {
         self.columns.len()
     }
 
-    /// The row, lent.
+    /// The row, borrowed.
     pub fn as_row(&self) -> BorrowedRow<'_>
         ensures { result ≡ self.now }
     {
@@ -52,7 +52,7 @@ impl OwnedRow {
 }
 
 impl Grid {
-    /// The row of a grid that has no other. No memory.
+    /// The only row of a grid of one row. Allocates nothing.
     pub fn into_row(self) -> OwnedRow
         requires { self.height ≡ 1 }
         ensures { result ≡ self.columns }
@@ -63,7 +63,7 @@ impl Grid {
         }
     }
 
-    /// Puts a row of as many columns in the place of one, from 0. One that shows the same stays.
+    /// Replaces a row, counted from 0, by one of the same width. A row that shows the same is left alone.
     ///
     /// Errors: `OutOfMemory`, and the row is blank.
     pub fn put_row(&mut self, row: u16, new: &OwnedRow) -> Result<(), OutOfMemory>
@@ -92,7 +92,7 @@ impl Grid {
         }
     }
 
-    /// Makes the rows from one up to another blank, both from 0. No memory.
+    /// Blanks the rows `from..to`, counted from 0. Allocates nothing.
     pub fn blank_rows(&mut self, from: u16, to: u16)
         requires order { from ≤ to }
         requires inside { to ≤ self.old.height }
@@ -107,8 +107,8 @@ impl Grid {
     }
 }
 
-/// Goes on putting copies of columns from an index up to the next one that may take memory, or that comes over one that may
-/// have some: up to where.
+/// Copies columns from the index `at` on, up to the first where the old or the new one has a text on the heap or is unknown.
+/// Returns that index.
 #[inline(never)]
 fn copy_short(columns: &mut [Column], from: usize, others: &[Column], at: usize) -> usize
     requires inside { from + length others.now ≤ length columns.old }
@@ -127,7 +127,7 @@ fn copy_short(columns: &mut [Column], from: usize, others: &[Column], at: usize)
     others.len()
 }
 
-/// Puts copies of columns. Where memory runs out some of them are written, and nothing else.
+/// Copies columns over others. If memory runs out, some of them are written, and nothing else.
 fn copy_over(
     alloc: Global,
     columns: &mut [Column],
@@ -146,7 +146,7 @@ fn copy_over(
     Ok(())
 }
 
-/// Puts copies of columns. Where memory runs out blanks stand there.
+/// Copies columns over others. If memory runs out, all of them are blanks.
 fn put_copies(
     alloc: Global,
     columns: &mut [Column],
@@ -164,7 +164,7 @@ fn put_copies(
     copied
 }
 
-/// Puts codes in the place of others.
+/// Copies codes over others.
 fn put_codes(codes: &mut [u64], from: usize, others: &[u64])
     requires { from + length others.now ≤ length codes.old }
     ensures { codes.new ≡ take from codes.old ++ others.now ++ drop (from + length others.now) codes.old }

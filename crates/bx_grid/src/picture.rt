@@ -7,7 +7,7 @@ use crate::cell::Cell;
 use crate::grid::Grid;
 use std::marker::Model;
 
-/// A grid and where the cursor stands in it.
+/// A grid and the cell of the cursor.
 #[derive(Drop)]
 pub struct Picture {
     grid: Grid,
@@ -32,7 +32,7 @@ impl Model for Picture {
 }
 
 impl Picture {
-    /// The grid with the cursor at a cell inside.
+    /// A picture of a grid and a cursor inside it.
     pub fn new(grid: Grid, cursor: Cell) -> Picture
         requires { IsWithin grid.height grid.width cursor.line cursor.column }
         ensures { result ≡ record { height = grid.height; width = grid.width; columns = grid.columns; row = cursor.line - 1; column = cursor.column - 1 } }
@@ -40,24 +40,24 @@ impl Picture {
         Picture { grid, cursor }
     }
 
-    /// What stands in each column.
+    /// The grid without the cursor, borrowed.
     pub fn grid(&self) -> &Grid
         ensures grid { result.now ≡ record { height = self.now.height; width = self.now.width; columns = self.now.columns } }
         ensures picture { IsPicture self.now }
     {
-        // whose contract says what holds of every grid
+        // its contract has the invariant of grids
         let _columns = self.grid.columns();
         &self.grid
     }
 
-    /// The grid without the cursor. No memory.
+    /// The grid without the cursor. Allocates nothing.
     pub fn into_grid(self) -> Grid
         ensures { result ≡ record { height = self.height; width = self.width; columns = self.columns } }
     {
         self.grid
     }
 
-    /// Where the cursor stands.
+    /// The cell of the cursor.
     pub fn cursor(&self) -> Cell
         ensures line { result.line ≡ self.now.row + 1 }
         ensures column { result.column ≡ self.now.column + 1 }

@@ -1,4 +1,4 @@
-//! The terminal, which may fail for want of memory.
+//! The terminal, which may fail by running out of memory.
 
 ghost use Rattle.std.specs.Prelude.{◌≡◌, ◌*◌, ◌↔◌, [], List, length, replicate, true, false, IsTrue, Some, None, option_map, IsSome, IfOk, OnOk, OnErr};
 ghost use Rattle.std.specs.Prelude.{IsErrOf};
@@ -14,7 +14,7 @@ use bx_terms::is_side;
 use std::alloc::Global;
 use std::marker::Model;
 
-/// A terminal. Once memory has run out in it, it has failed for good.
+/// A terminal. Once it runs out of memory, it has failed for good.
 #[derive(Drop)]
 pub struct Screen {
     live: Live,
@@ -33,7 +33,7 @@ impl Model for Screen {
 }
 
 impl Screen {
-    /// A terminal of this size, of which nothing is known.
+    /// A terminal of this size, whose state is unknown.
     pub fn new(alloc: Global, height: u16, width: u16) -> Result<Screen, GridError>
         ensures ok { IfOk result (λ s. s ≡ Some (record {
           height = height;
@@ -56,7 +56,7 @@ impl Screen {
         })
     }
 
-    /// Reads these bytes. An error is want of memory, now or at an earlier call, and the terminal has failed.
+    /// Reads bytes. An error means that the terminal has run out of memory, now or before, and has failed.
     pub fn read(&mut self, bytes: &[u8]) -> Result<(), GridError>
         ensures ok { OnOk result (self.new ≡ option_map (λ t. reads t bytes.now) self.old) }
         ensures live { OnOk result (IsSome self.new) }
@@ -76,10 +76,10 @@ impl Screen {
         }
     }
 
-    /// The window's size changes, and nothing is known in it.
+    /// Changes the window's size, which makes its content unknown.
     ///
     /// Errors: `SizeOutOfRange` where a side is not from 1 to 500, and nothing has changed; `OutOfMemory`, and the terminal has
-    /// failed. One that has failed answers `OutOfMemory` whatever the size.
+    /// failed. A failed terminal returns `OutOfMemory` whatever the size.
     pub fn window(&mut self, height: u16, width: u16) -> Result<(), GridError>
         ensures ok { OnOk result (self.new ≡ option_map (λ t. after_resize t height width) self.old) }
         ensures live { OnOk result (IsSome self.new) }
@@ -104,7 +104,7 @@ impl Screen {
     }
 
     /// Whether the terminal shows the picture: nothing is half read, the sizes agree, each column is
-    /// the picture's, the rendition is normal, and the position is the cursor's. One that has failed
+    /// the picture's, the rendition is normal, and the position is the cursor's. A failed terminal
     /// shows none.
     pub fn shows(&self, picture: &Picture) -> bool
         ensures { IsTrue result ↔ IfShown self.now picture.now }

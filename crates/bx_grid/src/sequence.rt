@@ -1,18 +1,18 @@
-//! Control sequences and texts that stand whole in what is read.
+//! Control sequences and texts that are whole in the bytes read.
 
 ghost use Rattle.std.specs.Prelude.{◌≡◌, ◌∷◌, ◌≤◌, length, IfSome};
 ghost use Rattle.bx_grid.specs.Sequences.{BeginWithSequence};
 
 use crate::token::{Command, ESCAPE, command_of, first_digits, is_last, params_len};
 
-/// A control sequence of parameter bytes and a final byte: what it asks for, and how many bytes it has.
+/// A control sequence of parameter bytes and a final byte: its command, and its length in bytes.
 #[derive(Clone, Copy)]
 pub struct Sequence {
     pub command: Command,
     pub len: usize,
 }
 
-/// A move whose bytes after its start are the first of these, with both its numbers, which are read once.
+/// A move with both its numbers, if `body` begins with the rest of one after CSI. Reads each number once.
 fn move_in(body: &[u8]) -> Option<Sequence>
     ensures { IfSome result (λ s. BeginWithSequence (0x1B ∷ 0x5B ∷ body.now) s.command s.len) }
 {
@@ -31,7 +31,7 @@ fn move_in(body: &[u8]) -> Option<Sequence>
     })
 }
 
-/// The sequence whose bytes after its start are the first of these, if its final byte is among them.
+/// The sequence that `body` begins with, after CSI, if its final byte is there.
 fn sequence_in(body: &[u8]) -> Option<Sequence>
     ensures { IfSome result (λ s. BeginWithSequence (0x1B ∷ 0x5B ∷ body.now) s.command s.len) }
 {
@@ -59,7 +59,7 @@ pub fn first_sequence(bytes: &[u8]) -> Option<Sequence>
     }
 }
 
-/// How many bytes stand before the first escape.
+/// Number of bytes before the first escape.
 pub fn text_len(bytes: &[u8]) -> usize
     ensures { result ≤ length bytes.now }
 {

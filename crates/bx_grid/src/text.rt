@@ -1,11 +1,11 @@
-//! Texts with no control that stand before an escape.
+//! Texts without controls, read up to an escape.
 
 ghost use Rattle.std.specs.Prelude.{◌≡◌, ◌≤◌, [], ◌∷◌, true, length, take, IfSome};
 ghost use Rattle.bx_grid.specs.Printables.{is_second, IsPrintable, IsBeforeEscape};
 
 use crate::token::ESCAPE;
 
-/// Whether the byte is a character that is no control.
+/// Whether the byte is a character and no control.
 #[inline(always)]
 fn is_one(byte: u8) -> bool
     ensures { result ≡ true → IsPrintable (byte ∷ []) }
@@ -16,7 +16,7 @@ fn is_one(byte: u8) -> bool
     byte <= b'~'
 }
 
-/// Whether both bytes are a character that is no control.
+/// Whether the two bytes are a character and no control.
 #[inline(always)]
 fn is_two(lead: u8, last: u8) -> bool
     ensures { result ≡ true → IsPrintable (lead ∷ last ∷ []) }
@@ -30,7 +30,7 @@ fn is_two(lead: u8, last: u8) -> bool
     0x80 <= last
 }
 
-/// Whether the second byte of a character of three may stand behind its first one: no overlong form, and no surrogate.
+/// Whether a second byte may follow the lead byte of three: refuses overlong forms and surrogates.
 #[inline(always)]
 fn is_second(lead: u8, second: u8) -> bool
     ensures { result ≡ is_second lead second }
@@ -42,7 +42,7 @@ fn is_second(lead: u8, second: u8) -> bool
     }
 }
 
-/// Whether the three bytes are a character, and none from U+2028 to U+203F, of which two are controls.
+/// Whether the three bytes are a character outside U+2028 to U+203F, a range with two controls.
 #[inline(always)]
 fn is_three(lead: u8, second: u8, last: u8) -> bool
     ensures { result ≡ true → IsPrintable (lead ∷ second ∷ last ∷ []) }
@@ -59,7 +59,7 @@ fn is_three(lead: u8, second: u8, last: u8) -> bool
     last < 0xA8
 }
 
-/// How many bytes the character has that bytes begin with, if it has at most three and is no control, and else 0. That of some others is 0 too.
+/// Length in bytes of the first character; 0 if it is a control, from U+2028 to U+203F, incomplete, or of four bytes.
 #[inline(always)]
 #[tactic(auto, using(crate::proofs::Printed::nil_printable))]
 fn first_len(bytes: &[u8]) -> usize
@@ -75,7 +75,7 @@ fn first_len(bytes: &[u8]) -> usize
     }
 }
 
-/// How many bytes at the front are a text of such characters.
+/// Length in bytes of the longest front of such characters.
 #[inline(always)]
 fn printable_len(bytes: &[u8]) -> usize
     ensures within { result ≤ length bytes.now }
@@ -92,7 +92,7 @@ fn printable_len(bytes: &[u8]) -> usize
     len
 }
 
-/// The text of such characters that bytes begin with, if an escape stands behind it.
+/// The longest front of such characters, if it is not empty and an escape follows it.
 #[inline(always)]
 pub fn text_before_escape(bytes: &[u8]) -> Option<&str>
     ensures { IfSome result (λ t. IsBeforeEscape t.now bytes.now) }

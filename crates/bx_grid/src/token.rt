@@ -1,4 +1,4 @@
-//! Tokens: what a byte makes of the bytes that are half read, and what a sequence asks for.
+//! Tokens: the state after one more byte of a token, and the command of a sequence.
 
 ghost use Rattle.std.specs.Prelude.{◌≡◌, ℕ, ◌+◌, ◌*◌, ◌<◌, ◌≤◌, Bool, true, false, ◌&&◌, ◌∷◌, [], ◌++◌, length, min, nat_le, option_map, take, drop, None};
 ghost use Rattle.std.specs.List.{list_all};
@@ -12,7 +12,7 @@ use bx_bytes::{Fate, character_fate};
 
 pub const ESCAPE: u8 = 0x1B;
 
-/// What a sequence asks for.
+/// The command of a sequence.
 #[derive(Clone, Copy)]
 pub enum Command {
     Move(u16, u16),
@@ -40,7 +40,7 @@ pub fn is_last(byte: u8) -> bool
     0x40 <= byte && byte <= 0x7E
 }
 
-/// Whether all these bytes, after which a final byte may come, are parameters: the last one tells it.
+/// Whether all bytes of an unfinished sequence are parameters. Looks at the last one alone.
 fn are_params(body: &[u8]) -> bool
     requires { after_intermediates (after_params body.now) ≡ [] }
     ensures { result ≡ list_all is_param body.now }
@@ -51,7 +51,7 @@ fn are_params(body: &[u8]) -> bool
     }
 }
 
-/// After what stands between the start of a sequence and the byte.
+/// The state after a sequence's bytes past its start, `body`, and one more.
 fn fate_in_sequence(body: &[u8], byte: u8) -> Fate
     requires { after_intermediates (after_params body.now) ≡ [] }
     ensures { result ≡ final_fate (after_intermediates (after_params (body.now ++ byte ∷ []))) }
@@ -67,7 +67,7 @@ fn fate_in_sequence(body: &[u8], byte: u8) -> Fate
     }
 }
 
-/// What the byte makes of the bytes that are half read.
+/// The state after the half-read bytes and one more.
 pub fn fate_of(half_read: &[u8], byte: u8) -> Fate
     requires { fate half_read.now ≡ Fate.Waits }
     ensures { result ≡ fate (half_read.now ++ byte ∷ []) }
@@ -106,7 +106,7 @@ fn fate_after_escape(rest: &[u8], byte: u8) -> Fate
     }
 }
 
-/// Where the parameters end.
+/// Length of the parameters.
 pub fn params_len(body: &[u8]) -> usize
     ensures within { result ≤ length body.now }
     ensures front { take result body.now ≡ params body.now }
@@ -137,7 +137,7 @@ fn semicolon(params: &[u8]) -> usize
     len
 }
 
-/// The digits that bytes begin with: their number, which is 1000 where it is above that, and how many they are.
+/// The leading digits of some bytes: their number, at most 1000, and their count.
 #[derive(Clone, Copy)]
 pub struct Digits {
     pub number: u16,
@@ -162,7 +162,7 @@ pub fn first_digits(bytes: &[u8]) -> Digits
     Digits { number, len }
 }
 
-/// A number, 1 where it is absent; above 1000 it is 1000.
+/// A number, at most 1000; 1 if it is absent.
 fn number_of(bytes: &[u8]) -> Option<u16>
     ensures { result ≡ option_map (λ n. min 1000 n) (number bytes.now) }
 {
@@ -191,7 +191,7 @@ fn move_of(params: &[u8]) -> Command
     }
 }
 
-/// What parameters and a final byte ask for.
+/// The command of parameters and a final byte.
 pub fn command_of(params: &[u8], last: u8) -> Command
     ensures { result ≡ capped (command_of params.now last) }
 {
@@ -214,7 +214,7 @@ pub fn command_of(params: &[u8], last: u8) -> Command
     }
 }
 
-/// What the bytes after the start of a sequence ask for.
+/// The command of a sequence, without its start.
 pub fn command_in(body: &[u8]) -> Command
     ensures { result ≡ capped (command body.now) }
 {

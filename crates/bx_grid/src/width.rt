@@ -1,4 +1,4 @@
-//! How many columns a text takes.
+//! Width of texts, in columns.
 
 ghost use Rattle.std.specs.Prelude.{◌≡◌, false, IfSome};
 ghost use Rattle.std.specs.List.{list_all};
@@ -10,7 +10,7 @@ ghost use Rattle.unicode_width.specs.Width.{char_width};
 use bx_terms::run_width;
 use unicode_width::UnicodeWidthChar;
 
-/// Whether a character is a mark that needs no look into the tables.
+/// Whether a character is one of the marks known without a table look-up.
 #[inline(always)]
 fn is_mark(c: char) -> bool
     ensures { result ≡ is_mark c }
@@ -21,7 +21,7 @@ fn is_mark(c: char) -> bool
         || ('\u{64B}' <= c && c <= '\u{65F}')
 }
 
-/// Whether a character takes no column, and changes none of the character before it.
+/// Whether a character takes no column, and does not change the width of the one before it.
 #[inline(always)]
 #[tactic(auto, using(crate::proofs::Marks::mark_still))]
 fn is_still(c: char) -> bool
@@ -45,7 +45,7 @@ fn are_still(text: &str) -> bool
     text.chars().all(|c| is_still(c))
 }
 
-/// The text's first character, if it is above U+00A0 and all behind it are still.
+/// The text's first character, if it is above U+00A0 and all that follow are still.
 fn base(text: &str) -> Option<char>
     ensures { IfSome result (λ c. IsBase text.now c) }
 {
@@ -58,7 +58,7 @@ fn base(text: &str) -> Option<char>
     None
 }
 
-/// Whether a character is a letter of one column that needs no look into the tables.
+/// Whether a character is one of the letters of one column known without a table look-up.
 #[inline(always)]
 fn is_letter(c: char) -> bool
     ensures { result ≡ is_letter c }
@@ -69,7 +69,7 @@ fn is_letter(c: char) -> bool
         || ('\u{620}' <= c && c <= '\u{64A}')
 }
 
-/// How many columns a character takes, if it is no control.
+/// Width of a character in columns; none for a control.
 #[inline(always)]
 #[tactic(auto, using(crate::proofs::Marks::letter_narrow))]
 fn char_width(c: char) -> Option<usize>
@@ -81,7 +81,7 @@ fn char_width(c: char) -> Option<usize>
     c.width()
 }
 
-/// How many columns a text takes that is not all from SPACE to TILDE. A character with still ones behind it is looked up at once.
+/// Width of a text that is not all from SPACE to TILDE. A character followed by still ones takes one look-up.
 #[tactic(auto, using(crate::proofs::Still::width_of_base))]
 fn other_width(text: &str) -> usize
     requires { are_ascii_printable text.now ≡ false }
@@ -95,7 +95,7 @@ fn other_width(text: &str) -> usize
     run_width(text)
 }
 
-/// How many columns a run of this text takes.
+/// Width of a run of this text, in columns.
 pub fn text_width(text: &str) -> usize
     ensures { result ≡ run_width text.now }
 {

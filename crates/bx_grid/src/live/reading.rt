@@ -1,4 +1,4 @@
-//! How a terminal reads: sequences and texts that stand whole at once, all else byte by byte.
+//! Reading: whole sequences and texts at once, all else byte by byte.
 
 ghost use Rattle.std.specs.Prelude.{◌≡◌, ◌<◌, ◌≤◌, [], length, get_or, drop, IfOk, OnOk};
 ghost use Rattle.bx_grid.specs.Terminal.{after_command, run_ended, reads};
@@ -11,7 +11,7 @@ use bx_terms::are_printable;
 use std::alloc::AllocError;
 
 impl Live {
-    /// A whole sequence, where no token is half read.
+    /// Ends the run and obeys a whole sequence, where no token is half read.
     fn obey_sequence(&mut self, command: Command) -> Result<(), AllocError>
         ensures { OnOk result (self.new ≡ after_command (run_ended self.old) command) }
     {
@@ -30,7 +30,7 @@ impl Live {
         Ok(())
     }
 
-    /// Reads bytes where no token is half read: at once where they are a text with no control.
+    /// Reads bytes where no token is half read, at once if they are a text without controls.
     fn read_text(&mut self, bytes: &[u8]) -> Result<(), AllocError>
         requires { self.old.half_read ≡ [] }
         ensures { OnOk result (self.new ≡ reads self.old bytes.now) }
@@ -44,8 +44,8 @@ impl Live {
         }
     }
 
-    /// Reads so many bytes, where no token is half read and an escape stands behind them: a text with no control is shown from
-    /// where it stands, since the escape ends the run.
+    /// Reads `count` bytes where no token is half read and an escape follows them. Shows a text without controls at once,
+    /// since the escape ends the run.
     fn read_before_escape(&mut self, bytes: &[u8], count: usize) -> Result<(), AllocError>
         requires idle { self.old.half_read ≡ [] }
         requires within { count < length bytes.now }
@@ -58,7 +58,7 @@ impl Live {
         }
     }
 
-    /// Reads a sequence or a text that stands at the front, or a byte: how many bytes that are.
+    /// Reads the first sequence, text or byte, and returns its length in bytes.
     fn read_front(&mut self, bytes: &[u8]) -> Result<usize, AllocError>
         requires { 0 < length bytes.now }
         ensures read { IfOk result (λ count. reads self.new (drop count bytes.now) ≡ reads self.old bytes.now) }
