@@ -1,4 +1,4 @@
--- A terminal that reads what is sent for the glyphs of a row.
+-- A terminal that reads the bytes sent for the glyphs of a row.
 use Rattle.std.proofs.Common.{◌≡◌, ℕ, ◌+◌, ◌*◌, ◌<◌, ◌≤◌, Bool, true, false, ◌&&◌, List, [], ◌∷◌, ◌++◌, length, take, drop, Option, Some, refl, ap, sym, ◌∙◌}
 use Rattle.std.proofs.Common.{append_assoc, length-append, arith}
 use Rattle.std.specs.List.{All}
@@ -39,7 +39,7 @@ joins_near negative pending (b ∷ []) h e = rw (all-push is_ascii_printable pen
     (map-append (λ x. Glyph (x ∷ []) 1 0 negative) pending (b ∷ []))
 joins_near negative pending (b ∷ c ∷ rest) h e = absurd (cc e)
 
--- ---- what stands while a row is painted
+-- ---- the state while a row is painted
 
 -- a run of characters from SPACE to TILDE may go on
 pub record Near (p : PictureState) (w : Terminal × List Effect) (negative : Bool) (above done rest below : List Col) (r c : ℕ) (all : List Effect) : Type 0
@@ -135,7 +135,7 @@ pub come_after : (p : PictureState) (w : Terminal × List Effect) (first second 
     → Comes p (run (run w first) second) columns negative effects → Comes p (run w (first ++ second)) columns negative effects
 come_after p w first second columns negative effects h = rw (run-append w first second) h
 
--- a glyph whose columns do not differ stands there already
+-- a glyph whose columns do not differ is there already
 stays : (p : PictureState) (w : Terminal × List Effect) (near negative : Bool) (g : WholeGlyph) (above done before ys below : List Col) (r c d : ℕ)
     (all : List Effect)
     → IsGlyph g → AreWhole (before ++ (columns_of g ++ ys)) → Stands p w near negative above done (columns_of g ++ ys) below r c all
@@ -175,7 +175,7 @@ stands_by false p w near negative g above done before olds over below r c all fi
     (omega (arith, room, length-append olds over)) refl s in
     rw rest at after
 
--- what is sent for these columns of the new row, from any index on
+-- the bytes sent for these columns of the new row, from any index on
 abbrev Goal : PictureState → ℕ → List Col → List Col → List Col → List Col → Type 0
 Goal p r above over below news = (olds done before : List Col) (w : Terminal × List Effect) (c : ℕ) (near negative : Bool) (all : List Effect)
     → IsAtColumn r c p.width above done (olds ++ over) → AreWhole (before ++ (olds ++ over)) → length olds ≡ length news

@@ -82,7 +82,7 @@ pub before_wide : changes_bytes (four (wide ++ replicate 2 blank) 0) (four (g 0x
 unfolding digits
 before_wide = refl
 
--- ---- what a terminal does on them
+-- ---- a terminal that reads them
 
 abbrev showing : PictureState → Terminal
 showing p = record {
@@ -106,7 +106,7 @@ done = refl
 pub was_to_be_done : changed xab ab ≡ Puts 0 (0x61 ∷ []) false ∷ Puts 1 (0x62 ∷ []) false ∷ Erases 2 ∷ []
 was_to_be_done = refl
 
--- a wide glyph moves on by a column: none of its columns is left of where it stood
+-- a wide glyph moves on by a column: none of its old columns is left
 abbrev before : PictureState
 before = four (wide ++ replicate 2 blank) 0
 
@@ -121,7 +121,7 @@ pub wide_done : effects (showing before) (changes_bytes before after) ≡ Puts 0
 unfolding digits chars unicode_width
 wide_done = refl
 
--- of the wide glyph that stood one column on, the second column is in the tail, and is erased
+-- a wide glyph moves back by a column: its old second column is in the tail, and is erased
 pub wide_back : reads (showing after) (changes_bytes after before) ≡ showing before
 unfolding digits chars unicode_width
 wide_back = refl

@@ -1,4 +1,4 @@
--- What is sent, and what is to be done, for columns that begin with a whole glyph.
+-- The bytes and the changes for columns that begin with a whole glyph.
 use Rattle.std.proofs.Common.{◌≡◌, ℕ, ◌+◌, ◌≤◌, Bool, true, false, not, nat_eq, List, [], ◌∷◌, ◌++◌, length, take, drop, zero, suc, refl, ap, sym, ◌∙◌, arith}
 use Rattle.std.proofs.lemmas.Bool.Decides.{nat_tests}
 use Rattle.std.proofs.lemmas.List.{take_at, drop-drop}
@@ -50,7 +50,7 @@ rest_changed index text n glyph_negative offset (suc count) olds xs h =
 
 -- ---- a glyph
 
--- what is sent for it
+-- the bytes sent for it
 abbrev pub glyph_sent : ℕ → ℕ → Bool → Bool → Bool → WholeGlyph → Step
 glyph_sent r c near negative true g = nothing_sent negative
 glyph_sent r c near negative false g = record { bytes = glyph_bytes r c near negative g.text g.negative; near = is_ascii_glyph g.text; negative = g.negative }

@@ -1,4 +1,4 @@
--- A terminal that reads what is sent shows the picture, and does no more than was to be done.
+-- A terminal that reads a painting shows the picture, and its effects are the changes alone.
 use Rattle.std.proofs.Common.{◌≡◌, ℕ, ◌*◌, Bool, true, false, ◌&&◌, nat_eq, List, [], ◌∷◌, ◌++◌, length, replicate, Option, Some, None, refl, ap, sym, ◌∙◌}
 use Rattle.std.proofs.Common.{arith}
 use Rattle.std.proofs.lemmas.Bool.Decides.{nat_tests}

@@ -1,4 +1,4 @@
--- A terminal that reads what is sent for a row, and for all rows.
+-- A terminal that reads the bytes sent for a row, and for all rows.
 use Rattle.std.proofs.Common.{◌≡◌, ℕ, ◌+◌, ◌*◌, ◌-◌, ◌<◌, ◌≤◌, Bool, true, false, List, [], ◌∷◌, ◌++◌, length, take, drop, replicate, Option, Some, None, zero}
 use Rattle.std.proofs.Common.{suc, refl, ap, sym, ◌∙◌, append_assoc, length-append, arith}
 use Rattle.std.specs.List.{list_all}
@@ -26,7 +26,7 @@ use Rattle.bx_paint.proofs.Drawn.{Comes, come_by, come_after, Stands, columns_do
 not_all_lead : (olds : List Col) → list_all is_blank olds ≡ false → leading_blanks olds ≡ length olds → ⊥
 not_all_lead olds e h = let t : true ≡ false = sym (all_blank_is olds h) ∙ e in cc t
 
--- blanks that stand there already are done
+-- blanks that are there already are done
 blanks_done : (k : ℕ) (above done before olds below : List Col) → take k olds ≡ replicate k blank → AreWhole (before ++ olds)
     → partly above done olds below ≡ partly above (done ++ replicate k blank) (drop k olds) below
 blanks_done k above done before olds below blanks whole =

@@ -1,4 +1,4 @@
--- A row that is half painted: the new row's columns as far as it is done, and after them the old row's, of which those are unknown whose
+-- A row that is half painted: the new row's columns as far as it is done, and after them the old row's. Those are unknown if their
 -- glyph was covered.
 use Rattle.std.proofs.Common.{◌≡◌, ℕ, ◌+◌, ◌*◌, ◌≤◌, Bool, true, false, nat_lt, List, [], ◌∷◌, ◌++◌, length, take, drop, replicate, zero, suc, refl, ap, sym}
 use Rattle.std.proofs.Common.{◌∙◌, length-append, arith}
@@ -11,7 +11,7 @@ use Rattle.bx_grid.proofs.Whole.{columns_form, whole_split, whole_after, whole_l
 use Rattle.bx_grid.proofs.Spoils.{length-cut_after}
 use Rattle.bx_grid.proofs.Uncut.{cut_after-drop}
 
--- ---- what is left of columns after an index
+-- ---- the columns after an index
 
 right_by : (t : Bool) (e d : ℕ) (x : Col) (xs : List Col) → nat_lt d (columns_before x) ≡ t → e ≤ d
     → cut_after (e + 1) (cut_after (d + 1) xs) ≡ cut_after (e + 1) xs
@@ -60,7 +60,7 @@ kept_blanks (suc k) before ys h =
 
 -- ---- the columns while a row is painted
 
--- above stands before the row, and below after it
+-- the rows above, the row, and the rows below
 abbrev pub partly : List Col → List Col → List Col → List Col → List Col
 partly above done rest below = above ++ ((done ++ cut_after 0 rest) ++ below)
 
@@ -80,7 +80,7 @@ row_put done rest new c whole at =
     let back : drop (c + n) row ≡ drop n (cut_after 0 rest) = sym (drop-drop n c row) ∙ ap (drop n) (drop_at done (cut_after 0 rest) c at) in
     rw (front, back, whole_left done whole, right_rest n rest) refl
 
--- what is put there stands there
+-- columns put next extend the part that is done
 pub put_partly : (above done rest below new : List Col) (r c w : ℕ) → IsAtColumn r c w above done rest
     → put w (partly above done rest below) r c new ≡ partly above (done ++ new) (drop (length new) rest) below
 put_partly above done rest below new r c w h =

@@ -1,4 +1,4 @@
--- The parts of a row, and what is sent for them, one column after another.
+-- The parts of a row, and the bytes sent for them, column by column.
 use Rattle.std.proofs.Common.{◌≡◌, ℕ, ◌+◌, ◌*◌, ◌-◌, ◌<◌, ◌≤◌, Bool, true, false, get_or, List, [], ◌∷◌, ◌++◌, length, take, drop, suc, refl, ap, sym, ◌∙◌}
 use Rattle.std.proofs.Common.{append_assoc, zero, nat_eq, replicate, arith}
 use Rattle.std.specs.List.{list_all}
@@ -154,7 +154,7 @@ row_more height row width negative negative' old new po pn out out' low eo en e 
 
 -- ---- columns that both rows have
 
--- nothing is sent for a glyph that stands there
+-- nothing is sent for a glyph that is there already
 pub alike_sent : (row column : ℕ) (near negative : Bool) (old new : List Col) → BeginAlike old new
     → column_sent row column near negative old new ≡ nothing_sent negative
 alike_sent row column near negative old [] h = refl

@@ -15,7 +15,7 @@ use Rattle.bx_grid.proofs.Reading.{at, IsFinal, move_params, move_params_fit, co
 use Rattle.bx_grid.proofs.Doing.{run, sequence_does}
 use Rattle.bx_paint.specs.Painting.{move_bytes, render_bytes, render_change, erase_bytes}
 
--- a terminal of the picture's size, of which at most a run is half read
+-- a terminal of the picture's size, with at most a run half read
 abbrev pub screen : PictureState → List Col → Option (ℕ × ℕ) → Bool → List ℕ → Terminal
 screen p columns position negative pending = record {
   height = p.height;

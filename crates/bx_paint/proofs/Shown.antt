@@ -1,4 +1,4 @@
--- A run that is half read while a row is half painted: what it does to the row, and what a glyph's text adds to it.
+-- A run that is half read while a row is half painted: its effect on the row, and the effect of a glyph's text after it.
 use Rattle.std.proofs.Common.{◌≡◌, ℕ, ◌+◌, ◌*◌, ◌<◌, ◌≤◌, Bool, true, false, nat_le, nat_eq, List, [], ◌∷◌, ◌++◌, length, drop, Option, Some, refl, ap}
 use Rattle.std.proofs.Common.{sym, ◌∙◌, append_assoc, length-append, arith}
 use Rattle.std.proofs.lemmas.Bool.Decides.{nat_tests}

@@ -1,4 +1,4 @@
--- A row's tail: blanks after what stands before it.
+-- A row's tail: the blanks after its other columns.
 use Rattle.std.proofs.Common.{◌≡◌, ℕ, ◌+◌, ◌-◌, ◌≤◌, Bool, true, false, List, [], ◌∷◌, ◌++◌, length, take, replicate, zero, suc, refl, ap, sym, ◌∙◌, arith}
 use Rattle.std.specs.List.{list_all}
 use Rattle.std.proofs.lemmas.List.{append-nil}
@@ -20,7 +20,7 @@ pub blanks_first : (xs : List Col) → take (leading_blanks xs) xs ≡ replicate
 blanks_first [] = refl
 blanks_first (x ∷ xs) = blanks_by (is_blank x) x xs refl (blanks_first xs)
 
--- ---- what stands before the tail
+-- ---- the columns before the tail
 
 le_by : (t : Bool) (x : Col) (xs : List Col) → list_all is_blank (x ∷ xs) ≡ t → length (before_tail xs) ≤ length xs
     → length (before_tail (x ∷ xs)) ≤ length (x ∷ xs)
@@ -36,7 +36,7 @@ rest_by false x xs e more =
     let n : suc (length xs) - suc (length (before_tail xs)) ≡ length xs - length (before_tail xs) = omega arith in
     rw (e, n) (ap (λ ys. x ∷ ys) more)
 
--- a row is what stands before its tail, and blanks
+-- a row is the columns before its tail, and then blanks
 pub front_le : (xs : List Col) → length (before_tail xs) ≤ length xs
 front_le [] = omega arith
 front_le (x ∷ xs) = le_by (list_all is_blank (x ∷ xs)) x xs refl (front_le xs)

@@ -1,4 +1,4 @@
--- What is painted are whole sequences and whole characters, and a sequence comes last: nothing stays half read.
+-- A painting is whole sequences and whole characters, with a sequence last: nothing stays half read.
 use Rattle.std.proofs.Common.{◌≡◌, ℕ, ◌+◌, ◌*◌, ◌<◌, ◌^◌, Bool, true, false, List, [], ◌∷◌, ◌++◌, length, take}
 use Rattle.std.proofs.Common.{drop, zero, suc, refl, ap, sym, ◌∙◌, ◌&&◌, ◌-◌, replicate, min, arith, if◌then◌else◌}
 use Rattle.std.specs.List.{list_all, All}

@@ -1,4 +1,4 @@
--- What changed between two pictures: the glyphs and the row ends that a painter is to send, and how many columns differ.
+-- The changes between two pictures: the glyphs and the row ends for a painter to send, and the number of columns that differ.
 use Rattle.std.specs.Prelude.{ℕ, zero, suc, ◌+◌, List, [], ◌∷◌, ◌++◌, length, take, drop, if◌then◌else◌}
 use Rattle.std.specs.List.{list_all}
 use Rattle.bx_grid.specs.Columns.{Col, Unknown, Glyph, is_blank, col_eq}
@@ -6,7 +6,7 @@ use Rattle.bx_grid.specs.Effects.{Effect, Puts, Erases}
 use Rattle.bx_grid.specs.Picture.{PictureState}
 use Rattle.bx_paint.specs.Painting.{before_tail, leading_blanks, is_sent}
 
--- the glyphs of columns before a row's tail, of which a column differs; the first column has this index
+-- the glyphs before a row's tail that differ in some column; the first column has this index
 abbrev pub glyphs_changed : ℕ → List Col → List Col → List Effect
 glyphs_changed index old [] = []
 glyphs_changed index old (Unknown ∷ cs) = glyphs_changed (index + 1) (drop 1 old) cs
@@ -24,7 +24,7 @@ row_changed index old new =
     let front = before_tail new in
     glyphs_changed index (take (length front) old) front ++ tail_changed (index + length front) (drop (length front) old)
 
--- so many rows, the first of which begins at this index
+-- a number of rows, the first of which begins at this index
 abbrev pub rows_changed : ℕ → ℕ → ℕ → List Col → List Col → List Effect
 rows_changed zero width index old new = []
 rows_changed (suc count) width index old new =
@@ -33,7 +33,7 @@ rows_changed (suc count) width index old new =
 abbrev pub changed : PictureState → PictureState → List Effect
 changed old new = rows_changed new.height new.width 0 old.columns new.columns
 
--- how many columns differ
+-- the number of columns that differ
 abbrev pub differing : List Col → List Col → ℕ
 differing old [] = 0
 differing [] (c ∷ cs) = 0

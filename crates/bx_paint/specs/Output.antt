@@ -1,7 +1,7 @@
--- A painting that is written behind other bytes.
+-- A painting appended to other bytes.
 use Rattle.std.specs.Prelude.{ℕ, List}
 
 pub record OutputState : Type 0 where
-  -- what stands before it, and stays
+  -- the bytes before it, which stay
   pub before : List ℕ
   pub painting : List ℕ

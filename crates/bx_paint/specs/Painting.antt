@@ -1,4 +1,4 @@
--- The bytes that paint a picture, whole or where it differs from the one before.
+-- The bytes that paint a picture: all of it, or its changes from the one before.
 use Rattle.std.specs.Prelude.{ℕ, zero, suc, ◌+◌, ◌*◌, Bool, true, false, not, ◌&&◌, ◌==◌, List, [], ◌∷◌, ◌++◌, length, take, drop, replicate, if◌then◌else◌}
 use Rattle.std.specs.Prelude.{decimal}
 use Rattle.std.specs.List.{list_all}
@@ -41,24 +41,24 @@ abbrev pub before_tail : List Col → List Col
 before_tail [] = []
 before_tail (c ∷ cs) = if list_all is_blank (c ∷ cs) then [] else c ∷ before_tail cs
 
--- how many blanks the columns begin with
+-- the number of blanks at the front
 abbrev pub leading_blanks : List Col → ℕ
 leading_blanks [] = 0
 leading_blanks (c ∷ cs) = if is_blank c then leading_blanks cs + 1 else 0
 
--- these columns begin with a glyph of which a column differs from the old ones
+-- these columns begin with a glyph that differs in some column from the old ones
 abbrev pub is_sent : List Col → List Col → Bool
 is_sent old [] = false
 is_sent old (Unknown ∷ cs) = false
 is_sent old (Glyph text columns offset negative ∷ cs) =
     (offset == 0) && not (are_equal (take columns old) (take columns (Glyph text columns offset negative ∷ cs)))
 
--- a glyph; near says that it follows one that was just sent, and that one is a character from SPACE to TILDE
+-- the bytes of a glyph; near says that it follows a character from SPACE to TILDE that was just sent
 abbrev pub glyph_bytes : ℕ → ℕ → Bool → Bool → List ℕ → Bool → List ℕ
 glyph_bytes row column near negative text glyph_negative =
     (if near && is_ascii_glyph text then [] else move_bytes row column) ++ (render_change negative glyph_negative ++ text)
 
--- what is sent for one column, whether a character from SPACE to TILDE was sent that ends there, and the rendition after it
+-- the bytes sent for one column, whether a character from SPACE to TILDE was sent there, and the rendition after it
 pub record Step : Type 0 where
   pub bytes : List ℕ
   pub near : Bool
@@ -67,7 +67,7 @@ pub record Step : Type 0 where
 abbrev pub nothing_sent : Bool → Step
 nothing_sent negative = record { bytes = []; near = false; negative = negative }
 
--- the first of these columns of a row
+-- the bytes sent for the first of these columns of a row
 abbrev pub column_sent : ℕ → ℕ → Bool → Bool → List Col → List Col → Step
 column_sent row column near negative old [] = nothing_sent negative
 column_sent row column near negative old (Unknown ∷ cs) = nothing_sent negative
@@ -76,14 +76,14 @@ column_sent row column near negative old (Glyph text columns offset glyph_negati
     then record { bytes = glyph_bytes row column near negative text glyph_negative; near = is_ascii_glyph text; negative = glyph_negative }
     else nothing_sent negative
 
--- the columns of a row before its tail, from one on
+-- the bytes sent for the columns of a row before its tail, from one on
 abbrev pub columns_sent : ℕ → ℕ → Bool → Bool → List Col → List Col → Sent
 columns_sent row column near negative old [] = record { bytes = []; negative = negative }
 columns_sent row column near negative old (c ∷ cs) =
     let s = column_sent row column near negative old (c ∷ cs) in
     then_sent s.bytes (columns_sent row (column + 1) s.near s.negative (drop 1 old) cs)
 
--- the row's tail, where these columns stand now: erased from the first that differs
+-- the bytes sent for the row's tail where these columns were: they erase it from the first that differs
 abbrev pub tail_sent : ℕ → ℕ → Bool → List Col → Sent
 tail_sent row column negative old =
     if list_all is_blank old
@@ -103,14 +103,14 @@ row_sent row negative old new =
 abbrev pub rows_after : Sent → (Bool → Sent) → Sent
 rows_after s more = then_sent s.bytes (more s.negative)
 
--- so many rows, from this one on
+-- the bytes sent for a number of rows, from this one on
 abbrev pub rows_sent : ℕ → ℕ → ℕ → Bool → List Col → List Col → Sent
 rows_sent zero row width negative old new = record { bytes = []; negative = negative }
 rows_sent (suc count) row width negative old new =
     rows_after (row_sent row negative (take width old) (take width new))
     (λ after. rows_sent count (row + 1) width after (drop width old) (drop width new))
 
--- a picture, where these columns stand now
+-- the bytes sent for a picture where these columns were
 abbrev pub columns_changed : List Col → PictureState → Sent
 columns_changed old p = rows_sent p.height 0 p.width false old p.columns
 
@@ -128,7 +128,7 @@ is_none (b ∷ bs) = false
 abbrev pub if_changed : PictureState → PictureState → Sent → List ℕ
 if_changed old new s = if is_none s.bytes && is_at_cursor_of old new then [] else ended new s
 
--- what leads from one picture to another of its size
+-- the bytes that change one picture into another of its size
 abbrev pub changes_bytes : PictureState → PictureState → List ℕ
 changes_bytes old new = if_changed old new (columns_changed old.columns new)
 

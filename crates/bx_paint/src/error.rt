@@ -1,4 +1,4 @@
-//! The refusal of the calls that take memory.
+//! The error of the calls that allocate.
 
 use bx_terms::OutOfMemory;
 

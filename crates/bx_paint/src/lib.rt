@@ -1,4 +1,4 @@
-//! The bytes that paint a picture on a terminal, whole or where it differs from the one before.
+//! The bytes that paint a picture on a terminal: all of it, or its changes from the one before.
 #![tactic(auto)]
 
 mod error;

@@ -1,4 +1,4 @@
-//! The numbers of a line and of a column, as a move sends them.
+//! The line and column numbers of a move.
 
 ghost use Rattle.std.specs.Prelude.{◌≡◌, ◌+◌, ◌<◌, ◌++◌, ◌∷◌, [], decimal, OnOk};
 
@@ -22,7 +22,7 @@ fn write_number(out: &mut Output, number: u16) -> Result<(), AllocError>
     out.append(buffer.format(number).as_bytes())
 }
 
-/// Sends what of a move stands before its column. A number of at most three digits goes out at once with what stands round it.
+/// Sends the first part of a move: CSI, the line and a semicolon. With at most three digits it takes one append.
 pub fn write_line_number(out: &mut Output, line: u16) -> Result<(), AllocError>
     ensures bytes { OnOk result (out.new.painting ≡ out.old.painting ++ 0x1B ∷ 0x5B ∷ (decimal line ++ 0x3B ∷ [])) }
     ensures before { out.new.before ≡ out.old.before }
@@ -48,7 +48,7 @@ pub fn write_line_number(out: &mut Output, line: u16) -> Result<(), AllocError>
     out.push(b';')
 }
 
-/// Sends the column of a move, and its end.
+/// Sends the second part of a move: the column and H. With at most three digits it takes one append.
 pub fn write_column_number(out: &mut Output, column: u16) -> Result<(), AllocError>
     ensures bytes { OnOk result (out.new.painting ≡ out.old.painting ++ (decimal column ++ 0x48 ∷ [])) }
     ensures before { out.new.before ≡ out.old.before }

@@ -1,4 +1,4 @@
-//! The buffer that a painting is written to, behind other bytes, which stay.
+//! The buffer that a painting is appended to. The bytes before it stay.
 
 ghost use Rattle.std.specs.Prelude.{◌≡◌, ◌∷◌, ◌++◌, [], OnOk};
 ghost use Rattle.bx_paint.specs.Output.{OutputState};
@@ -7,7 +7,7 @@ ghost use Rattle.bx_paint.specs.Painting.{is_none};
 use std::alloc::AllocError;
 use std::marker::Model;
 
-/// Bytes, and the index among them from which the painting stands.
+/// Bytes, and the index at which the painting begins.
 #[derive(Drop)]
 pub struct Output {
     bytes: Vec<u8>,
@@ -26,7 +26,7 @@ impl Model for Output {
 }
 
 impl Output {
-    /// An empty painting behind these bytes.
+    /// An empty painting after these bytes.
     pub fn behind(bytes: Vec<u8>) -> Output
         ensures { result ≡ record { before = bytes.items; painting = [] } }
     {
@@ -65,7 +65,7 @@ impl Output {
         self.bytes
     }
 
-    /// The bytes before alone.
+    /// The bytes before, without the painting.
     pub fn into_before(self) -> Vec<u8>
         ensures { result.items ≡ self.before }
     {

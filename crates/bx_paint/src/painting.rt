@@ -1,4 +1,4 @@
-//! A picture's painting, whole or where it differs from the one before.
+//! Paintings of a picture: all of it, or its changes from the one before.
 
 ghost use Rattle.std.specs.Prelude.{◌≡◌, ◌+◌, ◌-◌, ◌≤◌, ◌<◌, ◌++◌, [], length, false, IfOk, OnOk, OnErr};
 ghost use Rattle.bx_grid.specs.Effects.{effects};
@@ -19,7 +19,7 @@ use std::mem;
 /// Room for the bytes of a few glyphs.
 const ROOM: usize = 64;
 
-/// Normal rendition, and the cursor.
+/// Sends normal rendition, and moves to the cursor.
 fn write_end(out: &mut Output, negative: bool, cursor: Cell) -> Result<(), AllocError>
     requires line { (1 ≤ cursor.line) × (cursor.line ≤ largest_side) }
     requires column { (1 ≤ cursor.column) × (cursor.column ≤ largest_side) }
@@ -30,7 +30,7 @@ fn write_end(out: &mut Output, negative: bool, cursor: Cell) -> Result<(), Alloc
     write_move(out, cursor.line - 1, cursor.column - 1)
 }
 
-/// Sends a picture whole.
+/// Sends a whole picture.
 fn write_whole(alloc: Global, out: &mut Output, picture: &Picture) -> Result<(), AllocError>
     requires { out.old.painting ≡ [] }
     ensures bytes { OnOk result (out.new.painting ≡ whole_bytes picture.now) }
@@ -47,7 +47,7 @@ fn write_whole(alloc: Global, out: &mut Output, picture: &Picture) -> Result<(),
     write_end(out, negative, cursor)
 }
 
-/// Sends what leads from one picture to another of its size.
+/// Sends the changes between two pictures of one size.
 fn write_changes(out: &mut Output, old: &Picture, new: &Picture) -> Result<(), AllocError>
     requires empty { out.old.painting ≡ [] }
     requires height { old.now.height ≡ new.now.height }
@@ -65,8 +65,8 @@ fn write_changes(out: &mut Output, old: &Picture, new: &Picture) -> Result<(), A
     write_end(out, negative, cursor)
 }
 
-/// Appends the bytes that paint a picture whole (ECMA-48: SGR, ED, CUP and the characters): they make a terminal of the
-/// picture's size that has nothing half read show it, whatever else its state is.
+/// Appends the bytes that paint a whole picture (ECMA-48: SGR, ED, CUP and the characters). A terminal of the picture's
+/// size with nothing half read then shows it, whatever else its state is.
 ///
 /// Errors: `OutOfMemory`, and nothing is appended.
 pub fn whole_into(out: &mut Vec<u8>, picture: &Picture) -> Result<(), PaintError>
@@ -90,12 +90,12 @@ pub fn whole_into(out: &mut Vec<u8>, picture: &Picture) -> Result<(), PaintError
     }
 }
 
-/// Appends the bytes that lead from one picture to another of its size: they make a terminal that shows the old picture show
-/// the new one (ECMA-48: CUP, SGR, EL and the characters).
+/// Appends the bytes that change one picture into another of its size (ECMA-48: CUP, SGR, EL and the characters). A
+/// terminal that shows the old picture then shows the new one.
 ///
-/// A glyph before its row's blank tail is sent once if one of its columns differs, else never; a row is
-/// erased to its end once if a column of its tail differs, else never. Where grids and cursors are
-/// equal there is no byte.
+/// Sends a glyph before its row's blank tail once if one of its columns differs, else never. Erases a
+/// row to its end once if a column of its tail differs, else never. Appends nothing if grids and
+/// cursors are equal.
 ///
 /// Errors: `OutOfMemory`, and nothing is appended.
 pub fn changes_into(out: &mut Vec<u8>, old: &Picture, new: &Picture) -> Result<(), PaintError>
@@ -123,7 +123,7 @@ pub fn changes_into(out: &mut Vec<u8>, old: &Picture, new: &Picture) -> Result<(
     }
 }
 
-/// What `whole_into` appends, alone.
+/// The bytes that `whole_into` appends.
 ///
 /// Errors: `OutOfMemory`.
 pub fn whole(alloc: Global, picture: &Picture) -> Result<Vec<u8>, PaintError>
@@ -136,7 +136,7 @@ pub fn whole(alloc: Global, picture: &Picture) -> Result<Vec<u8>, PaintError>
     Ok(out)
 }
 
-/// What `changes_into` appends, alone.
+/// The bytes that `changes_into` appends.
 ///
 /// Errors: `OutOfMemory`.
 pub fn changes(alloc: Global, old: &Picture, new: &Picture) -> Result<Vec<u8>, PaintError>

@@ -1,4 +1,4 @@
-//! The bytes of a painting, written one after another.
+//! Writes the bytes of a painting.
 
 ghost use Rattle.std.specs.Prelude.{◌≡◌, ℕ, ◌+◌, ◌*◌, ◌<◌, ◌≤◌, ◌^◌, [], ◌∷◌, ◌++◌, length, true};
 ghost use Rattle.std.specs.Prelude.{false, IfOk, OnOk, OnErr, string_bytes, take, drop, replicate};
@@ -13,7 +13,7 @@ use crate::output::Output;
 use bx_grid::{BorrowedRow, Column, GlyphText, Grid};
 use std::alloc::AllocError;
 
-/// Sends the cursor to a row and a column, from 0.
+/// Moves the cursor to a row and a column, from 0.
 pub fn write_move(out: &mut Output, row: u16, column: u16) -> Result<(), AllocError>
     requires small { (row < 65535) × (column < 65535) }
     ensures bytes { OnOk result (out.new.painting ≡ out.old.painting ++ move_bytes row column) }
@@ -64,7 +64,7 @@ fn write_glyph(
     out.append(text.as_bytes())
 }
 
-/// Whether both begin with the same columns, so many or all that there are.
+/// Whether the first `count` columns of both are the same, or all if there are fewer.
 fn is_same_front(old: &BorrowedRow<'_>, new: &BorrowedRow<'_>, count: u16) -> bool
     ensures { result ≡ are_equal (take count old.now) (take count new.now) }
 {
@@ -75,7 +75,7 @@ fn is_same_front(old: &BorrowedRow<'_>, new: &BorrowedRow<'_>, count: u16) -> bo
     old.front(count).is_same(&new.front(count))
 }
 
-/// Whether the columns begin with a glyph of which a column differs from the old ones.
+/// Whether the new columns begin with a glyph that differs in some column from the old ones.
 fn is_sent(old: &BorrowedRow<'_>, new: &BorrowedRow<'_>) -> bool
     ensures { result ≡ spec.is_sent old.now new.now }
 {
@@ -157,7 +157,7 @@ fn write_at(
     )
 }
 
-/// Sends what differs in the columns of a row before its tail.
+/// Sends the changed glyphs of a row before its tail.
 fn write_columns(
     out: &mut Output,
     row: u16,
@@ -182,7 +182,7 @@ fn write_columns(
     Ok(pen.negative)
 }
 
-/// How many columns stand before a row's tail, the longest run of blanks at its end.
+/// Number of columns before a row's tail, the longest run of blanks at its end.
 fn front_len(columns: &[Column]) -> usize
     ensures within { result ≤ length columns.now }
     ensures front { all_seen (take result columns.now) ≡ before_tail (all_seen columns.now) }
@@ -194,7 +194,7 @@ fn front_len(columns: &[Column]) -> usize
     len
 }
 
-/// How many blanks the columns begin with.
+/// Number of blanks at the front.
 fn blanks_len(columns: &[Column]) -> usize
     ensures within { result ≤ length columns.now }
     ensures blanks { result ≡ leading_blanks (all_seen columns.now) }
@@ -232,7 +232,7 @@ fn write_tail(
     Ok(false)
 }
 
-/// Sends what differs in the columns of a row, before its tail and in it.
+/// Sends the changes of a row, before its tail and in it.
 fn write_changed_row(
     out: &mut Output,
     row: u16,
@@ -251,7 +251,7 @@ fn write_changed_row(
     write_tail(out, row, front as u16, negative, old.rest(front).columns())
 }
 
-/// Sends what differs in a row.
+/// Sends the changes of a row, if it has any.
 fn write_row(
     out: &mut Output,
     row: u16,
@@ -271,7 +271,7 @@ fn write_row(
     write_changed_row(out, row, negative, old, new)
 }
 
-/// Sends what differs in all rows of two grids of one size.
+/// Sends the changes of all rows between two grids of one size.
 pub fn write_rows(out: &mut Output, old: &Grid, new: &Grid) -> Result<bool, AllocError>
     requires height { old.now.height ≡ new.now.height }
     requires width { old.now.width ≡ new.now.width }
@@ -287,7 +287,7 @@ pub fn write_rows(out: &mut Output, old: &Grid, new: &Grid) -> Result<bool, Allo
     Ok(negative)
 }
 
-/// Sends all rows of a grid that stand where blanks are, of which one row is given.
+/// Sends all rows of a grid over blanks. `blanks` is one row of them.
 pub fn write_over_blanks(
     out: &mut Output,
     blanks: &BorrowedRow<'_>,

@@ -3,7 +3,7 @@ use Rattle.std.proofs.lemmas.Result.{on_ok_weaker}
 use Rattle.bx_paint.proofs.Decimals.{one_digit, two_digits, three_digits}
 use Rattle.bx_paint.proofs.numbers.write_column_number.Goals as goal
 
--- what is sent round the digits
+-- the bytes sent around the digits
 abbrev sent : List ℕ → List ℕ → List ℕ
 sent out digits = out ++ (digits ++ 0x48 ∷ [])
 
