@@ -22,7 +22,7 @@ use Rattle.bx_keys.proofs.Sequences.{control_more, shift_more, long_more}
 use Rattle.bx_input.specs.Laws.{is_text_byte, IsText, is_insert}
 use Rattle.bx_input.proofs.Firsts.{lacks_after_first, breaks_at}
 
--- what waits is no escape sequence
+-- the waiting bytes are no escape sequence
 abbrev pub IsFree : List ℕ → Type 0
 IsFree rest = get_or rest 0 0 ≢ 0x1B
 
@@ -55,7 +55,7 @@ anew_in_text (x ∷ xs) b more l h n =
 pub after_can : (more : List ℕ) → decoding (0x18 ∷ more) ≡ decoding more
 after_can more = in_pieces (0x18 ∷ []) more
 
--- ---- what waits after a byte
+-- ---- the bytes that wait after a byte
 
 not_escape : (b : ℕ) → b ≢ 0x1B → IsFree (b ∷ [])
 not_escape b n = n
@@ -74,7 +74,7 @@ free_by Waits rest b w h ends n = absurd (ends refl)
 free_by Ends rest b w h ends n = subst IsFree (sym (feeds_end rest b h).is_rest) (λ e. omega (arith, e))
 free_by Breaks rest b w h ends n = subst IsFree (sym (feeds_break rest b w h).is_rest) (alone_free b n)
 
--- a byte that may not stand within a sequence
+-- a byte that may not be within a sequence
 pub record IsOutside (rest : List ℕ) (b : ℕ) : Type 0 where
   pub not_within : is_within 0x20 0x3F b ≡ false
   pub not_escape : b ≢ 0x1B

@@ -9,7 +9,7 @@ use Rattle.bx_bytes.specs.declared.fate.Fate.{Fate}
 use Rattle.bx_bytes.specs.declared.fate.Fate.TheVariants.{Waits, Ends, Breaks}
 use Rattle.bx_bytes.proofs.Patterns.{matches_any_begins}
 
--- ---- what a fate says
+-- ---- the meaning of a fate
 
 pub record IsBegun (patterns : List (List Piece)) (bs : List ℕ) : Type 0 where
   pub not_whole : matches_any patterns bs ≡ false
@@ -92,7 +92,7 @@ pub breaks_at : (patterns : List (List Piece)) (x : ℕ) (xs : List ℕ) (b : �
     → fate_in patterns (x ∷ (xs ++ b ∷ [])) ≡ Breaks
 breaks_at patterns x xs b h = breaks_if patterns (x ∷ (xs ++ b ∷ [])) (any_not_begun patterns x xs b h)
 
--- ---- how long what waits is
+-- ---- the number of waiting bytes
 
 abbrev pub is_of_single_bytes : List Piece → Bool
 is_of_single_bytes [] = true

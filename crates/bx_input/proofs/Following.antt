@@ -29,7 +29,7 @@ use Rattle.bx_input.proofs.Passing.{is_open_after, rows_become}
 use Rattle.bx_input.proofs.Pastes.{pastes_text}
 use Rattle.bx_input.proofs.States.{IsSound, step_sound}
 
--- what the decoder waits with after these bytes more
+-- the bytes that wait in the decoder after these bytes more
 abbrev left : List ℕ → List ℕ → List ℕ
 left rest bs = (decoding (rest ++ bs)).rest
 
@@ -94,7 +94,7 @@ bare_alone rest x xs w h e = elim (last_of xs) [
   ]
 ]
 
--- ---- where the filter stands, and with what the decoder waits
+-- ---- the filter's state, and the bytes that wait in the decoder
 
 pub record FollowsOutside (waiting : List ℕ) (is_open : Bool) (rest : List ℕ) : Type 0 where
   pub closed : is_open ≡ false → IsFree rest

@@ -73,7 +73,7 @@ text_of (c ∷ cs) s t =
     (one_character c each.0 text.0)
     ∙ ap (λ (d : Decoding). record { keys = Insert c ∷ d.keys; rest = d.rest }) (text_of cs each.1 text.1)
 
--- ---- behind what waits
+-- ---- after the waiting bytes
 
 first_anew : (b : ℕ) → begins_character (b ∷ []) ≡ true → list_all (lacks_after_first b) characters ≡ true
 first_anew b h = grind (arith, nat_tests)

@@ -1,4 +1,4 @@
--- What is left of a paste in UTF-8, character by character.
+-- The text of a paste in UTF-8, character by character.
 use Rattle.std.proofs.Common.{◌≡◌, ◌≢◌, ℕ, ◌+◌, ◌/◌, ◌%◌, ◌<◌, ◌≤◌, inl, inr, Bool, true, false, nat_eq, nat_lt, List, [], ◌∷◌, ◌++◌, refl, ap, sym, ◌∙◌, arith}
 use Rattle.std.specs.List.{list_all}
 use Rattle.std.specs.Str.{chars, IsUtf8}
@@ -78,7 +78,7 @@ long_kept r c l = grind (arith, nat_tests)
 c1_kept : (r : Bool) (c : ℕ) → 0x80 ≤ c → c < 0xA0 → kept_character r c ≡ []
 c1_kept r c l h = grind (arith, nat_tests)
 
--- what a character's bytes do before others
+-- the output for a character's bytes before others
 Keeps : ℕ → Type 0
 Keeps c = (r : Bool) (rest : List ℕ) → pasted_after r (encode c ++ rest) ≡ encodes (kept_character r c) ++ pasted_after (nat_eq c 0x0D) rest
 

@@ -1,4 +1,4 @@
--- A row that follows from each law alone, and from what a run says.
+-- A row that follows from each law alone, and from the contract of a run.
 use Rattle.std.proofs.Common.{◌≡◌, ◌≢◌, ℕ, ◌≤◌, inl, inr, Bool, true, false, not, ◌&&◌, ◌==◌, nat_eq, List, [], ◌∷◌, ◌++◌, length, length-append, take}
 use Rattle.std.proofs.Common.{Option, Some, None, refl, ap, sym, ◌∙◌, subst, arith}
 use Rattle.std.specs.Prelude.{codes}
@@ -67,7 +67,7 @@ of_waits_for_five law bs e = let short : 6 ≤ 5 = subst (λ s. length (waiting_
 pub of_clean_byte : PastesAreClean → (waiting : List ℕ) (after_return : Bool) (b : ℕ) → (step (Within waiting after_return) b).output ≢ 0x13 ∷ []
 of_clean_byte law waiting after_return b e = both_ways _ refl (subst IsText e (law.each_byte waiting after_return b))
 
--- what waits of a mark at the input's end goes out without its ESC
+-- a mark that is incomplete at the input's end goes out without its ESC
 pub of_clean_end : PastesAreClean → (waiting : List ℕ) (after_return : Bool) → at_end (Within waiting after_return) ≢ codes "\u{1b}[20"
 of_clean_end law waiting after_return e = both_ways _ refl (subst IsText e (law.input_ends waiting after_return))
 
@@ -133,13 +133,13 @@ of_broken_off bytes zs h =
       | inr ended ↦ (ended.1.1, ap (λ xs. xs ++ ended.1.1) ended.1.2.appends ∙ sym ended.1.2.parts ∙ ap filtered (sym all))
     ]
 
--- and one that a read broke off wrote what goes out of the first of them
+-- and one that a read broke off wrote the output of the first of them
 pub of_passed : (bytes zs : List ℕ) → HasPassed (Some (codes "ab")) (Some (codes "b")) (Some []) (Some zs) bytes (run start bytes).state → zs ≡ codes "a"
 of_passed [] zs h = absurd (let same : codes "ab" ≡ codes "b" = h.reads in cc same)
 of_passed (x ∷ []) zs h = let one : 0x61 ≡ x = (let same : codes "ab" ≡ x ∷ codes "b" = h.reads in cc same) in h.writes ∙ ap (λ y. (run start (y ∷ [])).output) (sym one)
 of_passed (x ∷ y ∷ ys) zs h = absurd (let same : codes "ab" ≡ x ∷ y ∷ (ys ++ codes "b") = h.reads in omega (arith, ap length same, length-append ys (codes "b")))
 
--- behind 300 bytes that were read, what goes out of the first 44 or more was written
+-- after 300 bytes that were read, the output of the first 44 or more was written
 pub of_late : (bytes zs : List ℕ) → length bytes ≡ 300 → IsOneReadLate (Some []) (Some zs) bytes
     → (n : ℕ) × (more : List ℕ) × (44 ≤ n) × (zs ≡ (run start (take n bytes)).output ++ more)
 of_late bytes zs count h =

@@ -31,7 +31,7 @@ at_escape (x ∷ xs) is_open h =
 
 -- ---- a sequence that comes whole
 
--- what goes out of the bytes after ESC
+-- the output for the bytes after ESC
 abbrev EndsSo : (Bool → Step) → List ℕ → Type 0
 EndsSo s rest = (run (Outside (0x1B ∷ []) true) rest ≡ s true) × (run (Outside (0x1B ∷ []) false) rest ≡ s false)
 
@@ -60,7 +60,7 @@ whole_sequence s rest bs waiting is_open h at =
 abbrev becomes_row : Row → Bool → Step
 becomes_row r is_open = step_to start (apart_from is_open r.becomes)
 
--- a sequence of ESC and the rest, and what goes out
+-- a sequence of ESC and the rest, and its output
 pub record IsRow (r : Row) : Type 0 where
   pub begins : r.sequence ≡ 0x1B ∷ drop 1 r.sequence
   pub open_ends : run (Outside (0x1B ∷ []) true) (drop 1 r.sequence) ≡ becomes_row r true

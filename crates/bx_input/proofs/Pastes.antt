@@ -20,7 +20,7 @@ use Rattle.bx_input.proofs.Passing.{none_behind, whole_sequence, is_open_after}
 use Rattle.bx_input.proofs.Runs.{in_pieces}
 use Rattle.bx_input.proofs.States.{IsSound, run_sound}
 
--- ---- what waits
+-- ---- the waiting bytes
 
 abbrev IsHeld : List ℕ → Type 0
 IsHeld waiting = (h : Held) × (held_back h ≡ waiting)
@@ -64,9 +64,9 @@ is_held (a ∷ b ∷ c ∷ d ∷ x ∷ y ∷ rest) h =
     let says = waits_says paste_sequences (a ∷ b ∷ c ∷ d ∷ x ∷ y ∷ rest) h in
     absurd (omega (arith, any_fewer paste_sequences 6 (a ∷ b ∷ c ∷ d ∷ x ∷ y ∷ rest) refl says.begins says.not_whole))
 
--- ---- the text of what waits and more
+-- ---- the text of the waiting bytes and more
 
--- what waits is the text that it broke off as
+-- the text of the waiting bytes alone is that of bytes broken off
 alone : (h : Held) (after_return : Bool) → (after_return ≡ true → held_back h ≡ []) → pasted_after after_return (held_back h) ≡ pasted_part (held_back h)
 alone held.Nothing after_return e = refl
 alone held.Lead true e = absurd (let n = e refl in cc n)
@@ -163,7 +163,7 @@ in_front front s text h = record {
   is_text = append_assoc front s.output (pasted_part h.waiting) ∙ ap (λ xs. front ++ xs) h.is_text;
 }
 
--- what the rest of the text does wherever the filter stands in the paste
+-- the output for the rest of the text, in any state within the paste
 abbrev Goes : List ℕ → Type 0
 Goes bs = (w : List ℕ) (r : Bool) → IsSound (Within w r) → HasNone (exact paste_end ∷ []) (w ++ bs) → IsPasted (run (Within w r) bs) (pasted_after r (w ++ bs))
 

@@ -1,4 +1,4 @@
--- What goes out for a row of the table.
+-- The output for a row of the table.
 use Rattle.std.proofs.Common.{◌≡◌, ℕ, Bool, true, false, List, [], ◌∷◌, ◌++◌, Option, Some, None, refl}
 use Rattle.std.specs.Prelude.{option_map}
 use Rattle.bx_bytes.specs.declared.fate.Fate.TheVariants.{Ends}

@@ -13,7 +13,7 @@ after_first first more = with_front first.output (run first.state more)
 front_twice : (xs ys : List ℕ) (s : Step) → with_front (xs ++ ys) s ≡ with_front xs (with_front ys s)
 front_twice xs ys s = ap (step_to s.state) (append_assoc xs ys s.output)
 
--- however input is cut in two, it goes as its first part does, and then its second
+-- input cut in two has the output of its first part, and then of its second
 pub in_pieces : (s : State) (bs more : List ℕ) → run s (bs ++ more) ≡ after_first (run s bs) more
 in_pieces s [] more = refl
 in_pieces s (b ∷ bs) more =
@@ -55,7 +55,7 @@ all_passed r r1 r2 w w1 w2 bytes s h reads ends writes =
 
 -- ---- a loop over bytes
 
--- a filter that took some bytes, and what was appended for them
+-- a filter that read some bytes, and the output appended for them
 pub record HasFed (old : State) (bytes : List ℕ) (now : State) (before out : List ℕ) : Type 0 where
   pub is_state : now ≡ (run old bytes).state
   pub went_out : out ≡ before ++ (run old bytes).output

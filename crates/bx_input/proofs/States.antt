@@ -1,4 +1,4 @@
--- What waits, wherever the filter stands.
+-- The waiting bytes, in any state of the filter.
 use Rattle.std.proofs.Common.{◌≡◌, ℕ, ◌≤◌, inl, inr, Bool, true, false, nat_eq, List, [], ◌∷◌, ◌++◌, length, Option, Some, None, cond, refl, arith}
 use Rattle.std.specs.Str.{bytes_eq}
 use Rattle.std.proofs.lemmas.Bool.{cases_Bool, eqb-true, false≢true}
@@ -10,7 +10,7 @@ use Rattle.bx_input.specs.Filter.{State, Outside, Within, step_by, paste_step_by
 use Rattle.bx_input.specs.Laws.{waiting_in, WaitsForFive}
 use Rattle.bx_input.proofs.Firsts.{waits_says, any_fewer}
 
--- what waits begins something, and nothing waits after a CR
+-- the waiting bytes begin a sequence, and none wait after a CR
 abbrev pub IsSound : State → Type 0
 IsSound (Outside waiting is_open) = fate waiting ≡ Waits
 IsSound (Within waiting after_return) = (paste_fate waiting ≡ Waits) × (after_return ≡ true → waiting ≡ [])

@@ -1,4 +1,4 @@
--- What the filter does with a byte, and with input.
+-- The filter's step for a byte, and its output for input.
 use Rattle.std.specs.Prelude.{ℕ, Bool, true, false, not, ◌&&◌, ◌||◌, ◌==◌, List, [], ◌∷◌, ◌++◌, Option, Some, None, if◌then◌else◌}
 use Rattle.std.specs.Str.{bytes_eq}
 use Rattle.bx_bytes.specs.Pattern.{is_within}
@@ -7,7 +7,7 @@ use Rattle.bx_bytes.specs.declared.fate.Fate.TheVariants.{Waits, Ends, Breaks}
 use Rattle.bx_input.specs.Table.{Row, fate, row_of, paste_end}
 use Rattle.bx_input.specs.Paste.{pasted_byte, pasted_part, paste_fate}
 
--- Bytes wait that begin what more than one byte decides. Outside a paste, a sequence that went out as it came may still be
+-- The waiting bytes begin a sequence that the filter knows. Outside a paste, a sequence that went out unchanged may still be
 -- open: its last byte may not have come. Within one, the last byte may have been a CR.
 pub data State : Type 0 where
   Outside : (waiting : List ℕ) (is_open : Bool) → State
@@ -16,7 +16,7 @@ pub data State : Type 0 where
 abbrev pub start : State
 start = Outside [] false
 
--- the state after bytes, and what went out
+-- the state after bytes, and their output
 pub record Step : Type 0 where
   pub state : State
   pub output : List ℕ
@@ -26,7 +26,7 @@ step_to state output = record { state = state; output = output }
 
 -- ---- outside a paste
 
--- ESC begins a sequence whatever is open. Anything else would end what is open, so that a CAN, which has no key, ends it first.
+-- ESC begins a sequence even if one is open. Any other byte would go into the open one, so a CAN, which has no key, ends it first.
 abbrev pub apart_from : Bool → List ℕ → List ℕ
 apart_from is_open [] = if is_open then 0x18 ∷ [] else []
 apart_from is_open (b ∷ bs) = if is_open && not (b == 0x1B) then 0x18 ∷ b ∷ bs else b ∷ bs
@@ -40,7 +40,7 @@ abbrev pub is_empty : List ℕ → Bool
 is_empty [] = true
 is_empty (b ∷ bs) = false
 
--- what waited goes out as it came, and the byte is read afresh
+-- the waiting bytes go out unchanged, and the byte is read afresh
 abbrev pub broken : List ℕ → Bool → ℕ → Step
 broken waiting is_open b =
     let was_open = is_open || not (is_empty waiting) in
@@ -72,16 +72,16 @@ abbrev pub step : State → ℕ → Step
 step (Outside waiting is_open) b = step_by (fate (waiting ++ b ∷ [])) waiting is_open b
 step (Within waiting after_return) b = paste_step_by (paste_fate (waiting ++ b ∷ [])) waiting after_return b
 
--- what goes out of bytes, one after another
+-- the output for bytes, one after another
 abbrev pub run : State → List ℕ → Step
 run s [] = step_to s []
 run s (b ∷ bs) = with_front (step s b).output (run (step s b).state bs)
 
--- what still waits goes out at the input's end
+-- the output for the waiting bytes at the input's end
 abbrev pub at_end : State → List ℕ
 at_end (Outside waiting is_open) = waiting
 at_end (Within waiting after_return) = pasted_part waiting
 
--- what goes out of all of an input
+-- the output for a whole input
 abbrev pub filtered : List ℕ → List ℕ
 filtered bs = let all = run start bs in all.output ++ at_end all.state

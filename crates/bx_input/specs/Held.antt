@@ -1,4 +1,4 @@
--- What the filter's types stand for.
+-- The models of the filter's types.
 use Rattle.std.specs.Prelude.{◌≡◌, ◌≢◌, ℕ, true, false, slice_index, List, [], ◌∷◌, ◌++◌, codes, Option, Some, None, option_map, option_to_list}
 use Rattle.std.specs.Str.{bytes_eq}
 use Rattle.bx_bytes.specs.declared.fate.Fate.TheVariants.{Waits, Ends, Breaks}
@@ -59,7 +59,7 @@ becomes_of read = option_map (λ (r : Row). r.becomes) (row_of read)
 abbrev pub BeginsByEscape : List ℕ → Type 0
 BeginsByEscape bs = slice_index bs 0 ≡ 0x1B
 
--- what a byte is said to make of what waited, with which it is these bytes
+-- the answer fits these bytes: those that waited, and one more
 abbrev pub Tells : After → List ℕ → Type 0
 Tells (after.Waits beginning) read = (fate read ≡ Waits) × (begun beginning ≡ read)
 Tells (after.Becomes bytes) read = (fate read ≡ Ends) × (becomes_of read ≡ Some bytes.now) × BeginsByEscape bytes.now
@@ -74,6 +74,6 @@ TellsInPaste after_in_paste.Drops read = (paste_fate read ≡ Ends) × (bytes_eq
 TellsInPaste after_in_paste.EndsPaste read = (paste_fate read ≡ Ends) × (bytes_eq read paste_end ≡ true)
 TellsInPaste after_in_paste.Breaks read = paste_fate read ≡ Breaks
 
--- where the filter stands after a byte, and what goes out
+-- the filter's state and output are those of a step
 abbrev pub Goes : Place × Output → Step → Type 0
 Goes went s = (state_of went.0 ≡ s.state) × (bytes_of went.1 ≡ s.output)

@@ -1,4 +1,4 @@
--- What holds of the filter, whatever its input.
+-- Laws of the filter, for any input.
 use Rattle.std.specs.Prelude.{◌≡◌, ◌≤◌, ℕ, ◌*◌, Bool, true, false, not, ◌||◌, ◌==◌, List, [], ◌∷◌, ◌++◌, length, map}
 use Rattle.std.specs.List.{list_all}
 use Rattle.std.specs.Str.{chars, IsUtf8}
@@ -10,7 +10,7 @@ use Rattle.bx_input.specs.Table.{Row, sequences, exact, paste_start, paste_end}
 use Rattle.bx_input.specs.Paste.{is_control_byte, kept_characters, pasted}
 use Rattle.bx_input.specs.Filter.{State, Outside, Within, Step, step_to, with_front, step, start, run, at_end, filtered, apart_from, is_empty}
 
--- cut in two, input goes as its first part does, and then its second
+-- input cut in two has the output of its first part, and then of its second
 abbrev pub ComesInPieces : Type 0
 ComesInPieces = (s : State) (bs more : List ℕ) →
     let first : Step = run s bs in
@@ -24,16 +24,16 @@ waiting_in (Within waiting after_return) = waiting
 abbrev pub WaitsForFive : Type 0
 WaitsForFive = (bs : List ℕ) → length (waiting_in (run start bs).state) ≤ 5
 
--- a sequence of the table after input that ends outside a paste: what waited goes out as it came, and then the row's bytes
+-- a sequence of the table after input that ends outside a paste: the waiting bytes go out unchanged, and then the row's bytes
 abbrev pub BecomesRow : Row → Type 0
 BecomesRow r = (bs waiting : List ℕ) (is_open : Bool) → (run start bs).state ≡ Outside waiting is_open
     → run start (bs ++ r.sequence) ≡ step_to start (filtered bs ++ apart_from (is_open || not (is_empty waiting)) r.becomes)
 
--- none of the patterns' bytes stand in a row in these
+-- no part of these bytes matches one of the patterns
 abbrev pub HasNone : List (List Piece) → List ℕ → Type 0
 HasNone patterns bs = (front middle back : List ℕ) → bs ≡ front ++ (middle ++ back) → matches_any patterns middle ≡ false
 
--- input with no sequence of the table and no start of a paste goes out as it came
+-- input with no sequence of the table and no start of a paste goes out unchanged
 abbrev pub OthersPass : Type 0
 OthersPass = (bs : List ℕ) → HasNone sequences bs → filtered bs ≡ bs
 
@@ -44,18 +44,18 @@ PastesText = (bs waiting : List ℕ) (is_open : Bool) (text : List ℕ) → (run
     → run start (bs ++ (paste_start ++ (text ++ paste_end)))
     ≡ step_to start (filtered bs ++ (apart_from (is_open || not (is_empty waiting)) [] ++ pasted text))
 
--- A paste in UTF-8 becomes UTF-8: its characters in order, but the control characters that are no TAB and no new line.
+-- A paste in UTF-8 becomes UTF-8: its characters in order, except control characters other than TAB and new lines.
 abbrev pub PastesKeepCharacters : Type 0
 PastesKeepCharacters = (text : List ℕ) → IsUtf8 text → IsUtf8 (pasted text) × (chars (pasted text) ≡ kept_characters (chars text))
 
--- no control byte but TAB and LF
+-- no control byte except TAB and LF
 abbrev pub is_text_byte : ℕ → Bool
 is_text_byte b = (b == 0x09 || b == 0x0A) || not (is_control_byte b)
 
 abbrev pub IsText : List ℕ → Type 0
 IsText bs = list_all is_text_byte bs ≡ true
 
--- what goes out within a paste is text, however it is cut
+-- the output within a paste is text, however the paste is cut
 pub record PastesAreClean : Type 0 where
   pub each_byte : (waiting : List ℕ) (after_return : Bool) (b : ℕ) → IsText (step (Within waiting after_return) b).output
   pub input_ends : (waiting : List ℕ) (after_return : Bool) → IsText (at_end (Within waiting after_return))
@@ -69,11 +69,11 @@ GrowsByThird = (bs : List ℕ) → 3 * length (filtered bs) ≤ 4 * length bs
 abbrev pub NoLongerWithoutQ : Type 0
 NoLongerWithoutQ = (bs : List ℕ) → list_all (λ b. not (b == 0x51)) bs ≡ true → length (filtered bs) ≤ length bs
 
--- the editor's key for what a row becomes is the row's
+-- the editor decodes the bytes of a row as the row's key
 abbrev pub HasKey : Row → Type 0
 HasKey r = decoding r.becomes ≡ record { keys = r.key ∷ []; rest = [] }
 
--- The editor has this key more for it, whatever came before that ended outside a paste.
+-- After any input that ends outside a paste, the row's sequence gives the editor one more key, the row's.
 abbrev pub AddsKey : Row → Type 0
 AddsKey r = (bs waiting : List ℕ) (is_open : Bool) → (run start bs).state ≡ Outside waiting is_open
     → (decoding (filtered (bs ++ r.sequence))).keys ≡ (decoding (filtered bs)).keys ++ r.key ∷ []
@@ -82,8 +82,8 @@ abbrev pub is_insert : Key → Bool
 is_insert (Insert c) = true
 is_insert _ = false
 
--- The editor's keys for a paste are those of its text behind what waits. Each puts a character in, and does nothing else. Where
--- the text is UTF-8, these are its characters in order.
+-- The editor's keys for a paste are those of its text after the bytes that wait. Each inserts a character, and does nothing
+-- else. If the text is UTF-8, these are its characters in order.
 abbrev pub PastesInsert : Type 0
 PastesInsert = (bs waiting : List ℕ) (is_open : Bool) (text : List ℕ) → (run start bs).state ≡ Outside waiting is_open
     → HasNone (exact paste_end ∷ []) text

@@ -5,11 +5,11 @@ use Rattle.bx_bytes.specs.Pattern.{Piece, One, is_within}
 use Rattle.bx_bytes.specs.declared.fate.Fate.{Fate}
 use Rattle.bx_input.specs.Table.{exact, paste_end}
 
--- of C0, or DELETE
+-- a control character of C0, or DELETE
 abbrev pub is_control_byte : ℕ → Bool
 is_control_byte b = is_within 0x00 0x1F b || b == 0x7F
 
--- what a byte of a paste becomes: TAB passes, a new line is LF, and other control bytes are dropped. The LF of CR LF was
+-- the output for a byte of a paste: TAB passes, a new line is LF, and other control bytes are dropped. The LF of CR LF is
 -- written for the CR.
 abbrev pub pasted_byte : Bool → ℕ → List ℕ
 pasted_byte after_return b =
@@ -23,7 +23,7 @@ pasted_byte after_return b =
 abbrev pub is_c1 : ℕ → ℕ → Bool
 is_c1 b c = b == 0xC2 && is_within 0x80 0x9F c
 
--- what a paste of these bytes becomes, after a CR or not
+-- the output for a paste of these bytes, after a CR or not
 abbrev pub pasted_after : Bool → List ℕ → List ℕ
 pasted_after after_return [] = []
 pasted_after after_return (b ∷ []) = pasted_byte after_return b
@@ -49,13 +49,13 @@ kept_after after_return (c ∷ cs) = kept_character after_return c ++ kept_after
 abbrev pub kept_characters : List ℕ → List ℕ
 kept_characters cs = kept_after false cs
 
--- what more than one byte decides within a paste: its end, and the control characters of C1 in UTF-8
+-- the sequences known within a paste: its end, and the control characters of C1 in UTF-8
 abbrev pub paste_sequences : List (List Piece)
 paste_sequences = exact paste_end ∷ (One 0xC2 0xC2 ∷ One 0x80 0x9F ∷ []) ∷ []
 
 abbrev pub paste_fate : List ℕ → Fate
 paste_fate bs = fate_in paste_sequences bs
 
--- what broke off becomes
+-- the output for bytes that were broken off
 abbrev pub pasted_part : List ℕ → List ℕ
 pasted_part bs = flat_map (pasted_byte false) bs

@@ -3,13 +3,13 @@ use Rattle.std.specs.Prelude.{◌≡◌, ◌≤◌, ◌⊎◌, ℕ, List, ◌++�
 use Rattle.std.specs.Io.KnownBytes.{Appends, Consumes, IsAtEnd}
 use Rattle.bx_input.specs.Filter.{State, start, run, filtered}
 
--- How far a run has come: these bytes were read, what goes out of them was written, and the filter is in this state.
+-- The progress of a run: these bytes were read, their output was written, and the filter is in this state.
 pub record HasPassed (reader reader' writer writer' : Option (List ℕ)) (bytes : List ℕ) (state : State) : Type 0 where
   pub reads : Consumes reader reader' bytes
   pub writes : Appends writer writer' (run start bytes).output
   pub is_state : state ≡ (run start bytes).state
 
--- all bytes of the reader were read, and what goes out of all of them was written
+-- all bytes of the reader were read, and their output was written
 pub record IsFiltered (reader reader' writer writer' : Option (List ℕ)) (bytes : List ℕ) : Type 0 where
   pub reads : Consumes reader reader' bytes
   pub ends : IsAtEnd reader'
@@ -20,11 +20,11 @@ pub record IsWritten (bytes : List ℕ) (writer writer' : Option (List ℕ)) (wr
   pub parts : bytes ≡ written ++ rest
   pub appends : Appends writer writer' written
 
--- some front of them was
+-- some front of the bytes was written
 abbrev pub WritesFront : List ℕ → Option (List ℕ) → Option (List ℕ) → Type 0
 WritesFront bytes writer writer' = (written : List ℕ) × (rest : List ℕ) × IsWritten bytes writer writer' written rest
 
--- all that goes out of these bytes was written, but for what goes out of the last 256 at most
+-- the output of these bytes was written, except at most that of the last 256
 pub record IsOneReadLate (writer writer' : Option (List ℕ)) (bytes : List ℕ) : Type 0 where
   pub before : List ℕ
   pub last : List ℕ
@@ -33,7 +33,7 @@ pub record IsOneReadLate (writer writer' : Option (List ℕ)) (bytes : List ℕ)
   pub few : length last ≤ 256
   pub appends : Appends writer writer' ((run start before).output ++ more)
 
--- These bytes were read, and a front of what goes out of them was written. What waits goes out only at the reader's end.
+-- These bytes were read, and a front of their output was written. Waiting bytes go out only at the reader's end.
 pub record IsBrokenOff (reader reader' writer writer' : Option (List ℕ)) (bytes : List ℕ) : Type 0 where
   pub reads : Consumes reader reader' bytes
   pub writes : WritesFront (run start bytes).output writer writer' ⊎ (IsAtEnd reader' × WritesFront (filtered bytes) writer writer')

@@ -1,4 +1,4 @@
--- What terminals send for a key, and what the editor is sent in its place.
+-- The sequences that terminals send for keys, and the bytes that the editor gets in their place.
 use Rattle.std.specs.Prelude.{ℕ, List, [], ◌∷◌, ◌++◌, map, find, codes, Option}
 use Rattle.std.specs.Str.{bytes_eq}
 use Rattle.bx_bytes.specs.Fate.{fate_in}
@@ -74,7 +74,7 @@ keypad_digits =
 abbrev pub rows : List Row
 rows = application_keys ++ (rxvt_keys ++ (shifted_keys ++ (direction_keys ++ keypad_digits)))
 
--- the two marks that a terminal sets round a paste
+-- the two marks that a terminal puts around a paste
 abbrev pub paste_start : List ℕ
 paste_start = csi (codes "200~")
 
@@ -85,7 +85,7 @@ paste_end = csi (codes "201~")
 abbrev pub exact : List ℕ → List Piece
 exact bs = map (λ b. One b b) bs
 
--- what is known outside a paste
+-- the sequences known outside a paste
 abbrev pub sequences : List (List Piece)
 sequences = exact paste_start ∷ map (λ (r : Row). exact r.sequence) rows
 

@@ -1,4 +1,4 @@
-//! What a byte makes of the bytes that wait.
+//! The state after the waiting bytes and one more.
 
 ghost use Rattle.std.specs.Prelude.{◌∷◌, [], ◌++◌};
 ghost use Rattle.bx_input.specs.Held.{begun, held_back, Tells, TellsInPaste};
@@ -9,7 +9,7 @@ use crate::held::Held;
 /// The control byte ESC, with which each sequence begins.
 pub const ESC: u8 = 0x1B;
 
-/// Outside a paste.
+/// The state after a byte outside a paste.
 #[derive(Clone, Copy, Debug)]
 pub enum After {
     /// The bytes begin a sequence of the table, or the start of a paste.
@@ -24,7 +24,7 @@ pub enum After {
     Breaks,
 }
 
-/// Within a paste.
+/// The state after a byte within a paste.
 #[derive(Clone, Copy, PartialEq, Eq, Debug)]
 pub enum AfterInPaste {
     /// The bytes begin the paste's end, or a control character of C1.
@@ -37,7 +37,7 @@ pub enum AfterInPaste {
     Breaks,
 }
 
-/// What a byte makes of the bytes that wait outside a paste.
+/// The state after the waiting bytes and one more, outside a paste.
 pub fn sequence_after(waiting: Beginning, byte: u8) -> After
     ensures { Tells result (begun waiting ++ byte ∷ []) }
 {
@@ -147,7 +147,7 @@ fn after_shifted(byte: u8) -> After
     }
 }
 
-/// What a byte makes of the bytes that wait within a paste.
+/// The state after the waiting bytes and one more, within a paste.
 pub fn paste_after(waiting: Held, byte: u8) -> AfterInPaste
     ensures { TellsInPaste result (held_back waiting ++ byte ∷ []) }
 {

@@ -1,4 +1,4 @@
-//! The beginnings of the table's sequences, and what a byte makes of them.
+//! The beginnings of the table's sequences.
 
 ghost use Rattle.std.specs.Prelude.{◌≡◌, ◌∷◌, [], ◌++◌};
 ghost use Rattle.bx_input.specs.Held.{begun};

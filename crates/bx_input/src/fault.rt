@@ -1,8 +1,8 @@
-//! Why the filter breaks off.
+//! Why the filter stops early.
 
 use thiserror::Error;
 
-/// Why a run broke off.
+/// Why a run stopped early.
 #[derive(Clone, Copy, PartialEq, Eq, Debug, Error)]
 pub enum FilterFault {
     #[error("input failed")]

@@ -1,4 +1,4 @@
-//! The filter itself, byte by byte.
+//! The filter, byte by byte.
 
 ghost use Rattle.std.specs.Prelude.{◌≡◌};
 ghost use Rattle.bx_input.specs.Filter as spec;
@@ -38,7 +38,7 @@ impl Filter {
         }
     }
 
-    /// Takes the next byte, and answers what goes out for it.
+    /// Reads the next byte and returns its output.
     pub fn feed(&mut self, byte: u8) -> Output
         ensures state { self.new ≡ (spec.step self.old byte).state }
         ensures output { bytes_of result ≡ (spec.step self.old byte).output }
@@ -54,7 +54,7 @@ impl Filter {
         output
     }
 
-    /// What still waits goes out, since the input is at its end. The filter is then at a start again.
+    /// Ends the input: returns the output of the bytes that still wait, and resets the filter.
     pub fn finish(&mut self) -> &'static [u8]
         ensures state { self.new ≡ spec.start }
         ensures output { result.now ≡ spec.at_end self.old }
@@ -67,7 +67,7 @@ impl Filter {
         rest
     }
 
-    /// A filter that stands where this one does.
+    /// A copy of this filter.
     pub(crate) fn copied(&self) -> Filter
         ensures { result ≡ self.now }
     {

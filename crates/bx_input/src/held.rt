@@ -23,7 +23,7 @@ pub enum Held {
 }
 
 impl Held {
-    /// What these bytes are as text: ESC is dropped.
+    /// These bytes as text, without ESC.
     pub fn text(self) -> &'static [u8]
         ensures { result.now ≡ pasted_part (held_back self) }
     {

@@ -1,6 +1,6 @@
-//! What the filter puts out for a byte.
+//! The filter's output for a byte.
 
-/// What goes out for a byte that came in: some bytes, and perhaps one more.
+/// The output for a byte of input: some bytes, and perhaps one more.
 #[derive(Clone, Copy, Debug)]
 pub struct Output {
     /// The first bytes, at most five.

@@ -1,4 +1,4 @@
-//! The filter between a reader and a writer.
+//! Runs the filter from a reader to a writer.
 
 ghost use Rattle.std.specs.Prelude.{◌≡◌, ◌⊎◌, ◌++◌, List, ℕ, IsErrOf, OnOk, OnErr};
 ghost use Rattle.std.specs.Io.KnownBytes.{Appends, WriteAppends};
@@ -13,11 +13,11 @@ use crate::output::Output;
 use std::alloc::{AllocError, Global};
 use std::io::{ErrorKind, Read, Write};
 
-/// The most reads of a run.
+/// The largest number of reads of a run.
 const READS: u64 = 1_000_000_000_000;
 
 impl Filter {
-    /// Takes all these bytes, and appends what goes out for them. An error is want of memory, and leaves the filter as it was.
+    /// Reads the bytes and appends their output. Running out of memory is an error and leaves the filter as it was.
     pub fn feed_all(&mut self, bytes: &[u8], out: &mut Vec<u8>) -> Result<(), AllocError>
         ensures state { OnOk result (self.new ≡ (spec.run self.old bytes.now).state) }
         ensures output { OnOk result (out.new.items ≡ out.old.items ++ (spec.run self.old bytes.now).output) }
@@ -45,7 +45,7 @@ fn append(out: &mut Vec<u8>, output: Output) -> Result<(), AllocError>
     }
 }
 
-/// One write, of as many of the bytes as the writer takes: none where it was interrupted. One that takes none is a fault.
+/// Writes once, and returns how many bytes the writer took: none if interrupted. A write that takes none is a fault.
 fn write_once<W: Write>(writer: &mut W, bytes: &[u8]) -> Result<usize, FilterFault>
     ensures bound { WritesAtMost result bytes.now }
     ensures bytes { WriteAppends (W.contents writer.old) (W.contents writer.new) result bytes.now }
@@ -59,9 +59,9 @@ fn write_once<W: Write>(writer: &mut W, bytes: &[u8]) -> Result<usize, FilterFau
     }
 }
 
-/// Writes the bytes in one write, as far as the writer takes them so.
+/// Writes all bytes, in one write if the writer takes them at once.
 ///
-/// Errors: `WriteFault`, where a front of them was written.
+/// Errors: `WriteFault`, with a front of them written.
 fn write_all<W: Write>(writer: &mut W, bytes: &[u8]) -> Result<(), FilterFault>
     ensures all { OnOk result (Appends (W.contents writer.old) (W.contents writer.new) bytes.now) }
     ensures front { WritesFront bytes.now (W.contents writer.old) (W.contents writer.new) }
@@ -80,7 +80,7 @@ fn write_all<W: Write>(writer: &mut W, bytes: &[u8]) -> Result<(), FilterFault>
 
 /// Writes the bytes, if there are any, and flushes.
 ///
-/// Errors: `WriteFault`, where a front of them was written.
+/// Errors: `WriteFault`, with a front of them written.
 fn send<W: Write>(writer: &mut W, bytes: &[u8]) -> Result<(), FilterFault>
     ensures all { OnOk result (Appends (W.contents writer.old) (W.contents writer.new) bytes.now) }
     ensures front { WritesFront bytes.now (W.contents writer.old) (W.contents writer.new) }
@@ -96,12 +96,11 @@ fn send<W: Write>(writer: &mut W, bytes: &[u8]) -> Result<(), FilterFault>
     }
 }
 
-/// Filters all of the reader's input: reads at most 256 bytes, and writes what goes out for them in one write, until the
-/// input is at its end.
+/// Filters all of the reader's input to its end: reads at most 256 bytes at a time, and writes their output in one write.
 ///
-/// Errors: `ReadFault`, and `ReadLimit` after 1,000,000,000,000 reads, where all that goes out of what was read was
-/// written; `WriteFault` and `OutOfMemory`, where a front of it was, which lacks no more than what goes out of the last read.
-/// Each comes at the first such fault.
+/// Errors: `ReadFault`, and `ReadLimit` after 1,000,000,000,000 reads, with the output of all bytes read written;
+/// `WriteFault` and `OutOfMemory`, with a front of it written that lacks at most the output of the last read. The first
+/// fault ends the run.
 pub fn run<R: Read, W: Write>(
     alloc: Global,
     reader: &mut R,
@@ -129,9 +128,9 @@ pub fn run<R: Read, W: Write>(
     Err(FilterFault::ReadLimit)
 }
 
-/// Writes what goes out for these bytes.
+/// Filters bytes and writes their output.
 ///
-/// Errors: `WriteFault` and `OutOfMemory`, where a front of it was written.
+/// Errors: `WriteFault` and `OutOfMemory`, with a front of it written.
 fn pass<W: Write>(
     alloc: Global,
     filter: &mut Filter,

@@ -1,4 +1,4 @@
-//! What goes out for a byte, and where the filter stands then.
+//! The filter's next state and output for a byte.
 
 ghost use Rattle.std.specs.Prelude.{◌≡◌, ◌≢◌, false, ◌∷◌, [], ◌++◌, Some, option_to_list};
 ghost use Rattle.bx_input.specs.Filter as spec;
@@ -22,7 +22,7 @@ const OUTSIDE: Place = Place::Outside {
     is_open: false,
 };
 
-/// A byte outside a paste.
+/// Reads a byte outside a paste.
 pub fn outside(waiting: Beginning, is_open: bool, byte: u8) -> (Place, Output)
     ensures { Goes result (spec.step (spec.Outside (begun waiting) is_open) byte) }
 {
@@ -41,7 +41,7 @@ pub fn outside(waiting: Beginning, is_open: bool, byte: u8) -> (Place, Output)
     }
 }
 
-/// A digit or nothing, which a sequence that is open does not take.
+/// Sends a digit or nothing, after a CAN if a sequence is open, which would take the digit.
 fn apart(is_open: bool, byte: Option<u8>) -> Output
     requires { byte ≢ Some 0x1B }
     ensures { bytes_of result ≡ apart_from is_open (option_to_list byte) }
@@ -52,7 +52,7 @@ fn apart(is_open: bool, byte: Option<u8>) -> Output
     }
 }
 
-/// A byte that begins nothing with those that wait.
+/// Reads a byte that breaks off the waiting bytes.
 fn broken_off(waiting: Beginning, is_open: bool, byte: u8) -> (Place, Output)
     ensures { Goes result (broken (begun waiting) is_open byte) }
 {
@@ -89,7 +89,7 @@ fn fresh_paste(after_return: bool) -> Place
     }
 }
 
-/// A byte within a paste.
+/// Reads a byte within a paste.
 pub fn within(waiting: Held, after_return: bool, byte: u8) -> (Place, Output)
     ensures { Goes result (spec.step (spec.Within (held_back waiting) after_return) byte) }
 {
@@ -110,7 +110,7 @@ fn waits(waiting: Held) -> Place
     }
 }
 
-/// A byte that begins nothing with those that wait within a paste.
+/// Reads a byte that breaks off the waiting bytes within a paste.
 fn broken_off_in_paste(waiting: Held, after_return: bool, byte: u8) -> (Place, Output)
     ensures { Goes result (with_front (pasted_part (held_back waiting)) (fresh_in_paste (paste_fate (byte ∷ [])) after_return byte)) }
 {
@@ -130,7 +130,7 @@ fn broken_off_in_paste(waiting: Held, after_return: bool, byte: u8) -> (Place, O
     }
 }
 
-/// What a byte of a paste becomes.
+/// The output for a byte of a paste.
 fn pasted(after_return: bool, byte: u8) -> Option<u8>
     ensures { option_to_list result ≡ pasted_byte after_return byte }
 {
