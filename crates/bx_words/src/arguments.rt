@@ -1,4 +1,4 @@
-//! The words of a command line that several programs take.
+//! Command-line options that several programs share.
 
 ghost use Rattle.std.specs.Prelude.{◌≡◌, true, IfSome};
 ghost use Rattle.bx_terms.specs.Sizes.{is_side};
@@ -36,14 +36,14 @@ pub fn direction<'a>(alloc: Global) -> Arg<'a> {
         .default_value("auto")
 }
 
-/// The side of a window that an option names.
+/// The side of a window, from its option.
 pub fn side_of(matches: &ArgMatches<'_>, name: &str) -> Option<u16>
     ensures { IfSome result (λ n. is_side n ≡ true) }
 {
     matches.get_one::<u16>(name).filter(|n| is_side(*n))
 }
 
-/// The direction that is named.
+/// The direction, from its option.
 pub fn direction_of(matches: &ArgMatches<'_>) -> Option<Base> {
     matches.get_str("direction")?.parse().ok()
 }

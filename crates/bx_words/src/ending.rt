@@ -1,4 +1,4 @@
-//! The statuses that the programs end with, and what standard error is told.
+//! The exit statuses of the programs, and their messages on standard error.
 
 use crate::shown::Numbered;
 use clap::error::ErrorKind;
@@ -6,10 +6,10 @@ use std::fmt::Display;
 use std::io;
 use std::process::ExitCode;
 
-/// The status where the command line is refused.
+/// The exit status for a refused command line.
 const REFUSED: u8 = 2;
 
-/// The status after a run of a program, whose fault is told.
+/// The exit status after a run. Reports a fault on standard error.
 pub fn finish<F: Display + Drop>(
     rt: &HostRuntime,
     program: &str,
@@ -18,19 +18,19 @@ pub fn finish<F: Display + Drop>(
     match outcome {
         Ok(()) => ExitCode::SUCCESS,
         Err(fault) => {
-            // where standard error takes no line there is nobody to tell
+            // a failure of standard error cannot be reported
             let _ = eprintln!(rt; "{program}: {fault}");
             ExitCode::FAILURE
         }
     }
 }
 
-/// The status where the command line is refused, whose cause is told.
+/// The exit status for a refused command line. Reports the cause.
 pub fn refuse(rt: &HostRuntime, program: &str, error: &clap::Error) -> ExitCode {
     if error.kind() == ErrorKind::OutOfMemory {
         return finish(rt, program, Err("out of memory"));
     }
-    // where standard error takes no text there is nobody to tell
+    // a failure of standard error cannot be reported
     let _ = match format!(in rt.alloc(); "{error}") {
         Ok(text) if error.use_stderr() => eprint!(rt; "{}", Numbered(text.as_str())),
         _ => error.print(rt),
@@ -38,12 +38,12 @@ pub fn refuse(rt: &HostRuntime, program: &str, error: &clap::Error) -> ExitCode 
     ExitCode::from(REFUSED)
 }
 
-/// The status where the words cannot be had, whose cause is told: want of memory, or a word that is not UTF-8.
+/// The exit status for an unreadable command line. Reports the cause: out of memory, or a word that is not UTF-8.
 pub fn refuse_words(rt: &HostRuntime, program: &str, kind: io::ErrorKind) -> ExitCode {
     if kind == io::ErrorKind::OutOfMemory {
         return finish(rt, program, Err("out of memory"));
     }
-    // where standard error takes no line there is nobody to tell
+    // a failure of standard error cannot be reported
     let _ = eprintln!(rt; "{program}: a word is not UTF-8");
     ExitCode::from(REFUSED)
 }

@@ -9,25 +9,25 @@ use thiserror::Error;
 /// The bytes of Unicode's three files.
 #[derive(Clone, Copy)]
 pub struct UnicodeFiles<'a> {
-    /// Those of DerivedBidiClass.txt.
+    /// DerivedBidiClass.txt
     pub classes: &'a [u8],
-    /// Those of BidiBrackets.txt.
+    /// BidiBrackets.txt
     pub brackets: &'a [u8],
-    /// Those of BidiMirroring.txt.
+    /// BidiMirroring.txt
     pub mirroring: &'a [u8],
 }
 
 /// Why a file could not be read.
 #[derive(Debug, Drop, PartialEq, Eq, Error)]
 pub enum FileFault<'a> {
-    /// The file of this path is not there, or cannot be read.
+    /// The file at this path does not exist or cannot be read.
     #[error("cannot read {}", Shown(.0))]
     Unreadable(&'a str),
     #[error("out of memory")]
     OutOfMemory,
 }
 
-/// Why the file of a path could not be read.
+/// Why the file at a path could not be read.
 fn fault_of<'a>(path: &'a str, kind: ErrorKind) -> FileFault<'a> {
     match kind {
         ErrorKind::OutOfMemory => FileFault::OutOfMemory,
@@ -35,7 +35,7 @@ fn fault_of<'a>(path: &'a str, kind: ErrorKind) -> FileFault<'a> {
     }
 }
 
-/// All bytes of a reader, or as many as show that they are too many for a text.
+/// All bytes of a reader, cut off one byte past the largest text.
 fn text_bytes<R: Read + Drop>(rt: &HostRuntime, reader: R) -> io::Result<Vec<u8>> {
     let mut bytes = Vec::new(rt.alloc());
     reader
@@ -44,8 +44,7 @@ fn text_bytes<R: Read + Drop>(rt: &HostRuntime, reader: R) -> io::Result<Vec<u8>
     Ok(bytes)
 }
 
-/// The bytes of a text's file, of one that is longer than a text one byte more than a text may have. None where no file is
-/// there.
+/// The bytes of a text file, cut off one byte past the largest text. None if the file does not exist.
 ///
 /// Errors: `Unreadable`; `OutOfMemory`.
 pub fn text_of<'a>(rt: &HostRuntime, path: &'a str) -> Result<Option<Vec<u8>>, FileFault<'a>> {
@@ -59,7 +58,7 @@ pub fn text_of<'a>(rt: &HostRuntime, path: &'a str) -> Result<Option<Vec<u8>>, F
 
 /// All bytes of a file.
 ///
-/// Errors: `Unreadable`, also where no file is there; `OutOfMemory`.
+/// Errors: `Unreadable`, also if the file does not exist; `OutOfMemory`.
 pub fn bytes_of<'a>(rt: &HostRuntime, path: &'a str) -> Result<Vec<u8>, FileFault<'a>> {
     fs::read(rt, path).map_err(|error| fault_of(path, error.kind()))
 }

@@ -1,4 +1,4 @@
-//! What the programs share that lay a text out: words of their command lines, the files that they read, and how they end.
+//! Shared by the programs that lay out a text: command-line options, input files, and exit statuses.
 #![tactic(auto)]
 
 mod arguments;

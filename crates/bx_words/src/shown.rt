@@ -1,23 +1,23 @@
-//! Names and texts as they are told: nothing in them is obeyed by a terminal, or hidden.
+//! Names and texts in messages, with the characters escaped that a terminal would obey or hide.
 
 use std::fmt::{self, Display};
 
-/// A name of a file as a shell takes it. It stands alone where each character of it is plain, else in quotes, and in `$'..'` with a
-/// number in octal for each byte of a character that a terminal obeys or hides.
+/// A file name in a shell's syntax: bare if all its characters are plain, in `$'..'` if a terminal would obey or hide one of
+/// them, else in quotes. `$'..'` has a number in octal for each byte of such a character.
 #[derive(Clone, Copy, PartialEq, Eq, Debug)]
 pub struct Shown<'a>(pub &'a str);
 
-/// A text that has such a number for each byte of such a character, but for its line ends.
+/// A text with such a number for each byte of such a character, except line ends.
 #[derive(Clone, Copy, PartialEq, Eq, Debug)]
 pub struct Numbered<'a>(pub &'a str);
 
-/// A character of a name that needs no quotes.
+/// Whether a character of a name needs no quotes.
 fn is_plain(c: char) -> bool {
     c.is_ascii_alphanumeric()
         || matches!(c, '_' | '.' | '/' | '+' | ',' | '@' | '%' | ':' | '=' | '-')
 }
 
-/// A control character, or one that turns directions, fills no column or is a tag. The joiners are letters of Persian words.
+/// Whether a character is a control, changes directions, fills no column or is a tag. Joiners, used in Persian, do not count.
 fn is_hidden(c: char) -> bool {
     matches!(c,
         '\u{0}'..='\u{1f}' | '\u{7f}'..='\u{9f}' | '\u{ad}' | '\u{61c}' | '\u{180e}' | '\u{200b}' | '\u{200e}'..='\u{200f}'
