@@ -1,4 +1,4 @@
--- What is known of the paragraphs beside a change: nothing separates what stood in a body, and what stands after the change stays.
+-- The paragraphs next to a change: a body's bytes before it have no separator, and the paragraphs after it stay.
 use Rattle.std.proofs.Common.{◌≡◌, ◌<◌, ◌≤◌, ◌+◌, ◌-◌, ◌∙◌, ◌⊎◌, inl, inr, ℕ, Bool, true, false, min, List, [], ◌∷◌, ◌++◌, drop, chars, IsUtf8}
 use Rattle.std.proofs.Common.{IsCharBoundary, refl, ap, sym, subst, arith, append_assoc}
 use Rattle.std.proofs.lemmas.Bool.Decides.{nat_tests}
@@ -24,7 +24,7 @@ module _ (class : ℕ → Class) where
   no_body : (c : ℕ) (cs : List ℕ) → ends class c ≡ true → (first (lens class (c ∷ cs))).body ≡ 0
   no_body c cs e = ap (λ (l : Lengths). l.body) (first_at class c cs (is_paired class c cs) e refl)
 
-  -- ---- the characters of some that stand in the first paragraph's body
+  -- ---- the characters in the first paragraph's body
 
   pub record IsQuiet (h r : List ℕ) : Type 0 where
     pub body : List ℕ
@@ -53,7 +53,7 @@ module _ (class : ℕ → Class) where
   quiet [] r = record { body = []; others = []; whole = refl; bytes = omega arith; none = tt }
   quiet (c ∷ h) r = quiet_at c h r (ends class c) refl (quiet h r)
 
-  -- ---- what stands after some characters of the first paragraph
+  -- ---- the rest after some characters of the first paragraph
 
   rest_none : (p : Lengths) → p ≡ rest_of 0 p
   rest_none p = same_lengths p.body (p.body - 0) p.separator (min p.separator (bytes_of p - 0)) (omega arith) (omega arith)

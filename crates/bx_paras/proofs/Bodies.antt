@@ -1,4 +1,4 @@
--- The paragraphs of characters, joined: their bytes, where the bodies stand, and what stands in the bodies.
+-- The paragraphs of characters, joined: their bytes, and the positions and contents of the bodies.
 use Rattle.std.proofs.Common.{◌≡◌, ◌<◌, ◌+◌, ◌-◌, ◌∙◌, inl, inr, ℕ, Bool, true, false, List, [], ◌∷◌, ◌++◌, map, length, take, drop, chars, encode_utf8}
 use Rattle.std.proofs.Common.{encode_utf8_all, IsUtf8, refl, ap, sym, subst, arith, append_assoc, append-nil, length-append}
 use Rattle.std.specs.Prelude.{All}
@@ -15,7 +15,7 @@ use Rattle.bx_paras.specs.Laws.{joined, between, IsSeparator, EachEnds, JoinToTe
 use Rattle.bx_paras.proofs.Changes.{scalars_back}
 use Rattle.bx_paras.proofs.Cuts.{width_is_some, ends, is_paired}
 
--- ---- where the bodies of joined paragraphs stand
+-- ---- positions of the bodies of joined paragraphs
 
 span_body : (front p rest : List ℕ) (at : ℕ) → at ≡ length front → take (at + length p - at) (drop at (front ++ (p ++ rest))) ≡ p
 span_body front p rest at e =
@@ -117,7 +117,7 @@ module _ (class : ℕ → Class) where
   pub join_text : (text : List ℕ) → IsUtf8 text → joined (paragraphs class text) ≡ text
   join_text text utf8 = join_cut (chars text) ∙ encodes-chars text utf8
 
-  -- ---- no separator stands in a body
+  -- ---- no separator is in a body
 
   abbrev HasNoneInside : Paragraph → Type 0
   HasNoneInside p = HasNone class (chars p.body)

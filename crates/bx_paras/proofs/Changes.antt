@@ -1,4 +1,4 @@
--- What a change of a text does to its paragraphs.
+-- The paragraphs of a text after a change.
 use Rattle.std.proofs.Common.{◌≡◌, ◌≤◌, ◌+◌, ◌-◌, ◌∙◌, ℕ, true, List, [], ◌∷◌, ◌++◌, length, take, drop, chars, encode_utf8_all, IsUtf8, IsCharBoundary, refl}
 use Rattle.std.proofs.Common.{ap, sym, subst, arith, length-append}
 use Rattle.std.proofs.lemmas.Bool.Decides.{nat_tests}

@@ -1,4 +1,4 @@
--- What an edit of some characters does to their paragraphs.
+-- The paragraphs of some characters after an edit.
 use Rattle.std.proofs.Common.{◌≡◌, ◌<◌, ◌≤◌, ◌+◌, ◌-◌, ◌∙◌, ◌⊎◌, inl, inr, ℕ, Bool, true, false, nat_le, ◌==◌, List, [], ◌∷◌, ◌++◌, length, refl, ap, sym}
 use Rattle.std.proofs.Common.{subst, arith, append_assoc}
 use Rattle.std.proofs.lemmas.Bool.Decides.{nat_tests}
@@ -100,7 +100,7 @@ module _ (class : ℕ → Class) where
 
   -- ---- after an edit
 
-  -- characters after an edit, in which a paragraph ends: those after it stay, whatever stands in front
+  -- characters after an edit, in which a paragraph ends: those after it stay, whatever comes before
   pub record Back (d : List ℕ) (past : ℕ) (back : List Lengths) : Type 0 where
     pub t : List ℕ
     pub y : List ℕ

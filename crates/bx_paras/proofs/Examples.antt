@@ -29,7 +29,7 @@ paragraphs_of_offsets : map (paragraph_of (lengths class line_ends)) (0 ∷ 1 �
 unfolding chars encode_utf8
 paragraphs_of_offsets = refl
 
--- the same after CR was put in before the first LF
+-- the same after CR was inserted before the first LF
 abbrev cr_put_in : List ℕ
 cr_put_in = 49 ∷ 13 ∷ 10 ∷ 50 ∷ 13 ∷ 10 ∷ 51 ∷ []
 

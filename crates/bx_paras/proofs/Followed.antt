@@ -1,4 +1,4 @@
--- An index that follows a change: what it takes out, and what it puts in.
+-- An index that follows a change: the paragraphs that it removes, and those that it inserts.
 use Rattle.std.proofs.Common.{◌≡◌, ◌<◌, ◌≤◌, ◌+◌, ◌-◌, ◌∙◌, ◌⊎◌, inl, inr, ℕ, Bool, true, false, nat_le, List, [], ◌∷◌, ◌++◌, length, take, drop, get_or}
 use Rattle.std.proofs.Common.{Option, Some, None, IfSome, ◌*◌, MatchOption, IsUtf8, IsCharBoundary, min, refl, ap, sym, subst, arith, length-append}
 use Rattle.std.proofs.Common.{append_assoc, append-nil}
@@ -24,7 +24,7 @@ use Rattle.bx_paras.proofs.Turns.{total_lengths, few_lengths}
 
 -- ---- positions
 
--- what a position with an end says
+-- the meaning of a position with an end
 pub record HasEnd (ps : List Lengths) (offset : ℕ) (p : Position) (e : ℕ) : Type 0 where
   pub inside : p.number < length ps
   pub end : e ≡ total (take (p.number + 1) ps)
@@ -47,7 +47,7 @@ parted_at ps u d n h =
     ap (λ ls. ls ++ u ∷ []) (sym (take-append-drop n ps) ∙ ap (λ ls. take n ps ++ ls) (drop_more ps n d h))
     ∙ append_assoc (take n ps) (get_or ps n d ∷ drop (n + 1) ps) (u ∷ [])
 
--- the paragraph at a position, and what stands after it
+-- the paragraph at a position, and those after it
 record IsParted (ps : List Lengths) (u : Lengths) (offset : ℕ) (p : Position) : Type 0 where
   here : Lengths
   behind : List Lengths
@@ -146,7 +146,7 @@ module _ {class : ℕ → Class} {old : List ℕ} {c : Change} {new : List ℕ} 
   pub in_order : (end : ℕ) → last.end ≡ Some end → first.number ≤ last.number + 1
   in_order end k = ordered_at (has_end ps (c.start + c.removed) last end touched.last_is k) (nat_le first.number (last.number + 1)) refl
 
-  -- the new text's bytes, by what is kept and found
+  -- the new text's bytes, by the paragraphs kept and found
   pub bytes_of_found : (stop : ℕ) (back : List Lengths) (w : List Lengths) → lengths class new ≡ take first.number ps ++ (w ++ back)
       → length new ≡ total (take first.number ps) + (total w + total back)
   bytes_of_found stop back w e =
@@ -213,7 +213,7 @@ module _ {class : ℕ → Class} {old : List ℕ} {c : Change} {new : List ℕ} 
   pub few_in : (fs : List Lengths) (v : Lengths) → fs ++ v ∷ [] ≡ lengths class new → length fs ≤ length new
   few_in fs v e = omega (arith, ap length e, length-append fs (v ∷ []), few_lengths class new touched.new_utf8)
 
--- the room that was made covers what was added
+-- the room that was made covers the added text
 pub has_spares : (room : Option ℕ) (spares separators : ℕ) → IfSome room (HasSpares spares) → HasRoomFor room separators → separators ≤ largest_text
     → separators + 2 * block_capacity + 2 ≤ block_capacity * spares
 has_spares None spares separators h k few = absurd k

@@ -1,4 +1,4 @@
--- What has to be looked at where a change was made: from the end of what stayed in a body in front of it to where it ends.
+-- The window to scan after a change: from the end of the part of a body that stayed before it to its end.
 use Rattle.std.proofs.Common.{◌≡◌, ◌≤◌, ◌+◌, ◌-◌, ◌∙◌, inl, inr, ℕ, min, List, [], ◌∷◌, ◌++◌, length, take, drop, chars, get_or, Option, Some, None}
 use Rattle.std.proofs.Common.{MatchOption, IsCharBoundary, refl, ap, sym, subst, arith}
 use Rattle.std.proofs.lemmas.List.{take_all}

@@ -22,7 +22,7 @@ pub record IsRewritten (class : ℕ → Class) (text : List ℕ) (front : List L
   pub kept : lengths class text ≡ front ++ (ended_within (stop - total front) (lengths class (drop (total front) text)) ++ back)
   pub few : length (ended_within (stop - total front) (lengths class (drop (total front) text))) ≤ separators + 2
 
--- what a change adds has no more separators than bytes
+-- the text that a change adds has no more separators than bytes
 pub few_separators : (class : ℕ → Class) (old : List ℕ) (c : Change) (new : List ℕ) → IsUtf8 old → IsUtf8 new → Leads old c new
     → separator_count class (take c.added (drop c.start new)) ≤ c.added
 few_separators class old c new utf8 utf8' leads =
@@ -35,7 +35,7 @@ module _ (class : ℕ → Class) where
       let c = cut_of class g in
       subst AreEnded (sym (ap before_last c.is ∙ before_last_append c.front (unended c.last))) c.are_ended
 
-  -- what is found anew, where paragraphs stay after it
+  -- the paragraphs found anew, where others stay after them
   record IsFound (r : List ℕ) (k separators : ℕ) (back : List Lengths) : Type 0 where
     ends : List Lengths
     are_found : ended_within k (lens class r) ≡ ends
@@ -81,7 +81,7 @@ module _ (class : ℕ → Class) where
         },
       )
 
-  -- the whole text from what is found
+  -- the whole text, from the paragraphs found
   rewritten : (new x r : List ℕ) (front : List Lengths) (stop separators : ℕ) (back : List Lengths) → IsUtf8 new → chars new ≡ x ++ r → widths x ≡ total front
       → lens class (x ++ r) ≡ front ++ lens class r → IsFound r (stop - total front) separators back → IsRewritten class new front stop separators back
   rewritten new x r front stop separators back utf8 e w kept f =

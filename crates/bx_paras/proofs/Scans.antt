@@ -14,7 +14,7 @@ use Rattle.bx_paras.specs.Scan.{HasNone, NoneAt, NoneBefore, BeginsAt, IsAt}
 use Rattle.bx_paras.proofs.Changes.{scalars_back, cut_at, front_len, spelt}
 use Rattle.bx_paras.proofs.Cuts.{width_is_some, widths, widths_more, widths_append, one_width}
 
--- ---- what begins at an offset
+-- ---- the character at an offset
 
 module _ (class : ℕ → Class) (text : List ℕ) (utf8 : IsUtf8 text) where
   none_next_at : (n : ℕ) → NoneBefore class text n → NoneAt class text n → (front : List ℕ) (c : ℕ) (rest : List ℕ) → chars text ≡ front ++ c ∷ rest
@@ -145,7 +145,7 @@ module _ (class : ℕ → Class) where
   lf_of [] bs e h = absurd (omega (arith, ap length e))
   lf_of (c ∷ cs) bs e h = lf_at (get_or bs 0 0) c cs (c == 10) refl (lf_same bs (encode_utf8_all cs) c (c == 10) e h refl)
 
-  -- a piece that stands at an offset tells whether LF does
+  -- the piece at an offset tells whether LF is there
   pub lf_in_text : (text s : List ℕ) (at : ℕ) → IsUtf8 text → IsCharBoundary text at → take (length s) (drop at text) ≡ s → 0 < length s
       → begins_with_lf class (chars (drop at text)) ≡ ((get_or s 0 0 == 10) && is_separator (class 10))
   lf_in_text text s at utf8 b e some =

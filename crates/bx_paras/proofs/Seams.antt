@@ -1,4 +1,4 @@
--- Characters cut at the ends of paragraphs, and put together there.
+-- Characters cut at the ends of paragraphs, and joined there.
 use Rattle.std.proofs.Common.{◌≡◌, ◌+◌, ◌∙◌, ◌⊎◌, inl, inr, ℕ, Bool, true, false, List, [], ◌∷◌, ◌++◌, length, refl, ap, sym, arith, length-append}
 use Rattle.std.proofs.Common.{append_assoc, append-nil}
 use Rattle.std.proofs.lemmas.Bool.Decides.{nat_tests}
@@ -58,7 +58,7 @@ module _ (class : ℕ → Class) where
   seam cs [] l back e = ([], cs, record { whole = refl; bytes = refl; rest = e; parts = refl })
   seam cs (k ∷ front) l back e = after_first cs k front l back e (beginning class cs) (λ z f. seam z front l back f)
 
-  -- what characters before a seam have for paragraphs: those that end, and one of no bytes
+  -- the paragraphs of the characters before a seam: those that end, and one of no bytes
   pub record Joins (c : ℕ) (w z : List ℕ) : Type 0 where
     pub first : Lengths
     pub others : List Lengths
@@ -110,7 +110,7 @@ module _ (class : ℕ → Class) where
       let j = joins c w z p in
       j.alone ∙ ap (λ ls. ls ++ unended 0 ∷ []) (sym (joined_at (c ∷ w) z j.first j.others j.alone))
 
-  -- before a seam stand exactly the paragraphs that end there
+  -- before a seam are exactly the paragraphs that end there
   pub front_of_seam : (cs x m : List ℕ) (front back : List Lengths) → lens class cs ≡ front ++ back → IsSeam cs x m front back
       → before_last (lens class x) ≡ front
   front_of_seam cs x m front back e s =

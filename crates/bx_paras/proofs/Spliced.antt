@@ -50,7 +50,7 @@ module _ (bs : List (List Lengths)) (i : ℕ) (h : i < length bs) where
       ∙ sym (append_assoc (flat (take i bs)) (get_or bs i []) (flat (drop (i + 1) bs)))
       ∙ ap (λ ls. ls ++ flat (drop (i + 1) bs)) (sym one_block) ∙ sym (flat_cut (i + 1) bs)
 
-  -- the blocks that stand in front of the cut stay
+  -- the blocks before the cut stay
   pub cut_before : (w k : ℕ) → w < length (get_or bs i []) → length (flat (take k bs)) ≤ length (flat (take i bs)) + w → k ≤ i
   cut_before w k l f =
       let less : length (flat (take k bs)) < length (flat (take (i + 1) bs)) =
@@ -72,7 +72,7 @@ module _ (bs : List (List Lengths)) (i : ℕ) (h : i < length bs) where
   pub pushed_back : (p : Lengths) → drop (i + 1) (pushed_blocks p) ≡ drop (i + 1) bs
   pushed_back p = drop_behind (take i bs) (drop (i + 1) bs) (get_or bs i [] ++ p ∷ []) i front_len
 
--- ---- a block put in
+-- ---- a block inserted
 
 module _ (bs : List (List Lengths)) (at : ℕ) (h : at ≤ length bs) (p : Lengths) where
   put_len : length (take at bs) ≡ at
@@ -143,7 +143,7 @@ cut_is ds bs new i w number same e n within some =
     subst (λ cs. IsCutBefore bs cs (i + 1) number) (sym (e ∙ ap (λ cs. take i cs ++ take w (get_or cs i []) ∷ drop w (get_or cs i []) ∷ drop (i + 1) cs) same))
     (cut_within bs i w number inside.0 inside.1 n)
 
--- ---- a paragraph put in
+-- ---- a paragraph inserted
 
 pub record IsPushed (bs ds : List (List Lengths)) (at behind : ℕ) (p : Lengths) : Type 0 where
   pub front : flat (take behind ds) ≡ flat (take at bs) ++ p ∷ []
@@ -179,14 +179,14 @@ pushed_alone ds bs new at p same e h =
     subst (λ cs. IsPushed bs cs at (at + 1) p) (sym (e ∙ ap (λ cs. take at cs ++ (p ∷ []) ∷ drop at cs) same))
     (pushed_from bs _ at (at + 1) p (put_front bs at h p) (ap flat (put_back bs at h p)))
 
--- what an insertion that succeeds puts in
+-- the blocks after an insertion that succeeds
 pub alone_in : (ok : Bool) (new ds : List (List Lengths)) (at : ℕ) (b e : List Lengths) (p : Lengths) → new ≡ (if ok then insert ds at b else ds) → ok ≡ true
     → b ≡ e ++ p ∷ [] → e ≡ []
     → new ≡ take at ds ++ (p ∷ []) ∷ drop at ds
 alone_in ok new ds at b e p made yes' pushed empty =
     made ∙ ap (λ t. if t then insert ds at b else ds) yes' ∙ ap (λ c. take at ds ++ c ∷ drop at ds) (pushed ∙ ap (λ ls. ls ++ p ∷ []) empty)
 
--- ---- blocks taken out
+-- ---- blocks removed
 
 pub record IsTaken (bs ds : List (List Lengths)) (from to : ℕ) : Type 0 where
   pub back : flat (drop from ds) ≡ flat (drop to bs)
@@ -227,7 +227,7 @@ taken bs ds from to e l h =
       fewer = omega (arith, ap length e, length-append (take from bs) (drop to bs), long, length-drop to bs);
     }
 
--- two cuts of which the second is not after the first have nothing between them
+-- two cuts have nothing between them if the second is not after the first
 pub nothing_between : (bs ds : List (List Lengths)) (first last from to : ℕ) → length (flat (take first bs)) ≡ from → take first ds ≡ take first bs
     → length (flat (take last ds)) ≡ to
     → last ≤ first → from ≤ to → flat ds ≡ flat bs → flat (drop first ds) ≡ drop to (flat bs)
@@ -245,7 +245,7 @@ pub two_blocks : (bs : List (List Lengths)) (i : ℕ) → i + 1 < length bs → 
 two_blocks bs i h =
     omega (arith, total_flat_more bs i [] (omega arith), total_flat_more bs (i + 1) [] h, total_flat_front (i + 1 + 1) bs)
 
--- a paragraph put in after all
+-- a paragraph inserted after all
 pub pushed_behind : (bs ds : List (List Lengths)) (at behind : ℕ) (p : Lengths) → flat (take behind ds) ≡ flat (take at bs) ++ p ∷ []
     → flat (drop behind ds) ≡ flat (drop at bs) → flat (drop at bs) ≡ [] → flat ds ≡ flat bs ++ p ∷ []
 pushed_behind bs ds at behind p f b none =
@@ -253,7 +253,7 @@ pushed_behind bs ds at behind p f b none =
     flat_cut behind ds ∙ ap (λ ls. ls ++ flat (drop behind ds)) f ∙ ap (λ ls. (flat (take at bs) ++ p ∷ []) ++ ls) (b ∙ none)
     ∙ append-nil (flat (take at bs) ++ p ∷ []) ∙ ap (λ ls. ls ++ p ∷ []) (sym old)
 
--- ---- paragraphs taken out and put in
+-- ---- paragraphs removed and inserted
 
 outside_by : (ps : List Lengths) (from to : ℕ) → from ≤ to → take from (take to ps) ≡ take from ps
 outside_by ps from to l = take-take from to ps l

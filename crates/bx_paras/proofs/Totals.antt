@@ -1,4 +1,4 @@
--- The bytes of paragraphs that are put together and cut.
+-- The bytes of joined and cut paragraphs.
 use Rattle.std.proofs.Common.{◌≡◌, ◌<◌, ◌≤◌, ◌+◌, ◌-◌, ◌∙◌, ℕ, List, [], ◌∷◌, ◌++◌, length, take, drop, get_or, ap, sym, arith}
 use Rattle.std.proofs.lemmas.List.{take-append-drop, take_more, take_all, length-drop}
 use Rattle.bx_paras.specs.declared.lengths.Lengths.{Lengths}
@@ -20,6 +20,6 @@ total_more ls n d h = ap total (take_more ls n d h) ∙ total_push (take n ls) (
 pub total_front : (n : ℕ) (ls : List Lengths) → total (take n ls) ≤ total ls
 total_front n ls = omega (arith, total_cut n ls)
 
--- what a slice to the end has
+-- the bytes of a slice to the end
 pub total_rest : (ls : List Lengths) (at : ℕ) → total (take at ls) + total (take (length ls - at) (drop at ls)) ≡ total ls
 total_rest ls at = ap (λ ks. total (take at ls) + total ks) (take_all (length ls - at) (drop at ls) (omega (arith, length-drop at ls))) ∙ total_cut at ls

@@ -25,7 +25,7 @@ module _ (class : ℕ → Class) where
   pub few_lengths : (text : List ℕ) → IsUtf8 text → length (lengths class text) ≤ length text + 1
   few_lengths text utf8 = omega (arith, count_few class (chars text), length-le-encodes (chars text), spelt text utf8)
 
-  -- what follows an offset: a paragraph that ends and others, or one that does not
+  -- after an offset follow a paragraph that ends and others, or one that does not end
   pub record IsTurn (text : List ℕ) (at : ℕ) (p : Lengths) : Type 0 where
     pub more : lengths class (drop at text) ≡ p ∷ lengths class (drop (at + bytes_of p) text)
     pub ends_between : IsCharBoundary text (at + bytes_of p)
@@ -110,14 +110,14 @@ module _ (class : ℕ → Class) where
   none_left text at stop h = let none : stop - at ≡ 0 = omega arith in ap (λ k. ended_within k (lengths class (drop at text))) none
       ∙ ended_in_none (lengths class (drop at text))
 
--- what is put in and what is left are together all
+-- the paragraphs inserted and those left are together all
 pub still_all : (f g w left all : List Lengths) (p : Lengths) → g ≡ f ++ p ∷ [] → w ≡ p ∷ left → f ++ w ≡ all → g ++ left ≡ all
 still_all f g w left all p e h i = ap (λ ls. ls ++ left) e ∙ append_assoc f (p ∷ []) left ∙ ap (λ ls. f ++ ls) (sym h) ∙ i
 
 pub now_all : (f w all : List Lengths) → f ++ w ≡ all → w ≡ [] → f ≡ all
 now_all f w all i h = sym (append-nil f) ∙ ap (λ ls. f ++ ls) (sym h) ∙ i
 
--- ---- what is looked at
+-- ---- the bytes that are read
 
 pub bytes_of_first : (ls : List Lengths) → bytes_of (first ls) ≤ total ls
 bytes_of_first [] = omega arith

@@ -7,7 +7,7 @@ pub set_parts : {X : Type 0} (xs : List X) (i : ℕ) (y : X) → i < length xs �
 set_parts xs i y h = sym (take-append-drop i (set xs i y)) ∙ ap (λ ys. ys ++ drop i (set xs i y)) (take-set xs i y)
     ∙ ap (λ ys. take i xs ++ ys) (drop-set xs i y h)
 
--- the next one taken out, and this one written
+-- the next one removed, and this one written
 pub join_parts : {X : Type 0} (xs : List X) (i : ℕ) (y : X) → i + 1 < length xs → slice_set (remove xs (i + 1)) i y ≡ take i xs ++ y ∷ drop (i + 2) xs
 join_parts xs i y h =
     let front : length (take (i + 1) xs) ≡ i + 1 = length-take-le (i + 1) xs (omega arith) in

@@ -1,4 +1,4 @@
--- What the blocks of a text keep.
+-- The invariant of a text's blocks.
 use Rattle.std.specs.Prelude.{◌<◌, ◌≤◌, ◌^◌, ◌+◌, length, vec_len, vec_capacity}
 use Rattle.bx_paras.specs.declared.blocks.Blocks.TheInside.{Inside}
 use Rattle.bx_paras.specs.Positions.{total}

@@ -5,12 +5,12 @@ use Rattle.bx_paras.specs.Paragraphs.{lengths}
 use Rattle.bx_paras.specs.Positions.{bytes_of}
 use Rattle.bx_ucd.specs.declared.class.Class.{Class}
 
--- those of some paragraphs that end with a separator in the first k bytes
+-- the paragraphs that end with a separator in the first k bytes of some paragraphs
 abbrev pub ended_within : ℕ → List Lengths → List Lengths
 ended_within k [] = []
 ended_within k (p ∷ ps) = if p.separator == 0 then [] else if nat_le (bytes_of p) k then p ∷ ended_within (k - bytes_of p) ps else []
 
--- those of a text from one offset on that end up to another
+-- the paragraphs of a text from one offset on that end with a separator at or before another
 abbrev pub ended_between : (ℕ → Class) → List ℕ → ℕ → ℕ → List Lengths
 ended_between class text start stop = ended_within (stop - start) (lengths class (drop start text))
 

@@ -10,20 +10,20 @@ abbrev pub flat : List (List Lengths) → List Lengths
 flat [] = []
 flat (b ∷ bs) = b ++ flat bs
 
--- blocks, and how many more can be put among them with no memory
+-- blocks, and the number of spare blocks
 pub record BlocksState : Type 0 where
   pub blocks : List (List Lengths)
   pub spares : ℕ
 
--- how many more paragraphs the block in front of a position among the blocks can hold
+-- the number of paragraphs for which the block before a position has room
 abbrev pub free_before : List (List Lengths) → ℕ → ℕ
 free_before bs at = if at == 0 then 0 else block_capacity - length (get_or bs (at - 1) [])
 
--- how many paragraphs can be put in at a position among the blocks with no memory
+-- the number of paragraphs that can be inserted at a position among the blocks without an allocation
 abbrev pub room_at : BlocksState → ℕ → ℕ
 room_at s at = free_before s.blocks at + block_capacity * s.spares
 
--- the bytes of a paragraph's separator, 0 where there are fewer paragraphs
+-- the length of a paragraph's separator in bytes, 0 if there are fewer paragraphs
 abbrev pub separator_of : List Lengths → ℕ → ℕ
 separator_of ps n = (get_or ps n (record { body = 0; separator = 0 })).separator
 

@@ -1,4 +1,4 @@
--- What an index is seen as: how many bytes each paragraph has, and the room that was made for the next edit.
+-- The model of an index: the lengths of each paragraph in bytes, and the room made for the next edit.
 use Rattle.std.specs.Prelude.{ℕ, ◌+◌, ◌*◌, ◌≤◌, min, List, [], ◌∷◌, ◌++◌, length, Option, IfSome, IsUtf8}
 use Rattle.bx_ucd.specs.declared.class.Class.{Class}
 use Rattle.bx_text.specs.Edits.{largest_text}
@@ -12,13 +12,13 @@ use Rattle.bx_paras.specs.Positions.{total}
 
 pub record IndexState : Type 0 where
   pub paragraphs : List Lengths
-  -- where it is Some of a number, the next edit takes no memory if what it adds has at most that many separators
+  -- if it is Some n, the next edit allocates nothing if the added text has at most n separators
   pub room : Option ℕ
 
 abbrev pub index_of : Inside → IndexState
 index_of i = record { paragraphs = flat i.front.blocks ++ record { body = i.last; separator = 0 } ∷ []; room = i.room }
 
--- the blocks that an edit cuts, and those that it fills: no text has more separators than bytes
+-- enough spare blocks for those that an edit cuts, and those that it fills: no text has more separators than bytes
 abbrev pub HasSpares : ℕ → ℕ → Type 0
 HasSpares spares separators = min separators largest_text + 2 * block_capacity + 2 ≤ block_capacity * spares
 

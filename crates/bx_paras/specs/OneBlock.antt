@@ -1,10 +1,10 @@
--- What a block of paragraphs keeps.
+-- The invariant of a block of paragraphs.
 use Rattle.std.specs.Prelude.{◌≡◌, ◌≤◌, vec_len, vec_capacity}
 use Rattle.bx_paras.specs.declared.block.Block.TheInside.{Inside}
 use Rattle.bx_paras.specs.Capacity.{block_capacity}
 use Rattle.bx_paras.specs.Positions.{total}
 
--- a block knows its bytes, and has room for as many paragraphs as it may have
+-- a block stores its length in bytes, and has memory for all paragraphs that it may have
 pub record IsBlock (b : Inside) : Type 0 where
   pub bytes : b.bytes ≡ total b.lengths.items
   pub few : vec_len b.lengths ≤ block_capacity

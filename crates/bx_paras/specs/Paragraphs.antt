@@ -48,14 +48,14 @@ cut class (c ∷ cs) = elim (is_separator (class c)) [
 abbrev pub paragraphs : (ℕ → Class) → List ℕ → List Paragraph
 paragraphs class text = cut class (chars text)
 
--- how many bytes a paragraph has
+-- the lengths of a paragraph, in bytes
 abbrev pub lengths_of : Paragraph → Lengths
 lengths_of p = record { body = length p.body; separator = length p.separator }
 
--- how many bytes each paragraph of a text has
+-- the lengths of each paragraph of a text, in bytes
 abbrev pub lengths : (ℕ → Class) → List ℕ → List Lengths
 lengths class text = map lengths_of (paragraphs class text)
 
--- how many paragraphs of a text end with a separator
+-- the number of paragraphs of a text that end with a separator
 abbrev pub separator_count : (ℕ → Class) → List ℕ → ℕ
 separator_count class text = length (lengths class text) - 1

@@ -1,22 +1,22 @@
--- Where paragraphs stand in a text, by their lengths. Offsets count bytes.
+-- Positions of paragraphs in a text, by their lengths. Offsets count bytes.
 use Rattle.std.specs.Prelude.{ℕ, ◌+◌, ◌-◌, nat_le, List, [], ◌∷◌, map, count_by}
 use Rattle.bx_paras.specs.declared.lengths.Lengths.{Lengths}
 
--- the bytes of a paragraph with its separator
+-- the length of a paragraph with its separator, in bytes
 abbrev pub bytes_of : Lengths → ℕ
 bytes_of p = p.body + p.separator
 
--- the bytes of some paragraphs
+-- the total length of some paragraphs, in bytes
 abbrev pub total : List Lengths → ℕ
 total [] = 0
 total (p ∷ ps) = bytes_of p + total ps
 
--- where each body begins and ends, the first paragraph beginning at the offset `at`
+-- the offsets of each body's start and end, where the first paragraph begins at the offset `at`
 abbrev pub spans_from : ℕ → List Lengths → List (ℕ × ℕ)
 spans_from at [] = []
 spans_from at (p ∷ ps) = (at, at + p.body) ∷ spans_from (at + bytes_of p) ps
 
--- where each body begins and ends in the text
+-- the offsets of each body's start and end in the text
 abbrev pub spans : List Lengths → List (ℕ × ℕ)
 spans ps = spans_from 0 ps
 

@@ -1,14 +1,14 @@
--- Where a paragraph stands in blocks.
+-- The place of a paragraph in blocks.
 use Rattle.std.specs.Prelude.{◌≡◌, ℕ, ◌+◌, ◌<◌, ◌≤◌, List, [], ◌∷◌, ◌++◌, length, take, get_or}
 use Rattle.bx_paras.specs.declared.lengths.Lengths.{Lengths}
 use Rattle.bx_paras.specs.declared.spot.Spot.{Spot}
 use Rattle.bx_paras.specs.Flat.{flat}
 
--- the paragraphs of some blocks, and after them the last, of `last` bytes
+-- the paragraphs of some blocks, and then the last, of `last` bytes
 abbrev pub closed : List (List Lengths) → ℕ → List Lengths
 closed bs last = flat bs ++ record { body = last; separator = 0 } ∷ []
 
--- a paragraph of that number stands there: in a block, or after them all
+-- the place is that of the paragraph with its number: in a block, or after them all
 pub record IsSpot (bs : List (List Lengths)) (s : Spot) : Type 0 where
   pub inside : s.block ≤ length bs
   pub counted : s.number ≡ length (flat (take s.block bs)) + s.within

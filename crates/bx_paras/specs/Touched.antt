@@ -1,4 +1,4 @@
--- Where a change of the text falls in the paragraphs that the text had before it.
+-- The paragraphs of the old text that a change touches.
 use Rattle.std.specs.Prelude.{◌≡◌, ℕ, ◌+◌, ◌-◌, List, [], ◌∷◌, ◌++◌, IsUtf8}
 use Rattle.bx_ucd.specs.declared.class.Class.{Class}
 use Rattle.bx_text.specs.declared.change.Change.{Change}
@@ -9,7 +9,7 @@ use Rattle.bx_paras.specs.Paragraphs.{lengths}
 use Rattle.bx_paras.specs.Flat.{IsPosition}
 
 -- The paragraphs of the old text are `front`, each of which ends with a separator, and then `behind`. The byte before the
--- change stands in the paragraph `first`, and what follows the change begins in the paragraph `last`.
+-- change is in the paragraph `first`, and the text after the change begins in the paragraph `last`.
 pub record IsTouched (class : ℕ → Class) (old : List ℕ) (change : Change) (new : List ℕ) (front : List Lengths) (behind : Lengths)
     (first last : Position) : Type 0 where
   pub old_utf8 : IsUtf8 old

@@ -1,4 +1,4 @@
--- A walk over the paragraphs of a text: the paragraphs, and the number of the one where it stands.
+-- A walk over the paragraphs of a text: the paragraphs, and the number of the one that it is at.
 use Rattle.std.specs.Prelude.{◌≡◌, ℕ, ◌≤◌, List, take, get_or}
 use Rattle.bx_text.specs.Edits.{largest_text}
 use Rattle.bx_paras.specs.declared.lengths.Lengths.{Lengths}
@@ -8,7 +8,7 @@ use Rattle.bx_paras.specs.Spots.{IsSpot, closed}
 
 pub record WalkState : Type 0 where
   pub paragraphs : List Lengths
-  -- from 0, below the count of the paragraphs
+  -- from 0, below the number of paragraphs
   pub number : ℕ
 
 abbrev pub all_of : Inside → List Lengths

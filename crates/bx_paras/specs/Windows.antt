@@ -1,4 +1,4 @@
--- The part of a text that a scan for paragraphs looks at.
+-- The part of a text that a scan for paragraphs reads.
 use Rattle.std.specs.Prelude.{◌≡◌, ◌≤◌, ℕ, ◌-◌, min, List, drop, IsCharBoundary}
 use Rattle.bx_ucd.specs.declared.class.Class.{Class}
 use Rattle.bx_paras.specs.declared.lengths.Lengths.{Lengths}
@@ -7,11 +7,11 @@ use Rattle.bx_paras.specs.Paragraphs.{lengths}
 use Rattle.bx_paras.specs.Positions.{bytes_of}
 use Rattle.bx_paras.specs.Ended.{first, further}
 
--- what is left of a paragraph after `n` of its bytes
+-- the rest of a paragraph after `n` of its bytes
 abbrev pub rest_of : ℕ → Lengths → Lengths
 rest_of n p = record { body = p.body - n; separator = min p.separator (bytes_of p - n) }
 
--- the paragraph from an offset on goes on where the window begins, and where it ends so much follows of one
+-- no separator is between the offset and the window, and the rest of a paragraph of these lengths follows the window
 pub record IsWindow (class : ℕ → Class) (text : List ℕ) (at : ℕ) (w : Window) : Type 0 where
   pub start_bounds : IsCharBoundary text w.start
   pub stop_bounds : IsCharBoundary text w.stop

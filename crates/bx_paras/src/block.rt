@@ -8,10 +8,10 @@ use crate::lengths::Lengths;
 use std::alloc::{AllocError, Global};
 use std::marker::Model;
 
-/// How many paragraphs a block has room for.
+/// Capacity of a block, in paragraphs.
 pub const BLOCK_CAPACITY: usize = 512;
 
-/// Paragraphs that follow one another, at most `BLOCK_CAPACITY`, and how many bytes they have together.
+/// At most `BLOCK_CAPACITY` consecutive paragraphs, and their total length in bytes.
 #[derive(Drop)]
 pub struct Block {
     lengths: Vec<Lengths>,
@@ -30,7 +30,7 @@ impl Model for Block {
     ghost invariant = { IsBlock };
 }
 
-/// The bytes of some paragraphs.
+/// Total length of some paragraphs, in bytes.
 #[tactic(auto, using(crate::proofs::Totals::total_more, crate::proofs::Totals::total_front))]
 pub fn total(lengths: &[Lengths]) -> usize
     requires { total lengths.now < 2 ^ 64 }
@@ -44,7 +44,7 @@ pub fn total(lengths: &[Lengths]) -> usize
 }
 
 impl Block {
-    /// No paragraph, and room for as many as it may have.
+    /// An empty block, with memory for `BLOCK_CAPACITY` paragraphs.
     pub fn new(alloc: Global) -> Result<Block, AllocError>
         ensures { IfOk result (λ b. b ≡ []) }
     {
@@ -54,7 +54,7 @@ impl Block {
         })
     }
 
-    /// How many bytes the paragraphs have.
+    /// Total length of the paragraphs, in bytes.
     pub fn bytes(&self) -> usize
         ensures { result ≡ total self.now }
     {
@@ -76,7 +76,7 @@ impl Block {
         self.lengths.len() < BLOCK_CAPACITY
     }
 
-    /// One paragraph more, after the others.
+    /// Appends a paragraph.
     #[tactic(auto, using(crate::proofs::Totals::total_push))]
     pub fn push(&mut self, paragraph: Lengths)
         requires room { length self.old < block_capacity }
@@ -87,7 +87,7 @@ impl Block {
         self.lengths.push(paragraph).unwrap();
     }
 
-    /// Takes the paragraphs from a number on into another block, instead of those that it had.
+    /// Moves the paragraphs from the index `at` on into another block, whose own are dropped.
     #[tactic(auto, using(crate::proofs::Totals::total_rest))]
     pub fn cut(&mut self, at: usize, mut rest: Block) -> Block
         requires { at ≤ length self.old }
@@ -103,7 +103,7 @@ impl Block {
         rest
     }
 
-    /// Puts the paragraphs of another block after these.
+    /// Appends the paragraphs of another block.
     #[tactic(auto, using(crate::proofs::Totals::total_append))]
     pub fn append(&mut self, other: &Block)
         requires room { length self.old + length other.now ≤ block_capacity }
@@ -114,7 +114,7 @@ impl Block {
         self.lengths.extend_from_slice(&other.lengths).unwrap();
     }
 
-    /// No paragraph any more.
+    /// Removes all paragraphs.
     pub fn clear(&mut self)
         ensures { self.new ≡ [] }
     {

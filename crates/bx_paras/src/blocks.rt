@@ -11,14 +11,14 @@ use crate::splices::{cut_at, join_at, push_at, remove_blocks};
 use std::alloc::{AllocError, Global};
 use std::marker::Model;
 
-/// How many blocks stay made ahead: as many as an edit takes that adds few paragraphs.
+/// Number of spare blocks to keep: as many as an edit takes that adds few paragraphs.
 const SPARES_KEPT: usize = 4;
 
-/// Paragraphs that end with a separator, in blocks, and blocks that were made ahead.
+/// Paragraphs that end with a separator, in blocks, and spare blocks.
 #[derive(Drop)]
 pub struct Blocks {
     blocks: Vec<Block>,
-    // they may have paragraphs of earlier times
+    // not cleared: they may have old paragraphs
     spares: Vec<Block>,
 }
 
@@ -33,8 +33,8 @@ impl Model for Blocks {
     ghost invariant = { AreBlocks };
 }
 
-/// Where the paragraph stands that an offset falls in, among the paragraphs of a block that end past it: its number,
-/// where it begins, where it ends, and the bytes of its separator.
+/// The paragraph of a block that an offset falls in: its index, the offsets of its start and its end, and the length of
+/// its separator in bytes.
 #[tactic(auto, using(crate::proofs::Totals::total_more, crate::proofs::Totals::total_front))]
 fn position_within(lengths: &[Lengths], offset: usize) -> (usize, usize, usize, usize)
     requires inside { offset < total lengths.now }
@@ -59,7 +59,7 @@ fn position_within(lengths: &[Lengths], offset: usize) -> (usize, usize, usize, 
     (number, start, start, 0)
 }
 
-/// One of the blocks that were made ahead, with no paragraph.
+/// Takes a spare block, and clears it.
 fn spare(spares: &mut Vec<Block>) -> Block
     requires { 0 < vec_len spares.old }
     ensures fewer { vec_len spares.new + 1 ≡ vec_len spares.old }
@@ -71,7 +71,7 @@ fn spare(spares: &mut Vec<Block>) -> Block
 }
 
 impl Blocks {
-    /// No paragraph.
+    /// No block.
     pub fn new(alloc: Global) -> Blocks
         ensures { result ≡ record { blocks = []; spares = 0 } }
     {
@@ -81,7 +81,7 @@ impl Blocks {
         }
     }
 
-    /// Where the paragraph stands that an offset falls in.
+    /// The position of the paragraph that an offset falls in.
     #[tactic(auto, using(crate::proofs::Flats::total_flat_more, crate::proofs::Flats::length_flat_more, crate::proofs::Flats::total_flat_front, crate::proofs::Flats::length_flat_front))]
     pub fn find(&self, offset: usize) -> Position
         ensures { IsPosition (flat self.now.blocks) offset result }
@@ -113,7 +113,7 @@ impl Blocks {
         }
     }
 
-    /// How many paragraphs there are, and how many bytes they have.
+    /// Number of paragraphs, and their total length in bytes.
     #[tactic(auto, using(crate::proofs::Flats::total_flat_more, crate::proofs::Flats::length_flat_more, crate::proofs::Flats::total_flat_front, crate::proofs::Flats::length_flat_front))]
     pub fn size(&self) -> (usize, usize)
         ensures count { result.0 ≡ length (flat self.now.blocks) }
@@ -128,7 +128,7 @@ impl Blocks {
         (count, bytes)
     }
 
-    /// A paragraph and the offset at which it begins; none where there are fewer.
+    /// The offset of a paragraph's start, and the paragraph; none if there are fewer.
     #[tactic(auto, using(crate::proofs::Flats::total_flat_more, crate::proofs::Flats::length_flat_more, crate::proofs::Flats::total_flat_front, crate::proofs::Flats::length_flat_front))]
     pub fn get(&self, number: usize) -> Option<(usize, Lengths)>
         ensures { MatchOption result (length (flat self.now.blocks) ≤ number)
@@ -149,7 +149,7 @@ impl Blocks {
         None
     }
 
-    /// The paragraphs of a block; none where there are fewer blocks.
+    /// The paragraphs of a block; none if there are fewer blocks.
     pub fn block(&self, at: usize) -> Option<&[Lengths]>
         ensures lent { MatchOption result (length self.now.blocks ≤ at) (λ ls. (at < length self.now.blocks) × (ls.now ≡ get_or self.now.blocks at [])) }
         ensures few { length self.now.blocks < 2 ^ 64 }
@@ -158,8 +158,8 @@ impl Blocks {
         Some(self.blocks.get(at)?.lengths())
     }
 
-    /// The block of a paragraph, and how many paragraphs of the block stand before it; after the last one no block
-    /// is left.
+    /// The block of a paragraph, and the paragraph's index in it. After the last paragraph, the number of blocks
+    /// and 0.
     #[tactic(auto, using(crate::proofs::Flats::length_flat_more, crate::proofs::Flats::length_flat_front))]
     pub fn seek(&self, number: usize) -> (usize, usize)
         requires { number ≤ length (flat self.now.blocks) }
@@ -180,7 +180,7 @@ impl Blocks {
         (self.blocks.len(), 0)
     }
 
-    /// Room in the lists for a number of blocks made ahead.
+    /// Reserves room in the lists for a number of spare blocks.
     fn reserve(&mut self, spares: usize) -> Result<(), AllocError>
         ensures blocks { self.new.blocks ≡ self.old.blocks }
         ensures spares { self.new.spares ≡ self.old.spares }
@@ -190,7 +190,7 @@ impl Blocks {
         Ok(())
     }
 
-    /// Makes one block ahead.
+    /// Allocates a spare block.
     fn add_spare(&mut self) -> Result<(), AllocError>
         ensures blocks { self.new.blocks ≡ self.old.blocks }
         ensures ok { OnOk result (self.new.spares ≡ self.old.spares + 1) }
@@ -203,7 +203,7 @@ impl Blocks {
         Ok(())
     }
 
-    /// Makes as many blocks ahead as are missing. Where memory runs out some of them may be made.
+    /// Allocates spare blocks until there are `spares`. If memory runs out, it keeps those already allocated.
     pub fn ready(&mut self, spares: usize) -> Result<(), AllocError>
         ensures blocks { self.new.blocks ≡ self.old.blocks }
         ensures no_fewer { self.old.spares ≤ self.new.spares }
@@ -211,35 +211,35 @@ impl Blocks {
     {
         let missing = spares > self.spares.len();
         if missing {
-            // The lists come first, so that no block made ahead stands below them and keeps its memory from being given back.
+            // The lists grow first, so that no spare block lies below them, where its memory could not be given back.
             self.reserve(spares)?;
         }
         for _made in self.spares.len()..spares {
             self.add_spare()?;
         }
         if missing {
-            // The one that was made first is used first, so that memory after the used ones can be given back.
+            // The oldest block is used first, so that memory after the used ones can be given back.
             self.spares.reverse();
         }
         Ok(())
     }
 
-    /// Gives back the blocks that were made ahead, but for a few.
+    /// Frees all spare blocks but `SPARES_KEPT`.
     pub fn release(&mut self)
         ensures { self.new.blocks ≡ self.old.blocks }
     {
         if self.spares.len() <= SPARES_KEPT {
             return;
         }
-        // The one that was made last is freed last, so that the memory after those in use goes back at once.
+        // The newest block is freed last, so that the memory after those in use goes back at once.
         self.spares.reverse();
         self.spares.truncate(SPARES_KEPT);
         self.spares.shrink_to(SPARES_KEPT);
         self.blocks.shrink_to(self.blocks.len() + self.spares.len());
     }
 
-    /// Cuts the block that a paragraph stands in, so that the paragraph begins a block, and gives the block's number,
-    /// which is that of the blocks where the paragraph is after the last.
+    /// Splits the block of a paragraph, so that the paragraph begins a block, and returns this block's number. After the
+    /// last paragraph it returns the number of blocks.
     fn cut(&mut self, number: usize) -> usize
         requires spare { 0 < self.old.spares }
         requires inside { number ≤ length (flat self.old.blocks) }
@@ -260,7 +260,7 @@ impl Blocks {
         block + 1
     }
 
-    /// Puts a paragraph after those of the blocks before a position among the blocks, and gives the position after it.
+    /// Inserts a paragraph at a position among the blocks, and returns the position after it.
     pub fn push(&mut self, at: usize, paragraph: Lengths) -> usize
         requires position { at ≤ length self.old.blocks }
         requires room { 0 < room_at self.old at }
@@ -281,7 +281,7 @@ impl Blocks {
         at + 1
     }
 
-    /// Takes out the paragraphs from one to another, and gives the position among the blocks where they stood.
+    /// Removes the paragraphs `from..to`, and returns their former position among the blocks.
     pub fn take_out(&mut self, from: usize, to: usize) -> usize
         requires spares { 2 ≤ self.old.spares }
         requires order { from ≤ to }
@@ -299,7 +299,7 @@ impl Blocks {
         first
     }
 
-    /// Joins the blocks before and after a position among them, where they have room for one another.
+    /// Joins the blocks before and after a position, if their paragraphs fit in one block.
     pub fn join(&mut self, at: usize)
         ensures paragraphs { flat self.new.blocks ≡ flat self.old.blocks }
         ensures spares { self.new.spares ≡ self.old.spares }

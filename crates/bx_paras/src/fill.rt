@@ -1,4 +1,4 @@
-//! Paragraphs of a text put in among others.
+//! Replaces paragraphs by those scanned from a text.
 
 ghost use Rattle.std.specs.Prelude.{◌≡◌, ◌++◌, ◌+◌, ◌*◌, ◌<◌, ◌≤◌, ◌^◌, length, take, drop, IsCharBoundary};
 ghost use Rattle.bx_paras.specs.Capacity.{block_capacity};
@@ -16,8 +16,8 @@ use crate::window::Window;
 use bx_text::Text;
 use bx_ucd::BidiData;
 
-/// Puts in, at a position among the blocks, the paragraphs of a text that end with a separator from one offset to another,
-/// of which it looks at what stands in a window. Gives the position after them and the offset where the last of them ends.
+/// Inserts, at a position among the blocks, the paragraphs of a text from `start` on that end with a separator at or before
+/// `stop`. Reads the window alone. Returns the position after them and the offset where the last of them ends.
 fn fill<D: BidiData>(
     blocks: &mut Blocks,
     position: usize,
@@ -56,8 +56,8 @@ fn fill<D: BidiData>(
     (position, at)
 }
 
-/// Takes out the paragraphs from the one at a position to another, and puts in those of a text that end with a separator from
-/// where the first one began to an offset. Gives the offset where the last of them ends, and gives back what is left of the room.
+/// Replaces the paragraphs from `from` up to the number `to` by those scanned from the text, which begin at `from.start` and
+/// end with a separator at or before `stop`. Returns the offset where the last of them ends. Frees the room left over.
 pub fn replace<D: BidiData>(
     blocks: &mut Blocks,
     text: &Text,

@@ -1,4 +1,4 @@
-//! The index.
+//! The index of a text's paragraphs.
 
 ghost use Rattle.std.specs.Prelude.{◌≡◌, ℕ, ◌+◌, ◌-◌, ◌<◌, ◌≤◌, ◌++◌, ◌∷◌, List, [], None, Some, length};
 ghost use Rattle.std.specs.Prelude.{take, drop, slice_get, min, IsUtf8, IfOk, OnOk, OnErr, MatchOption};
@@ -26,13 +26,13 @@ use bx_ucd::BidiData;
 use std::alloc::Global;
 use std::marker::Model;
 
-/// How many bytes each paragraph of a text has: its body, and the separator that ends it. It keeps lengths in blocks, and
-/// no offsets, so an edit changes what it touches.
+/// The length in bytes of each paragraph of a text: of its body, and of the separator that ends it. It stores lengths in
+/// blocks, and no offsets, so an edit changes only the paragraphs that it touches.
 #[derive(Drop)]
 pub struct Index {
-    // the paragraphs that a separator ends
+    // the paragraphs that end with a separator
     front: Blocks,
-    // the bytes of the last paragraph, which no separator ends
+    // length in bytes of the last paragraph, which has no separator
     last: u32,
     room: Option<usize>,
 }
@@ -47,7 +47,7 @@ impl Model for Index {
     ghost invariant = { IsIndex };
 }
 
-/// The paragraphs that a change reached: the one that the byte before it stands in, and the one that goes on after it.
+/// The paragraphs at the edges of a change: the one with the byte before it, and the one that goes on after it.
 fn touched<D: BidiData>(
     front: &Blocks,
     last: u32,
@@ -64,7 +64,7 @@ fn touched<D: BidiData>(
         × IsTouched (D.data tables.now).class old change.now text.now.edited.text (flat front.now.blocks)
         (record { body = last; separator = 0 }) result.0 result.1 }
 {
-    // tells the proof that the text is UTF-8; the contract alone speaks of the tables
+    // used by the contract alone
     let _utf8 = text.len();
     let _ = tables;
     let first = front.find(change.start.saturating_sub(1));
@@ -72,7 +72,7 @@ fn touched<D: BidiData>(
     (first, last)
 }
 
-/// Up to where no separator stands between the beginning of the paragraph in front of a change and the change.
+/// The offset up to which the paragraph before a change has no separator, at most the start of the change.
 fn quiet_until(first: Position, change: &Change) -> usize
     ensures { MatchOption first.end (result ≡ change.now.start) (λ e. result ≡ min change.now.start (e - first.separator)) }
 {
@@ -82,8 +82,8 @@ fn quiet_until(first: Position, change: &Change) -> usize
     }
 }
 
-/// What follows a change, of the paragraph that goes on there: the rest of its body and of its separator. The change
-/// ended at an offset of the text before it, and `left` bytes of the text follow it.
+/// Lengths of the rest of the paragraph after a change: of its body, and of its separator. The change ended at `offset`
+/// in the old text, and `left` bytes follow it.
 fn rest_behind(last: Position, offset: usize, left: usize) -> (usize, usize)
     ensures { MatchOption last.end (result ≡ (left, 0)) (λ e. result ≡ (e - last.separator - offset, min last.separator (e - offset))) }
 {
@@ -97,7 +97,7 @@ fn rest_behind(last: Position, offset: usize, left: usize) -> (usize, usize)
     }
 }
 
-/// What has to be looked at where a change was made.
+/// The window to scan after a change.
 fn window_of<D: BidiData>(
     front: &Blocks,
     last: u32,
@@ -112,7 +112,7 @@ fn window_of<D: BidiData>(
     requires short { total (closed front.now.blocks last) ≤ largest_text }
     ensures { IsWindow (D.data tables.now).class text.now.edited.text reached.0.start result }
 {
-    // the contract alone speaks of them
+    // used by the contract alone
     let _ = front;
     let _ = tables;
     let _last = last;
@@ -128,7 +128,7 @@ fn window_of<D: BidiData>(
 }
 
 impl Index {
-    /// The paragraphs of a text.
+    /// Builds the index of a text.
     ///
     /// Errors: `OutOfMemory`.
     pub fn build<D: BidiData>(alloc: Global, text: &Text, tables: &D) -> Result<Index, OutOfMemory>
@@ -161,9 +161,9 @@ impl Index {
         })
     }
 
-    /// Makes room: after Ok an edit can be followed with no memory if what it adds has at most this number of
-    /// separators. No text has more of them than bytes, so a count of bytes will do. What is left of the room is given
-    /// back then.
+    /// Makes room: after Ok the index follows an edit without an allocation if the added text has at most this number of
+    /// separators. No text has more of them than bytes, so a count of bytes will do. The edit frees the room that is
+    /// left.
     ///
     /// Errors: `OutOfMemory`, and the index and the room made before are unchanged.
     pub fn ready(&mut self, separators: usize) -> Result<(), OutOfMemory>
@@ -178,9 +178,9 @@ impl Index {
         Ok(())
     }
 
-    /// Follows an edit of the text, of which it looks at what was added and at what stands beside it. It takes no memory and
-    /// always succeeds: the index was that of the text before the change, by the same data, and `ready` made room for the
-    /// separators among what was added.
+    /// Follows an edit of the text. Reads only the added text and what is next to it. Allocates nothing and always succeeds:
+    /// the index was that of the text before the change, by the same data, and `ready` made room for the added
+    /// separators.
     pub fn edited<D: BidiData>(&mut self, text: &Text, tables: &D, change: &Change)
         requires was { (old : List ℕ)
             × IsUtf8 old
@@ -224,7 +224,7 @@ impl Index {
         self.room = None;
     }
 
-    /// How many paragraphs the text has, at least one.
+    /// Number of paragraphs of the text, at least one.
     pub fn count(&self) -> usize
         ensures count { result ≡ length self.now.paragraphs }
         ensures some { 0 < result }
@@ -239,8 +239,8 @@ impl Index {
         self.front.find(offset).number
     }
 
-    /// The number of the paragraph, from 0, that an offset in bytes falls in, and where its body begins and ends. It is found
-    /// by one walk.
+    /// The number of the paragraph, from 0, that an offset in bytes falls in, and the offsets of its body's start and end.
+    /// Takes one search.
     pub fn span_at(&self, offset: usize) -> (usize, (usize, usize))
         ensures number { result.0 ≡ paragraph_of self.now.paragraphs offset }
         ensures span { slice_get (spans self.now.paragraphs) result.0 ≡ Some result.1 }
@@ -253,7 +253,7 @@ impl Index {
         (position.number, (start, end - position.separator))
     }
 
-    /// Where the body of a paragraph begins and ends, in bytes.
+    /// Offsets of the start and the end of a paragraph's body, in bytes.
     pub fn span(&self, number: usize) -> (usize, usize)
         requires { number < length self.now.paragraphs }
         ensures { slice_get (spans self.now.paragraphs) number ≡ Some result }
@@ -267,7 +267,7 @@ impl Index {
         }
     }
 
-    /// How many bytes the separator has that ends a paragraph, 0 for the last.
+    /// Length in bytes of the separator that ends a paragraph, 0 for the last.
     pub fn separator(&self, number: usize) -> usize
         requires { number < length self.now.paragraphs }
         ensures { slice_get (separators self.now.paragraphs) number ≡ Some result }
@@ -278,7 +278,7 @@ impl Index {
         }
     }
 
-    /// A walk that stands at the paragraph of a number, which begins at the offset `start`.
+    /// A walk at the paragraph `number`, which begins at the offset `start`.
     pub fn walk_at(&self, number: usize, start: usize) -> ParagraphWalk<'_>
         requires inside { number < length self.now.paragraphs }
         requires begins { start ≡ total (take number self.now.paragraphs) }
@@ -287,7 +287,7 @@ impl Index {
         ParagraphWalk::new(&self.front, self.last, number, start)
     }
 
-    /// A walk that stands at the paragraph that an offset in bytes falls in.
+    /// A walk at the paragraph that an offset in bytes falls in.
     pub fn walk_at_offset(&self, offset: usize) -> ParagraphWalk<'_>
         ensures { result ≡ record { paragraphs = self.now.paragraphs; number = paragraph_of self.now.paragraphs offset } }
     {

@@ -1,4 +1,4 @@
-//! The first bytes that paragraph separators may have in UTF-8.
+//! The possible first bytes of paragraph separators in UTF-8.
 
 ghost use Rattle.std.specs.Prelude.{◌≡◌, ◌<◌, ℕ, true, false, length, get_or};
 ghost use Rattle.std.specs.Char.{IsScalar};
@@ -31,7 +31,7 @@ fn lead_byte(code: u32) -> u8
     }
 }
 
-/// Below which code the characters are asked for, before a scan of `bytes` bytes: the more, the longer it is.
+/// The code below which characters are looked up before a scan of `bytes` bytes. A longer scan looks up more.
 fn asked_below(bytes: usize) -> u32
     ensures { result < 0x110000 }
 {
@@ -58,7 +58,7 @@ fn mark<D: BidiData>(flags: &mut [bool; 256], tables: &D, code: u32)
     }
 }
 
-/// The first bytes of separators, for a scan of `bytes` bytes.
+/// The possible first bytes of separators, for a scan of `bytes` bytes.
 pub fn leads_of<D: BidiData>(tables: &D, bytes: usize) -> Leads
     ensures { TellLeads (D.data tables.now).class result.may_separate }
 {

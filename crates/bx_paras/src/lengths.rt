@@ -1,19 +1,19 @@
-//! How long paragraphs are.
+//! Lengths of paragraphs.
 
 ghost use Rattle.std.specs.Prelude.{◌≡◌};
 ghost use Rattle.bx_paras.specs.Positions.{bytes_of};
 
-/// How many bytes a paragraph has.
+/// The lengths of a paragraph, in bytes.
 #[derive(Clone, Copy, PartialEq, Eq, Debug)]
 pub struct Lengths {
-    /// The bytes of its body.
+    /// Length of its body.
     pub body: u32,
-    /// The bytes of the separator that ends it, 0 in the last paragraph.
+    /// Length of the separator that ends it, 0 in the last paragraph.
     pub separator: u32,
 }
 
 impl Lengths {
-    /// The bytes of the paragraph with its separator.
+    /// Length of the paragraph with its separator.
     pub fn bytes(self) -> usize
         ensures { result ≡ bytes_of self }
     {

@@ -1,6 +1,6 @@
 //! The paragraphs of a text: an index that follows its edits.
 //!
-//! Only the functions that answer a `Result` take memory.
+//! Only functions that return a `Result` allocate.
 #![tactic(auto)]
 
 mod block;

@@ -1,14 +1,14 @@
 //! Positions of paragraphs.
 
-/// Where a paragraph stands.
+/// The position of a paragraph in the text.
 #[derive(Clone, Copy, PartialEq, Eq, Debug)]
 pub struct Position {
     /// Its number, from 0.
     pub number: usize,
-    /// The offset at which its body begins.
+    /// Offset of the start of its body.
     pub start: usize,
-    /// The offset after its separator; none where it has none.
+    /// Offset after its separator; none if it has no separator.
     pub end: Option<usize>,
-    /// How many bytes its separator has, 0 where it has none.
+    /// Length of its separator in bytes, 0 if it has none.
     pub separator: usize,
 }

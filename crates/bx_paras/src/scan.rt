@@ -14,7 +14,7 @@ use crate::window::Window;
 use bx_text::Text;
 use bx_ucd::{BidiData, Class};
 
-/// Whether a character separates paragraphs. No memory.
+/// Whether a character separates paragraphs. Allocates nothing.
 pub fn separates<D: BidiData>(tables: &D, c: char) -> bool
     ensures { result ≡ is_separator ((D.data tables.now).class c) }
 {
@@ -49,7 +49,7 @@ fn separator_at<D: BidiData>(piece: &str, tables: &D, at: usize) -> Option<char>
     }
 }
 
-/// The offset of the first byte from one on that may begin a separator; the count of the bytes, where none may.
+/// Offset of the first byte from `from` on that may begin a separator; the number of bytes if none may.
 fn next_lead(bytes: &[u8], leads: &Leads, from: usize) -> usize
     requires { from ≤ length bytes.now }
     ensures order { from ≤ result }
@@ -63,7 +63,7 @@ fn next_lead(bytes: &[u8], leads: &Leads, from: usize) -> usize
     at
 }
 
-/// The first paragraph separator of a piece of text, and how many bytes stand before it.
+/// The offset of the first paragraph separator of a piece of text, and the separator.
 fn separator_in<D: BidiData>(piece: &str, tables: &D, leads: &Leads) -> Option<(usize, char)>
     requires { TellLeads (D.data tables.now).class leads.now.may_separate }
     ensures { MatchOption result (HasNone (D.data tables.now).class (chars piece.now)) (λ found. IsAt (D.data tables.now).class (chars piece.now) found.0 found.1) }
@@ -79,7 +79,7 @@ fn separator_in<D: BidiData>(piece: &str, tables: &D, leads: &Leads) -> Option<(
     None
 }
 
-/// Whether a text goes on with a LF that is a separator.
+/// Whether a text has, at an offset, an LF that is a separator.
 fn goes_on_with_lf<D: BidiData>(text: &Text, tables: &D, at: usize) -> bool
     requires { IsCharBoundary text.now.edited.text at }
     ensures { result ≡ begins_with_lf (D.data tables.now).class (chars (drop at text.now.edited.text)) }
@@ -90,7 +90,7 @@ fn goes_on_with_lf<D: BidiData>(text: &Text, tables: &D, at: usize) -> bool
     }
 }
 
-/// How many bytes the separator has that begins with a character: two, where that is CR and LF follows it.
+/// Length in bytes of the separator that begins with a character: two if that is CR and an LF follows.
 fn separator_bytes<D: BidiData>(text: &Text, tables: &D, c: char, after: usize) -> u32
     requires { IsCharBoundary text.now.edited.text after }
     ensures { result ≡ (if (c == 13) && begins_with_lf (D.data tables.now).class (chars (drop after text.now.edited.text)) then 2 else length (encode_utf8 c)) }
@@ -102,8 +102,8 @@ fn separator_bytes<D: BidiData>(text: &Text, tables: &D, c: char, after: usize) 
     }
 }
 
-/// What stands from an offset on, as far as the piece of the text that holds it goes, up to another offset, if that is
-/// after it.
+/// The text from an offset to the end of the piece that holds it, or to `stop` if that is after the offset and comes
+/// first.
 fn part_before(text: &Text, at: usize, stop: usize) -> &str
     requires bounds { IsCharBoundary text.now.edited.text at }
     requires inside { at < length text.now.edited.text }
@@ -118,8 +118,8 @@ fn part_before(text: &Text, at: usize, stop: usize) -> &str
     text.part_at(at, text.len())
 }
 
-/// The lengths of the paragraph that begins at an offset, or of what follows the offset of the one that holds it. Only
-/// what stands in the window is looked at, and the LF after a CR.
+/// The lengths of the paragraph that begins at an offset, or of its rest if the offset is within it. Reads only the
+/// window, and an LF after a CR.
 pub fn paragraph_from<D: BidiData>(
     text: &Text,
     tables: &D,

@@ -1,4 +1,4 @@
-//! Blocks that are cut, lengthened and joined among others.
+//! Splits, extends, joins and removes blocks of a list.
 
 ghost use Rattle.std.specs.Prelude.{◌≡◌, [], ◌∷◌, ◌++◌, ◌+◌, ◌<◌, ◌≤◌, ◌^◌, length, take, drop, get_or, vec_len, vec_capacity};
 ghost use Rattle.bx_paras.specs.Capacity.{block_capacity};
@@ -7,7 +7,7 @@ ghost use Rattle.bx_paras.specs.Positions.{bytes_of, total};
 use crate::block::Block;
 use crate::lengths::Lengths;
 
-/// Cuts a block in two, the second part in a block that was made ahead.
+/// Splits a block. Its second part goes into a spare block.
 pub fn cut_at(blocks: &mut Vec<Block>, at: usize, within: usize, spare: Block)
     requires position { at < vec_len blocks.old }
     requires inside { within ≤ length (get_or blocks.old.items at []) }
@@ -22,7 +22,7 @@ pub fn cut_at(blocks: &mut Vec<Block>, at: usize, within: usize, spare: Block)
     blocks.insert(at + 1, back).unwrap();
 }
 
-/// Puts a paragraph after those of a block.
+/// Appends a paragraph to a block.
 #[tactic(auto, using(crate::proofs::Written::set_parts))]
 pub fn push_at(blocks: &mut Vec<Block>, at: usize, paragraph: Lengths)
     requires position { at < vec_len blocks.old }
@@ -35,7 +35,7 @@ pub fn push_at(blocks: &mut Vec<Block>, at: usize, paragraph: Lengths)
     blocks[at].push(paragraph);
 }
 
-/// Puts the paragraphs of the next block after those of a block.
+/// Appends the next block to a block, and removes it.
 #[tactic(auto, using(crate::proofs::Written::join_parts))]
 pub fn join_at(blocks: &mut Vec<Block>, at: usize)
     requires position { at + 1 < vec_len blocks.old }
@@ -51,7 +51,7 @@ pub fn join_at(blocks: &mut Vec<Block>, at: usize)
     blocks[at].append(&next);
 }
 
-/// Takes out the blocks from one to another.
+/// Removes the blocks `from..to`.
 pub fn remove_blocks(blocks: &mut Vec<Block>, from: usize, to: usize)
     requires order { from ≤ to }
     requires inside { to ≤ vec_len blocks.old }

@@ -1,4 +1,4 @@
-//! Where paragraphs stand in blocks.
+//! Places of paragraphs in blocks.
 
 ghost use Rattle.std.specs.Prelude.{◌≡◌, ◌+◌, ◌-◌, ◌<◌, ◌≤◌, [], length, take, get_or, MatchOption};
 ghost use Rattle.bx_paras.specs.Flat.{flat};
@@ -7,18 +7,18 @@ ghost use Rattle.bx_paras.specs.Spots.{IsSpot, closed};
 use crate::blocks::Blocks;
 use crate::lengths::Lengths;
 
-/// Where a paragraph stands: in a block, or, where it is the last of the text, after all blocks.
+/// The place of a paragraph: in a block, or after all blocks if it is the last of the text.
 #[derive(Clone, Copy, PartialEq, Eq, Debug)]
 pub struct Spot {
     /// The paragraph's number, from 0.
     pub number: usize,
     /// The number of its block, from 0.
     pub block: usize,
-    /// How many paragraphs of the block stand before it.
+    /// Its index in the block, from 0.
     pub within: usize,
 }
 
-/// Where the paragraph of a number stands.
+/// The place of the paragraph of a number.
 pub fn spot_of(blocks: &Blocks, number: usize) -> Spot
     requires { number ≤ length (flat blocks.now.blocks) }
     ensures number { result.number ≡ number }
@@ -32,7 +32,7 @@ pub fn spot_of(blocks: &Blocks, number: usize) -> Spot
     }
 }
 
-/// The first block from one on that has a paragraph; the count of the blocks, where none has.
+/// The first block from `from` on that has a paragraph; the number of blocks if none has.
 #[tactic(auto, using(crate::proofs::Flats::length_flat_more))]
 fn first_filled(blocks: &Blocks, from: usize) -> usize
     requires { from ≤ length blocks.now.blocks }
@@ -50,7 +50,7 @@ fn first_filled(blocks: &Blocks, from: usize) -> usize
     at
 }
 
-/// The last block before one that has a paragraph, and how many it has.
+/// The last block before `to` that has a paragraph, and its number of paragraphs.
 #[tactic(auto, using(crate::proofs::Flats::length_flat_more))]
 fn last_filled(blocks: &Blocks, to: usize) -> (usize, usize)
     requires inside { to ≤ length blocks.now.blocks }
@@ -72,7 +72,7 @@ fn last_filled(blocks: &Blocks, to: usize) -> (usize, usize)
     (0, 0)
 }
 
-/// Where the next paragraph stands; none after the last.
+/// The place of the next paragraph; none after the last.
 #[tactic(auto, using(crate::proofs::Flats::length_flat_more))]
 pub fn next_spot(blocks: &Blocks, spot: Spot) -> Option<Spot>
     requires { IsSpot blocks.now.blocks spot }
@@ -96,7 +96,7 @@ pub fn next_spot(blocks: &Blocks, spot: Spot) -> Option<Spot>
     })
 }
 
-/// Where the paragraph before it stands; none before the first.
+/// The place of the previous paragraph; none before the first.
 pub fn previous_spot(blocks: &Blocks, spot: Spot) -> Option<Spot>
     requires { IsSpot blocks.now.blocks spot }
     ensures { MatchOption result (spot.number ≡ 0) (λ s. (s.number + 1 ≡ spot.number) × IsSpot blocks.now.blocks s) }
@@ -120,7 +120,7 @@ pub fn previous_spot(blocks: &Blocks, spot: Spot) -> Option<Spot>
     })
 }
 
-/// The paragraph that stands there, where the last one has `last` bytes.
+/// The paragraph at a place. The last one has `last` bytes.
 pub fn paragraph_at(blocks: &Blocks, last: u32, spot: Spot) -> Lengths
     requires { IsSpot blocks.now.blocks spot }
     ensures { result ≡ get_or (closed blocks.now.blocks last) spot.number result }

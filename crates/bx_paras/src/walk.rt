@@ -11,15 +11,15 @@ use crate::lengths::Lengths;
 use crate::spot::{Spot, next_spot, paragraph_at, previous_spot, spot_of};
 use std::marker::Model;
 
-/// A walk over the paragraphs of a text, which stands at one of them and goes to the next or to the one before, each at a
-/// cost that does not grow with the text. It takes no memory.
+/// A walk over the paragraphs of a text. It goes from one to the next or the previous one, at a cost that does not grow
+/// with the text, and allocates nothing.
 #[derive(Drop)]
 pub struct ParagraphWalk<'a> {
     blocks: &'a Blocks,
-    // the bytes of the text's last paragraph
+    // length in bytes of the text's last paragraph
     last: u32,
     spot: Spot,
-    // the offset at which the paragraph begins
+    // offset of the paragraph's start
     start: usize,
     here: Lengths,
 }
@@ -35,8 +35,7 @@ impl<'a> Model for ParagraphWalk<'a> {
 }
 
 impl<'a> ParagraphWalk<'a> {
-    /// A walk that stands at the paragraph of a number, which begins at the offset `start`, where the last paragraph has `last`
-    /// bytes.
+    /// A walk at the paragraph `number`, which begins at the offset `start`. The last paragraph has `last` bytes.
     pub(crate) fn new(
         blocks: &'a Blocks,
         last: u32,
@@ -66,21 +65,21 @@ impl<'a> ParagraphWalk<'a> {
         self.spot.number
     }
 
-    /// Where the paragraph's body begins and ends, in bytes.
+    /// Offsets of the start and the end of the paragraph's body, in bytes.
     pub fn span(&self) -> (usize, usize)
         ensures { slice_get (spans self.now.paragraphs) self.now.number ≡ Some result }
     {
         (self.start, self.start + self.here.body as usize)
     }
 
-    /// How many bytes the separator has that ends the paragraph, 0 for the text's last.
+    /// Length in bytes of the separator that ends the paragraph, 0 for the text's last.
     pub fn separator(&self) -> usize
         ensures { slice_get (separators self.now.paragraphs) self.now.number ≡ Some result }
     {
         self.here.separator as usize
     }
 
-    /// Goes to the next paragraph: whether there is one. At the last one it stays.
+    /// Goes to the next paragraph, and returns whether there is one. Stays at the last one.
     pub fn to_next(&mut self) -> bool
         ensures paragraphs { self.new.paragraphs ≡ self.old.paragraphs }
         ensures there { result ≡ nat_lt (self.old.number + 1) (length self.old.paragraphs) }
@@ -97,7 +96,7 @@ impl<'a> ParagraphWalk<'a> {
         }
     }
 
-    /// Goes to the paragraph before: whether there is one. At the first one it stays.
+    /// Goes to the previous paragraph, and returns whether there is one. Stays at the first one.
     pub fn to_previous(&mut self) -> bool
         ensures paragraphs { self.new.paragraphs ≡ self.old.paragraphs }
         ensures there { result ≡ nat_lt 0 self.old.number }

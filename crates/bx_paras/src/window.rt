@@ -1,4 +1,4 @@
-//! What a scan for paragraphs looks at.
+//! The part of a text that a scan for paragraphs reads.
 
 ghost use Rattle.std.specs.Prelude.{ℕ, IsCharBoundary};
 ghost use Rattle.bx_ucd.specs.declared.class.Class.{Class};
@@ -6,20 +6,20 @@ ghost use Rattle.bx_paras.specs.Windows.{IsWindow};
 
 use bx_text::Text;
 
-/// The part of a text that a scan for paragraphs has to look at. All numbers count bytes.
+/// The part of a text that a scan for paragraphs has to read. All numbers count bytes.
 #[derive(Clone, Copy, PartialEq, Eq, Debug)]
 pub struct Window {
-    /// The offset at which it begins: nothing separates what stands before it in the paragraph.
+    /// Offset of its start. The paragraph has no separator before it.
     pub start: usize,
-    /// The offset at which it ends.
+    /// Offset of its end.
     pub stop: usize,
-    /// How much follows of a paragraph's body.
+    /// Length of the rest of a paragraph's body after the window.
     pub body: usize,
-    /// How much follows then of the separator, 0 where none does.
+    /// Length of the rest of its separator after that, 0 if none is left.
     pub separator: usize,
 }
 
-/// All that stands from an offset on.
+/// The window from an offset to the text's end.
 pub fn window_to_end(text: &Text, at: usize) -> Window
     requires { IsCharBoundary text.now.edited.text at }
     ensures { (class : ℕ → Class) → IsWindow class text.now.edited.text at result }

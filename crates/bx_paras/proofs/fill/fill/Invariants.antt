@@ -1,4 +1,4 @@
--- The paragraphs before the offset are put in, and those after it are still to come.
+-- The paragraphs before the offset are inserted, and those after it are still to come.
 use Rattle.std.proofs.Common.{◌≡◌, ◌≤◌, ◌<◌, ◌^◌, ◌+◌, ◌-◌, ◌++◌, IsCharBoundary, take, drop, length}
 use Rattle.bx_paras.specs.Paragraphs.{lengths}
 use Rattle.bx_paras.specs.Positions.{total}

@@ -1,4 +1,4 @@
--- The paragraph goes on from where the scan stands.
+-- The paragraph goes on at the scan's offset.
 use Rattle.std.proofs.Common.{◌≡◌, ◌≤◌, ◌-◌, IsCharBoundary, drop, length}
 use Rattle.bx_paras.specs.Paragraphs.{lengths}
 use Rattle.bx_paras.specs.Ended.{first, further}

@@ -1,4 +1,4 @@
--- The paragraphs before the offset stand in the blocks, and the others follow.
+-- The paragraphs before the offset are in the blocks, and the others follow.
 use Rattle.std.proofs.Common.{◌≡◌, ◌≤◌, ◌-◌, ◌++◌, [], IsCharBoundary, drop, length}
 use Rattle.bx_paras.specs.Paragraphs.{lengths}
 use Rattle.bx_paras.specs.Positions.{total}
