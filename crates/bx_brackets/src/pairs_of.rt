@@ -46,7 +46,7 @@ pub struct OpenStack {
     missed: [Option<char>; REMAINDERS],
 }
 
-// Its value is the openers, the last one first.
+// Contracts see the openers, the last one first.
 impl Model for OpenStack {
     ghost Value = { List (ℕ × ℕ) };
 

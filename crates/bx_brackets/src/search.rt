@@ -142,7 +142,7 @@ pub struct PairSearch {
     is_over: bool,
 }
 
-// Its value is the progress of the search.
+// Contracts see the progress of the search.
 impl Model for PairSearch {
     ghost Value = { Searching };
 

@@ -18,7 +18,7 @@ struct TextLevels {
     later: Vec<u8>,
 }
 
-// Its value is the levels in the order of the parts.
+// Contracts see the levels in the order of the parts.
 impl Model for TextLevels {
     ghost Value = { List ℕ };
 

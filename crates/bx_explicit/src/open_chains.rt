@@ -82,7 +82,7 @@ pub struct OpenChains<'e> {
     chains: Vec<OpenChain>,
 }
 
-// Its value is the chains, the newest first, each with its newest run first.
+// Contracts see the chains, the newest first, each with its newest run first.
 impl<'e> Model for OpenChains<'e> {
     ghost Value = { OpenRuns };
 

@@ -19,7 +19,7 @@ pub struct EntryStack {
     entries: ArrayVec<Entry, STACK_ROOM>,
 }
 
-// Its value is the entries, the last one first.
+// Contracts see the entries, the last one first.
 impl Model for EntryStack {
     ghost Value = { List Entry };
 

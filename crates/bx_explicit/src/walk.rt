@@ -52,7 +52,7 @@ pub struct SequenceWalk<'e> {
     lent: bool,
 }
 
-// Its value is the lent sequence and the sequences left.
+// Contracts see the lent sequence and the sequences left.
 impl<'e> Model for SequenceWalk<'e> {
     ghost Value = { SequencesLeft };
 

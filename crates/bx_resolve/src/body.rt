@@ -103,7 +103,7 @@ pub struct Body<'t> {
     offsets: Vec<u32>,
 }
 
-// Its value is its characters.
+// Contracts see its characters.
 impl<'t> Model for Body<'t> {
     ghost Value = { List ℕ };
 
