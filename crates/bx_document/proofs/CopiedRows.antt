@@ -1,4 +1,4 @@
--- Rows that are kept, and what they show.
+-- Cached rows and their columns.
 use Rattle.std.proofs.Common.{◌≡◌, ℕ, List, [], length, get_or, sym, ap, subst, ◌∙◌}
 use Rattle.std.specs.Prelude.{HoldsAt}
 use Rattle.bx_explicit.specs.declared.base.Base.{Base}

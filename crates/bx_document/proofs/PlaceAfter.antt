@@ -1,4 +1,4 @@
--- The place after an edit, as the touched paragraphs tell it and as a document says it.
+-- The place after an edit, found in the touched paragraphs, is the document's place after it.
 use Rattle.std.proofs.Common.{◌≡◌, ℕ, ◌+◌, ◌-◌, ◌≤◌, true, List, ◌++◌, length, take, drop, Option, IsUtf8, IsCharBoundary, sym, ap, subst, ◌∙◌}
 use Rattle.std.proofs.Common.{arith, length-append, length-drop}
 use Rattle.std.proofs.lemmas.Bool.Decides.{nat_tests}

@@ -39,7 +39,7 @@ module _ (class : ℕ → Class) where
       let is : c.place ≡ f.before.place = ap (λ (k : Change). k.place) (same_Some c (change_back f) e) in
       let b : HasPlaces class f = All-head Is f past all in subst (IsTextPlace class f.before.text) (sym is) b.before
 
-  -- undo leads to a place of the text that it gives back, and redo too
+  -- undo leads to a place of the text that it restores, and so does redo
   pub place_undone : (t u : Edited) (c : Change) → u ≡ undone t → KeepsPlaces class t → Some c ≡ next_undo t → IsTextPlace class u.text c.place
   place_undone t u c e h f = subst (λ (v : Edited). IsTextPlace class v.text c.place) (sym e) (place_back t.past t c h.past f)
 

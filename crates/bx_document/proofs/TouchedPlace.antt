@@ -1,4 +1,4 @@
--- The place after an edit is that in the paragraphs that the edit touches.
+-- The place after an edit can be found in the paragraphs that the edit touches.
 use Rattle.std.proofs.Common.{◌≡◌, ℕ, ◌+◌, ◌-◌, ◌<◌, ◌≤◌, ◌⊎◌, inl, inr, true, List, [], ◌++◌, length, take, drop, chars, slice_range, Option}
 use Rattle.std.proofs.Common.{IsUtf8, IsCharBoundary, refl, sym, ap, subst, ◌∙◌, arith, append_assoc, append-nil, length-append, length-drop}
 use Rattle.std.proofs.Common.{⊎_elim}
@@ -151,7 +151,7 @@ module _ (class : ℕ → Class) (text : List ℕ) (utf8 : IsUtf8 text) where
         ∙ parts_ahead class (chars before) (chars head) (chars (drop start text)) (chars rest) some
         (ap (parts class (chars before)) (sym (ap chars was ∙ chars-append head (drop start text) head_utf8)) ∙ front.parts)
 
-    -- the place after what stands in them is that in front of what stands after them
+    -- the place at their end is the place before the bytes after them
     back_at_end : (offset : ℕ) (bracket : ℕ → Option (Side × ℕ)) (base : Base) (w : ℕ) → 1 ≤ w → offset ≤ length mine
         → (b ≡ length text) ⊎ ((stop < b) × (parts class (chars (take b text)) (chars (drop b text)) ≡ true))
         → place_from (text_rows class bracket base w (mine ++ behind_all)) offset ≡ place_from (text_rows class bracket base w mine) offset

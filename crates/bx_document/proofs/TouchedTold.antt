@@ -1,4 +1,4 @@
--- Where the touched paragraphs begin and end, as an index of the text tells it.
+-- The start and end of the touched paragraphs, from the paragraph index.
 use Rattle.std.proofs.Common.{◌≡◌, ℕ, ◌+◌, ◌-◌, ◌<◌, ◌≤◌, List, ◌++◌, length, take, drop, get_or, slice_get, slice_range, Some, IsUtf8, IsCharBoundary}
 use Rattle.std.proofs.Common.{sym, ap, subst, ◌∙◌, arith, append_assoc}
 use Rattle.std.proofs.lemmas.List.{drop-drop}
@@ -15,7 +15,7 @@ use Rattle.bx_view.proofs.Numbers.{falls-at, lengths-count}
 use Rattle.bx_document.specs.Touched.{touched_start, touched_stop}
 use Rattle.bx_document.proofs.TouchedPlace.{back_is, front_is}
 
--- one part more of what stands from one offset to another
+-- one more part of the bytes between two offsets
 pub pushed_part : (text was part now all : List ℕ) (at stop : ℕ) → now ≡ was ++ part → take (length part) (drop at text) ≡ part → at + length part ≤ stop
     → was ++ slice_range text at stop ≡ all → now ++ slice_range text (at + length part) stop ≡ all
 pushed_part text was part now all at stop e f inside g =

@@ -1,4 +1,4 @@
--- What the tables beside a text say.
+-- The character data of a text's tables.
 use Rattle.bx_ucd.specs.declared.data.BidiData.{Ghosts}
 use Rattle.bx_view.specs.declared.source.Source.{Source}
 use Rattle.bx_ucd.specs.Data.{Data}

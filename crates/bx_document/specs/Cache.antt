@@ -1,4 +1,4 @@
--- Rows that were drawn, kept so that they can be put into another grid.
+-- Cached rows.
 use Rattle.std.specs.Prelude.{◌≡◌, ℕ, ◌<◌, List, length, All, HoldsAt}
 use Rattle.bx_explicit.specs.declared.base.Base.{Base}
 use Rattle.bx_grid.specs.Columns.{Col}
@@ -6,33 +6,33 @@ use Rattle.bx_paragraph.specs.BodyRows.{body_rows, row_at}
 use Rattle.bx_ucd.specs.Data.{Data}
 use Rattle.bx_document.specs.Drawing.{body_row_columns}
 
--- the body of the row's paragraph, the base direction, the number of the row in the body, and the row's columns
+-- a drawn row: the body of its paragraph, the base direction, its number in the body from 0, and its columns
 pub record DrawnRowState : Type 0 where
   pub body : List ℕ
   pub base : Base
   pub number : ℕ
   pub columns : List Col
 
--- the columns of row `number` of a body, under a base direction and in a window of `w` columns
+-- the columns of row `number` of a body, under a base direction, in a window of `w` columns
 unfoldable pub numbered_row_columns : Data → List ℕ → Base → ℕ → ℕ → List Col
 numbered_row_columns d body base number w = body_row_columns d w (row_at (body_rows d.class d.bracket base w body) number)
 
--- its columns are those of the row, in a window of as many columns
+-- a drawn row has the columns of its key, in a window of the same number of columns
 pub record IsDrawnBy (d : Data) (r : DrawnRowState) : Type 0 where
   pub columns_are : r.columns ≡ numbered_row_columns d r.body r.base r.number (length r.columns)
 
--- all of them are
+-- all rows do
 abbrev pub AreDrawnBy : Data → List DrawnRowState → Type 0
 AreDrawnBy d rows = All (IsDrawnBy d) rows
 
--- it is row `k` of a body, under a base direction and in a window of `w` columns
+-- the drawn row is row `k` of a body, under a base direction, in a window of `w` columns
 pub record IsRowOf (text : List ℕ) (direction : Base) (k w : ℕ) (r : DrawnRowState) : Type 0 where
   pub body_is : r.body ≡ text
   pub base_is : r.base ≡ direction
   pub number_is : r.number ≡ k
   pub width_is : length r.columns ≡ w
 
--- number `i` of those that are kept is
+-- the cached row at index `i` is that row
 pub record HoldsRow (text : List ℕ) (direction : Base) (k w : ℕ) (rows : List DrawnRowState) (i : ℕ) : Type 0 where
   pub within : i < length rows
   pub is : HoldsAt (IsRowOf text direction k w) rows i

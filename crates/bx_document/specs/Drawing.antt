@@ -1,4 +1,4 @@
--- The columns of rows of text, and a grid that they are put into, one below another.
+-- The columns of rows of text, and rows placed in a grid.
 use Rattle.std.specs.Prelude.{ℕ, ◌+◌, ◌-◌, ◌*◌, ◌≤◌, ◌<◌, List, ◌++◌, flat_map, length, replicate}
 use Rattle.bx_grid.specs.Columns.{Col, blank, glyph_columns, paste}
 use Rattle.bx_grid.specs.Picture.{GridState}
@@ -19,15 +19,15 @@ body_row_columns d width r = side_by_side (row_glyphs d.class d.mirror width r)
 abbrev pub row_columns : Data → ℕ → TextRow → List Col
 row_columns d width r = body_row_columns d width r.row
 
--- those of the rows that are shown, and blank rows where the text ends
+-- the columns of `count` rows: those shown, then blank rows past the text's end
 abbrev pub rows_columns : Data → ℕ → ℕ → List TextRow → List Col
 rows_columns d width count shown = flat_map (row_columns d width) shown ++ replicate ((count - length shown) * width) blank
 
--- the row of a place is among `count` rows that are shown from the row on that the offset `top` falls in
+-- the row of `place` is one of the `count` rows from the row of the offset `top` on
 pub record IsAmong (rows : List TextRow) (top place count : ℕ) : Type 0 where
   pub above : row_of rows top ≤ row_of rows place
   pub below : row_of rows place < row_of rows top + count
 
--- the grid with these columns in the place of those from row number `row` on, counted from 0
+-- the grid with its columns overwritten by these from row `row` on, from 0
 abbrev pub with_rows : GridState → ℕ → List Col → GridState
 with_rows g row columns = record g { columns = paste g.columns (row * g.width) columns }

@@ -1,4 +1,4 @@
--- The places that stand with the edits of a text's past and future.
+-- The places recorded with the edits of a text's past and future.
 use Rattle.std.specs.Prelude.{ℕ, All}
 use Rattle.bx_ucd.specs.declared.class.Class.{Class}
 use Rattle.bx_text.specs.Edits.{Edit, Edited}
@@ -9,7 +9,7 @@ pub record HasPlaces (class : ℕ → Class) (e : Edit) : Type 0 where
   pub before : IsTextPlace class e.before.text e.before.place
   pub after : IsTextPlace class e.after.text e.after.place
 
--- those of all edits are
+-- so are those of all edits
 pub record KeepsPlaces (class : ℕ → Class) (content : Edited) : Type 0 where
   pub past : All (HasPlaces class) content.past
   pub future : All (HasPlaces class) content.future

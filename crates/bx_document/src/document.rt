@@ -17,7 +17,7 @@ use bx_view::Layout;
 use std::alloc::Global;
 use std::marker::Model;
 
-/// A text under edits, its paragraphs, and its layout in a window's columns under a base direction, by Unicode's tables.
+/// An editable text with its undo history, its paragraph index and its layout for a window's width and a base direction.
 #[derive(Drop)]
 pub struct Document<D: BidiData + Drop> {
     pub(crate) text: Text,
@@ -50,7 +50,7 @@ impl<D: BidiData + Drop> Model for Document<D> {
 }
 
 impl<D: BidiData + Drop> Document<D> {
-    /// A text that has no past and no future, in `w` columns. A refusal drops the text and the tables.
+    /// Opens a text with an empty undo history, in `w` columns. An error drops the text and the tables.
     ///
     /// Errors: `TooLong` above 16,777,216 bytes; `OutOfMemory`.
     pub fn open(
@@ -81,7 +81,7 @@ impl<D: BidiData + Drop> Document<D> {
         })
     }
 
-    /// How many bytes the text has. No memory.
+    /// The text's length in bytes. No memory.
     pub fn len(&self) -> usize
         ensures len { result ≡ length self.now.document.content.text }
         ensures short { length self.now.document.content.text ≤ largest_text }
@@ -90,7 +90,7 @@ impl<D: BidiData + Drop> Document<D> {
         self.text.len()
     }
 
-    /// The text's pieces in order, which joined are the text. No memory.
+    /// The text in consecutive pieces. No memory.
     pub fn pieces(&self) -> Slices<'_>
         ensures text { result ≡ self.now.document.content.text }
         ensures joined { (slices : List (Bor (List ℕ))) → Drains lends result slices → joined slices ≡ self.now.document.content.text }
@@ -113,14 +113,14 @@ impl<D: BidiData + Drop> Document<D> {
         self.layout.width()
     }
 
-    /// Lays the text out anew under another base direction. No memory.
+    /// Sets the base direction, and discards the layout: paragraphs are resolved again when they are needed. No memory.
     pub fn set_base(&mut self, base: Base)
         ensures { self.new ≡ record self.old { document = record self.old.document { base = base } } }
     {
         self.layout = Layout::of(self.alloc, self.layout.width(), base);
     }
 
-    /// Lays the text out in `w` columns. The paragraphs that the layout holds keep their levels. No memory.
+    /// Sets the width. Cached paragraphs keep their levels and are rewrapped when they are needed. No memory.
     pub fn set_width(&mut self, w: u16)
         requires side { is_side w ≡ true }
         ensures { self.new ≡ record self.old { document = record self.old.document { w = w } } }

@@ -1,4 +1,4 @@
-//! A row of text, drawn.
+//! Drawing one row of text.
 ghost use Rattle.std.specs.Prelude.{◌≡◌, true, All, IfOk, map, sum_by};
 ghost use Rattle.std.specs.Cow.{cow_str_bytes};
 ghost use Rattle.bx_terms.specs.Glyphs.{is_one_glyph, run_width};
@@ -11,7 +11,7 @@ use bx_rows::RowPicture;
 use bx_terms::OutOfMemory;
 use std::alloc::Global;
 
-/// The glyphs of a row's picture side by side, which fill a row of `width` columns.
+/// Draws the glyphs of a row's picture side by side. They fill `width` columns.
 ///
 /// Errors: `OutOfMemory`.
 pub(crate) fn drawn(

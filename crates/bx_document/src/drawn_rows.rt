@@ -1,4 +1,4 @@
-//! The rows of a text, drawn one below another.
+//! Drawing consecutive rows of a text into a grid.
 ghost use Rattle.std.specs.Prelude.{◌≡◌, ℕ, ◌<◌, ◌≤◌, ◌++◌, ◌*◌, IfOk, OnOk, length, drop, take};
 ghost use Rattle.bx_view.specs.Source.{IsViewBy, Keeps, OfRow, Stands, StandsOn, rows};
 ghost use Rattle.bx_document.specs.Answers.{answers};
@@ -13,7 +13,7 @@ use bx_ucd::BidiData;
 use bx_view::{Layout, RowAt, Source};
 use std::alloc::Global;
 
-/// A row of the text, drawn anew.
+/// Draws a row of the text, past the cache.
 ///
 /// Errors: `OutOfMemory`.
 fn draw_anew<D: BidiData>(
@@ -30,8 +30,8 @@ fn draw_anew<D: BidiData>(
     drawn(alloc, &picture, layout.width())
 }
 
-/// Puts a row of the text into row number `row` of a grid, from 0: the one that is kept, or else one that is drawn anew, and
-/// kept as that row of the page.
+/// Puts a row of the text into row `row` of a grid, from 0. A cached row is copied; any other is drawn and added to the
+/// cache.
 ///
 /// Errors: `OutOfMemory`.
 fn draw_row<D: BidiData>(
@@ -70,7 +70,7 @@ fn draw_row<D: BidiData>(
     Ok(())
 }
 
-/// Puts `count` rows of the text into the first rows of a grid, from one on, and blank rows where the text ends.
+/// Fills the first `count` rows of a grid with the text's rows from `at` on, and with blank rows past the text's end.
 ///
 /// Errors: `OutOfMemory`.
 pub(crate) fn draw_rows<D: BidiData>(
@@ -94,7 +94,7 @@ pub(crate) fn draw_rows<D: BidiData>(
         }) }
     ensures cache { AreDrawnBy (answers source.now) cache.new }
 {
-    // tells the proof how many columns the grid has
+    // proof only: the number of the grid's columns
     let _columns = grid.columns();
     cache.begin(count);
     draw_row(layout, source, at, grid, 0, cache)?;

@@ -1,4 +1,4 @@
-//! Edits, each with the place that it leads to. Each takes its memory first, and then changes the text.
+//! Edits, each with the cursor's place after it. Each allocates first and then changes the text.
 ghost use Rattle.std.specs.Prelude.{◌≡◌, ℕ, List, [], Some, true, false, IfOk, IfSome, IsErrOf, IsUtf8, MatchOption, OnErr, OnOk, option_map};
 ghost use Rattle.bx_paras.specs.Paragraphs.{lengths};
 ghost use Rattle.bx_text.specs.Edits.{IsRange, Leads, fits, next_redo, next_undo, redone, splice, undone};
@@ -14,7 +14,7 @@ use bx_text::{Change, Text};
 use bx_ucd::BidiData;
 use bx_view::{HeldRange, Layout, Source};
 
-/// Follows an edit, where room was made for as many separators as it adds bytes. No memory.
+/// Updates the index after an edit, in the room reserved for one separator per added byte. No memory.
 fn follow<D: BidiData>(index: &mut Index, text: &Text, tables: &D, change: &Change)
     requires was { (old : List ℕ)
         × IsUtf8 old
@@ -23,12 +23,13 @@ fn follow<D: BidiData>(index: &mut Index, text: &Text, tables: &D, change: &Chan
     requires room { index.old.room ≡ Some change.now.added }
     ensures { index.new.paragraphs ≡ lengths (D.data tables.now).class text.now.edited.text }
 {
-    // tells the proof that the text is UTF-8
+    // proof only: the text is UTF-8
     let _utf8 = text.len();
     index.edited(text, tables, change);
 }
 
-/// Where a change that is to be made of the text stands in what is held of its paragraph, if it does. No memory.
+/// The range of a pending change within its cached paragraph; none if the paragraph is not cached or the change exceeds
+/// it. No memory.
 fn held_change<D: BidiData>(
     layout: &mut Layout,
     source: &Source<'_, D>,
@@ -40,8 +41,8 @@ fn held_change<D: BidiData>(
     layout.held_range(source, change.start, stop)
 }
 
-/// Has what is held of a paragraph follow a change that was made of the text. What is held serves without it too, and the
-/// paragraph is laid out anew then: so it is left where memory runs out.
+/// Applies a change of the text to its cached paragraph. Running out of memory does no harm: the stale paragraph no
+/// longer matches the text, so it is laid out again.
 fn follow_in_layout<D: BidiData>(
     layout: &mut Layout,
     held: Option<HeldRange>,
@@ -63,7 +64,7 @@ fn follow_in_layout<D: BidiData>(
 }
 
 impl<D: BidiData + Drop> Document<D> {
-    /// The place after an edit that puts characters instead of those from start to stop, which is not made yet.
+    /// The place after a pending edit that replaces the bytes from `start` to `stop` with `new`.
     ///
     /// Errors: `OutOfMemory`.
     fn place_after(&mut self, start: usize, stop: usize, new: &str) -> Result<usize, OutOfMemory>
@@ -73,7 +74,7 @@ impl<D: BidiData + Drop> Document<D> {
         ensures place { IfOk result (λ o. o ≡ place_after (D.data self.old.tables) self.old.document start stop new.now) }
         ensures text_place { IfOk result (IsTextPlace (D.data self.old.tables).class (splice self.old.document.content.text start stop new.now)) }
     {
-        // tell the proof that the text is UTF-8 and what sides a window may have
+        // proof only: the text is UTF-8, and the width is within its limits
         let _utf8 = self.text.len();
         let _side = self.layout.width();
         let source = Source {
@@ -88,8 +89,8 @@ impl<D: BidiData + Drop> Document<D> {
         Ok(place)
     }
 
-    /// Puts characters in at a place, and answers the new place; none where the text would pass 16,777,216 bytes, and then
-    /// nothing has changed.
+    /// Inserts characters at a place and returns the place after them; none, and no change, if the text would exceed
+    /// 16,777,216 bytes.
     ///
     /// Errors: `OutOfMemory`, and nothing has changed.
     pub fn insert(&mut self, place: usize, new: &str) -> Result<Option<usize>, OutOfMemory>
@@ -116,7 +117,7 @@ impl<D: BidiData + Drop> Document<D> {
         Ok(Some(after))
     }
 
-    /// Takes out what stands from one offset to another, where the cursor stands at `place`, and answers the new place.
+    /// Removes the bytes from `start` to `stop` and returns the new place. Undo restores the cursor to `place`.
     ///
     /// Errors: `OutOfMemory`, and nothing has changed.
     pub fn remove(&mut self, start: usize, stop: usize, place: usize) -> Result<usize, OutOfMemory>
@@ -129,7 +130,7 @@ impl<D: BidiData + Drop> Document<D> {
         ensures text_place { IfOk result (IsTextPlace (D.data self.new.tables).class self.new.document.content.text) }
         ensures err { OnErr result (self.new ≡ self.old) }
     {
-        // tells the proof that the text is short
+        // proof only: the text is within its limit
         let _short = self.text.len();
         let after = self.place_after(start, stop, "")?;
         self.index.ready(0)?;
@@ -140,7 +141,7 @@ impl<D: BidiData + Drop> Document<D> {
         Ok(after)
     }
 
-    /// Takes back the latest edit, and answers the place before it; none where there is nothing to take back.
+    /// Undoes the latest edit and returns the place before it; none if the past is empty.
     ///
     /// Errors: `OutOfMemory`, and nothing has changed.
     pub fn undo(&mut self) -> Result<Option<usize>, OutOfMemory>
@@ -149,7 +150,7 @@ impl<D: BidiData + Drop> Document<D> {
         ensures text_place { IfOk result (λ place. IfSome place (IsTextPlace (D.data self.new.tables).class self.new.document.content.text)) }
         ensures err { OnErr result (self.new ≡ self.old) }
     {
-        // tells the proof that the text is UTF-8
+        // proof only: the text is UTF-8
         let _utf8 = self.text.len();
         let Some(next) = self.text.next_undo() else {
             return Ok(None);
@@ -169,7 +170,7 @@ impl<D: BidiData + Drop> Document<D> {
         Ok(Some(change.place))
     }
 
-    /// Makes the next edit again, and answers the place after it; none where there is nothing to make again.
+    /// Redoes the next edit and returns the place after it; none if the future is empty.
     ///
     /// Errors: `OutOfMemory`, and nothing has changed.
     pub fn redo(&mut self) -> Result<Option<usize>, OutOfMemory>
@@ -178,7 +179,7 @@ impl<D: BidiData + Drop> Document<D> {
         ensures text_place { IfOk result (λ place. IfSome place (IsTextPlace (D.data self.new.tables).class self.new.document.content.text)) }
         ensures err { OnErr result (self.new ≡ self.old) }
     {
-        // tells the proof that the text is UTF-8
+        // proof only: the text is UTF-8
         let _utf8 = self.text.len();
         let Some(next) = self.text.next_redo() else {
             return Ok(None);

@@ -1,4 +1,4 @@
-//! Why a text is not opened.
+//! Errors of opening a text.
 use bx_terms::OutOfMemory;
 use std::alloc::AllocError;
 use thiserror::Error;

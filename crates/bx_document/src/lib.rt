@@ -1,5 +1,4 @@
-//! A text under edits, as it is laid out in a window: the cursor's moves in it, the edits with the place that each leads to,
-//! and its rows in a grid.
+//! An editable text laid out in a window: cursor moves, edits with the place after each, and rows drawn into a grid.
 #![tactic(auto)]
 
 mod document;

@@ -1,4 +1,4 @@
-//! Rows that were drawn, kept so that they can be put into a grid again.
+//! A cache of drawn rows.
 ghost use Rattle.std.specs.Prelude.{◌≡◌, ◌<◌, ◌*◌, [], length, drop, take, All, HoldsAt, IfOk, IfSome, IsTrue};
 ghost use Rattle.bx_document.specs.Cache.{AreDrawnBy, DrawnRowState, HoldsRow, IsDrawnBy, IsRowOf};
 ghost use Rattle.bx_ucd.specs.Data.{Data};
@@ -8,24 +8,24 @@ use bx_grid::OwnedRow;
 use std::alloc::{AllocError, Global};
 use std::marker::Model;
 
-// The body is copied for each row that is kept: rows of a longer one are drawn anew.
+// In bytes. Each cached row copies its paragraph's body, so rows of a longer body are not cached.
 const LARGEST_BODY: usize = 16_384;
 
-/// Which row it is, by all that its columns depend on but Unicode's tables.
+/// A row's key: everything that determines its columns, except Unicode's tables.
 #[derive(Clone, Copy)]
 pub(crate) struct RowKey<'b> {
-    /// The body of its paragraph.
+    /// The body of the row's paragraph.
     pub(crate) body: &'b str,
     /// The base direction.
     pub(crate) base: Base,
-    /// The number of the row in the body, from 0.
+    /// The row's number in the body, from 0.
     pub(crate) number: usize,
     /// The window's columns.
     pub(crate) width: u16,
 }
 
-/// A row that was drawn: its paragraph's body and the base direction, its number in that body, from 0, and its columns, as
-/// many as the window has.
+/// A drawn row with its key: the body of its paragraph, the base direction and its number in the body, from 0. The width
+/// is the number of its columns.
 #[derive(Drop)]
 struct DrawnRow {
     body: String,
@@ -43,13 +43,12 @@ impl Model for DrawnRow {
     ghost view = { λ r. record { body = string_bytes r.body; base = r.base; number = r.number; columns = r.columns } };
 }
 
-/// Rows that were drawn. What a row shows depends on nothing but what is kept beside its columns and on Unicode's tables,
-/// so an edit makes none of them wrong. Those of the page that was drawn last stand first, each at its number in the page
-/// where all before it could be kept.
+/// Drawn rows. A row's columns depend only on its key and Unicode's tables, so no edit invalidates one. The rows of the
+/// latest page come first, each at its number in the page if all before it could be cached.
 #[derive(Drop)]
 pub(crate) struct RowCache {
     rows: Vec<DrawnRow>,
-    // how many rows the page has
+    // the number of rows of the page
     page: usize,
 }
 
@@ -63,7 +62,7 @@ impl Model for RowCache {
 }
 
 impl DrawnRow {
-    /// Whether it is the row that is asked for. No memory.
+    /// Whether the row has this key. No memory.
     fn is_of(&self, key: &RowKey<'_>) -> bool
         ensures { IsTrue result → IsRowOf key.now.body.now key.now.base key.now.number key.now.width self.now }
     {
@@ -74,14 +73,14 @@ impl DrawnRow {
     }
 }
 
-/// Whether the row of the number `i` of those that are kept is the one that is asked for. No memory.
+/// Whether there is a row at index `i` and it has this key. No memory.
 fn is_kept(rows: &[DrawnRow], i: usize, key: &RowKey<'_>) -> bool
     ensures { IsTrue result → HoldsRow key.now.body.now key.now.base key.now.number key.now.width rows.now i }
 {
     i < rows.len() && rows[i].is_of(key)
 }
 
-/// Which of the rows that are kept, from the number `start` on, is the one that is asked for. No memory.
+/// The index of the first row with this key, from index `start` on. No memory.
 fn position(rows: &[DrawnRow], start: usize, key: &RowKey<'_>) -> Option<usize>
     ensures { IfSome result (HoldsRow key.now.body.now key.now.base key.now.number key.now.width rows.now) }
 {
@@ -93,7 +92,7 @@ fn position(rows: &[DrawnRow], start: usize, key: &RowKey<'_>) -> Option<usize>
     None
 }
 
-/// Swaps the row of the number `i` with the one of the number `at`, if that stands before it.
+/// Swaps the rows at indexes `i` and `at` if `at` is lower.
 fn bring(rows: &mut Vec<DrawnRow>, i: usize, at: usize)
     ensures { (d : Data) → AreDrawnBy d rows.old.items → AreDrawnBy d rows.new.items }
 {
@@ -102,8 +101,8 @@ fn bring(rows: &mut Vec<DrawnRow>, i: usize, at: usize)
     }
 }
 
-/// Keeps a row at the number `at` of a page. The one that stood there is kept at the number `after`, behind the page, where it
-/// drops another.
+/// Stores a row at index `at`. The row that it displaces moves to index `after`, past the page, and replaces the row
+/// there; or to the end, if the cache is shorter.
 fn put_in(
     rows: &mut Vec<DrawnRow>,
     at: usize,
@@ -124,7 +123,7 @@ fn put_in(
 }
 
 impl RowCache {
-    /// None are kept. No memory.
+    /// An empty cache. No memory.
     pub(crate) fn new(alloc: Global) -> RowCache
         ensures { result ≡ [] }
     {
@@ -134,7 +133,7 @@ impl RowCache {
         }
     }
 
-    /// Begins a page of `count` rows: at most twice as many stay. No memory.
+    /// Begins a page of `count` rows, and evicts rows beyond twice that number. No memory.
     pub(crate) fn begin(&mut self, count: u16)
         ensures { (d : Data) → AreDrawnBy d self.old → AreDrawnBy d self.new }
     {
@@ -142,19 +141,19 @@ impl RowCache {
         self.rows.truncate(2 * usize::from(count));
     }
 
-    /// Where rows that are kept take their memory.
+    /// The allocator of cached rows.
     pub(crate) fn allocator(&self) -> Global {
         *self.rows.allocator()
     }
 
-    /// The number of a row among those that are kept; it is looked for from its number in the page on. No memory.
+    /// The index of a cached row, searched from its number in the page on. No memory.
     pub(crate) fn find(&self, at: u16, key: &RowKey<'_>) -> Option<usize>
         ensures { IfSome result (HoldsRow key.now.body.now key.now.base key.now.number key.now.width self.now) }
     {
         position(&self.rows, at as usize, key)
     }
 
-    /// The columns of a row that is kept, by its number.
+    /// The columns of the cached row at index `i`.
     pub(crate) fn columns(&self, i: usize) -> &OwnedRow
         requires { i < length self.now }
         ensures { HoldsAt (λ r. result.now ≡ r.columns) self.now i }
@@ -163,14 +162,14 @@ impl RowCache {
         &row.columns
     }
 
-    /// Brings a row that is kept to its number in the page. No memory.
+    /// Moves the cached row at index `i` to its number in the page. No memory.
     pub(crate) fn bring(&mut self, i: usize, at: u16)
         ensures { (d : Data) → AreDrawnBy d self.old → AreDrawnBy d self.new }
     {
         bring(&mut self.rows, i, at as usize);
     }
 
-    /// Keeps the columns of a row at its number in the page. One that there is no memory for is not kept.
+    /// Caches a row at its number in the page, unless its body is too long or memory runs out.
     pub(crate) fn keep(&mut self, key: &RowKey<'_>, columns: OwnedRow, at: u16)
         ensures { (d : Data) → AreDrawnBy d self.old
             → IsDrawnBy d (record { body = key.now.body.now; base = key.now.base; number = key.now.number; columns = columns })

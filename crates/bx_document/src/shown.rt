@@ -1,4 +1,4 @@
-//! The rows that are shown, and where the cursor stands among them.
+//! The visible rows and the cursor's position among them.
 ghost use Rattle.std.specs.Prelude.{◌≡◌, ◌<◌, ◌≤◌, ◌++◌, ◌*◌, IfOk, drop};
 ghost use Rattle.bx_view.specs.Position.{IsPosition};
 ghost use Rattle.bx_view.specs.Top.{follow};
@@ -13,22 +13,22 @@ use bx_terms::OutOfMemory;
 use bx_ucd::BidiData;
 use bx_view::{Position, Source};
 
-/// Rows that are shown, and a place among them.
+/// The visible rows, and a place in them.
 #[derive(Clone, Copy)]
 pub struct Shown {
-    /// The offset from which on they are shown, in bytes.
+    /// The offset, in bytes, at which the first visible row begins.
     pub top: usize,
-    /// How many of them stand above the place's row.
+    /// The number of visible rows above the place's row.
     pub row: u16,
-    /// Where the place stands.
+    /// The column and the numbers of the place.
     pub position: Position,
 }
 
 impl<D: BidiData + Drop> Document<D> {
-    /// Puts `count` rows into the first rows of a grid, among which the row of a place is: from the row on that the offset
-    /// `top` falls in, moved by as few rows as that takes. Rows that stand there already stay.
+    /// Draws `count` rows into the first rows of a grid: those from the row of the offset `top` on, scrolled by the fewest
+    /// rows that make the row of `place` visible.
     ///
-    /// Errors: `OutOfMemory`, and some of the rows are put.
+    /// Errors: `OutOfMemory`; some of the rows may be drawn.
     pub fn show(
         &mut self,
         grid: &mut Grid,
@@ -52,7 +52,7 @@ impl<D: BidiData + Drop> Document<D> {
             (rows (D.data self.old.tables) self.old.document) place s.position) }
         ensures inside { IfOk result (λ s. (1 ≤ s.position.column) × (s.position.column ≤ self.old.document.w)) }
     {
-        // tell the proof that the text is UTF-8 and what sides a window may have
+        // proof only: the text is UTF-8, and the width is within its limits
         let _utf8 = self.text.len();
         let _side = self.layout.width();
         let source = Source {

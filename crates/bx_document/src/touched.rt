@@ -1,4 +1,4 @@
-//! The part of a text that tells the place after an edit: the paragraphs that the edit touches, as they are after it.
+//! The place after an edit, found in a copy of the paragraphs that the edit touches.
 ghost use Rattle.std.specs.Prelude.{◌≡◌, ◌≤◌, ◌+◌, ◌++◌, true, IfOk, IsCharBoundary, IsErrOf, OnErr, OnOk, length, slice_range, string_bytes};
 ghost use Rattle.bx_text.specs.Edits.{IsRange, fits, splice};
 ghost use Rattle.bx_view.specs.FoundRow.{rows_by};
@@ -15,7 +15,7 @@ use bx_view::{Layout, Source};
 use std::alloc::{AllocError, Global};
 use std::ops::Range;
 
-/// Where the paragraph begins that the byte before an offset stands in. No memory.
+/// The start of the paragraph that contains the byte before an offset. No memory.
 fn start_before<D: BidiData>(source: &Source<'_, D>, start: usize) -> usize
     requires bounds { IsCharBoundary (bytes source.now) start }
     ensures start { result ≡ touched_start (D.data source.now.tables.now).class (bytes source.now) start }
@@ -25,7 +25,7 @@ fn start_before<D: BidiData>(source: &Source<'_, D>, start: usize) -> usize
     source.index.span(number).0
 }
 
-/// The end, with its separator, of the paragraph that an offset falls in. No memory.
+/// The end of the paragraph that an offset falls in, its separator included. No memory.
 fn stop_after<D: BidiData>(source: &Source<'_, D>, stop: usize) -> usize
     requires bounds { IsCharBoundary (bytes source.now) stop }
     ensures stop { result ≡ touched_stop (D.data source.now.tables.now).class (bytes source.now) stop }
@@ -35,7 +35,7 @@ fn stop_after<D: BidiData>(source: &Source<'_, D>, stop: usize) -> usize
     source.index.span(number).1 + source.index.separator(number)
 }
 
-/// Puts what stands from one offset of a text to another after some characters.
+/// Appends the bytes of a text from `start` to `stop`.
 fn push_range(
     text: &Text,
     start: usize,
@@ -54,7 +54,7 @@ fn push_range(
     Ok(())
 }
 
-/// Where the paragraphs begin that an edit touches, and their text after it.
+/// The start of the paragraphs that an edit touches, and their text after it.
 fn touched<D: BidiData>(
     alloc: Global,
     source: &Source<'_, D>,
@@ -78,7 +78,7 @@ fn touched<D: BidiData>(
     Ok((first, characters))
 }
 
-/// The place at an offset of some characters or after it, where they are a text of their own, which is not too long.
+/// The first place at or after an offset in a text of these characters alone, laid out like `layout`.
 ///
 /// Errors: `OutOfMemory`.
 fn place_in<D: BidiData>(
@@ -101,8 +101,8 @@ fn place_in<D: BidiData>(
     Ok(place)
 }
 
-/// The place after an edit that puts characters instead of those of a range, which is not made yet: found in a copy of the
-/// paragraphs that it touches.
+/// The place after a pending edit that replaces the bytes of a range with `new`, found in a copy of the paragraphs that
+/// it touches.
 ///
 /// Errors: `OutOfMemory`.
 pub(crate) fn place_in_touched<D: BidiData>(
@@ -120,10 +120,10 @@ pub(crate) fn place_in_touched<D: BidiData>(
         (rows_by (D.data source.now.tables.now).class (D.data source.now.tables.now).bracket layout.old
         (splice (bytes source.now) range.start range.end new.now)) (range.start + length new.now)) }
 {
-    // tells the proof what sides a window may have
+    // proof only: the width is within its limits
     let _side = layout.width();
     let (first, characters) = touched(alloc, source, range.start, range.end, new)?;
-    // They are no more bytes than the text has after the edit.
+    // The copy is no longer than the text after the edit, so it is not too long.
     let offset = range.start - first + new.len();
     let place = place_in(alloc, characters, source.tables, layout, offset)?;
     Ok(first + place)

@@ -1,4 +1,4 @@
--- What was put after the characters stands before the offset.
+-- The bytes appended are those before the offset.
 use Rattle.std.proofs.Common.{◌≡◌, ◌-◌, ◌++◌, slice_range, string_bytes}
 use Rattle.bx_text.specs.Edits.{IsRange}
 use Rattle.bx_document.proofs.touched.push_range.Given as goal
