@@ -1,4 +1,4 @@
--- The begin of a text is a place of it.
+-- The start of a text is a place.
 use Rattle.std.proofs.Common.{ℕ, List, [], ◌∷◌, refl, arith}
 use Rattle.std.specs.Prelude.{Contains}
 use Rattle.bx_ucd.specs.declared.class.Class.{Class}

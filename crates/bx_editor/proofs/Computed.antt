@@ -1,4 +1,4 @@
--- An editor, computed, by the small tables.
+-- An editor computed with the small tables.
 use Rattle.std.proofs.Common.{ℕ, true, false, List, [], ◌∷◌, map}
 use Rattle.std.specs.Prelude.{encode_utf8_all}
 use Rattle.bx_resolve.specs.TestTables.{class, bracket}
@@ -26,7 +26,7 @@ after e keys = after_keys tables true e keys
 abbrev pub letters : List ℕ → List Key
 letters cs = map Insert cs
 
--- its picture from the top on that follows the one of the offset `top`
+-- its picture, scrolled from the offset `top`
 abbrev pub shown : Editor → ℕ → PictureState
 shown e top = picture tables e (next_top tables e top)
 

@@ -1,4 +1,4 @@
--- Worked rows, each of which follows from a law alone.
+-- Worked examples, each from a law alone.
 use Rattle.std.proofs.Common.{◌≡◌, true, [], ◌∷◌, refl, ap}
 use Rattle.std.specs.Prelude.{codes}
 use Rattle.std.specs.Fmt.{digits}
@@ -12,7 +12,7 @@ use Rattle.bx_editor.specs.Laws.{RedoMirrorsUndo, TopStays, UndoGivesBack}
 use Rattle.bx_editor.specs.Picture.{next_top}
 use Rattle.bx_editor.proofs.Computed.{tables, start, after}
 
--- the cursor is in the third of three lines, of which two are shown
+-- the cursor is in the third of three lines; two are shown
 abbrev at_the_third : Editor
 at_the_third = after (start (codes "1\n2\n3") 3 4) (Down ∷ Down ∷ [])
 

@@ -1,4 +1,4 @@
--- What is undone and redone is had back: past and future are chains of versions that begin with the opened text.
+-- Undo and redo restore earlier versions: past and future are chains of versions that begin with the opened text.
 use Rattle.std.proofs.Common.{◌≡◌, ℕ, Bool, true, false, List, [], ◌∷◌, length, replicate, refl, sym, ap, subst, if◌then◌else◌}
 use Rattle.std.specs.Prelude.{◌≢◌, ◌+◌, ◌==◌, ◌||◌, not, encode_utf8, Some}
 use Rattle.bx_explicit.specs.declared.base.Base.{Base}
@@ -17,12 +17,12 @@ use Rattle.bx_editor.specs.Laws.{after_typing, IsBackAt, UndoGivesBack, RedoMirr
 
 -- ---- chains of versions
 
--- the latest edit led to the text, from a text of which the others are the past; the opened text has none
+-- the latest edit led to the text, from a text whose past is the other edits; the opened text has no past
 abbrev IsPastOf : List ℕ → List ℕ → List Edit → Type 0
 IsPastOf first text [] = text ≡ first
 IsPastOf first text (edit ∷ past) = (edit.after.text ≡ text) × IsPastOf first edit.before.text past
 
--- the next edit leads on from the text, to one of which the others are the future
+-- the next edit leads from the text to one whose future is the other edits
 abbrev IsFutureOf : List ℕ → List Edit → Type 0
 IsFutureOf text [] = Unit {0}
 IsFutureOf text (edit ∷ future) = (edit.before.text ≡ text) × IsFutureOf edit.after.text future

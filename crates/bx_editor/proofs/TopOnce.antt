@@ -1,4 +1,4 @@
--- The top that follows the cursor stays when it follows it once more.
+-- Scrolling to the cursor a second time leaves the top where it is.
 use Rattle.std.proofs.Common.{◌≡◌, ℕ, ◌-◌, ◌<◌, Bool, true, false, nat_le, refl, arith, leb-true}
 use Rattle.std.specs.Prelude.{if◌then◌else◌}
 use Rattle.bx_view.specs.Laws.{MovesLeast}

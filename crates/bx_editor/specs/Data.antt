@@ -1,2 +1,2 @@
--- What Unicode's tables say of characters.
+-- Unicode's character data.
 pub use Rattle.bx_ucd.specs.Data.{Data}

@@ -1,4 +1,4 @@
--- The editor's state, and the changes that keys make of it. Offsets and places count bytes of the text.
+-- The editor's state, and its changes. Offsets and places count bytes of the text.
 use Rattle.std.specs.Prelude.{ℕ, ◌+◌, ◌-◌, Bool, true, false, not, ◌||◌, nat_le, ◌==◌, List, [], ◌∷◌, length, Option, Some, None, if◌then◌else◌}
 use Rattle.bx_explicit.specs.declared.base.Base.{Base}
 use Rattle.bx_explicit.specs.declared.base.Base.TheVariants.{Auto, Ltr, Rtl}
@@ -14,7 +14,7 @@ pub record Editor : Type 0 where
   pub content : Edited
   -- the cursor's place
   pub place : ℕ
-  -- since the opening or the last save
+  -- there was an edit since the opening or the last save
   pub changed : Bool
   pub message : Option Message
   -- the last key, sizes aside, was Quit
@@ -25,7 +25,7 @@ pub record Editor : Type 0 where
   pub height : ℕ
   pub width : ℕ
 
--- an editor with the tables that it edits by
+-- an editor and its tables
 pub record EditorState (D : Type 0) : Type 0 where
   pub tables : D
   pub editor : Editor
@@ -44,24 +44,25 @@ at_start text height width base = record {
   width = width;
 }
 
--- the rows of a text as the editor would show it, and those of its own text
+-- the rows of any text in the editor's layout, and those of its own text
 abbrev pub rows_of : Data → Editor → List ℕ → List TextRow
 rows_of d e text = text_rows d.class d.bracket e.base e.width text
 
 abbrev pub rows : Data → Editor → List TextRow
 rows d e = rows_of d e e.content.text
 
--- how many rows of text the window shows: its last row is for the status, unless it is the only one
+-- the number of text rows that the window shows: all but the last, which is the status row; a single row is for text
 abbrev pub text_height : ℕ → ℕ
 text_height height = if nat_le 2 height then height - 1 else 1
 
 -- ---- edits
 
--- the least place of a new text that is not before an offset
+-- the first place of a new text at or after an offset
 abbrev pub place_after : Data → Editor → List ℕ → ℕ → ℕ
 place_after d e text offset = place_from (rows_of d e text) offset
 
--- bytes go in at the place, unless the text would be too long; the cursor stands after them
+-- bytes are inserted at the place, unless the text would be too long; the cursor goes to the first place at or after
+-- their end
 abbrev pub after_insertion : Data → Editor → List ℕ → Editor
 after_insertion d e new =
     if fits e.content.text e.place e.place new
@@ -69,7 +70,7 @@ after_insertion d e new =
     record e { content = inserted e.content e.place new e.place after; place = after; changed = true })
     else record e { message = Some messages.TextFull }
 
--- what stands from start to stop goes; where that is nothing, nothing happens
+-- the bytes from `start` to `stop` are removed; if there are none, nothing changes
 abbrev pub after_removal : Data → Editor → ℕ → ℕ → Editor
 after_removal d e start stop =
     if start == stop
@@ -78,24 +79,24 @@ after_removal d e start stop =
     let after = place_after d e (splice e.content.text start stop []) start in
     record e { content = removed e.content start stop e.place after; place = after; changed = true }
 
--- the latest edit is taken back, with its place
+-- the latest edit is undone, and the cursor returns to its place before it
 abbrev pub after_undo : Editor → List Edit → Editor
 after_undo e [] = record e { message = Some messages.NothingToUndo }
 after_undo e (edit ∷ past) = record e { content = undone e.content; place = edit.before.place; changed = true }
 
--- the next edit is made again, with its place
+-- the next edit is redone, and the cursor goes to its place after it
 abbrev pub after_redo : Editor → List Edit → Editor
 after_redo e [] = record e { message = Some messages.NothingToRedo }
 after_redo e (edit ∷ future) = record e { content = redone e.content; place = edit.after.place; changed = true }
 
--- ---- what is no edit
+-- ---- keys that do not edit
 
 -- a save succeeded, or failed
 abbrev pub after_save : Editor → Bool → Editor
 after_save e true = record e { changed = false; message = Some messages.Saved }
 after_save e false = record e { message = Some messages.SaveFailed }
 
--- the session ends where nothing would be lost, or if the key before was Quit too
+-- the session ends if there are no unsaved changes or the key before was Quit too
 abbrev pub after_quit : Editor → Bool → Editor
 after_quit e again =
     if not e.changed || again
@@ -116,6 +117,6 @@ with_size e height width = record e { height = height; width = width }
 abbrev pub with_place : Editor → ℕ → Editor
 with_place e place = record e { place = place }
 
--- the old message goes, and a Quit before does not count any more
+-- the message is cleared, and an earlier Quit is forgotten
 abbrev pub without_message : Editor → Editor
 without_message e = record e { message = None; quit_before = false }

@@ -1,4 +1,4 @@
--- What each key makes of the editor's state.
+-- The effect of each key on the editor's state.
 use Rattle.std.specs.Prelude.{Bool, true, false, List, [], ◌∷◌, encode_utf8}
 use Rattle.bx_keys.specs.declared.key.Key.{Key}
 use Rattle.bx_keys.specs.declared.key.Key.TheVariants.{Insert, Erase, Delete, Back, Forward, Up, Down, Right, Left, RowHome, RowEnd, PageUp, PageDown}
@@ -11,7 +11,7 @@ use Rattle.bx_ucd.specs.Data.{Data}
 use Rattle.bx_editor.specs.Editor.{Editor, rows, text_height, after_insertion, after_removal, after_undo, after_redo, after_save, after_quit}
 use Rattle.bx_editor.specs.Editor.{next_base, with_base, with_size, with_place, without_message}
 
--- a key but Size, where the old message is gone; `saved` tells how a Save ends, and `again` that the key before was Quit
+-- a key other than Size, once the message is cleared; `saved`: a Save succeeds; `again`: the key before was Quit
 abbrev pub after_pressing : Data → Bool → Bool → Editor → Key → Editor
 after_pressing d saved again e (Insert c) = after_insertion d e (encode_utf8 c)
 after_pressing d saved again e Erase = after_removal d e (step_logical (rows d e) logical.Back e.place) e.place
@@ -34,19 +34,19 @@ after_pressing d saved again e Repaint = e
 after_pressing d saved again e Direction = with_base e (next_base e.base)
 after_pressing d saved again e (Size height width) = e
 
--- a key: all but Size take the old message away first
+-- any key; all but Size clear the message first
 abbrev pub after_key : Data → Bool → Editor → Key → Editor
 after_key d saved e (Size height width) = with_size e height width
 after_key d saved e key = after_pressing d saved e.quit_before (without_message e) key
 
--- keys one after another, each Save with the same end
+-- keys in sequence; all Saves succeed, or all fail
 abbrev pub after_keys : Data → Bool → Editor → List Key → Editor
 after_keys d saved e [] = e
 after_keys d saved e (key ∷ keys) = after_keys d saved (after_key d saved e key) keys
 
 -- ---- kinds of keys
 
--- a key that edits, undoes, redoes or moves: it may need memory to be applied
+-- a key that edits, undoes, redoes or moves: the keys that may run out of memory
 abbrev pub is_edit_or_move : Key → Bool
 is_edit_or_move Save = false
 is_edit_or_move Quit = false
@@ -63,7 +63,7 @@ abbrev pub is_size_key : Key → Bool
 is_size_key (Size height width) = true
 is_size_key _ = false
 
--- a key after which nothing is taken for known of the screen
+-- a key after which the screen's content counts as unknown
 abbrev pub asks_for_whole : Key → Bool
 asks_for_whole Repaint = true
 asks_for_whole (Size height width) = true

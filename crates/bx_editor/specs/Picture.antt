@@ -1,4 +1,4 @@
--- The picture of an editor's state: rows of text from the top on, the status row, and the cursor.
+-- The picture of an editor's state: the text rows from the top on, the status row, and the cursor.
 use Rattle.std.specs.Prelude.{◌≡◌, ℕ, ◌+◌, ◌-◌, ◌*◌, List, ◌++◌, replicate, if◌then◌else◌}
 use Rattle.bx_view.specs.Cells.{HasCell, HasOneSlot}
 use Rattle.bx_view.specs.TextRows.{IsPlace, TextRow, row_of, cell_of}
@@ -14,7 +14,7 @@ use Rattle.bx_editor.specs.Status.{status_columns}
 abbrev pub blank_picture : ℕ → ℕ → PictureState
 blank_picture height width = record { height = height; width = width; columns = replicate (height * width) blank; row = 0; column = 0 }
 
--- the picture of a text of these rows, shown from the row on that the offset `top` falls in
+-- the picture of a text of these rows, from the row of the offset `top` on
 abbrev pub text_picture : Data → Editor → ℕ → List TextRow → PictureState
 text_picture d e top all = record {
   height = e.height;
@@ -24,17 +24,17 @@ text_picture d e top all = record {
   column = cell_of e.width all e.place - 1;
 }
 
--- all is blank once the session has ended
+-- the picture, blank once the session has ended
 abbrev pub picture : Data → Editor → ℕ → PictureState
 picture d e top = if e.ended then blank_picture e.height e.width else text_picture d e top (rows d e)
 
--- the top that shows the cursor's row and is nearest to the old one
+-- the top nearest to the old one that makes the cursor's row visible
 abbrev pub next_top : Data → Editor → ℕ → ℕ
 next_top d e top = if e.ended then top else follow (rows d e) top e.place (text_height e.height)
 
--- The cursor of a picture, whose rows are shown from the row on that the offset `top` falls in, stands on the cell of its
--- place: that is a place of the rows, with one slot in the row that it falls in and a cell there. That row is shown, the
--- cursor is in it, and in the column of that cell.
+-- The cursor of a picture, shown from the row of the offset `top` on, is on the cell of its place. The place is one of the
+-- rows' places, with one slot and one cell, in the row that it falls in. That row is visible, and the cursor is in it, in
+-- the column of the cell.
 pub record StandsOnItsCell (d : Data) (e : Editor) (top : ℕ) (p : PictureState) : Type 0 where
   pub place : IsPlace (rows d e) e.place
   pub slot : HasOneSlot e.width (rows d e) e.place

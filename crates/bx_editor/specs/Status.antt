@@ -1,4 +1,4 @@
--- The status row: whether there are changes, where the cursor stands, and a message.
+-- The status row: whether there are unsaved changes, the cursor's position, and a message.
 use Rattle.std.specs.Prelude.{ℕ, ◌+◌, nat_le, List, [], ◌∷◌, ◌++◌, map, take, replicate, Option, Some, None, codes, decimal}
 use Rattle.std.specs.Prelude.{Bool, false, if◌then◌else◌}
 use Rattle.bx_explicit.specs.declared.base.Base.TheVariants.{Auto, Ltr, Rtl}
@@ -24,17 +24,17 @@ abbrev pub message_part : Option Message → List ℕ
 message_part None = []
 message_part (Some message) = codes " " ++ message_text message
 
--- a star where there are changes, the numbers of a paragraph and of a unit in it, both from 1, and a message
+-- a star if there are unsaved changes, the numbers of a paragraph and of a unit in it, both from 1, and a message
 abbrev pub status_line : Bool → ℕ → ℕ → Option Message → List ℕ
 status_line changed paragraph unit message =
     (if changed then codes "* " else codes "- ") ++ (decimal paragraph ++ (codes ":" ++ (decimal unit ++ message_part message)))
 
--- that of an editor: where the cursor stands
+-- an editor's status line, with the numbers of the cursor's place
 abbrev pub status_text : Data → Editor → List ℕ
 status_text d e =
     status_line e.changed (paragraph_number d.class e.content.text e.place + 1) (unit_number d.class e.width e.content.text e.place) e.message
 
--- a text of characters from SPACE to TILDE, cut or filled up with blanks to the width
+-- a text of characters from SPACE to TILDE, cut or padded with blanks to the width
 abbrev pub text_columns : ℕ → List ℕ → List Col
 text_columns width text = take width (map (λ b. Glyph (b ∷ []) 1 0 false) text ++ replicate width blank)
 

@@ -11,7 +11,7 @@ use bx_ucd::BidiData;
 use bx_view::{Logical, Move};
 
 impl<D: BidiData + Drop> Editor<D> {
-    /// Puts a character in at the place, unless the text has no room for it.
+    /// Inserts a character at the place; if the text is full, sets a message instead.
     pub(crate) fn insert(&mut self, c: char) -> Result<(), OutOfMemory>
         ensures ok { OnOk result (self.new ≡ record self.old {
           editor = after_insertion (D.data self.old.tables) (without_message self.old.editor) (encode_utf8 c);
@@ -31,7 +31,7 @@ impl<D: BidiData + Drop> Editor<D> {
         Ok(())
     }
 
-    /// Takes out what stands from one offset to another, if anything stands there.
+    /// Removes the bytes from `start` to `stop`. An empty range changes no text.
     fn remove(&mut self, start: usize, stop: usize) -> Result<(), OutOfMemory>
         requires range { IsRange self.old.editor.content.text start stop }
         ensures ok { OnOk result (self.new ≡ record self.old {
@@ -51,7 +51,7 @@ impl<D: BidiData + Drop> Editor<D> {
         Ok(())
     }
 
-    /// Takes out the unit before the place, if there is one.
+    /// Removes the unit before the place, if there is one.
     pub(crate) fn erase(&mut self) -> Result<(), OutOfMemory>
         ensures ok { OnOk result (self.new ≡ record self.old {
           editor = after_removal (D.data self.old.tables) (without_message self.old.editor)
@@ -59,7 +59,7 @@ impl<D: BidiData + Drop> Editor<D> {
         }) }
         ensures err { OnErr result (self.new ≡ self.old) }
     {
-        // tells the proof that the text is UTF-8
+        // proof only: the text is UTF-8
         let _utf8 = self.document.len();
         let place = self.place;
         let start = self.document.moved(Move::Logical(Logical::Back), place)?;
@@ -67,7 +67,7 @@ impl<D: BidiData + Drop> Editor<D> {
         Ok(())
     }
 
-    /// Takes out the unit at the place, if there is one.
+    /// Removes the unit at the place, if there is one.
     pub(crate) fn delete(&mut self) -> Result<(), OutOfMemory>
         ensures ok { OnOk result (self.new ≡ record self.old {
           editor = after_removal (D.data self.old.tables) (without_message self.old.editor) self.old.editor.place
@@ -75,7 +75,7 @@ impl<D: BidiData + Drop> Editor<D> {
         }) }
         ensures err { OnErr result (self.new ≡ self.old) }
     {
-        // tells the proof that the text is UTF-8
+        // proof only: the text is UTF-8
         let _utf8 = self.document.len();
         let place = self.place;
         let stop = self.document.moved(Move::Logical(Logical::Forward), place)?;
@@ -83,7 +83,7 @@ impl<D: BidiData + Drop> Editor<D> {
         Ok(())
     }
 
-    /// Takes back the latest edit, if there is one.
+    /// Undoes the latest edit; if there is none, sets a message.
     pub(crate) fn undo(&mut self) -> Result<(), OutOfMemory>
         ensures ok { OnOk result (self.new ≡ record self.old { editor = after_undo (without_message self.old.editor) self.old.editor.content.past }) }
         ensures err { OnErr result (self.new ≡ self.old) }
@@ -99,7 +99,7 @@ impl<D: BidiData + Drop> Editor<D> {
         Ok(())
     }
 
-    /// Makes the next edit again, if there is one.
+    /// Redoes the next edit; if there is none, sets a message.
     pub(crate) fn redo(&mut self) -> Result<(), OutOfMemory>
         ensures ok { OnOk result (self.new ≡ record self.old { editor = after_redo (without_message self.old.editor) self.old.editor.content.future }) }
         ensures err { OnErr result (self.new ≡ self.old) }

@@ -1,4 +1,4 @@
-//! Why a file is not opened.
+//! Errors of opening a file.
 use thiserror::Error;
 
 /// Why a file was not opened.
@@ -7,7 +7,7 @@ pub enum OpenError {
     /// The file has more than 16,777,216 bytes.
     #[error("file too long")]
     TooLong,
-    /// How many bytes at the file's beginning are UTF-8; the next one is not.
+    /// The length in bytes of the longest UTF-8 prefix of the file.
     #[error("not UTF-8 at byte {0}")]
     NotUtf8(usize),
     /// A side of the window is not from 1 to 500.

@@ -1,4 +1,4 @@
-//! What each key does.
+//! The effect of each key.
 ghost use Rattle.std.specs.Prelude.{◌≡◌, Some, true, false, OnErr, OnOk};
 ghost use Rattle.bx_editor.specs.Editor.{after_quit, next_base, with_base, without_message};
 ghost use Rattle.bx_editor.specs.Keys.{after_key, is_edit_or_move, is_save, is_size_key};
@@ -11,7 +11,7 @@ use bx_terms::OutOfMemory;
 use bx_ucd::BidiData;
 use bx_view::{Logical, Move, Vertical, Visual};
 
-/// The direction after one.
+/// The next direction in the cycle Auto, Ltr, Rtl.
 fn next_base(base: Base) -> Base
     ensures { result ≡ next_base base }
 {
@@ -23,7 +23,7 @@ fn next_base(base: Base) -> Base
 }
 
 impl<D: BidiData + Drop> Editor<D> {
-    /// The old message goes, and a Quit before does not count any more.
+    /// Clears the message, and forgets an earlier Quit.
     pub(crate) fn forget(&mut self)
         ensures { self.new ≡ record self.old { editor = without_message self.old.editor } }
     {
@@ -31,7 +31,7 @@ impl<D: BidiData + Drop> Editor<D> {
         self.quit_before = false;
     }
 
-    /// A key that was not Quit has something to say.
+    /// Sets the message of a key other than Quit, and forgets an earlier Quit.
     pub(crate) fn tell(&mut self, message: Message)
         ensures { self.new ≡ record self.old { editor = record (without_message self.old.editor) { message = Some message } } }
     {
@@ -39,7 +39,7 @@ impl<D: BidiData + Drop> Editor<D> {
         self.quit_before = false;
     }
 
-    /// Ends the editor where nothing would be lost, or if the key before was Quit too.
+    /// Ends the editor if there are no unsaved changes or the key before was Quit too; otherwise sets a message.
     fn quit(&mut self)
         ensures { self.new ≡ record self.old { editor = after_quit (without_message self.old.editor) self.old.editor.quit_before } }
     {
@@ -52,7 +52,7 @@ impl<D: BidiData + Drop> Editor<D> {
         self.quit_before = true;
     }
 
-    /// The paragraphs take the next direction.
+    /// Switches the paragraphs to the next base direction.
     fn turn_direction(&mut self)
         ensures { self.new ≡ record self.old { editor = with_base (without_message self.old.editor) (next_base self.old.editor.base) } }
     {
@@ -61,7 +61,7 @@ impl<D: BidiData + Drop> Editor<D> {
         self.tell(Message::Direction(base));
     }
 
-    /// A Save came to its end: it succeeded or failed. No memory.
+    /// Reports the end of a Save, successful or not. No memory.
     pub fn finish_save(&mut self, saved: bool)
         ensures { self.new ≡ record self.old { editor = after_key (D.data self.old.tables) saved self.old.editor Key.Save } }
     {
@@ -73,9 +73,9 @@ impl<D: BidiData + Drop> Editor<D> {
         }
     }
 
-    /// Applies a key that neither saves nor tells a size.
+    /// Applies a key other than Save and Size.
     ///
-    /// Errors: `OutOfMemory`, for a key that edits, undoes, redoes or moves alone: nothing has changed.
+    /// Errors: `OutOfMemory`, only for a key that edits, undoes, redoes or moves, and nothing has changed.
     pub fn apply(&mut self, key: Key) -> Result<(), OutOfMemory>
         requires no_save { is_save key ≡ false }
         requires no_size { is_size_key key ≡ false }

@@ -1,18 +1,18 @@
-//! What holds of editors, whatever their state. The functions do nothing: their contracts are the laws.
+//! Laws of the editor. The functions are empty: their contracts are the laws.
 
 ghost use Rattle.bx_editor.specs.Laws.{RedoMirrorsUndo, TopStays, UndoGivesBack};
 
-/// The top that follows the cursor stays when it follows it once more.
+/// Scrolling to the cursor a second time leaves the top where it is.
 pub fn top_stays()
     ensures { TopStays }
 {}
 
-/// Whatever was typed over an opened text, to undo all of it gives that text.
+/// Undoing everything restores the opened text, whatever was typed.
 pub fn undo_gives_back()
     ensures { UndoGivesBack }
 {}
 
-/// Redo after Undo leaves text, past and future as they were before, and so does Undo after Redo.
+/// Undo then Redo leaves text, past and future unchanged, and so does Redo then Undo.
 pub fn redo_mirrors_undo()
     ensures { RedoMirrorsUndo }
 {}

@@ -1,4 +1,4 @@
-//! The editor: a text, the cursor's place in it and what keys make of them, and the picture that is shown of it.
+//! The editor: a text, the cursor's place, the effect of keys on them, and the picture of the window.
 #![tactic(auto)]
 
 mod editing;

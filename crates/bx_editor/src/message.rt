@@ -1,28 +1,28 @@
-//! What the status row says after a key.
+//! Messages of the status row.
 ghost use Rattle.std.specs.Prelude.{◌≡◌};
 ghost use Rattle.bx_editor.specs.Status.{message_text};
 
 use bx_explicit::Base;
 
-/// What a key has to say.
+/// The message of a key.
 #[derive(Clone, Copy, PartialEq, Eq, Debug)]
 pub enum Message {
-    /// The text is stored.
+    /// The text was saved.
     Saved,
     /// A call of the store failed: what was stored before is still there.
     SaveFailed,
-    /// The text would pass 16,777,216 bytes.
+    /// The text would exceed 16,777,216 bytes.
     TextFull,
     NothingToUndo,
     NothingToRedo,
-    /// Quit was pressed, and there are changes that are not stored.
+    /// Quit was pressed with unsaved changes.
     Unsaved,
-    /// Paragraphs have this direction from here on.
+    /// Paragraphs now have this base direction.
     Direction(Base),
 }
 
 impl Message {
-    /// Its words in the status row.
+    /// The message's text in the status row.
     pub fn text(self) -> &'static str
         ensures { result.now ≡ message_text self }
     {

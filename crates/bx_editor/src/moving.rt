@@ -1,4 +1,4 @@
-//! The keys that move the cursor, and the call that takes it to an offset.
+//! The keys that move the cursor, and the call that moves it to an offset.
 ghost use Rattle.std.specs.Prelude.{◌≡◌, OnErr, OnOk};
 ghost use Rattle.bx_view.specs.Moves.{moved, place_from};
 ghost use Rattle.bx_view.specs.Places.{IsTextPlace};
@@ -11,7 +11,7 @@ use bx_ucd::BidiData;
 use bx_view::Move;
 
 impl<D: BidiData + Drop> Editor<D> {
-    /// The cursor goes to a place.
+    /// Moves the cursor to a place.
     fn stand_at(&mut self, place: usize)
         requires text_place { IsTextPlace (D.data self.old.tables).class self.old.editor.content.text place }
         ensures { self.new ≡ record self.old { editor = with_place (without_message self.old.editor) place } }
@@ -20,8 +20,8 @@ impl<D: BidiData + Drop> Editor<D> {
         self.forget();
     }
 
-    /// The cursor goes to the least place that is not before an offset, in bytes from 0; for an offset past the text's end,
-    /// to the end. The old message goes, as it does with a key that moves.
+    /// Moves the cursor to the first place at or after an offset, in bytes from 0, or to the text's end for an offset past
+    /// it. Clears the message, as a key that moves does.
     ///
     /// Errors: `OutOfMemory`, and nothing has changed.
     pub fn go_to(&mut self, offset: usize) -> Result<(), OutOfMemory>
@@ -36,14 +36,14 @@ impl<D: BidiData + Drop> Editor<D> {
         Ok(())
     }
 
-    /// How many rows a page has: as many as the window shows.
+    /// The number of rows of a page: those that the window shows.
     pub(crate) fn page(&self) -> usize
         ensures { result ≡ text_height self.now.editor.height }
     {
         usize::from(text_height(self.height))
     }
 
-    /// The cursor goes where a move leads.
+    /// Applies a move to the cursor.
     pub(crate) fn moved(&mut self, m: Move) -> Result<(), OutOfMemory>
         ensures ok { OnOk result (self.new ≡ record self.old {
           editor = with_place (without_message self.old.editor)

@@ -1,4 +1,4 @@
-//! A file is opened.
+//! Opening a file.
 ghost use Rattle.std.specs.Prelude.{◌≡◌, ◌<◌, ◌≤◌, true, IfErr, IfOk, IsUtf8, OnOk, length, string_bytes};
 ghost use Rattle.bx_terms.specs.Sizes.{largest_text};
 ghost use Rattle.bx_grid.specs.Picture.{is_size};
@@ -14,7 +14,7 @@ use bx_ucd::BidiData;
 use simdutf8::compat::from_utf8;
 use std::alloc::Global;
 
-/// Bytes as a text, with no copy of them; else how many of the first ones are UTF-8.
+/// Converts bytes to a text without copying them. The error is the length of their longest UTF-8 prefix.
 fn text_of(bytes: Vec<u8>) -> Result<String, usize>
     ensures text { IfOk result (λ t. string_bytes t ≡ bytes.items) }
     ensures utf8 { OnOk result (IsUtf8 bytes.items) }
@@ -24,15 +24,15 @@ fn text_of(bytes: Vec<u8>) -> Result<String, usize>
     if let Err(error) = from_utf8(bytes.as_slice()) {
         return Err(error.valid_up_to());
     }
-    // The bytes are known to be UTF-8 here, and `String::from_utf8` would read them all again.
+    // The bytes are valid UTF-8 here; `String::from_utf8` would check them a second time.
     Ok(unsafe { String::from_utf8_unchecked(bytes) })
 }
 
 impl<D: BidiData + Drop> Editor<D> {
-    /// Opens a file's bytes, with the place at its start. A refusal drops the bytes and the tables.
+    /// Opens a file's bytes with the cursor at their start. An error drops the bytes and the tables.
     ///
-    /// Errors, in this order: `TooLong` above 16,777,216 bytes; `NotUtf8` with the number of the first bytes that are UTF-8;
-    /// `SizeOutOfRange` where a side is not from 1 to 500; `OutOfMemory`.
+    /// Errors, in this order: `TooLong` above 16,777,216 bytes; `NotUtf8` with the length of the longest UTF-8 prefix;
+    /// `SizeOutOfRange` if a side is not from 1 to 500; `OutOfMemory`.
     pub fn open(
         alloc: Global,
         bytes: Vec<u8>,

@@ -14,7 +14,7 @@ use bx_ucd::BidiData;
 use bx_view::Position;
 use std::alloc::Global;
 
-/// How many rows of text a window shows: its last row is for the status, unless it is the only one.
+/// The number of text rows that a window shows: all but the last, which is the status row; a single row is for text.
 pub(crate) fn text_height(height: u16) -> u16
     requires { is_side height ≡ true }
     ensures rows { result ≡ text_height height }
@@ -25,7 +25,7 @@ pub(crate) fn text_height(height: u16) -> u16
 }
 
 impl<D: BidiData + Drop> Editor<D> {
-    /// Puts the status row after the rows of text, where the window has a row for it, by where the cursor stands.
+    /// Draws the status row below the text rows, unless the window has a single row.
     ///
     /// Errors: `OutOfMemory`.
     fn put_status(
@@ -43,7 +43,7 @@ impl<D: BidiData + Drop> Editor<D> {
               ++ status_columns (D.data self.now.tables) self.now.editor;
         }) }
     {
-        // tells the proof how many columns the page has
+        // proof only: the number of the page's columns
         let _columns = page.columns();
         if self.height < 2 {
             return Ok(());
@@ -59,8 +59,8 @@ impl<D: BidiData + Drop> Editor<D> {
         Ok(())
     }
 
-    /// What is shown of the editor where the rows were shown from the offset `top` on: the offset from which on they are
-    /// shown now, and the picture. It is made on a page of the window's size, where rows that stand there already stay.
+    /// Scrolls from the offset `top` to the cursor and draws the window. Returns the offset of the new top row, and the
+    /// picture. `page` is a grid of the window's size to draw on; its rows that are right already are kept.
     ///
     /// Errors: `OutOfMemory`.
     pub fn picture(
@@ -78,18 +78,18 @@ impl<D: BidiData + Drop> Editor<D> {
             → IfOk result (λ shown. StandsOnItsCell (D.data self.old.tables) self.old.editor shown.0 shown.1) }
     {
         let mut page = page;
-        // tells the proof how many columns the page has
+        // proof only: the number of the page's columns
         let _columns = page.columns();
         if self.ended {
             page.blank_rows(0, self.height);
             let cursor = Cell { line: 1, column: 1 };
             return Ok((top, Picture::new(page, cursor)));
         }
-        // tells the proof that the text is UTF-8
+        // proof only: the text is UTF-8
         let _utf8 = self.document.len();
         let count = text_height(self.height);
         let shown = self.document.show(&mut page, top, self.place, count)?;
-        // still as many
+        // proof only: the number is unchanged
         let _columns = page.columns();
         self.put_status(alloc, &mut page, shown.position)?;
         let cursor = Cell {

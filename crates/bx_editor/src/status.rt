@@ -10,7 +10,7 @@ use bx_terms::OutOfMemory;
 use itoa::Buffer;
 use std::alloc::{AllocError, Global};
 
-/// The text of the status row.
+/// Writes the text of the status row.
 fn write_line(
     alloc: Global,
     changed: bool,
@@ -33,10 +33,10 @@ fn write_line(
     Ok(line)
 }
 
-/// The text of the status row: a star where there are changes, the numbers of the cursor's paragraph and of its unit there,
-/// both from 1, and a message.
+/// The text of the status row: a star if there are unsaved changes, else a hyphen; the numbers of the cursor's paragraph
+/// and of its unit in it, both from 1; and a message.
 ///
-/// Errors: want of memory.
+/// Errors: `AllocError`.
 pub(crate) fn status_line(
     alloc: Global,
     changed: bool,
@@ -51,7 +51,7 @@ pub(crate) fn status_line(
     Ok(line)
 }
 
-/// The first characters of a text of characters from SPACE to TILDE, at most `width`.
+/// Cuts a text of characters from SPACE to TILDE to `width` characters.
 fn cut(text: &str, width: usize) -> &str
     requires printable { are_ascii_printable text.now ≡ true }
     ensures cut { result.now ≡ take width text.now }
@@ -61,7 +61,7 @@ fn cut(text: &str, width: usize) -> &str
     &text[..text.len().min(width)]
 }
 
-/// A row of `width` columns that begins with a text of characters from SPACE to TILDE, which is cut where it is longer.
+/// Draws a text of characters from SPACE to TILDE into a row of `width` columns, and cuts a longer one.
 ///
 /// Errors: `OutOfMemory`.
 pub(crate) fn status_row(alloc: Global, text: &str, width: u16) -> Result<OwnedRow, OutOfMemory>
