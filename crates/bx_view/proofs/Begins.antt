@@ -1,4 +1,4 @@
--- Where a paragraph begins, a text is cut into what stands before it and what has the paragraphs from there on.
+-- A paragraph's start cuts a text into the bytes before it and a text of the paragraphs from it on.
 use Rattle.std.proofs.Common.{◌≡◌, ℕ, ◌+◌, ◌-◌, ◌<◌, ◌≤◌, true, List, [], ◌∷◌, ◌++◌, map, length, take, drop, chars, encode_utf8_all, IsUtf8}
 use Rattle.std.proofs.Common.{IsCharBoundary, refl, sym, ap, subst, ◌∙◌, arith, length-append}
 use Rattle.std.proofs.lemmas.List.{append_cancel_right, drop-drop, drop-take, drop_at, map-append, take-append-drop, take-take}

@@ -1,4 +1,4 @@
--- The rows of a body begin at its begin, and then at units further on in it.
+-- The first row of a body begins at the body's start, the others at later units.
 use Rattle.std.proofs.Common.{◌≡◌, ℕ, zero, suc, ◌+◌, ◌-◌, ◌<◌, ◌≤◌, Bool, true, List, [], ◌∷◌, map, length, drop, Option, IsUtf8, refl}
 use Rattle.std.proofs.Common.{sym, ap, subst, ◌∙◌, arith, length-append, drop-drop}
 use Rattle.std.specs.List.{concat}

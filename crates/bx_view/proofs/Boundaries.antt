@@ -1,4 +1,4 @@
--- Places of a text are boundaries of its characters, and so is each place that a call answers.
+-- Places of a text are character boundaries, and so is each place that a call returns.
 use Rattle.std.proofs.Common.{◌≡◌, ℕ, suc, ◌+◌, ◌<◌, ◌≤◌, true, List, [], ◌∷◌, ◌++◌, map, length, drop}
 use Rattle.std.proofs.Common.{get_or, Option, IsUtf8, IsCharBoundary, refl, sym, ap, subst, ◌∙◌}
 use Rattle.std.proofs.Common.{arith, append_assoc, length-append}

@@ -1,4 +1,4 @@
--- Characters that are cut where a paragraph begins: each part has its own paragraphs.
+-- A cut at a paragraph's start: each part has its own paragraphs.
 use Rattle.std.proofs.Common.{◌≡◌, ◌<◌, ◌∙◌, ℕ, Bool, true, false, List, [], ◌∷◌, ◌++◌, length, encode_utf8, encode_utf8_all, refl, ap, sym, arith}
 use Rattle.std.specs.List.{list_any}
 use Rattle.std.proofs.lemmas.Bool.Decides.{nat_tests}

@@ -1,5 +1,5 @@
--- A place that is asked for among all of a text is in the row of an offset, or it is the next row's first or the last of the row
--- before.
+-- A place searched in the whole text is in the row of the offset, or it is the first of the next row or the last of the
+-- previous one.
 use Rattle.std.proofs.Common.{◌≡◌, ℕ, zero, suc, ◌+◌, ◌-◌, ◌<◌, ◌≤◌, nat_le, nat_lt, cond, Bool, true, false, List, [], ◌∷◌, ◌++◌, map, length, take, drop}
 use Rattle.std.proofs.Common.{reverse, find, Option, Some, None, option_map, unwrap_or, refl, sym, ap, subst, ◌∙◌, arith, append-nil, ⊎_elim}
 use Rattle.std.specs.Option.{option_or}

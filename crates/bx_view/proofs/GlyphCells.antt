@@ -1,4 +1,4 @@
--- The cell of a place is the column in which the glyphs of its unit begin.
+-- The cell of a place is the column at which the glyphs of its unit begin.
 use Rattle.std.proofs.Common.{◌≡◌, ◌⊎◌, inl, inr, ℕ, zero, suc, ◌+◌, ◌-◌, ◌%◌, ◌<◌, ◌≤◌, ◌==◌, Bool, true, false, List, [], ◌∷◌, ◌++◌, map}
 use Rattle.std.proofs.Common.{length, replicate, get_or}
 use Rattle.std.proofs.Common.{cond, find, Option, Some, option_map, unwrap_or, chars, IsUtf8, refl, sym, ap, subst, ◌∙◌, arith}

@@ -1,5 +1,5 @@
--- The first place of a body that is not before an offset is in the row of that offset, or it is the next row's first or the last
--- of the row.
+-- The first place of a body at or after an offset is in the offset's row, or it is the next row's first or the last of the
+-- row.
 use Rattle.std.proofs.Common.{◌≡◌, ℕ, ◌+◌, ◌<◌, ◌≤◌, nat_le, List, [], ◌∷◌, map, length, find, Option, Some, None, IsUtf8, refl}
 use Rattle.std.proofs.Common.{sym, ap, subst, ◌∙◌, arith, length-append}
 use Rattle.std.proofs.lemmas.List.{get_or-map, length-map}

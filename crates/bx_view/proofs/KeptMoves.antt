@@ -1,4 +1,4 @@
--- Each move leads from an offset that passes to one that does, where the places of all rows pass.
+-- Each move leads from an offset with a property to one with it, if the places of all rows have it.
 use Rattle.std.proofs.Common.{ℕ, zero, suc, ◌+◌, ◌-◌, ◌<◌, ◌==◌, nat_le, nat_lt, Bool, true, false, List, [], ◌∷◌, map, length, find}
 use Rattle.std.proofs.Common.{reverse, slice_get, Option, Some, None, unwrap_or}
 use Rattle.std.proofs.Common.{arith}

@@ -1,4 +1,4 @@
--- The top moves by the least number of rows that shows the row of the place.
+-- The top moves by the fewest rows that make the place's row visible.
 use Rattle.std.proofs.Common.{◌≡◌, ℕ, ◌+◌, ◌<◌, ◌≤◌, List, length, map, get_or, Option, IsUtf8, ap, ◌∙◌, ⊎_elim, arith}
 use Rattle.std.specs.Int.{abs_diff}
 use Rattle.std.proofs.lemmas.Bool.{cases_lt}

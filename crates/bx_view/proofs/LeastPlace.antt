@@ -1,4 +1,4 @@
--- The least place of a text that is not before an offset, by a part of the text that begins and ends where paragraphs do.
+-- The first place of a text at or after an offset, from a part of the text that starts and ends at paragraph boundaries.
 use Rattle.std.proofs.Common.{◌≡◌, ℕ, ◌+◌, ◌-◌, ◌<◌, ◌≤◌, nat_le, cond, Bool, true, false, List, [], ◌∷◌, ◌++◌, map, length, chars, find, unwrap_or, Option}
 use Rattle.std.proofs.Common.{Some, None, IsUtf8, refl, sym, ap, subst, ◌∙◌, arith, length-append, ⊎_elim}
 use Rattle.std.specs.Prelude.{flat_map}

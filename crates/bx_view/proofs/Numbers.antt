@@ -1,4 +1,4 @@
--- What the index tells of a paragraph by its number: where it begins, its body, and which offsets fall in it.
+-- A paragraph by its number, from the index: its start, its body, and the offsets that fall in it.
 use Rattle.std.proofs.Common.{◌≡◌, ℕ, zero, suc, ◌+◌, ◌-◌, ◌<◌, ◌≤◌, nat_le, cond, true, false, List, [], ◌∷◌, ◌++◌, map, length, take, drop, get_or}
 use Rattle.std.proofs.Common.{slice_get, slice_range, count_by, Option, Some, IsUtf8, IsCharBoundary, refl, sym, ap, subst, ◌∙◌, arith, ⊎_elim}
 use Rattle.std.proofs.Common.{append_assoc, length-append, length-drop}

@@ -1,4 +1,4 @@
--- Each place stands once in the slots of the row that it falls in, and in those of no other row.
+-- Each place occurs once in the slots of the row that it falls in, and in no other row's slots.
 use Rattle.std.proofs.Common.{◌≡◌, ◌≢◌, ℕ, zero, suc, ◌+◌, ◌<◌, ◌≤◌, ◌==◌, Bool, true, false, List, [], ◌∷◌, ◌++◌, map, length}
 use Rattle.std.proofs.Common.{cond, sum_by, Option, IsUtf8, refl, sym, ap, subst, ◌∙◌, arith, ⊎_elim, ne_eqb}
 use Rattle.std.specs.Prelude.{Contains}

@@ -1,4 +1,4 @@
--- The paragraphs of a text: together they are the text, each is UTF-8, and all but the last end with a separator.
+-- The paragraphs of a text: joined they are the text, each is UTF-8, and all but the last end with a separator.
 use Rattle.std.proofs.Common.{◌≡◌, ℕ, ◌<◌, ◌==◌, ◌&&◌, Bool, true, false, List, [], ◌∷◌, ◌++◌, length, chars, encode_utf8, encode_utf8_all, IsUtf8, refl}
 use Rattle.std.proofs.Common.{sym, ap, subst, ◌∙◌, arith, rules, append_assoc, length-append}
 use Rattle.std.proofs.lemmas.Bool.Decides.{nat_tests}

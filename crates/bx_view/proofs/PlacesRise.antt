@@ -1,5 +1,5 @@
--- The places of a text rise strictly, from row to row and from paragraph to paragraph, and each row has its first offset as its
--- first place.
+-- The places of a text strictly increase, from row to row and from paragraph to paragraph, and each row's first place is
+-- its first offset.
 use Rattle.std.proofs.Common.{◌≡◌, ℕ, zero, suc, ◌+◌, ◌-◌, ◌<◌, ◌≤◌, Bool, true, false, List, [], ◌∷◌, ◌++◌, map, length, take, drop, Option, IsUtf8}
 use Rattle.std.proofs.Common.{refl, sym, ap, subst, ◌∙◌, arith, append-nil, append_assoc}
 use Rattle.std.specs.Prelude.{chars, flat_map}

@@ -1,4 +1,4 @@
--- Offsets that rise, and how many of them are at an offset or before it.
+-- Increasing offsets, and the number of them at or before an offset.
 use Rattle.std.proofs.Common.{◌≡◌, ℕ, zero, suc, ◌+◌, ◌<◌, ◌≤◌, nat_le, cond, true, false, List, [], ◌∷◌, ◌++◌, length, map, count_by, get_or, refl}
 use Rattle.std.proofs.Common.{ap, ◌∙◌, arith, ⊎_elim}
 use Rattle.std.proofs.lemmas.Bool.{cases_lt}

@@ -1,4 +1,4 @@
--- What is found in the row of an offset, and in the rows beside it, tells the place that a call is asked for.
+-- The place that a call returns, from the row of an offset and the rows beside it.
 use Rattle.std.proofs.Common.{◌≡◌, ℕ, ◌+◌, ◌-◌, ◌<◌, ◌≤◌, nat_le, nat_lt, List, length, map, find, reverse, Option, Some, None, unwrap_or, IsUtf8}
 use Rattle.std.proofs.Common.{sym, ap, ◌∙◌, arith}
 use Rattle.bx_ucd.specs.declared.class.Class.{Class}

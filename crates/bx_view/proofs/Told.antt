@@ -1,4 +1,4 @@
--- What the rows of a paragraph that is held tell of the rows of the text.
+-- The rows of a held paragraph as rows of the text.
 use Rattle.std.proofs.Common.{◌≡◌, ℕ, ◌+◌, ◌-◌, ◌<◌, ◌≤◌, Bool, true, List, length}
 use Rattle.std.proofs.Common.{reverse, find, get_or, nat_le, Option, Some, None, option_map, IsUtf8, IsCharBoundary}
 use Rattle.std.proofs.Common.{sym, ap, ap₂, subst, ◌∙◌, arith, leb-true}
@@ -85,7 +85,7 @@ module _ (class : ℕ → Class) (bracket : ℕ → Option (Side × ℕ)) where
         ∙ ap (λ rs. text_row (start_at class text at.paragraph) (row_at_body rs at.row)) (sym is.rows_are)
         ∙ ap (λ s. text_row s (row_by class bracket l at.row)) (sym on.start_is)
 
-    -- what is said of it is said of row `n`
+    -- its properties are those of row `n`
     pub told : {A : Type 0} (F : TextRow → A) → F (text_row at.start (row_by class bracket l at.row)) ≡ F (row_at (of v text) n)
     told F = sym (ap F row-told)
 

@@ -1,4 +1,4 @@
--- The top of the rows that are shown, found row by row from the cursor's row up.
+-- The top visible row, found row by row from the cursor's row up.
 use Rattle.std.proofs.Common.{◌≡◌, ℕ, zero, suc, ◌+◌, ◌-◌, ◌<◌, ◌≤◌, List, length, min, Option, IsUtf8, ap, sym, ◌∙◌, arith, ⊎_elim}
 use Rattle.std.proofs.lemmas.Bool.{cases_lt}
 use Rattle.bx_ucd.specs.declared.class.Class.{Class}

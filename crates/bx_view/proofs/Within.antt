@@ -1,4 +1,4 @@
--- What all boundaries of a body's characters are, the offsets of its rows' places are.
+-- A property of all character boundaries of a body holds at the offsets of its rows' places.
 use Rattle.std.proofs.Common.{◌≡◌, ℕ, zero, suc, ◌+◌, ◌≤◌, ◌<◌, ◌%◌, ◌==◌, cond, Bool, true, false, List, [], ◌∷◌, ◌++◌, map, length, reverse, get_or, find}
 use Rattle.std.proofs.Common.{Option, Some, None, option_map, chars, IsUtf8, IsCharBoundary, refl, sym, ap, subst, arith}
 use Rattle.std.specs.Prelude.{All}

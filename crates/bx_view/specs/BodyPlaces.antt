@@ -2,10 +2,10 @@
 use Rattle.std.specs.Prelude.{ℕ, nat_le, List, find, flat_map, unwrap_or}
 use Rattle.bx_paragraph.specs.BodyRows.{BodyRow, last_offset, offsets_of}
 
--- the places of a body in order: where each unit begins, and its end
+-- the places of a body in order: the start of each unit, and the body's end
 abbrev pub body_places : List BodyRow → List ℕ
 body_places rows = flat_map offsets_of rows
 
--- the least of them that is not before an offset, or the last
+-- the first of them at or after an offset, or the last
 abbrev pub place_in_body : List BodyRow → ℕ → ℕ
 place_in_body rows offset = unwrap_or (find (nat_le offset) (body_places rows)) (last_offset (body_places rows))

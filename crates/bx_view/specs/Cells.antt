@@ -1,4 +1,4 @@
--- Where a place stands: in one slot of one row, in the column in which the glyphs of its unit begin.
+-- The cell of a place: one slot of one row, in the column at which the glyphs of its unit begin.
 use Rattle.std.specs.Prelude.{◌≡◌, ◌≢◌, ◌⊎◌, ℕ, zero, suc, ◌+◌, ◌-◌, ◌%◌, ◌<◌, ◌==◌, true, List, [], ◌∷◌, ◌++◌, length, count_by, sum_by, flat_map, replicate}
 use Rattle.std.specs.Prelude.{slice_index_or, Contains, HoldsAt, MatchOption, Option}
 use Rattle.bx_ucd.specs.declared.class.Class.{Class}
@@ -9,27 +9,27 @@ use Rattle.bx_paragraph.specs.Slots.{AreReordered, end_column}
 use Rattle.bx_view.specs.Moves.{entry_in}
 use Rattle.bx_view.specs.TextRows.{IsPlace, TextRow, cell_of, places_of, row_at, row_of, slots, text_row_glyphs}
 
--- how often an offset stands among some
+-- how often an offset occurs in a list
 abbrev pub times : ℕ → List ℕ → ℕ
 times offset offsets = count_by (λ o. o == offset) offsets
 
--- a place has one slot in the row that it falls in, and none in any other
+-- a place has one slot in the row that it falls in, and none in any other row
 pub record HasOneSlot (w : ℕ) (rows : List TextRow) (place : ℕ) : Type 0 where
   pub row : row_of rows place < length rows
   pub once : times place (slots w (row_at rows (row_of rows place))) ≡ 1
   pub elsewhere : (k : ℕ) → k < length rows → k ≢ row_of rows place → times place (slots w (row_at rows k)) ≡ 0
 
--- the glyphs that a row shows for its unit of a number
+-- the glyphs of a row's unit `number`
 abbrev pub glyphs_of : (ℕ → Class) → (ℕ → Option ℕ) → ℕ → BodyRow → ℕ → List Glyph
 glyphs_of class mirror w r number = slice_index_or (unit_glyphs class mirror w r.body r.units (unit_columns w 0 r.units) r.levels) number []
 
--- what a row shows left of a unit that has these left of it: its blanks in a paragraph of odd level, and the glyphs of these
+-- the glyphs of a row left of a unit: its blanks in a paragraph of odd level, then the glyphs of the units `numbers`
 abbrev pub glyphs_before : (ℕ → Class) → (ℕ → Option ℕ) → ℕ → BodyRow → List ℕ → List Glyph
 glyphs_before class mirror w r numbers =
     elim (r.paragraph % 2) [ zero ↦ [] | suc _ ↦ replicate (w - columns_used w r.units) blank ] ++ flat_map (glyphs_of class mirror w r) numbers
 
--- A unit of the row begins at the place, and its glyphs in the column: that is the next one after all that the row shows left of
--- them, which is the glyphs of the units before it in visual order.
+-- A unit of the row begins at the place, and its glyphs begin at the column: the first one after the row's blanks and the
+-- glyphs of the units before it in visual order.
 pub record IsUnitCell (class : ℕ → Class) (mirror : ℕ → Option ℕ) (w : ℕ) (r : TextRow) (place column : ℕ) : Type 0 where
   pub number : ℕ
   pub within : number < length r.row.units
@@ -41,23 +41,23 @@ pub record IsUnitCell (class : ℕ → Class) (mirror : ℕ → Option ℕ) (w :
   pub shown : text_row_glyphs class mirror w r ≡ glyphs_before class mirror w r.row before ++ (glyphs_of class mirror w r.row number ++ rest)
   pub column_is : column ≡ sum_by (λ g. g.columns) (glyphs_before class mirror w r.row before) + 1
 
--- the place is the end of the paragraph, and in the column its slot stands beside all units
+-- the place is the paragraph's end, and the column is that of the slot past all units
 pub record IsEndCell (w : ℕ) (r : TextRow) (place column : ℕ) : Type 0 where
   pub last : r.row.is_last ≡ true
   pub place_is : place ≡ r.start + length r.row.body
   pub column_is : column ≡ end_column w r.row
 
--- the cell of a place in its row, whatever mirrors are shown
+-- the cell of a place in its row, whatever the mirrors
 abbrev pub HasCell : (ℕ → Class) → ℕ → List TextRow → ℕ → Type 0
 HasCell class w rows place =
     let r = row_at rows (row_of rows place) in
     let column = cell_of w rows place in (mirror : ℕ → Option ℕ) → IsUnitCell class mirror w r place column ⊎ IsEndCell w r place column
 
--- a row is entered, in whatever column, at one of its places
+-- a row is entered at one of its places, in every column
 abbrev pub IsEntered : ℕ → TextRow → Type 0
 IsEntered w r = (column : ℕ) → MatchOption (entry_in w r column) ⊥ (Contains (places_of r))
 
--- the slots of each row are its places, at one of which it is entered, and each place has one slot, in whose column it stands
+-- the slots of each row are its places reordered, each row is entered at a place, and each place has one slot and its cell
 pub record HasCells (class : ℕ → Class) (w : ℕ) (rows : List TextRow) : Type 0 where
   pub slots : (k : ℕ) → k < length rows → AreReordered (slots w (row_at rows k)) (places_of (row_at rows k))
   pub entered : (k : ℕ) → k < length rows → IsEntered w (row_at rows k)

@@ -1,4 +1,4 @@
--- What a layout of a text is seen as: some paragraphs, laid out under its base direction, in its columns or in those that it had before.
+-- The model of a text's layout: held paragraphs, laid out under its base direction, for its width or an earlier one.
 use Rattle.std.specs.Prelude.{◌≡◌, ℕ, ◌<◌, true, List, length, All, HoldsAt, Option}
 use Rattle.bx_terms.specs.Sizes.{is_side}
 use Rattle.bx_ucd.specs.declared.class.Class.{Class}
@@ -12,27 +12,27 @@ pub record ViewState : Type 0 where
   pub w : ℕ
   pub held : List LayoutState
 
--- a paragraph laid out under a base direction, in any columns, by some data
+-- a paragraph laid out by the data, under a base direction, in any width
 pub record IsHeld (class : ℕ → Class) (bracket : ℕ → Option (Side × ℕ)) (base : Base) (l : LayoutState) : Type 0 where
   pub base_is : l.base ≡ base
   pub rows : IsLayoutBy class bracket l
 
--- all that is held is by some data
+-- all held paragraphs are laid out by the data
 abbrev pub IsViewBy : (ℕ → Class) → (ℕ → Option (Side × ℕ)) → ViewState → Type 0
 IsViewBy class bracket v = All (IsHeld class bracket v.base) v.held
 
--- what is held changed, and nothing else: it is still by the data
+-- only the held paragraphs changed, and they are still laid out by the data
 pub record Keeps (class : ℕ → Class) (bracket : ℕ → Option (Side × ℕ)) (old new : ViewState) : Type 0 where
   pub base : new.base ≡ old.base
   pub w : new.w ≡ old.w
   pub held : IsViewBy class bracket new
 
--- number `i` of those that are held has this body
+-- the held paragraph at index `i` has this body
 pub record HasBody (body : List ℕ) (held : List LayoutState) (i : ℕ) : Type 0 where
   pub within : i < length held
   pub body_is : HoldsAt (λ l. l.body ≡ body) held i
 
--- number `i` of those that are held has this body, in `w` columns
+-- the held paragraph at index `i` has this body, in `w` columns
 pub record HoldsBody (body : List ℕ) (w : ℕ) (held : List LayoutState) (i : ℕ) : Type 0 where
   pub within : i < length held
   pub body_is : HoldsAt (λ l. l.body ≡ body) held i

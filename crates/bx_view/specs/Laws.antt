@@ -1,4 +1,4 @@
--- What holds of the places of every text, in every window.
+-- Laws of the places of every text, in every window.
 use Rattle.std.specs.Prelude.{◌≡◌, ℕ, ◌+◌, ◌-◌, ◌<◌, ◌≤◌, true, List, length, slice_get, Option, Some, IfSome, All, IsUtf8, IsCharBoundary}
 use Rattle.std.specs.Int.{abs_diff}
 use Rattle.std.specs.List.{concat}
@@ -16,14 +16,14 @@ use Rattle.bx_view.specs.Places.{pieces, text_places}
 use Rattle.bx_view.specs.TextRows.{TextRow, row_at, row_of, text_rows}
 use Rattle.bx_view.specs.Top.{follow}
 
--- what is true of the rows of every text, in every window and direction
+-- a property of the rows of every text, in every window and direction
 abbrev pub InEachWindow : ((ℕ → Class) → List ℕ → ℕ → List TextRow → Type 0) → Type 0
 InEachWindow P =
     (class : ℕ → Class) (bracket : ℕ → Option (Side × ℕ)) (base : Base) (w : ℕ) (text : List ℕ) → is_side w ≡ true → IsUtf8 text
     → P class text w (text_rows class bracket base w text)
 
--- The pieces of a text together are the text. Its places lie between characters and rise strictly, the first is the text's
--- begin and the last its end.
+-- The pieces of a text joined are the text. Its places are character boundaries and strictly increase from the text's
+-- start to its end.
 pub record SpansText (class : ℕ → Class) (text : List ℕ) : Type 0 where
   pub whole : concat (pieces class text) ≡ text
   pub first : slice_get (text_places class text) 0 ≡ Some 0
@@ -31,7 +31,7 @@ pub record SpansText (class : ℕ → Class) (text : List ℕ) : Type 0 where
   pub rise : IsStrictlyIncreasing (text_places class text)
   pub between : All (IsCharBoundary text) (text_places class text)
 
--- each move leads from an offset that passes to one that does
+-- each move leads from an offset with the property `P` to one with it
 pub record MovesKeep (w : ℕ) (rows : List TextRow) (P : ℕ → Type 0) : Type 0 where
   pub from : (offset : ℕ) → P (place_from rows offset)
   pub moved : (m : Move) (place : ℕ) → P place → P (moved w rows m place)
@@ -44,12 +44,12 @@ pub record MovesKeep (w : ℕ) (rows : List TextRow) (P : ℕ → Type 0) : Type
   pub end : (offset : ℕ) → P (row_end rows offset)
   pub top : (top place t : ℕ) → 0 < t → P (follow rows top place t)
 
--- the row of a place is among the `t` that are shown from row number `k` on
+-- the row of a place is one of the `t` rows from row `k` on
 abbrev pub IsShownFrom : List TextRow → ℕ → ℕ → ℕ → Type 0
 IsShownFrom rows place t k = (k ≤ row_of rows place) × (row_of rows place < k + t)
 
--- The new top shows the row of the place. Of all rows from which it is shown, the new top's is nearest to the old top's. To
--- follow the place once more leaves the top.
+-- The new top makes the place's row visible, and no top that does is nearer to the old one. Following the place a second
+-- time leaves the top.
 pub record MovesLeast (rows : List TextRow) : Type 0 where
   pub shows : (top place t : ℕ) → 0 < t → IsShownFrom rows place t (row_of rows (follow rows top place t))
   pub nearest : (top place t k : ℕ) → 0 < t → IsShownFrom rows place t k

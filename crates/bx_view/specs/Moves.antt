@@ -12,16 +12,16 @@ use Rattle.bx_view.specs.declared.moves.Vertical.{Vertical}
 use Rattle.bx_view.specs.declared.moves.Vertical.TheVariants.{Up, Down}
 use Rattle.bx_view.specs.TextRows.{TextRow, cell_of, first, places, row_at, row_of}
 
--- the least place not before an offset, or the last place
+-- the first place at or after an offset, or the last place
 abbrev pub place_from : List TextRow → ℕ → ℕ
 place_from rows offset = unwrap_or (find (nat_le offset) (places rows)) (last_offset (places rows))
 
--- Forward and Back: the place after and before; at the text's ends the place itself
+-- Forward and Back: the next and the previous place; at the text's ends the place itself
 abbrev pub step_logical : List TextRow → Logical → ℕ → ℕ
 step_logical rows Forward place = unwrap_or (find (nat_lt place) (places rows)) place
 step_logical rows Back place = unwrap_or (find (λ p. nat_lt p place) (reverse (places rows))) place
 
--- the place that an offset of a row's body is
+-- the place at an offset of a row's body
 abbrev pub place_in : TextRow → Option ℕ → Option ℕ
 place_in r offset = option_map (λ o. r.start + o) offset
 
@@ -42,30 +42,30 @@ abbrev pub row_before : List TextRow → ℕ → Option TextRow
 row_before rows zero = None
 row_before rows (suc k) = slice_get rows k
 
--- past the last slot of row `k` on a side: at its reading end the next row's reading start, at its reading start the reading
--- end of the row before
+-- past the last slot of row `k` on a side: from its reading end to the next row's reading start, from its reading start to
+-- the previous row's reading end
 abbrev pub past : ℕ → List TextRow → Visual → ℕ → Option ℕ
 past w rows side k = elim (reads_on side (row_at rows k).row) [ true ↦ start_of w (row_after rows k) | false ↦ end_of w (row_before rows k) ]
 
--- Right and Left: the next slot of the row to that side, or past its last slot; where there is no row, the place itself
+-- Right and Left: the next slot of the row on that side, or past its last slot; if there is no row, the place itself
 abbrev pub step_visual : ℕ → List TextRow → Visual → ℕ → ℕ
 step_visual w rows side place =
     let k = row_of rows place in
     let r = row_at rows k in
     unwrap_or (or_else (place_in r (beside w r.row side (place - r.start))) (past w rows side k)) place
 
--- the place where a row is entered in a column
+-- the place at which a row is entered in a column
 abbrev pub entry_in : ℕ → TextRow → ℕ → Option ℕ
 entry_in w r column = place_in r (entry w r.row column)
 
--- from a place to row `k`; where that is its own row, it stays
+-- from a place to row `k`; in its own row, the place itself
 abbrev pub to_row : ℕ → List TextRow → ℕ → ℕ → ℕ
 to_row w rows place k = elim (k == row_of rows place) [
   | true ↦ place
   | false ↦ unwrap_or (entry_in w (row_at rows k) (cell_of w rows place)) place
 ]
 
--- the number of the row that is `n` rows above or below row `k` of `count` rows, at most the first or the last
+-- the number of the row `n` rows above or below row `k` of `count` rows, at most the first or the last
 abbrev pub row_away : ℕ → Vertical → ℕ → ℕ → ℕ
 row_away count Up n k = k - n
 row_away count Down n k = min (k + n) (count - 1)
@@ -74,11 +74,11 @@ row_away count Down n k = min (k + n) (count - 1)
 abbrev pub rows_away : ℕ → List TextRow → Vertical → ℕ → ℕ → ℕ
 rows_away w rows way n place = to_row w rows place (row_away (length rows) way n (row_of rows place))
 
--- Up and Down: the row before or after
+-- Up and Down: the previous or the next row
 abbrev pub vertical : ℕ → List TextRow → Vertical → ℕ → ℕ
 vertical w rows way place = rows_away w rows way 1 place
 
--- PageUp and PageDown: as many rows as are shown
+-- PageUp and PageDown: `t` rows, the number of visible ones
 abbrev pub page : ℕ → List TextRow → Vertical → ℕ → ℕ → ℕ
 page w rows way t place = rows_away w rows way t place
 
@@ -86,7 +86,7 @@ page w rows way t place = rows_away w rows way t place
 abbrev pub row_home : List TextRow → ℕ → ℕ
 row_home rows place = first (row_at rows (row_of rows place))
 
--- RowEnd: the paragraph's end in its last row, else the place before the row's last unit
+-- RowEnd: the paragraph's end in its last row, else the start of the row's last unit
 abbrev pub row_end : List TextRow → ℕ → ℕ
 row_end rows place = let r = row_at rows (row_of rows place) in r.start + last_of r.row
 
@@ -98,7 +98,7 @@ moved w rows (moves.Rows way n) place = rows_away w rows way n place
 moved w rows moves.RowHome place = row_home rows place
 moved w rows moves.RowEnd place = row_end rows place
 
--- a move to an end of the row: it leads to a place from any offset
+-- the moves to an end of the row, which lead to a place from any offset
 abbrev pub is_to_row_end : Move → Bool
 is_to_row_end moves.RowHome = true
 is_to_row_end moves.RowEnd = true

@@ -1,4 +1,4 @@
--- The numbers of a place: of its paragraph, and of its unit there.
+-- The numbers of a place's paragraph, and of its unit in the paragraph.
 use Rattle.std.specs.Prelude.{ℕ, ◌+◌, nat_lt, List, [], count_by, map, slice_index_or}
 use Rattle.bx_ucd.specs.declared.class.Class.{Class}
 use Rattle.bx_paras.specs.Paragraphs.{lengths_of, paragraphs}
@@ -9,7 +9,7 @@ use Rattle.bx_cells.specs.Units.{units}
 abbrev pub paragraph_number : (ℕ → Class) → List ℕ → ℕ → ℕ
 paragraph_number class text offset = paragraph_of (map lengths_of (paragraphs class text)) offset
 
--- how many units of a body that begins at the offset `start` begin before a place
+-- the number of units that begin before a place, in a body that begins at the offset `start`
 abbrev pub units_before : (ℕ → Class) → ℕ → ℕ → ℕ → List ℕ → ℕ
 units_before class width start place body = count_by (λ u. nat_lt (start + u.start) place) (units class width body)
 

@@ -1,10 +1,10 @@
--- The places of a text by its paragraphs and their clusters alone: with no window, no direction and no rows.
+-- The places of a text, from its paragraphs and clusters alone: without window, direction and rows.
 use Rattle.std.specs.Prelude.{ℕ, ◌+◌, true, List, [], ◌∷◌, ◌++◌, length, flat_map, Contains}
 use Rattle.unicode_segmentation.specs.Grapheme.{graphemes}
 use Rattle.bx_ucd.specs.declared.class.Class.{Class}
 use Rattle.bx_paras.specs.Paragraphs.{Paragraph, paragraphs}
 
--- bytes as one piece, if there are any
+-- bytes as one piece; no piece, if there are none
 abbrev pub one_piece : List ℕ → List (List ℕ)
 one_piece [] = []
 one_piece (b ∷ bs) = (b ∷ bs) ∷ []
@@ -17,7 +17,7 @@ pieces_of p = graphemes true p.body ++ one_piece p.separator
 abbrev pub pieces : (ℕ → Class) → List ℕ → List (List ℕ)
 pieces class text = flat_map pieces_of (paragraphs class text)
 
--- where pieces begin and where the last ends, the first of them beginning at the offset `start`
+-- the start of each piece and the end of the last; the first begins at the offset `start`
 abbrev pub boundaries : ℕ → List (List ℕ) → List ℕ
 boundaries start [] = start ∷ []
 boundaries start (p ∷ ps) = start ∷ boundaries (start + length p) ps
@@ -26,6 +26,6 @@ boundaries start (p ∷ ps) = start ∷ boundaries (start + length p) ps
 abbrev pub text_places : (ℕ → Class) → List ℕ → List ℕ
 text_places class text = boundaries 0 (pieces class text)
 
--- an offset is a place of the text, in whatever window
+-- an offset is a place of the text, in any window
 abbrev pub IsTextPlace : (ℕ → Class) → List ℕ → ℕ → Type 0
 IsTextPlace class text offset = Contains (text_places class text) offset

@@ -1,11 +1,11 @@
--- Where a place stands: the column of its cell, and its numbers.
+-- The position of a place: the column of its cell, and its numbers.
 use Rattle.std.specs.Prelude.{◌≡◌, ℕ, ◌+◌, List}
 use Rattle.bx_ucd.specs.declared.class.Class.{Class}
 use Rattle.bx_view.specs.declared.position.Position.{Position}
 use Rattle.bx_view.specs.Numbers.{paragraph_number, unit_number}
 use Rattle.bx_view.specs.TextRows.{TextRow, cell_of}
 
--- a place of a text that is laid out in these rows of `w` columns stands there
+-- `p` is the position of a place of a text in these rows of `w` columns
 pub record IsPosition (class : ℕ → Class) (w : ℕ) (text : List ℕ) (rows : List TextRow) (place : ℕ) (p : Position) : Type 0 where
   pub column : p.column ≡ cell_of w rows place
   pub paragraph : p.paragraph ≡ paragraph_number class text place + 1

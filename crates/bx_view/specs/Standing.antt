@@ -1,4 +1,4 @@
--- One paragraph among those of a text, and one row of it among the rows of the text.
+-- A paragraph of a text by its number, and the number of its rows among those of the text.
 use Rattle.std.specs.Prelude.{◌≡◌, ℕ, ◌+◌, ◌<◌, List, [], length, take, slice_index_or, Option}
 use Rattle.bx_ucd.specs.declared.class.Class.{Class}
 use Rattle.bx_ucd.specs.declared.data.Side.{Side}
@@ -8,15 +8,15 @@ use Rattle.bx_paras.specs.Positions.{total}
 use Rattle.bx_paragraph.specs.BodyRows.{BodyRow, body_rows}
 use Rattle.bx_view.specs.TextRows.{rows_from}
 
--- how many paragraphs a text has
+-- the number of paragraphs of a text
 abbrev pub count : (ℕ → Class) → List ℕ → ℕ
 count class text = length (paragraphs class text)
 
--- a paragraph by its number
+-- paragraph `number`, from 0
 abbrev pub paragraph_at : (ℕ → Class) → List ℕ → ℕ → Paragraph
 paragraph_at class text number = slice_index_or (paragraphs class text) number (bare [])
 
--- the bytes of its body
+-- its body
 abbrev pub body_at : (ℕ → Class) → List ℕ → ℕ → List ℕ
 body_at class text number = (paragraph_at class text number).body
 
@@ -28,7 +28,7 @@ start_at class text number = total (take number (lengths class text))
 abbrev pub rows_in : (ℕ → Class) → (ℕ → Option (Side × ℕ)) → Base → ℕ → List ℕ → ℕ → List BodyRow
 rows_in class bracket base w text number = body_rows class bracket base w (body_at class text number)
 
--- how many rows the paragraphs before it have
+-- the number of rows of the paragraphs before it
 abbrev pub rows_ahead : (ℕ → Class) → (ℕ → Option (Side × ℕ)) → Base → ℕ → List ℕ → ℕ → ℕ
 rows_ahead class bracket base w text number = length (rows_from class bracket base w 0 (take number (paragraphs class text)))
 

@@ -9,7 +9,7 @@ use Rattle.bx_rows.specs.RowPicture.{Glyph}
 use Rattle.bx_paragraph.specs.BodyRows.{BodyRow, body_rows, first_of, falls_in, no_row, offsets_of, row_glyphs}
 use Rattle.bx_paragraph.specs.Slots.{column_of, slot_offsets}
 
--- a row of a text: the offset at which the body begins that it is of, and the row of that body
+-- a row of a text: the offset at which its paragraph's body begins, and the row of that body
 pub record TextRow : Type 0 where
   pub start : ℕ
   pub row : BodyRow
@@ -17,7 +17,7 @@ pub record TextRow : Type 0 where
 abbrev pub text_row : ℕ → BodyRow → TextRow
 text_row start r = record { start = start; row = r }
 
--- the rows of some paragraphs, the first of which begins at the offset `start`
+-- the rows of paragraphs, of which the first begins at the offset `start`
 abbrev pub rows_from : (ℕ → Class) → (ℕ → Option (Side × ℕ)) → Base → ℕ → ℕ → List Paragraph → List TextRow
 rows_from class bracket base w start [] = []
 rows_from class bracket base w start (p ∷ ps) =
@@ -31,12 +31,12 @@ text_rows class bracket base w text = rows_from class bracket base w 0 (paragrap
 abbrev pub first : TextRow → ℕ
 first r = r.start + first_of r.row
 
--- The number of the row that an offset falls in: the last that begins at or before it. For a place that is the row that has
--- its slot, for a separator's bytes the last row of its paragraph, and for an offset past the text's end the last row of all.
+-- The number of the row that an offset falls in: the last one that begins at or before it. A place falls in the row with
+-- its slot, a separator's bytes in the last row of its paragraph, an offset past the text's end in the last row.
 abbrev pub row_of : List TextRow → ℕ → ℕ
 row_of rows offset = falls_in (map first rows) offset
 
--- a row of nothing, where a number is that of no row
+-- an empty row, for numbers without a row
 abbrev pub no_text_row : TextRow
 no_text_row = text_row 0 no_row
 
@@ -48,11 +48,11 @@ row_at rows k = slice_index_or rows k no_text_row
 abbrev pub in_text : TextRow → List ℕ → List ℕ
 in_text r offsets = map (λ o. r.start + o) offsets
 
--- the places of a row in the order of the text: where each unit begins, and in a paragraph's last row its end
+-- the places of a row in text order: the start of each unit, and in a paragraph's last row the paragraph's end
 abbrev pub places_of : TextRow → List ℕ
 places_of r = in_text r (offsets_of r.row)
 
--- the places of a text in order: the boundaries of its units, separators being units too
+-- the places of a text in order: the boundaries of its units; a separator is a unit too
 abbrev pub places : List TextRow → List ℕ
 places rows = flat_map places_of rows
 
@@ -68,6 +68,6 @@ slots w r = in_text r (slot_offsets w r.row)
 abbrev pub cell_of : ℕ → List TextRow → ℕ → ℕ
 cell_of w rows place = let r = row_at rows (row_of rows place) in column_of w r.row (place - r.start)
 
--- what a row shows, from left to right
+-- the glyphs of a row from left to right
 abbrev pub text_row_glyphs : (ℕ → Class) → (ℕ → Option ℕ) → ℕ → TextRow → List Glyph
 text_row_glyphs class mirror w r = row_glyphs class mirror w r.row

@@ -1,4 +1,4 @@
-//! The rows of a text by their numbers, found by counting those of the paragraphs before them.
+//! Row numbers of a text, found by counting the rows of the paragraphs before.
 ghost use Rattle.std.specs.Prelude.{◌≡◌, ℕ, ◌<◌, ◌≤◌, true, IfOk, IsUtf8, length, option_map, slice_get, slice_range};
 ghost use Rattle.bx_terms.specs.Sizes.{is_side};
 ghost use Rattle.bx_text.specs.Edits.{IsRange, largest_text};
@@ -19,7 +19,7 @@ use bx_terms::OutOfMemory;
 use bx_ucd::BidiData;
 use std::alloc::Global;
 
-/// Where the rows of the paragraph at which a walk stands begin in its body.
+/// The row starts of the walk's current paragraph, as offsets of its body.
 fn starts_in<D: BidiData>(
     alloc: Global,
     source: &Source<'_, D>,
@@ -38,7 +38,7 @@ fn starts_in<D: BidiData>(
     Ok(starts)
 }
 
-/// How many rows the paragraphs have that stand before the one of a number.
+/// The number of rows of the paragraphs before paragraph `number`.
 fn rows_before<D: BidiData>(
     alloc: Global,
     source: &Source<'_, D>,
@@ -50,7 +50,7 @@ fn rows_before<D: BidiData>(
     requires number { number ≤ count source.now }
     ensures { IfOk result (λ n. n ≡ rows_ahead (D.data source.now.tables.now).class (D.data source.now.tables.now).bracket base w (bytes source.now) number) }
 {
-    // tells the proof that there is a paragraph; the contract alone speaks of the base
+    // proof only: there is a paragraph; the base occurs in the contract alone
     let _some = source.index.count();
     let _ = base;
     let mut walk = source.index.walk_at(0, 0);
@@ -66,7 +66,7 @@ fn rows_before<D: BidiData>(
 }
 
 impl Layout {
-    /// How many rows the text has. It walks over all of the text and holds none of it.
+    /// The number of the text's rows. Wraps the whole text and holds none of it.
     ///
     /// Errors: `OutOfMemory`.
     pub fn row_count<D: BidiData>(&self, source: &Source<'_, D>) -> Result<usize, ViewError>
@@ -78,7 +78,7 @@ impl Layout {
         Ok(rows)
     }
 
-    /// The number, from 0, of the row that an offset of the text falls in. It walks over the text before it.
+    /// The number, from 0, of the row that an offset of the text falls in. Wraps the paragraphs before it.
     ///
     /// Errors: `OutOfMemory`.
     pub fn row_of<D: BidiData>(
@@ -97,7 +97,7 @@ impl Layout {
         Ok(ahead + at.row)
     }
 
-    /// The first offset of the row of a number, from 0, if the text has such a row. It walks over the text before it.
+    /// The first offset of row `row`, from 0, if the text has that row. Wraps the paragraphs up to it.
     ///
     /// Errors: `OutOfMemory`.
     pub fn first<D: BidiData>(

@@ -1,4 +1,4 @@
-//! A layout that follows an edit of the text, and the place after the edit.
+//! Edits of held paragraphs, and the place after an edit.
 ghost use Rattle.std.specs.Prelude.{◌≡◌, ◌≤◌, ◌+◌, ◌==◌, ◌||◌, IfOk, IfSome, chars, length, nat_lt};
 ghost use Rattle.std.specs.List.{list_any};
 ghost use Rattle.bx_paragraph.specs.Layout.{IsLayoutBy, rows_by as rows_of_body};
@@ -20,30 +20,30 @@ use bx_paragraph::ParagraphLayout;
 use bx_paras::separates;
 use bx_ucd::BidiData;
 
-/// A range of bytes in the body of a paragraph that is held.
+/// A range of bytes in the body of a held paragraph.
 #[derive(Clone, Copy)]
 pub struct HeldRange {
-    // which of those that are held it is
+    // the paragraph's index among the held ones
     held: usize,
     start: usize,
     stop: usize,
 }
 
-/// Whether a text has a character that separates paragraphs.
+/// Whether a text contains a paragraph separator.
 fn has_separator<D: BidiData>(new: &str, tables: &D) -> bool
     ensures { result ≡ list_any (λ c. is_separator ((D.data tables.now).class c)) (chars new.now) }
 {
     new.chars().any(|c| separates(tables, c))
 }
 
-/// Whether a byte of the paragraph that begins at `first` stands before an offset, or none of the text does.
+/// Whether an offset is past the start of its paragraph, which begins at `first`, or the paragraph is the text's first.
 fn is_after_begin(first: usize, offset: usize) -> bool
     ensures { result ≡ ((first == 0) || nat_lt first offset) }
 {
     first == 0 || first < offset
 }
 
-/// The first place of a paragraph that is not before an offset of its body; its last one, where all are before it.
+/// The first place of a paragraph at or after an offset of its body; the last place, if there is none.
 fn place_in_body<D: BidiData>(
     paragraph: &ParagraphLayout,
     offset: usize,
@@ -53,7 +53,7 @@ fn place_in_body<D: BidiData>(
     ensures place { IfOk result (λ o. o ≡ place_in_body (rows_of_body (D.data tables.now).class (D.data tables.now).bracket paragraph.now) offset) }
     ensures within { IfOk result (λ o. o ≤ length paragraph.now.body) }
 {
-    // tell the proof that the body is UTF-8, and what sides a window may have
+    // proof only: the body is UTF-8, and the width is within its limits
     let _utf8 = paragraph.body();
     let _side = paragraph.width();
     let row = paragraph.row_of(offset);
@@ -70,10 +70,10 @@ fn place_in_body<D: BidiData>(
 }
 
 impl Layout {
-    /// Lays a paragraph out as an edit of the text will leave it, which puts characters in the place of those from start to
-    /// stop, and answers the place after the edit. None where the paragraph is not held, where the edit goes beyond it, and
-    /// at its begin, where a CR and an LF may become one separator: the paragraphs are laid out anew then, when they are
-    /// looked for.
+    /// Applies a pending edit, which replaces the bytes from `start` to `stop`, to its held paragraph, and returns the place
+    /// after the edit. None if the paragraph is not held, if the edit exceeds it or inserts a separator, and at the start of
+    /// a paragraph other than the first, where a CR and an LF may join into one separator. The paragraphs are then laid out
+    /// again when they are needed.
     ///
     /// Errors: `OutOfMemory`.
     pub fn edit<D: BidiData>(
@@ -111,8 +111,8 @@ impl Layout {
         Ok(Some(first + place))
     }
 
-    /// The range of a text as one of a paragraph that is held; none where the paragraph is not held, or the range goes beyond it.
-    /// No memory.
+    /// A range of the text as a range of a held paragraph; none if the paragraph is not held or the range exceeds it. No
+    /// memory.
     pub fn held_range<D: BidiData>(
         &mut self,
         source: &Source<'_, D>,
@@ -134,8 +134,7 @@ impl Layout {
         })
     }
 
-    /// Lays a paragraph that is held out as an edit leaves it that puts characters in the place of a range, unless one of them
-    /// separates paragraphs.
+    /// Applies an edit, which replaces a range with `new`, to a held paragraph, unless `new` contains a separator.
     ///
     /// Errors: `OutOfMemory`.
     pub fn follow_edit<D: BidiData>(

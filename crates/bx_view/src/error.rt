@@ -1,6 +1,6 @@
-//! The refusal of the calls that take memory.
+//! The error of calls that allocate.
 
 use bx_terms::OutOfMemory;
 
-/// Why the rows of a text could not be found: memory ran out.
+/// The rows of a text could not be found: memory ran out.
 pub type ViewError = OutOfMemory;

@@ -1,4 +1,4 @@
-//! The paragraphs that a layout holds.
+//! The paragraphs held by a layout.
 ghost use Rattle.std.specs.Prelude.{◌≡◌, ◌≤◌, ◌<◌, ℕ, List, true, All, IfOk, IfSome, IsTrue, OnOk, length, slice_range};
 ghost use Rattle.std.specs.List.{splice};
 ghost use Rattle.bx_terms.specs.Sizes.{is_side};
@@ -19,10 +19,10 @@ use std::ops::Range;
 // More than the rows of any window.
 const MOST_HELD: usize = 512;
 
-// How many bytes are held beside the smallest text, so that letters typed into it drop no page.
+// The least room for held bodies, in bytes, so that typing into a small text does not evict its pages.
 const LEAST_ROOM: usize = 65_536;
 
-/// Whether a paragraph that is held has the bytes between two offsets of a text as its body.
+/// Whether there is a held paragraph at index `i` and its body is the text's bytes from `start` to `stop`.
 fn is_held(held: &[ParagraphLayout], i: usize, text: &Text, start: usize, stop: usize) -> bool
     requires order { start ≤ stop }
     requires within { stop ≤ length text.now.edited.text }
@@ -35,8 +35,8 @@ fn is_held(held: &[ParagraphLayout], i: usize, text: &Text, start: usize, stop: 
     body.len() == stop - start && stands_at(text, start, body.as_bytes())
 }
 
-/// Which of those that are held has the bytes between two offsets as its body. That of the number `recent` is asked
-/// first, and then the one after it: the paragraphs of a page were held one after another.
+/// The index of the held paragraph whose body is the text's bytes from `start` to `stop`. Tries index `recent` first,
+/// then the next, since the paragraphs of a page are held in order.
 pub(crate) fn position(
     held: &[ParagraphLayout],
     recent: usize,
@@ -62,7 +62,7 @@ pub(crate) fn position(
     None
 }
 
-/// How many bytes the bodies have that are held.
+/// The length of all held bodies, in bytes.
 fn bytes_held(held: &[ParagraphLayout]) -> usize {
     let mut bytes: usize = 0;
     for layout in held {
@@ -71,18 +71,18 @@ fn bytes_held(held: &[ParagraphLayout]) -> usize {
     bytes
 }
 
-/// How many bytes the bodies may have that are held beside a text of `text` bytes: those of its pages, and of what was
-/// edited since as many again.
+/// The room for held bodies, in bytes, for a text of `text` bytes: the text once, and as much again for edited
+/// paragraphs.
 pub(crate) fn room_beside(text: usize) -> usize {
     text.saturating_mul(2).max(LEAST_ROOM)
 }
 
-/// Where many are held, drops the one that was held first.
+/// Evicts the oldest paragraph if `MOST_HELD` are held.
 fn drop_oldest<D: BidiData>(held: &mut Vec<ParagraphLayout>, tables: &D, base: Base)
     requires { All (IsHeld (D.data tables.now).class (D.data tables.now).bracket base) held.old.items }
     ensures { All (IsHeld (D.data tables.now).class (D.data tables.now).bracket base) held.new.items }
 {
-    // the contract alone speaks of them
+    // used by the contract alone
     let _ = tables;
     let _ = base;
     if held.len() >= MOST_HELD {
@@ -90,8 +90,8 @@ fn drop_oldest<D: BidiData>(held: &mut Vec<ParagraphLayout>, tables: &D, base: B
     }
 }
 
-/// Holds one more paragraph, instead of the first where many are held, and alone where all have more than `room` bytes. It
-/// answers its number among them.
+/// Adds a paragraph and returns its index. Evicts the oldest if `MOST_HELD` are held, and all others if the bodies would
+/// exceed `room` bytes.
 pub(crate) fn hold<D: BidiData>(
     held: &mut Vec<ParagraphLayout>,
     new: ParagraphLayout,
@@ -104,7 +104,7 @@ pub(crate) fn hold<D: BidiData>(
     ensures held { All (IsHeld (D.data tables.now).class (D.data tables.now).bracket base) held.new.items }
     ensures new { IfOk result (HoldsBody new.body new.w held.new.items) }
 {
-    // the contract alone speaks of them
+    // used by the contract alone
     let _ = tables;
     let _ = base;
     let count = held.len();
@@ -119,7 +119,7 @@ pub(crate) fn hold<D: BidiData>(
     Ok(held.len() - 1)
 }
 
-/// Lays a paragraph that is held out in `w` columns, if it has others. Its levels are kept.
+/// Rewraps a held paragraph to `w` columns if it has another width. Its levels are kept.
 ///
 /// Errors: `OutOfMemory`, and nothing has changed.
 pub(crate) fn lay_out_in<D: BidiData>(
@@ -135,7 +135,7 @@ pub(crate) fn lay_out_in<D: BidiData>(
     ensures held { All (IsHeld (D.data tables.now).class (D.data tables.now).bracket base) held.new.items }
     ensures body { OnOk result ((body : List ℕ) → HasBody body held.old.items i → HoldsBody body w held.new.items i) }
 {
-    // the contract alone speaks of it
+    // used by the contract alone
     let _ = base;
     if held[i].width() != w {
         held[i].set_width(tables, w)?;
@@ -143,8 +143,8 @@ pub(crate) fn lay_out_in<D: BidiData>(
     Ok(())
 }
 
-/// Lays a paragraph that is held out as an edit of its body leaves it, which puts a text in the place of what stands in a
-/// range of bytes; tells whether it did. Offsets that bound no characters change nothing.
+/// Applies an edit, which replaces a range of bytes with `new`, to a held paragraph, and returns whether it did. A range
+/// that cuts a character changes nothing.
 ///
 /// Errors: `OutOfMemory`, and nothing has changed.
 pub(crate) fn edit_in<D: BidiData>(
@@ -163,7 +163,7 @@ pub(crate) fn edit_in<D: BidiData>(
     ensures body { IfOk result (λ did. did ≡ true → (body : List ℕ) → (w : ℕ) → HoldsBody body w held.old.items i
         → HoldsBody (splice body range.start range.end new.now) w held.new.items i) }
 {
-    // the contract alone speaks of it
+    // used by the contract alone
     let _ = base;
     let body = held[i].body();
     if !body.is_char_boundary(range.start) || !body.is_char_boundary(range.end) {

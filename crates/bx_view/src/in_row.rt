@@ -1,4 +1,4 @@
-//! Places of a row of the text.
+//! The places of a row of the text.
 ghost use Rattle.std.specs.Prelude.{◌≡◌, ℕ, ◌+◌, ◌-◌, ◌≤◌, IfOk, IfSome, option_map};
 ghost use Rattle.bx_text.specs.Edits.{largest_text};
 ghost use Rattle.bx_paragraph.specs.BodyRows.{last_of};
@@ -14,7 +14,7 @@ use crate::source::Source;
 use bx_paragraph::Visual;
 use bx_ucd::BidiData;
 
-/// An offset of a body as one of the text, in which the body begins at the offset `start`.
+/// Converts an offset of a body, which begins at the text's offset `start`, to an offset of the text.
 pub(crate) fn place_in(start: usize, offset: Option<usize>) -> Option<usize>
     requires { IfSome offset (λ o. start + o ≤ largest_text) }
     ensures { result ≡ option_map (λ o. start + o) offset }
@@ -49,7 +49,7 @@ impl Layout {
         Ok(at.start + offset)
     }
 
-    /// The place of the slot of a row that is next to that of a place on a side, if the row has one there.
+    /// The place of the row's slot next to a place's slot on a side, if there is one.
     pub(crate) fn beside<D: BidiData>(
         &self,
         source: &Source<'_, D>,
@@ -95,7 +95,7 @@ impl Layout {
         Ok(place_in(at.start, offset))
     }
 
-    /// The place where a row is entered in a column.
+    /// The place at which a vertical move enters a row in a column.
     pub(crate) fn entry<D: BidiData>(
         &self,
         source: &Source<'_, D>,
@@ -110,8 +110,7 @@ impl Layout {
         Ok(place_in(at.start, offset))
     }
 
-    /// The last place of the row that a place falls in: the paragraph's end in its last row, else where the row's last
-    /// unit begins.
+    /// The last place of a place's row: the paragraph's end in its last row, else the start of the row's last unit.
     ///
     /// Errors: `OutOfMemory`.
     pub(crate) fn row_end<D: BidiData>(

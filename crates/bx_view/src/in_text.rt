@@ -1,21 +1,21 @@
-//! Bytes compared with those of a text where they stand.
+//! Comparison of bytes with a text in place.
 ghost use Rattle.std.specs.Prelude.{◌≡◌, ◌+◌, ◌≤◌, ◌↔◌, drop, length, take, IsTrue};
 
 use bx_text::Text;
 
-/// Whether these are the same bytes.
+/// Whether two byte slices are equal.
 fn are_same(left: &[u8], right: &[u8]) -> bool
     ensures { IsTrue result ↔ (left.now ≡ right.now) }
 {
     left == right
 }
 
-/// Whether these bytes stand in the text at an offset.
+/// Whether the text has these bytes at an offset.
 pub(crate) fn stands_at(text: &Text, start: usize, bytes: &[u8]) -> bool
     requires { start + length bytes.now ≤ length text.now.edited.text }
     ensures { IsTrue result → take (length bytes.now) (drop start text.now.edited.text) ≡ bytes.now }
 {
-    // tells the proof that the text is short
+    // proof only: the text is within its limit
     let _short = text.len();
     let mut at = 0;
     while at < bytes.len() {

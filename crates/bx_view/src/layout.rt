@@ -22,14 +22,14 @@ use bx_ucd::BidiData;
 use std::alloc::Global;
 use std::marker::Model;
 
-/// The rows of a text in a window's columns, under a base direction. It holds a few paragraphs, resolved once,
-/// and no rows of the whole text. A paragraph that was laid out in other columns is held as it is until it is looked for.
+/// The rows of a text for a window's width and a base direction. It holds some paragraphs, resolved once, and never the
+/// rows of the whole text. After a change of width a held paragraph is rewrapped when it is next needed.
 #[derive(Drop)]
 pub struct Layout {
     pub(crate) base: Base,
     pub(crate) w: u16,
     pub(crate) held: Vec<ParagraphLayout>,
-    // the number of the one that was found last
+    // the index of the held paragraph found last
     pub(crate) recent: usize,
 }
 
@@ -46,8 +46,7 @@ impl Model for Layout {
 }
 
 impl Layout {
-    /// A layout in `w` columns, under a base direction: of whatever text its calls are given. No work, and no memory
-    /// before the first call.
+    /// An empty layout, for any text that its calls are given. It allocates nothing before the first call.
     pub fn of(alloc: Global, w: u16, base: Base) -> Layout
         requires { is_side w ≡ true }
         ensures { result ≡ record { base = base; w = w; held = [] } }
@@ -75,7 +74,7 @@ impl Layout {
         self.w
     }
 
-    /// Takes other columns. What is held keeps its levels, and its rows are found anew when it is looked for.
+    /// Sets the width. Held paragraphs keep their levels and are rewrapped when they are next needed.
     pub fn set_width(&mut self, w: u16)
         requires { is_side w ≡ true }
         ensures { self.new ≡ record self.old { w = w } }
@@ -83,8 +82,7 @@ impl Layout {
         self.w = w;
     }
 
-    /// The number among those held of a paragraph of the text, whose body stands between two offsets. It is laid out if it is
-    /// not held.
+    /// The index of the held paragraph whose body is the text's bytes from `start` to `stop`. Lays it out if it is not held.
     ///
     /// Errors: `OutOfMemory`.
     pub(crate) fn find<D: BidiData>(
@@ -102,7 +100,7 @@ impl Layout {
         ensures keeps { Keeps source.now self.old self.new }
         ensures body { IfOk result (HoldsBody (body_at source.now number) self.new.w self.new.held) }
     {
-        // the contract alone speaks of it
+        // used by the contract alone
         let _ = number;
         if let Some(i) = position(&self.held, self.recent, source.text, start, stop) {
             lay_out_in(&mut self.held, i, source.tables, self.base, self.w)?;
@@ -120,7 +118,7 @@ impl Layout {
         Ok(i)
     }
 
-    /// A paragraph of the text that is held.
+    /// The held paragraph at index `held`.
     pub(crate) fn paragraph<D: BidiData>(
         &self,
         source: &Source<'_, D>,
@@ -131,7 +129,7 @@ impl Layout {
         requires held { HoldsBody (body_at source.now number) self.now.w self.now.held held }
         ensures { IsOfText source.now self.now number result.now }
     {
-        // the contract alone speaks of them
+        // used by the contract alone
         let _ = source;
         let _ = number;
         &self.held[held]
@@ -163,7 +161,7 @@ impl Layout {
         })
     }
 
-    /// The row after one of the text, if there is one.
+    /// The row after `at`, if there is one.
     ///
     /// Errors: `OutOfMemory`.
     pub fn next_row<D: BidiData>(
@@ -200,7 +198,7 @@ impl Layout {
         }))
     }
 
-    /// The row before one of the text, if there is one.
+    /// The row before `at`, if there is one.
     ///
     /// Errors: `OutOfMemory`.
     pub fn row_before<D: BidiData>(
@@ -237,8 +235,7 @@ impl Layout {
         }))
     }
 
-    /// The row that an offset of the text falls in, where another row is found: in the paragraph of that one nothing is looked
-    /// for.
+    /// The row that an offset of the text falls in. In the paragraph of `at`, which is found already, it needs no search.
     ///
     /// Errors: `OutOfMemory`.
     pub(crate) fn row_near<D: BidiData>(

@@ -1,4 +1,4 @@
-//! The moves in the order of the text, and the place at an offset or after it.
+//! Moves in text order, and the first place at or after an offset.
 ghost use Rattle.std.specs.Prelude.{◌≡◌, ℕ, ◌≤◌, IfOk, find, nat_le, nat_lt, reverse, unwrap_or};
 ghost use Rattle.std.specs.Str.{IsCharBoundary};
 ghost use Rattle.bx_view.specs.Moves.{place_from, step_logical};
@@ -13,21 +13,21 @@ use crate::row_at::RowAt;
 use crate::source::Source;
 use bx_ucd::BidiData;
 
-/// The first of some offsets that is not before one.
+/// The first of `offsets` at or after an offset.
 pub(crate) fn first_from(offsets: &[usize], offset: usize) -> Option<usize>
     ensures { result ≡ find (nat_le offset) offsets.now }
 {
     offsets.iter().copied().find(|o| offset <= *o)
 }
 
-/// The first of some offsets that is after one.
+/// The first of `offsets` after an offset.
 fn first_after(offsets: &[usize], offset: usize) -> Option<usize>
     ensures { result ≡ find (nat_lt offset) offsets.now }
 {
     offsets.iter().copied().find(|o| offset < *o)
 }
 
-/// The last of some offsets that is before one.
+/// The last of `offsets` before an offset.
 fn last_before(offsets: &[usize], offset: usize) -> Option<usize>
     ensures { result ≡ find (λ o. nat_lt o offset) (reverse offsets.now) }
 {
@@ -35,7 +35,7 @@ fn last_before(offsets: &[usize], offset: usize) -> Option<usize>
 }
 
 impl Layout {
-    /// The first place of a row that is not before an offset.
+    /// The first place of a row at or after an offset.
     fn from_in_row<D: BidiData>(
         &self,
         source: &Source<'_, D>,
@@ -52,7 +52,7 @@ impl Layout {
         Ok(place_in(at.start, found))
     }
 
-    /// The first place of a row that is after another place.
+    /// The first place of a row after a place.
     fn after_in_row<D: BidiData>(
         &self,
         source: &Source<'_, D>,
@@ -69,7 +69,7 @@ impl Layout {
         Ok(place_in(at.start, found))
     }
 
-    /// The last place of a row that is before another place.
+    /// The last place of a row before a place.
     fn before_in_row<D: BidiData>(
         &self,
         source: &Source<'_, D>,
@@ -86,7 +86,7 @@ impl Layout {
         Ok(place_in(at.start, found))
     }
 
-    /// The first place that is not before an offset; the text's last place, where all are before it.
+    /// The first place at or after an offset; the text's last place, if there is none.
     ///
     /// Errors: `OutOfMemory`.
     pub fn place_from<D: BidiData>(
@@ -110,7 +110,7 @@ impl Layout {
         Ok(self.first_in(source, next))
     }
 
-    /// The place after one; at the text's last place that itself.
+    /// The place after a place; the text's last place itself at the end.
     fn step_forward<D: BidiData>(
         &mut self,
         source: &Source<'_, D>,
@@ -130,7 +130,7 @@ impl Layout {
         Ok(self.first_in(source, next))
     }
 
-    /// The place before one; at the text's first place that itself.
+    /// The place before a place; the text's first place itself at the start.
     fn step_back<D: BidiData>(
         &mut self,
         source: &Source<'_, D>,
@@ -152,7 +152,7 @@ impl Layout {
         Ok(last)
     }
 
-    /// The place after one or before it in the order of the text; at the text's end the place itself.
+    /// The place after or before a place in text order; the place itself at either end of the text.
     ///
     /// Errors: `OutOfMemory`.
     pub(crate) fn step_logical<D: BidiData>(

@@ -1,4 +1,4 @@
-//! The cursor's moves, by one call.
+//! One call for all of the cursor's moves.
 ghost use Rattle.std.specs.Prelude.{◌≡◌, true, IfOk};
 ghost use Rattle.std.specs.Str.{IsCharBoundary};
 ghost use Rattle.bx_view.specs.Moves.{is_to_row_end, moved};
@@ -11,7 +11,7 @@ use crate::source::Source;
 use bx_ucd::BidiData;
 
 impl Layout {
-    /// The place that a move leads to from one.
+    /// The place after a move from `place`.
     ///
     /// Errors: `OutOfMemory`.
     pub fn moved<D: BidiData>(
@@ -26,7 +26,7 @@ impl Layout {
         ensures boundary { IsCharBoundary (bytes source.now) place → IfOk result (λ o. IsCharBoundary (bytes source.now) o) }
         ensures row_boundary { is_to_row_end m ≡ true → IfOk result (λ o. IsCharBoundary (bytes source.now) o) }
     {
-        // tells the proof what sides a window may have
+        // proof only: the width is within its limits
         let _side = self.width();
         match m {
             Move::Logical(way) => {

@@ -2,7 +2,7 @@
 
 use bx_paragraph::Visual;
 
-/// A direction in the order of the text.
+/// A direction in text order.
 #[derive(Clone, Copy, PartialEq, Eq, Debug)]
 pub enum Logical {
     Back,
@@ -16,18 +16,18 @@ pub enum Vertical {
     Down,
 }
 
-/// A move of the cursor. Where there is nothing to go to, it stays.
+/// A move of the cursor. The cursor stays if there is no place to go to.
 #[derive(Clone, Copy, PartialEq, Eq, Debug)]
 pub enum Move {
-    /// To the place before or after.
+    /// To the previous or the next place.
     Logical(Logical),
-    /// To the next slot of the row on a side; past its last slot to where the next row or the row before is entered.
+    /// To the next slot of the row on a side; past the last slot, into the next or the previous row.
     Visual(Visual),
-    /// A number of rows up or down, at most to the first or the last row, in the same column: to where the unit begins that
-    /// covers it, else to the reading end of that row.
+    /// Up or down by a number of rows, at most to the first or the last row: to the start of the unit that covers the
+    /// cursor's column, else to the row's reading end.
     Rows(Vertical, usize),
     /// To the row's first offset.
     RowHome,
-    /// To the paragraph's end in its last row, else to where the row's last unit begins.
+    /// To the paragraph's end in its last row, else to the start of the row's last unit.
     RowEnd,
 }

@@ -1,4 +1,4 @@
-//! Where a place stands, in its row and in its paragraph.
+//! The position of a place in its row and its paragraph.
 ghost use Rattle.std.specs.Prelude.{◌≡◌, ◌≤◌, IfOk};
 ghost use Rattle.bx_paras.specs.Paragraphs.{lengths};
 ghost use Rattle.bx_paras.specs.Positions.{paragraph_of};
@@ -11,19 +11,19 @@ use crate::row_at::RowAt;
 use crate::source::Source;
 use bx_ucd::BidiData;
 
-/// Where a place stands, each counted from 1.
+/// The position of a place. All fields count from 1.
 #[derive(Clone, Copy, PartialEq, Eq, Debug)]
 pub struct Position {
-    /// The column of its cell.
+    /// The column of the place's cell.
     pub column: u16,
-    /// The number of its paragraph.
+    /// The number of the place's paragraph.
     pub paragraph: usize,
-    /// Its number among the units of its paragraph.
+    /// The number of the place's unit in the paragraph.
     pub unit: usize,
 }
 
 impl Layout {
-    /// Where a place stands that falls in the paragraph of a row.
+    /// The position of a place in the paragraph of the row `at`.
     ///
     /// Errors: `OutOfMemory`.
     pub(crate) fn position<D: BidiData>(
@@ -37,7 +37,7 @@ impl Layout {
         requires order { at.start ≤ place }
         ensures { IfOk result (IsPosition (D.data source.now.tables.now).class self.now.w (bytes source.now) (rows source.now self.now) place) }
     {
-        // tells the proof that paragraphs are not too many to be counted from 1
+        // proof only: the number of paragraphs is within its limit
         let _count = source.index.count();
         let paragraph = self.paragraph(source, at.paragraph, at.held);
         let row = paragraph.row_of(place - at.start);

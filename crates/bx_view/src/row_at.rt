@@ -1,14 +1,14 @@
-//! A row of a text by its paragraph.
+//! Handles of rows.
 
-/// A row of a text, found by a layout: one to ask for until that layout looks for another row.
+/// A row of a text, found by a layout. It is valid until that layout searches for another row.
 #[derive(Clone, Copy)]
 pub struct RowAt {
-    /// The number of its paragraph, from 0.
+    /// The number of the row's paragraph, from 0.
     pub(crate) paragraph: usize,
-    /// Where that paragraph's body begins in the text, in bytes.
+    /// The offset, in bytes of the text, at which that paragraph's body begins.
     pub(crate) start: usize,
-    /// The number of the row in the paragraph, from 0.
+    /// The row's number in the paragraph, from 0.
     pub(crate) row: usize,
-    /// Which of the paragraphs that are held it is.
+    /// The index of the held paragraph.
     pub(crate) held: usize,
 }

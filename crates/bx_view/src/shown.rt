@@ -1,4 +1,4 @@
-//! What a row of the text shows, and its slots.
+//! The glyphs and the slots of a row.
 ghost use Rattle.std.specs.Prelude.{◌≡◌, ℕ, ◌+◌, ◌≤◌, true, All, IfOk, map, sum_by};
 ghost use Rattle.std.specs.Cow.{cow_str_bytes};
 ghost use Rattle.bx_terms.specs.Glyphs.{is_one_glyph, run_width};
@@ -17,7 +17,7 @@ use bx_rows::RowPicture;
 use bx_ucd::BidiData;
 use std::alloc::{AllocError, Global};
 
-/// The offsets of slots in the text, in which their body begins at the offset `start`.
+/// The slots' offsets in the text. Their body begins at the offset `start`.
 fn in_text(alloc: Global, start: usize, slots: &[Slot]) -> Result<Vec<usize>, AllocError>
     requires { All (λ s. start + s.offset ≤ largest_text) slots.now }
     ensures { IfOk result (λ v. v.items ≡ map (λ o. start + o) (map (λ s. s.offset) slots.now)) }
@@ -30,7 +30,7 @@ fn in_text(alloc: Global, start: usize, slots: &[Slot]) -> Result<Vec<usize>, Al
 }
 
 impl Layout {
-    /// What a row shows, from left to right with its blanks.
+    /// The glyphs of a row from left to right, blanks included.
     ///
     /// Errors: `OutOfMemory`.
     pub fn picture<D: BidiData>(
@@ -50,7 +50,7 @@ impl Layout {
         Ok(picture)
     }
 
-    /// The body of a row's paragraph, and the number of the row in it, from 0.
+    /// The body of a row's paragraph, and the row's number in it, from 0.
     pub fn row_in_body<D: BidiData>(&self, source: &Source<'_, D>, at: RowAt) -> (&str, usize)
         requires row { Stands source.now self.now at }
         ensures { OfRow source.now self.now at (λ r. r.row ≡ row_at_body (rows_of_body source.now self.now result.0.now) result.1) }
@@ -59,7 +59,7 @@ impl Layout {
         (paragraph.body(), at.row)
     }
 
-    /// The places of the row that a place falls in, from left to right as they are shown.
+    /// The places of the row that a place falls in, in visual order from left to right.
     ///
     /// Errors: `OutOfMemory`.
     pub fn slots<D: BidiData>(

@@ -1,4 +1,4 @@
-//! A text with its paragraphs and the tables that lay it out.
+//! A text with its paragraph index and tables.
 ghost use Rattle.std.specs.Prelude.{◌≡◌, ◌≤◌, ⊤, length, IsUtf8};
 ghost use Rattle.bx_text.specs.Edits.{largest_text};
 ghost use Rattle.bx_paras.specs.Paragraphs.{lengths};
@@ -9,7 +9,7 @@ use bx_text::Text;
 use bx_ucd::BidiData;
 use std::alloc::AllocError;
 
-/// A text, the index of its paragraphs, and the tables that both are read by.
+/// A text, its paragraph index, and the tables for both.
 pub struct Source<'a, D: BidiData> {
     pub text: &'a Text,
     pub index: &'a Index,
@@ -32,13 +32,13 @@ impl<'a, D: BidiData> Clone for Source<'a, D> {
 }
 
 impl<'a, D: BidiData> Source<'a, D> {
-    /// A text with the index that is its own by some tables.
+    /// Combines a text with its own index, built with the same tables.
     pub fn of(text: &'a Text, index: &'a Index, tables: &'a D) -> Source<'a, D>
         requires { index.now.paragraphs ≡ lengths (D.data tables.now).class text.now.edited.text }
         ensures text { result.text.now ≡ text.now }
         ensures tables { result.tables.now ≡ tables.now }
     {
-        // tells the proof that the text is UTF-8 and short
+        // proof only: the text is UTF-8 and within its limit
         let _utf8 = text.len();
         Source {
             text,

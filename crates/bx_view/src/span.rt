@@ -1,4 +1,4 @@
-//! Where a paragraph's body stands in a text.
+//! The spans of paragraph bodies in a text.
 ghost use Rattle.std.specs.Prelude.{◌≡◌, ◌<◌, ◌≤◌, length, slice_range};
 ghost use Rattle.bx_text.specs.Edits.{IsRange, largest_text};
 ghost use Rattle.bx_paras.specs.Paragraphs.{lengths};
@@ -9,7 +9,7 @@ use crate::source::Source;
 use bx_paras::ParagraphWalk;
 use bx_ucd::BidiData;
 
-/// Where the body of the paragraph at which a walk stands begins and ends.
+/// The start and end of the body of the walk's current paragraph.
 pub(crate) fn walked_span<D: BidiData>(
     source: &Source<'_, D>,
     walk: &ParagraphWalk<'_>,
@@ -22,12 +22,12 @@ pub(crate) fn walked_span<D: BidiData>(
     ensures order { result.0 ≤ result.1 }
     ensures within { result.1 ≤ length (bytes source.now) }
 {
-    // the contract alone speaks of it
+    // used by the contract alone
     let _ = source;
     walk.span()
 }
 
-/// The number of the paragraph that an offset falls in, and where its body begins and ends.
+/// The number, from 0, of the paragraph that an offset falls in, and the start and end of its body.
 pub(crate) fn paragraph_under<D: BidiData>(
     source: &Source<'_, D>,
     offset: usize,

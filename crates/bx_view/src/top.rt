@@ -1,4 +1,4 @@
-//! The top of the rows that are shown, and a place among them.
+//! The top visible row, and a place among the visible rows.
 ghost use Rattle.std.specs.Prelude.{◌≡◌, ℕ, ◌+◌, ◌<◌, IfOk};
 ghost use Rattle.std.specs.Str.{IsCharBoundary};
 ghost use Rattle.bx_view.specs.Position.{IsPosition};
@@ -13,20 +13,20 @@ use crate::row_at::RowAt;
 use crate::source::Source;
 use bx_ucd::BidiData;
 
-/// A place among the rows that are shown.
+/// A place among the visible rows.
 #[derive(Clone, Copy)]
 pub struct Located {
-    /// The row from which on they are shown: one to ask for until the layout looks for another row.
+    /// The first visible row. It is valid until the layout searches for another row.
     pub top: RowAt,
-    /// How many of them stand above the place's row.
+    /// The number of visible rows above the place's row.
     pub above: usize,
-    /// Where the place stands.
+    /// The column and the numbers of the place.
     pub position: Position,
 }
 
 impl Layout {
-    /// The row from which on `t` rows are shown that have a row among them: that which begins at the offset `old`, or else the
-    /// one nearest to it; and how many rows from it on stand above the row.
+    /// The top row, nearest to the one at the offset `old`, from which `t` rows include the row `at`; and the number of rows
+    /// from it down to `at`.
     fn top_above<D: BidiData>(
         &mut self,
         source: &Source<'_, D>,
@@ -58,8 +58,8 @@ impl Layout {
         Ok((here, above))
     }
 
-    /// A place among `t` rows that are shown: from the row on that the offset `top` falls in, moved by as few rows as it takes to
-    /// show the place's row.
+    /// Locates a place among `t` visible rows: those from the row of the offset `top` on, scrolled by the fewest rows that
+    /// make the place's row visible.
     ///
     /// Errors: `OutOfMemory`.
     pub fn locate<D: BidiData>(
@@ -92,8 +92,8 @@ impl Layout {
         })
     }
 
-    /// The offset at which the rows begin to be shown, `t` of them, among which the row of the place `place` is: the
-    /// row that the offset `top` falls in, moved by as few rows as that takes.
+    /// The offset of the top row after scrolling `t` visible rows, from the row of the offset `top`, by the fewest rows that
+    /// make the row of `place` visible.
     ///
     /// Errors: `OutOfMemory`.
     pub fn follow<D: BidiData>(

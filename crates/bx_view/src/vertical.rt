@@ -1,4 +1,4 @@
-//! The moves from row to row.
+//! Moves from row to row.
 ghost use Rattle.std.specs.Prelude.{◌≡◌, ℕ, ◌+◌, ◌-◌, IfOk, length, min};
 ghost use Rattle.bx_view.specs.Moves.{row_away, rows_away};
 ghost use Rattle.bx_view.specs.Source.{IsViewBy, Keeps, Stands, StandsOn, rows};
@@ -11,7 +11,7 @@ use crate::source::Source;
 use bx_ucd::BidiData;
 
 impl Layout {
-    /// The row that is `count` rows above one, at most the first.
+    /// The row `count` rows above `at`, or the first row.
     pub(crate) fn rows_up<D: BidiData>(
         &mut self,
         source: &Source<'_, D>,
@@ -34,7 +34,7 @@ impl Layout {
         Ok(here)
     }
 
-    /// The row that is `count` rows below one, at most the last.
+    /// The row `count` rows below `at`, or the last row.
     fn rows_down<D: BidiData>(
         &mut self,
         source: &Source<'_, D>,
@@ -58,7 +58,7 @@ impl Layout {
         Ok(here)
     }
 
-    /// The row that is `count` rows above or below one, at most the first or the last.
+    /// The row `count` rows above or below `at`, or the first or last row.
     fn row_away<D: BidiData>(
         &mut self,
         source: &Source<'_, D>,
@@ -83,8 +83,8 @@ impl Layout {
         }
     }
 
-    /// The place where the row that is `count` rows above or below that of a place is entered, in the column of the
-    /// place; where that is the same row, the place itself.
+    /// The place after a move of `count` rows up or down: the target row is entered in the place's column. If it is the
+    /// place's own row, the place itself.
     pub(crate) fn rows_away<D: BidiData>(
         &mut self,
         source: &Source<'_, D>,

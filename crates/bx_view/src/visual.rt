@@ -1,4 +1,4 @@
-//! The moves to the left and to the right.
+//! Moves to the left and to the right.
 ghost use Rattle.std.specs.Prelude.{◌≡◌, ℕ, [], true, IfOk};
 ghost use Rattle.bx_paragraph.specs.Slots.{reads_on};
 ghost use Rattle.bx_view.specs.Moves.{end_of, past, row_after, row_before, start_of, step_visual};
@@ -11,7 +11,7 @@ use crate::source::Source;
 use bx_paragraph::Visual;
 use bx_ucd::BidiData;
 
-/// Whether a side is where the rows of a paragraph of a level are read on.
+/// Whether a side is the reading direction of a paragraph of a level: right for an even level, left for an odd one.
 fn is_read_on(side: Visual, level: u8) -> bool
     ensures { result ≡ reads_on side (record { body = []; paragraph = level; units = []; levels = []; is_last = true }) }
 {
@@ -22,7 +22,7 @@ fn is_read_on(side: Visual, level: u8) -> bool
 }
 
 impl Layout {
-    /// Whether a side is where a row is read on.
+    /// Whether a side is a row's reading direction.
     fn reads_on<D: BidiData>(&self, source: &Source<'_, D>, at: RowAt, side: Visual) -> bool
         requires row { Stands source.now self.now at }
         ensures { OfRow source.now self.now at (λ r. result ≡ reads_on side r.row) }
@@ -31,7 +31,7 @@ impl Layout {
         is_read_on(side, paragraph.level())
     }
 
-    /// The place at the reading start of the row after one, if there is such a row.
+    /// The place at the reading start of the next row, if there is one.
     fn start_after<D: BidiData>(
         &mut self,
         source: &Source<'_, D>,
@@ -49,7 +49,7 @@ impl Layout {
         Ok(place)
     }
 
-    /// The place at the reading end of the row before one, if there is such a row.
+    /// The place at the reading end of the previous row, if there is one.
     fn end_before<D: BidiData>(
         &mut self,
         source: &Source<'_, D>,
@@ -67,7 +67,7 @@ impl Layout {
         Ok(place)
     }
 
-    /// The place that a move from a row's last slot on a side goes to, if there is a row there.
+    /// The place after a move past a row's last slot on a side, if there is a row there.
     fn past<D: BidiData>(
         &mut self,
         source: &Source<'_, D>,
@@ -87,8 +87,8 @@ impl Layout {
         Ok(place)
     }
 
-    /// The place of the next slot of the row to a side, or past its last slot the place where the next row or the row
-    /// before is entered; where there is no row, the place itself.
+    /// The place of the row's next slot on a side; past the last slot, the reading start of the next row or the reading
+    /// end of the previous one; if there is no such row, the place itself.
     ///
     /// Errors: `OutOfMemory`.
     pub(crate) fn step_visual<D: BidiData>(

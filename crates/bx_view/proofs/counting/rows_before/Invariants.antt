@@ -1,4 +1,4 @@
--- What was counted are the rows of the paragraphs before the one at which the walk stands.
+-- The count is the number of rows before the walk's current paragraph.
 use Rattle.std.proofs.Common.{◌≡◌, ◌-◌, ◌<◌, ◌≤◌}
 use Rattle.bx_paras.specs.Paragraphs.{lengths}
 use Rattle.bx_view.specs.Source.{bytes, count}

@@ -1,4 +1,4 @@
--- What was compared is the same, and lies in both.
+-- The bytes compared so far are equal, and lie in both.
 use Rattle.std.proofs.Common.{◌≡◌, ◌≤◌, ◌-◌, drop, length, take}
 use Rattle.bx_view.proofs.in_text.stands_at.Given as goal
 

@@ -1,4 +1,4 @@
--- The row is as far after the paragraph at which the walk stands as rows are left.
+-- The row is `left` rows past the start of the walk's current paragraph.
 use Rattle.std.proofs.Common.{◌≡◌, ◌+◌, ◌-◌, ◌<◌}
 use Rattle.bx_paras.specs.Paragraphs.{lengths}
 use Rattle.bx_view.specs.Source.{bytes, count}

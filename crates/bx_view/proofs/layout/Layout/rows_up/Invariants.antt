@@ -1,4 +1,4 @@
--- The row is as many rows away as turns were made.
+-- The row is `done` rows above `at`.
 use Rattle.std.proofs.Common.{ℕ, ◌-◌, ◌≤◌}
 use Rattle.bx_view.specs.Source.{Keeps, Stands, StandsOn}
 use Rattle.bx_view.proofs.layout.Layout.rows_up.Given as goal

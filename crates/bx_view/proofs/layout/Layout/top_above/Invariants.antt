@@ -1,4 +1,4 @@
--- The row stands as far above as turns were made, and none below it is the one that begins where the rows did.
+-- The row is `above` rows above `at`, and not above the old top unless it is `at` itself.
 use Rattle.std.proofs.Common.{ℕ, ◌-◌, ◌<◌, ◌≤◌}
 use Rattle.bx_view.specs.Source.{BeginsAt, Keeps, Stands, StandsOn}
 use Rattle.bx_view.proofs.layout.Layout.top_above.Given as goal
