@@ -1,4 +1,4 @@
--- A row that follows from what printing says of a fault alone.
+-- An example from the clause about write faults alone.
 use Rattle.std.proofs.Common.{◌≡◌, ℕ, List, [], ◌++◌, length, take, Some, sym, ap, ◌∙◌}
 use Rattle.std.specs.Prelude.{codes}
 use Rattle.std.proofs.lemmas.List.{take_at}

@@ -15,7 +15,7 @@ use Rattle.bx_print.specs.declared.marks.Marks.{Marks}
 use Rattle.bx_print.specs.BodyLines.{body_lines}
 use Rattle.bx_print.specs.Page.{line, page}
 
--- lines with a line feed between two are lines behind a line feed each, but for the first byte
+-- lines separated by line feeds are lines each after a line feed, without the first byte
 joined-is : {X : Type 0} (f : X → List ℕ) (xs : List X) → join_by f (10 ∷ []) xs ≡ drop 1 (flat_map (λ x. 10 ∷ f x) xs)
 joined-is f [] = refl
 joined-is f (x ∷ xs) = refl

@@ -1,4 +1,4 @@
--- A text that is written part by part, of which what is first drops its first byte.
+-- A text written part by part; its first byte is dropped.
 use Rattle.std.proofs.Common.{◌≡◌, ℕ, ◌+◌, ◌<◌, ◌≤◌, List, [], ◌∷◌, ◌++◌, length, take, drop, get_or, Option, refl, sym, ap, subst, ◌∙◌, arith}
 use Rattle.std.proofs.Common.{append_assoc, length-append, take_all}
 use Rattle.std.specs.Prelude.{flat_map}
@@ -8,7 +8,7 @@ use Rattle.std.proofs.lemmas.List.{append-nil, take-append-drop, take_more}
 use Rattle.std.proofs.lemmas.List.Concat.{flat_map-append, flat_map-cons}
 use Rattle.bx_print.specs.Writing.{IsWritten, WritesFront}
 
--- the first byte of what comes first
+-- the first byte of the first part
 pub drop-one : (xs ys : List ℕ) → 0 < length xs → drop 1 (xs ++ ys) ≡ drop 1 xs ++ ys
 drop-one [] ys some = absurd (omega (arith, some))
 drop-one (x ∷ xs) ys some = refl
@@ -17,7 +17,7 @@ module _ {X : Type 0} (f : X → List ℕ) (ps : List X) where
   abbrev pub whole : List ℕ
   whole = drop 1 (flat_map f ps)
 
-  -- what the first `n` of the parts make was written, but for what is pending
+  -- the first `n` parts were written, except the pending bytes
   pub record IsSent (old new : Option (List ℕ)) (pending : List ℕ) (n : ℕ) (written : List ℕ) : Type 0 where
     pub some : 0 < length (flat_map f (take n ps))
     pub parts : drop 1 (flat_map f (take n ps)) ≡ written ++ pending
@@ -41,7 +41,7 @@ module _ {X : Type 0} (f : X → List ℕ) (ps : List X) where
           appends = is.appends;
         }
 
-    -- a front of what is pending was written
+    -- a prefix of the pending bytes was written
     pub some-sent : (c : Option (List ℕ)) (later front rest : List ℕ) → IsWritten pending b c front rest → later ≡ rest
         → IsSent a c later n (written ++ front)
     some-sent c later front rest is-written same = record {
@@ -61,7 +61,7 @@ module _ {X : Type 0} (f : X → List ℕ) (ps : List X) where
         ap (λ qs. drop 1 (flat_map f qs)) (sym (take-append-drop n ps)) ∙ ap (drop 1) (flat_map-append f (take n ps) (drop n ps))
         ∙ drop-one (flat_map f (take n ps)) (flat_map f (drop n ps)) is.some ∙ ap (λ bs. bs ++ flat_map f (drop n ps)) is.parts
 
-    -- whatever front of it was written, it is a front of the whole
+    -- any prefix of it is a prefix of the whole
     pub front-sent : (c : Option (List ℕ)) → WritesFront pending b c → WritesFront whole a c
     front-sent c front =
         let w = front.0 in

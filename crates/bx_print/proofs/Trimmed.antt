@@ -13,7 +13,7 @@ before-some : (x : ℕ) (ys : List ℕ) (b : ℕ) → before x (ys ++ b ∷ []) 
 before-some x [] b = refl
 before-some x (y ∷ ys) b = refl
 
--- where the last byte is no blank there are none
+-- if the last byte is no blank, there are none
 pub trimmed-kept : (xs : List ℕ) (b : ℕ) → (b ≡ 32 → ⊥) → trimmed (xs ++ b ∷ []) ≡ xs ++ b ∷ []
 trimmed-kept [] b other =
     let no : (b == 32) ≡ false = grind (arith, nat_tests) in
@@ -40,7 +40,7 @@ take-behind (o ∷ old) xs len =
     let e : length (o ∷ old) + len ≡ suc (length old + len) = omega arith in
     ap (λ n. take n (o ∷ old ++ xs)) e ∙ ap (λ zs. o ∷ zs) (take-behind old xs len)
 
--- what was added behind bytes is trimmed, as it was seen
+-- the bytes appended are trimmed
 pub trimmed-behind : (new seen old xs : List ℕ) (start len : ℕ) → new ≡ old ++ xs → seen ≡ new → start ≡ length old
     → take len (take (length seen - start) (drop start seen)) ≡ trimmed (take (length seen - start) (drop start seen))
     → take (start + len) new ≡ old ++ trimmed xs

@@ -1,4 +1,4 @@
--- What a writer took, part by part.
+-- The bytes that a writer took, part by part.
 use Rattle.std.proofs.Common.{ℕ, ◌-◌, List, ◌++◌, length, take, drop, Option, Result, Ok, Err, OnOk, sym, ap, ◌∙◌, append_assoc}
 use Rattle.std.proofs.lemmas.List.{take-append-drop, take_rest}
 use Rattle.std.proofs.KnownBytes.{Appends-trans}

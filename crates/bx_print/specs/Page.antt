@@ -1,4 +1,4 @@
--- A text as it is printed: its rows in a window of `w` columns, a line each, as plain bytes.
+-- A printed text: its rows of `w` columns, each as a line of plain bytes.
 use Rattle.std.specs.Prelude.{ℕ, ◌==◌, true, false, List, [], ◌∷◌, ◌++◌, if◌then◌else◌, flat_map, Option}
 use Rattle.std.specs.List.{join_by}
 use Rattle.bx_ucd.specs.declared.class.Class.{Class}
@@ -9,16 +9,16 @@ use Rattle.bx_view.specs.TextRows.{text_row_glyphs, text_rows}
 use Rattle.bx_print.specs.declared.marks.Marks.{Marks}
 use Rattle.bx_print.specs.declared.marks.Marks.TheVariants.{Bracketed, LeftOut}
 
--- what is printed of a mark's letter
+-- the printed bytes of a mark's letter; 91 and 93 are the brackets
 abbrev pub mark_bytes : Marks → List ℕ → List ℕ
 mark_bytes LeftOut letter = []
 mark_bytes Bracketed letter = 91 ∷ letter ++ 93 ∷ []
 
--- what is printed of a glyph; one in negative image is a mark
+-- the printed bytes of a glyph; a glyph in negative image is a mark
 abbrev pub glyph_bytes : Marks → Glyph → List ℕ
 glyph_bytes marks g = elim (g.negative) [ true ↦ mark_bytes marks g.text | false ↦ g.text ]
 
--- a byte in front of bytes with no blank at their end: a blank goes where nothing follows
+-- a byte before bytes that end without a blank; a blank before nothing is dropped
 abbrev pub before : ℕ → List ℕ → List ℕ
 before b [] = if b == 32 then [] else b ∷ []
 before b (c ∷ cs) = b ∷ c ∷ cs
@@ -28,11 +28,11 @@ abbrev pub trimmed : List ℕ → List ℕ
 trimmed [] = []
 trimmed (b ∷ bs) = before b (trimmed bs)
 
--- the line of a row: its glyphs from left to right, without the blanks at its right end
+-- the line of a row: its glyphs from left to right, without blanks at the end
 abbrev pub line : Marks → List Glyph → List ℕ
 line marks glyphs = trimmed (flat_map (glyph_bytes marks) glyphs)
 
--- the lines of a text's rows, with a line feed between two
+-- the lines of a text's rows, separated by line feeds
 abbrev pub page : (ℕ → Class) → (ℕ → Option (Side × ℕ)) → (ℕ → Option ℕ) → Marks → Base → ℕ → List ℕ → List ℕ
 page class bracket mirror marks base w text =
     join_by (λ r. line marks (text_row_glyphs class mirror w r)) (10 ∷ []) (text_rows class bracket base w text)

@@ -1,4 +1,4 @@
-//! Why a text could not be printed.
+//! Errors of printing.
 use bx_terms::OutOfMemory;
 use bx_text::TextError;
 use std::alloc::AllocError;
@@ -10,7 +10,7 @@ pub enum PrintError {
     /// The text has more than 16,777,216 bytes.
     #[error("file too long")]
     TooLong,
-    /// The writer took no more.
+    /// A write or a flush failed, or a write took no byte.
     #[error("output failed")]
     WriteFault,
     /// Memory ran out.

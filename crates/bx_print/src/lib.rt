@@ -1,6 +1,6 @@
-//! The rows of a text as plain bytes, a line each, for what is no screen: a pager, mail, a printer.
+//! The rows of a text as lines of plain bytes, for a pager, mail or a printer.
 //!
-//! Only the functions that answer a `Result` take memory.
+//! Only functions that return a `Result` allocate.
 #![tactic(auto)]
 
 mod error;

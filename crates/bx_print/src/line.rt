@@ -1,4 +1,4 @@
-//! The line of a row.
+//! The printed line of a row.
 ghost use Rattle.std.specs.Prelude.{◌≡◌, ◌≤◌, ◌++◌, OnOk, flat_map, length, map, take};
 ghost use Rattle.bx_rows.specs.Shown.{glyph_of};
 ghost use Rattle.bx_print.specs.Page.{glyph_bytes, line, trimmed};
@@ -7,7 +7,7 @@ use crate::marks::Marks;
 use bx_rows::{Drawn, RowPicture};
 use std::alloc::AllocError;
 
-/// Adds what is printed of a glyph.
+/// Appends the printed bytes of a glyph.
 fn push_glyph(page: &mut Vec<u8>, glyph: &Drawn<'_>, marks: Marks) -> Result<(), AllocError>
     ensures { OnOk result (page.new.items ≡ page.old.items ++ glyph_bytes marks (glyph_of glyph.now)) }
 {
@@ -27,7 +27,7 @@ fn push_glyph(page: &mut Vec<u8>, glyph: &Drawn<'_>, marks: Marks) -> Result<(),
     }
 }
 
-/// How many bytes stand in front of the blanks that some bytes end with.
+/// The length of `bytes` without the blanks at their end.
 fn trimmed_len(bytes: &[u8]) -> usize
     ensures within { result ≤ length bytes.now }
     ensures trimmed { take result bytes.now ≡ trimmed bytes.now }
@@ -42,7 +42,7 @@ fn trimmed_len(bytes: &[u8]) -> usize
     len
 }
 
-/// Adds the glyphs of a row.
+/// Appends the printed bytes of a row's glyphs.
 fn push_glyphs(page: &mut Vec<u8>, glyphs: &[Drawn<'_>], marks: Marks) -> Result<(), AllocError>
     ensures { OnOk result (page.new.items ≡ page.old.items ++ flat_map (glyph_bytes marks) (map glyph_of glyphs.now)) }
 {
@@ -52,7 +52,7 @@ fn push_glyphs(page: &mut Vec<u8>, glyphs: &[Drawn<'_>], marks: Marks) -> Result
     Ok(())
 }
 
-/// Adds the line of a row that shows this picture.
+/// Appends the line of a row with this picture.
 pub(crate) fn push_line(
     page: &mut Vec<u8>,
     picture: &RowPicture<'_>,

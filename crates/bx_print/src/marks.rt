@@ -1,9 +1,9 @@
-//! What becomes of marks.
+//! How marks are printed.
 
-/// How a mark is printed, which stands for what has no look of its own and is shown in negative image on a screen.
+/// How a mark is printed: the letter, in negative image on a screen, for a character with no visible form of its own.
 #[derive(Clone, Copy, PartialEq, Eq, Debug)]
 pub enum Marks {
-    /// Not at all.
+    /// Omitted.
     LeftOut,
     /// As its letter in brackets.
     Bracketed,

@@ -1,4 +1,4 @@
-//! Bytes are written.
+//! Writing bytes.
 ghost use Rattle.std.specs.Prelude.{◌≡◌, ℕ, List, OnErr, OnOk};
 ghost use Rattle.std.specs.Io.KnownBytes.{Appends};
 ghost use Rattle.bx_print.specs.Writing.{IsWritten, WritesFront};
@@ -6,12 +6,12 @@ ghost use Rattle.bx_print.specs.Writing.{IsWritten, WritesFront};
 use crate::error::PrintError;
 use std::io::Write;
 
-/// How many bytes are kept before they are written.
+/// The number of pending bytes that triggers a write.
 const FULL: usize = 65_536;
 
-/// Writes bytes. A write of no byte is a fault.
+/// Writes all bytes. A write that takes no byte is an error.
 ///
-/// Errors: `WriteFault`, where a front of them was written.
+/// Errors: `WriteFault`; a prefix of the bytes was written.
 fn send<W: Write>(writer: &mut W, bytes: &[u8]) -> Result<(), PrintError>
     ensures all { OnOk result (Appends (W.contents writer.old) (W.contents writer.new) bytes.now) }
     ensures front { WritesFront bytes.now (W.contents writer.old) (W.contents writer.new) }
@@ -28,9 +28,9 @@ fn send<W: Write>(writer: &mut W, bytes: &[u8]) -> Result<(), PrintError>
     Ok(())
 }
 
-/// Writes what is pending where it is much; the rest is pending then.
+/// Writes the pending bytes, and clears them, once there are `FULL` of them.
 ///
-/// Errors: `WriteFault`, where a front of it was written.
+/// Errors: `WriteFault`; a prefix of the bytes was written.
 pub(crate) fn send_full<W: Write>(writer: &mut W, pending: &mut Vec<u8>) -> Result<(), PrintError>
     ensures sent { (written : List ℕ) × (rest : List ℕ)
         × IsWritten pending.old.items (W.contents writer.old) (W.contents writer.new) written rest
@@ -45,9 +45,9 @@ pub(crate) fn send_full<W: Write>(writer: &mut W, pending: &mut Vec<u8>) -> Resu
     Ok(())
 }
 
-/// Writes all that is pending, and flushes.
+/// Writes all pending bytes, and flushes.
 ///
-/// Errors: `WriteFault`, where a front of it was written.
+/// Errors: `WriteFault`; a prefix of the bytes was written.
 pub(crate) fn finish<W: Write>(writer: &mut W, pending: &[u8]) -> Result<(), PrintError>
     ensures all { OnOk result (Appends (W.contents writer.old) (W.contents writer.new) pending.now) }
     ensures front { WritesFront pending.now (W.contents writer.old) (W.contents writer.new) }

@@ -1,4 +1,4 @@
-//! The lines of a paragraph.
+//! The printed lines of a paragraph.
 ghost use Rattle.std.specs.Prelude.{◌≡◌, ◌<◌, ◌++◌, OnErr, OnOk, length};
 ghost use Rattle.bx_paragraph.specs.Layout.{IsLayoutBy};
 ghost use Rattle.bx_view.specs.Source.{body_at, count};
@@ -12,7 +12,7 @@ use bx_paragraph::ParagraphLayout;
 use bx_ucd::BidiData;
 use bx_view::Source;
 
-/// Adds the lines of a paragraph that is laid out, each behind a line feed.
+/// Appends the lines of a laid out paragraph, each after a line feed.
 fn push_rows<D: BidiData>(
     page: &mut Vec<u8>,
     layout: &ParagraphLayout,
@@ -33,7 +33,7 @@ fn push_rows<D: BidiData>(
     Ok(())
 }
 
-/// Adds the lines of a paragraph of the text by its number, each behind a line feed.
+/// Appends the lines of paragraph `number`, from 0, each after a line feed.
 pub(crate) fn push_paragraph<D: BidiData>(
     page: &mut Vec<u8>,
     source: &Source<'_, D>,

@@ -1,4 +1,4 @@
-//! A text is printed.
+//! Printing a text.
 ghost use Rattle.std.specs.Prelude.{◌≡◌, ◌↔◌, ◌<◌, [], IsErrOf, OnOk, length, string_bytes};
 ghost use Rattle.std.specs.Io.KnownBytes.{Appends};
 ghost use Rattle.bx_text.specs.Edits.{largest_text};
@@ -17,7 +17,7 @@ use bx_view::Source;
 use std::alloc::Global;
 use std::io::Write;
 
-/// Prints the paragraphs of a text, with a list for what is not yet written.
+/// Prints the paragraphs of a text, buffered in `pending`.
 fn print_paragraphs<D: BidiData, W: Write>(
     pending: &mut Vec<u8>,
     source: &Source<'_, D>,
@@ -34,7 +34,7 @@ fn print_paragraphs<D: BidiData, W: Write>(
 {
     let count = source.index.count();
     push_paragraph(pending, source, 0, style)?;
-    // no line feed stands in front of the first row
+    // the first row has no line feed before it
     pending.remove(0);
     for number in 1..count {
         send_full(writer, pending)?;
@@ -43,10 +43,10 @@ fn print_paragraphs<D: BidiData, W: Write>(
     finish(writer, pending)
 }
 
-/// Writes the lines of a text's rows, with a line feed between two, and flushes.
+/// Writes the lines of a text's rows, separated by line feeds, and flushes.
 ///
-/// Errors: `TooLong` above 16,777,216 bytes, where nothing was written; `WriteFault` and `OutOfMemory`, where a front of
-/// the lines was written.
+/// Errors: `TooLong` above 16,777,216 bytes, and nothing was written; `WriteFault` or `OutOfMemory`, and a prefix of the
+/// lines was written.
 pub fn print<D: BidiData, W: Write>(
     alloc: Global,
     text: String,

@@ -1,18 +1,18 @@
-//! How a text is printed.
+//! Options of printing.
 ghost use Rattle.std.specs.Prelude.{◌≡◌, true};
 ghost use Rattle.bx_terms.specs.Sizes.{is_side};
 
 use crate::marks::Marks;
 use bx_explicit::Base;
 
-/// How a text is printed.
+/// Options of printing.
 #[derive(Clone, Copy)]
 pub struct Style {
     /// The base direction.
     pub base: Base,
     /// The columns of a row, from 1 to 500.
     pub columns: u16,
-    /// What becomes of marks.
+    /// How marks are printed.
     pub marks: Marks,
     ghost has_columns: { is_side columns ≡ true },
 }

@@ -1,4 +1,4 @@
--- What the first paragraphs make was written, but for what is pending.
+-- The lines of the first paragraphs were written, except the pending bytes.
 use Rattle.std.proofs.Common.{ℕ, List}
 use Rattle.bx_paras.specs.Paragraphs.{paragraphs}
 use Rattle.bx_print.proofs.PageParts.{lines_of}
