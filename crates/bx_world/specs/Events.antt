@@ -1,4 +1,4 @@
--- What a schedule brings to the editor: the bytes of input with the keys that they end, and the sizes that are told.
+-- The events of a schedule: input bytes with the keys that they complete, and told sizes.
 use Rattle.std.specs.Prelude.{◌≡◌, ◌≢◌, ℕ, suc, Bool, true, false, not, ◌&&◌, List, [], ◌∷◌, ◌++◌, Option, Some, None}
 use Rattle.std.specs.Prelude.{option_to_list, Result, Err, if◌then◌else◌}
 use Rattle.bx_keys.specs.declared.key.Key.{Key}
@@ -16,13 +16,13 @@ use Rattle.bx_world.specs.declared.step.StepFault.{StepFault}
 use Rattle.bx_world.specs.declared.step.StepFault.TheVariants as faults
 
 pub data Event : Type 0 where
-  -- a byte of input before the session's end, with the key that it ends, if any: whether that was applied, and whether its Save
-  -- succeeded
+  -- a byte of input before the session's end, with the key that it completes, if any; whether the key was applied, and
+  -- whether its Save succeeded
   Input : (byte : ℕ) (key : Option Key) (applied saved : Bool) → Event
-  -- the session was told that the window has so many rows and columns
+  -- the session was told a size, in rows and columns
   Telling : (height width : ℕ) → Event
 
--- ---- what events make of an editor and of a store
+-- ---- the effect of events on an editor and a store
 
 -- a key that was refused changes nothing
 abbrev pub after_input : Data → Bool → Bool → Editor → Option Key → Editor
@@ -37,7 +37,7 @@ abbrev pub after_events : Data → Editor → List Event → Editor
 after_events d e [] = e
 after_events d e (event ∷ more) = after_events d (after_event d e event) more
 
--- a save that succeeded stored the text; of one that failed the store counts a call more that failed
+-- a successful save stores the text; after a failed one the store counts one more failed call
 abbrev pub after_save_of : List ℕ → Bool → StoreState → StoreState
 after_save_of text true store = with_text text store
 after_save_of text false store = record store { failures = one_more store.failures }
@@ -80,30 +80,30 @@ abbrev pub bytes_of_schedule : {A : Type 0} → List (Step × Result A StepFault
 bytes_of_schedule [] = []
 bytes_of_schedule (s ∷ more) = byte_of s.0 ++ bytes_of_schedule more
 
--- the input is all bytes of a schedule, or those up to the session's end, where others follow
+-- the input is all bytes of a schedule, or those up to the session's end if more follow
 abbrev pub HasBytesUntilEnd : {A : Type 0} → List (Step × Result A StepFault) → List Event → Editor → Type 0
 HasBytesUntilEnd schedule events e =
     (dropped : List ℕ) × (bytes_of_schedule schedule ≡ input_of events ++ dropped) × (dropped ≢ [] → e.ended ≡ true)
 
--- at every moment the keys, after those of the bytes of a journal, if any, are those that the input grammar gives for all bytes
--- until then as a whole
+-- at every moment, the journal's keys and the events' keys together are those that the input grammar gives for all bytes
+-- so far as a whole
 abbrev pub HasKeysOfAll : List ℕ → List Event → Type 0
 HasKeysOfAll journal events = (front back : List Event) → events ≡ front ++ back
     → (decoding journal).keys ++ keys_of front ≡ (decoding (journal ++ input_of front)).keys
 
 -- ---- the events of a schedule
 
--- a byte's key was applied, unless there was no memory for that
+-- a byte's key was applied, unless memory ran out
 abbrev pub is_applied : {A : Type 0} → Result A StepFault → Bool
 is_applied (Err (faults.Session refused.Edit)) = false
 is_applied _ = true
 
--- what a byte brings, where the session has ended or not: after the end, nothing
+-- the events of a byte, given whether the session has ended: none after the end
 abbrev pub BringsByte : {A : Type 0} → Bool → ℕ → Result A StepFault → List Event → Type 0
 BringsByte true b answer events = events ≡ []
 BringsByte false b answer events = (key : Option Key) × (saved : Bool) × (events ≡ Input b key (is_applied answer) saved ∷ [])
 
--- what a step brings; a size that no window may have is none
+-- the events of a step; a told size outside the limits gives none
 abbrev pub Brings : {A : Type 0} → Bool → Step → Result A StepFault → List Event → Type 0
 Brings ended (Byte b) answer events = BringsByte ended b answer events
 Brings ended (Told height width) answer events = events ≡ (if is_size height width then Telling height width ∷ [] else [])
@@ -111,7 +111,7 @@ Brings ended (Window height width) answer events = events ≡ []
 Brings ended (Send count) answer events = events ≡ []
 Brings ended (Read count) answer events = events ≡ []
 
--- what a schedule brings to an editor, step by step
+-- the events of a schedule, step by step
 abbrev pub AreEvents : {A : Type 0} → Data → Editor → List (Step × Result A StepFault) → List Event → Type 0
 AreEvents d e [] events = events ≡ []
 AreEvents d e (s ∷ more) events =

@@ -1,4 +1,4 @@
--- What a schedule makes of a file: the keys that were typed, the text that they make, what is stored, and what is seen.
+-- The effect of a schedule on a file: the keys typed, the text, the store, and the picture seen.
 use Rattle.std.specs.Prelude.{◌≡◌, ℕ, ◌+◌, ◌<◌, true, false, List, [], Result, IfSome}
 use Rattle.bx_explicit.specs.declared.base.Base.{Base}
 use Rattle.bx_keys.specs.Keys.{keys_from}
@@ -16,25 +16,25 @@ use Rattle.bx_world.specs.Steps.{is_last_accepted}
 use Rattle.bx_world.specs.Events.{Event, AreEvents, input_of, keys_of, HasBytesUntilEnd, HasKeysOfAll}
 use Rattle.bx_world.specs.Events.{after_events, stored_after_all, failed_saves}
 
--- what a schedule's events make of the world that they come to
+-- the effect of a schedule's events on a world
 pub record Follows {A : Type 0} (d : Data) (old : World) (store : StoreState) (schedule : List (Step × Result A StepFault)) (new : World)
     (store' : StoreState) (events : List Event) : Type 0 where
   pub events_are : AreEvents d old.session.editor schedule events
   pub input : HasBytesUntilEnd schedule events new.session.editor
-  -- the keys of the bytes, behind those that wait; where none wait, they are those of all bytes as a whole
+  -- the keys of the input after the bytes of an unfinished key; without such bytes, the keys of the input as a whole
   pub keys : keys_of events ≡ keys_from old.session.rest (input_of events)
   pub as_whole : old.session.rest ≡ [] → HasKeysOfAll [] events
   pub editor : new.session.editor ≡ after_events d old.session.editor events
   pub stored : store' ≡ stored_after_all d old.session.editor store events
-  -- below the greatest number the store's failures rose by one for each save that failed
+  -- below the greatest number, the store's failures rose by one for each failed save
   pub failures : store'.failures < greatest → store'.failures ≡ store.failures + failed_saves events
 
--- The headline, of an editor as a session begins with it, after the bytes of a journal, if any. The events are the bytes up to the
--- session's end and the tellings, each as it was answered. Their keys are those that the input grammar gives for all these bytes
--- as a whole. The state is what the accepted keys make of the beginning, one after another, beside the tellings. Each save that
--- succeeded stored the text of its moment. When the window's last size was told since, the last call was not refused, and all
--- bytes are read, the terminal shows exactly the picture of that state. Until the session's end the cursor of that picture stands
--- on the cell of its place.
+-- The headline, for a session's first editor state and the bytes of a journal, if any. The events are the bytes up to the
+-- session's end and the told sizes, each as it was answered. Their keys, after the journal's, are those that the input
+-- grammar gives for all bytes as a whole. The state is the result of the accepted keys and told sizes, in order, from the
+-- first state. Each successful save stored the text of its moment. If the session knows the window's size, the last call
+-- was accepted and all bytes are read, the terminal shows exactly the picture of that state. Until the session's end, the
+-- cursor of that picture is on the cell of its place.
 pub record Headline {A : Type 0} (d : Data) (start : Editor) (journal : List ℕ) (store : StoreState) (schedule : List (Step × Result A StepFault))
     (new : World) (store' : StoreState) (events : List Event) : Type 0 where
   pub events_are : AreEvents d start schedule events
@@ -45,13 +45,13 @@ pub record Headline {A : Type 0} (d : Data) (start : Editor) (journal : List ℕ
   pub failures : store'.failures < greatest → store'.failures ≡ store.failures + failed_saves events
   pub shows : is_last_accepted true schedule ≡ true → new.told ≡ true → new.line ≡ [] → new.session.pending ≡ []
       → IfSome new.screen (λ t. Shows t (picture d (after_events d start events) new.session.top))
-  -- where the last call was not refused, no painting is owed; a key that was refused leaves it so
+  -- if the last call was accepted, no painting is owed
   pub owes : is_last_accepted true schedule ≡ true → new.session.painting_owed ≡ false
-  -- whatever was told, is unread or pending
+  -- this holds with bytes unread or pending, and whatever sizes were told
   pub cursor : new.session.painting_owed ≡ false → new.session.editor.ended ≡ false
       → StandsOnItsCell d (after_events d start events) new.session.top (picture d (after_events d start events) new.session.top)
 
--- for every file, tables and schedule: from a world as it was opened
+-- the headline for every file, tables and schedule, from a world at its opening
 abbrev pub HeadlineFromOpening : {A : Type 0} → Data → World → StoreState → List (Step × Result A StepFault) → World → StoreState → Type 0
 HeadlineFromOpening d old store schedule new store' =
     (text : List ℕ) (height width : ℕ) (base : Base) → old ≡ around (at_opening d text height width base) height width

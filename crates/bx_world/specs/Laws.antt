@@ -1,4 +1,4 @@
--- What a run is to a world: a play of its session. So what holds of every play speaks of the program.
+-- A run is a schedule of its session's world. So the contracts of schedules apply to the program.
 use Rattle.std.specs.Prelude.{◌≡◌, ℕ, true, false, List, [], ◌∷◌, ◌++◌, length, Option, Ok}
 use Rattle.std.specs.List.{filter}
 use Rattle.bx_keys.specs.Keys.{decoding}
@@ -18,8 +18,8 @@ use Rattle.bx_world.specs.Showing.{IsInStep}
 use Rattle.bx_world.specs.Events.{after_events}
 use Rattle.bx_world.specs.Runs.{Schedule, steps_of_turn, steps_of_run, IsAmong, RunsInWindow}
 
--- The world after these steps: the session is what the run left, the bytes that it wrote are on the line, and window and
--- terminal are as they were. What every step keeps was kept.
+-- The world after these steps: the run's last session, the line with the bytes that the run wrote, and window and terminal
+-- unchanged. The invariant of all steps is kept.
 pub record IsAfterRun (d : Data) (old : World) (s : Session) (written : List ℕ) (new : World) : Type 0 where
   pub session : new.session ≡ s
   pub line : new.line ≡ old.line ++ written
@@ -28,7 +28,7 @@ pub record IsAfterRun (d : Data) (old : World) (s : Session) (written : List ℕ
   pub screen : new.screen ≡ old.screen
   pub in_step : IsInStep d old → IsInStep d new
 
--- a turn of a run, whatever window and terminal have done before
+-- a turn of a run, whatever window and terminal did before
 abbrev pub TurnsArePlays : Type 0
 TurnsArePlays =
     (d : Data) (old : World) (s : Session) (store store' : StoreState) (turn : Turn) (all : Session)
@@ -43,15 +43,15 @@ RunsArePlays =
     → (run : HasRun d old.session s store store' reader reader' writer writer' answered dropped written all)
     → (new : World) × PlaysTo d old store (steps_of_run run.in_turns) new store' × IsAfterRun d old s written new
 
--- ---- a run from its beginning on
+-- ---- a run from its start
 
--- a session that goes on from a journal has what the journal's keys make of the text, without the Saves and Quits
+-- a session restored from a journal starts with the text as edited by the journal's keys, except Saves and Quits
 abbrev pub BeginsWithKeys : Type 0
 BeginsWithKeys = (d : Data) (b : Beginning)
     → (unpainted_at d b).editor ≡ after_keys d false (at_offset d b).editor (filter is_replayed (decoding b.journal).keys)
 
--- The headline, of a run in a window that changes while keys are read: whatever the terminal shows at first, and however steps of
--- the window and the terminal come between the steps of the run.
+-- The headline for a run in a window whose size changes meanwhile: for any first content of the terminal, and any steps of
+-- the window and the terminal between the steps of the run.
 abbrev pub HeadlineInChangingWindows : Type 0
 HeadlineInChangingWindows =
     (d : Data) (b : Beginning) (s : Session) (store store' : StoreState) (reader reader' writer writer' : Option (List ℕ))
@@ -60,8 +60,8 @@ HeadlineInChangingWindows =
     → (t : Terminal) (schedule : Schedule) → IsIdle t → IsAmong (steps_of_run run.in_turns) schedule
     → RunsInWindow d b (begun d b) s store store' t schedule
 
--- The headline, of a run in a window that keeps its size: a terminal of the size that the session has, with nothing half read,
--- that has read all that the run wrote shows the picture of what the accepted keys make of the beginning.
+-- The headline for a run in a window of one size: a terminal of the session's size, with no sequence half read, that has
+-- read all bytes that the run wrote shows the picture of the start state as changed by the accepted keys.
 abbrev pub HeadlineOfRuns : Type 0
 HeadlineOfRuns =
     (d : Data) (b : Beginning) (s : Session) (store store' : StoreState) (reader reader' writer writer' : Option (List ℕ))

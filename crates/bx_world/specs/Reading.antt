@@ -1,4 +1,4 @@
--- What the terminal reads in a schedule, and when a picture that was promised is seen.
+-- The bytes that the terminal reads in a schedule, and when a promised picture is seen.
 use Rattle.std.specs.Prelude.{◌≡◌, ℕ, Bool, true, false, ◌||◌, List, [], ◌∷◌, ◌++◌, length, take, Result, IfSome}
 use Rattle.bx_grid.specs.Picture.{Shows}
 use Rattle.bx_ucd.specs.Data.{Data}
@@ -10,7 +10,7 @@ use Rattle.bx_world.specs.World.{World, unread}
 use Rattle.bx_world.specs.Steps.{StepsTo, is_ok}
 use Rattle.bx_world.specs.Showing.{picture_of}
 
--- the bytes that a step has the terminal read
+-- the bytes that the terminal reads in a step
 abbrev pub read_at : World → Step → List ℕ
 read_at w (Read count) = take count w.line
 read_at w (Byte b) = []
@@ -18,14 +18,14 @@ read_at w (Told height width) = []
 read_at w (Window height width) = []
 read_at w (Send count) = []
 
--- steps with their answers, one after another, in which the terminal reads these bytes
+-- a sequence of steps with their answers, in which the terminal reads these bytes
 abbrev pub PlaysReading : {A : Type 0} → Data → World → StoreState → List (Step × Result A StepFault) → World → StoreState → List ℕ → Type 0
 PlaysReading d old store [] new store' read = (new ≡ old) × (store' ≡ store) × (read ≡ [])
 PlaysReading d old store (s ∷ more) new store' read =
     (mid : World) × (mid_store : StoreState) × (others : List ℕ) × StepsTo d old store s.0 s.1 mid mid_store × (read ≡ read_at old s.0 ++ others)
     × PlaysReading d mid mid_store more new store' others
 
--- the window got a size
+-- the window was resized
 abbrev pub is_change : {A : Type 0} → Step → Result A StepFault → Bool
 is_change (Window height width) answer = is_ok answer
 is_change (Byte b) answer = false
@@ -37,9 +37,9 @@ abbrev pub is_window_changed : {A : Type 0} → List (Step × Result A StepFault
 is_window_changed [] = false
 is_window_changed (s ∷ more) = is_change s.0 s.1 || is_window_changed more
 
--- A picture that was promised is seen as its last byte is read, whatever was queued behind it: where the window's size was
--- told and no painting was owed, the window has not changed since, and the terminal has read as many bytes as were on their
--- way to it then, it shows the picture of then.
+-- A promised picture is seen once its last byte is read, whatever is queued after it: if the session knew the window's size
+-- and no painting was owed, the window has not been resized since, and the terminal has read as many bytes as were unread
+-- then, it shows the picture of that moment.
 abbrev pub SeesPromised : {A : Type 0} → Data → World → List (Step × Result A StepFault) → List ℕ → World → Type 0
 SeesPromised d old schedule read new =
     old.told ≡ true → old.session.painting_owed ≡ false → is_window_changed schedule ≡ false → length read ≡ length (unread old)

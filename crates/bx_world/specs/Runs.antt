@@ -1,4 +1,4 @@
--- The program runs a session over a reader and a writer, in a person's window: the steps of a run, and where others come between.
+-- The steps of a run, which is a session over a reader and a writer, and the steps of window and terminal between them.
 use Rattle.std.specs.Prelude.{◌≡◌, ℕ, Bool, true, false, not, ◌&&◌, ◌==◌, List, [], ◌∷◌, ◌++◌, length, map, Some, Result, Ok, Err, if◌then◌else◌}
 use Rattle.std.specs.List.{AllByRecursion, filter}
 use Rattle.bx_grid.specs.Picture.{Shows, is_size}
@@ -26,7 +26,7 @@ Schedule = List (Step × Result (Unit {0}) StepFault)
 
 -- ---- the steps of a run
 
--- the bytes of a turn, each with its answer, and the sending of what was written then
+-- the bytes of a turn, each with its answer, and then the sending of the bytes written
 abbrev pub steps_of_turn : Turn → Schedule
 steps_of_turn turn = map (λ a. (Byte a.0, answer_of a.1)) turn.fed ++ (Send (length turn.written), Ok tt) ∷ []
 
@@ -34,12 +34,12 @@ abbrev pub steps_of_turns : List Turn → Schedule
 steps_of_turns [] = []
 steps_of_turns (turn ∷ more) = steps_of_turn turn ++ steps_of_turns more
 
--- what was pending goes out, and then come the turns
+-- the pending bytes are sent, and then the turns follow
 abbrev pub steps_of_run : {d : Data} {old new : Session} {store store' : StoreState} {answered : List ByteAnswer} {dropped written : List ℕ}
     → InTurns d old new store store' answered dropped written → Schedule
 steps_of_run run = (Send (length run.first), Ok tt) ∷ steps_of_turns run.turns
 
--- ---- what a person and a terminal do meanwhile
+-- ---- the steps of window and terminal
 
 -- a step of the window or of the terminal
 abbrev pub is_outside : Step → Bool
@@ -49,7 +49,7 @@ is_outside (Byte b) = false
 is_outside (Told height width) = false
 is_outside (Send count) = false
 
--- what a terminal that has memory answers to it
+-- the answer of a terminal with enough memory
 abbrev pub outside_answer : Step → Result (Unit {0}) StepFault
 outside_answer (Window height width) = if is_size height width then Ok tt else Err (faults.Screen grid.SizeOutOfRange)
 outside_answer (Read count) = Ok tt
@@ -57,15 +57,15 @@ outside_answer (Byte b) = Ok tt
 outside_answer (Told height width) = Ok tt
 outside_answer (Send count) = Ok tt
 
--- A run's steps with steps of the window and the terminal anywhere among them: between turns, between the bytes of a turn, and
+-- A run's steps interleaved with steps of the window and the terminal: between turns, between the bytes of a turn, and
 -- between these and their sending.
 pub record IsAmong (run schedule : Schedule) : Type 0 where
   pub own : filter (λ s. not (is_outside s.0)) schedule ≡ run
   pub outside : AllByRecursion (λ s. is_outside s.0 ≡ true → s.1 ≡ outside_answer s.0) schedule
 
--- ---- where a run begins
+-- ---- the start of a run
 
--- a session at a terminal to which nothing was sent yet; its window's size counts as told where it is the session's
+-- a session at a terminal, before any byte is sent; the session knows the window's size if it is its own
 abbrev pub begins_at : Session → Terminal → World
 begins_at s t = record {
   session = s;
@@ -76,8 +76,8 @@ begins_at s t = record {
   told = (t.height == s.editor.height) && (t.width == s.editor.width);
 }
 
--- A schedule from there on ends with this session, and the headline holds of it: where the window's last size was told, the last
--- call was not refused and all is read, the terminal shows the picture of what the keys make of the beginning.
+-- A schedule from that world ends with this session, and the headline holds: if the session knows the window's size, the
+-- last call was accepted and all bytes are read, the terminal shows the picture of the start state as changed by the keys.
 pub record RunsInWindow (d : Data) (b : Beginning) (begun s : Session) (store store' : StoreState) (t : Terminal) (schedule : Schedule)
     : Type 0 where
   pub new : World

@@ -1,4 +1,4 @@
--- What the terminal of a world shows, and will show once it has read what is on its way.
+-- The picture that a world's terminal shows, and will show once it has read all bytes in transit.
 use Rattle.std.specs.Prelude.{◌≡◌, ℕ, Bool, true, false, List, [], ◌∷◌, ◌==◌, IfSome}
 use Rattle.bx_grid.specs.Picture.{PictureState, IsIdle, Shows}
 use Rattle.bx_grid.specs.Terminal.{Terminal, reads}
@@ -13,15 +13,15 @@ use Rattle.bx_world.specs.World.{World, unread}
 abbrev pub picture_of : Data → Session → PictureState
 picture_of d s = picture d s.editor s.top
 
--- a fact of the terminal, if it has not failed, once it has read what is on the line and what is pending
+-- a property of the terminal, unless it has failed, once it has read the line and the pending bytes
 abbrev pub AfterAll : World → (Terminal → Type 0) → Type 0
 AfterAll w holds = IfSome w.screen (λ t. holds (reads t (unread w)))
 
--- where the window's last size was told and no painting is owed, the terminal will show the picture of the state
+-- if the session knows the window's size and no painting is owed, the terminal will show the picture of the state
 abbrev pub WillShow : Data → World → Type 0
 WillShow d w = w.told ≡ true → w.session.painting_owed ≡ false → AfterAll w (λ t. Shows t (picture_of d w.session))
 
--- it will have nothing half read, whatever was told or refused
+-- the terminal will have no sequence half read, whatever was told or refused
 abbrev pub StaysWhole : World → Type 0
 StaysWhole w = AfterAll w IsIdle
 
@@ -29,23 +29,23 @@ StaysWhole w = AfterAll w IsIdle
 abbrev pub ShowsNow : Data → World → Type 0
 ShowsNow d w = IfSome w.screen (λ t. Shows t (picture_of d w.session))
 
--- where the last call was not refused, the window's last size was told since and all bytes are read, the terminal shows
--- the picture of the state
+-- if the last call was accepted, the session knows the window's size and all bytes are read, the terminal shows the
+-- picture of the state
 abbrev pub ShowsWhenRead : Bool → Data → World → Type 0
 ShowsWhenRead accepted d w = accepted ≡ true → w.told ≡ true → w.line ≡ [] → w.session.pending ≡ [] → ShowsNow d w
 
--- where no painting is owed, and the session has not ended, the cursor of that picture stands on its cell
+-- unless a painting is owed or the session has ended, the cursor of that picture is on its cell
 abbrev pub CursorStands : Data → Session → Type 0
 CursorStands d s = s.painting_owed ≡ false → s.editor.ended ≡ false → StandsOnItsCell d s.editor s.top (picture_of d s)
 
--- ---- what every step keeps
+-- ---- the invariant of all steps
 
 -- a sequence is half read
 abbrev pub begins_sequence : List ℕ → Bool
 begins_sequence [] = false
 begins_sequence (b ∷ rest) = b == 0x1B
 
--- an escape ends a run, so where a sequence is half read there is none
+-- an escape ends a run, so there is no run while a sequence is half read
 abbrev pub NoRunInSequence : Terminal → Type 0
 NoRunInSequence t = begins_sequence t.half_read ≡ true → t.run ≡ []
 
@@ -56,10 +56,10 @@ abbrev pub FitsWindow : ℕ → ℕ → Editor → Type 0
 FitsWindow height width e = (e.height ≡ height) × (e.width ≡ width)
 
 pub record IsInStep (d : Data) (w : World) : Type 0 where
-  -- where no painting is owed, the picture last painted is the state's, and the screen is taken to show it
+  -- unless a painting is owed, the picture last painted is the state's, and the screen is assumed to show it
   pub state : ShowsState d w.session
   pub cursor : CursorStands d w.session
-  -- where the size was told, the terminal will show what the screen is taken to show
+  -- if the session knows the window's size, the terminal will show the picture that the screen is assumed to show
   pub follows : w.told ≡ true → IfSome w.session.known (λ p. AfterAll w (λ t. Shows t p))
   pub whole : StaysWhole w
   pub screen : IfSome w.screen (λ t. HasSize w.height w.width t × NoRunInSequence t)

@@ -1,4 +1,4 @@
--- What each step leaves, by what it was answered, and what a list of steps leaves.
+-- The world after a step, by its answer, and after a list of steps.
 use Rattle.std.specs.Prelude.{◌≡◌, ◌≢◌, ℕ, Bool, true, false, List, [], ◌∷◌, take, drop, Result, Ok, Err, IsSome}
 use Rattle.bx_grid.specs.Picture.{is_size}
 use Rattle.bx_grid.specs.declared.error.GridError.TheVariants as grid
@@ -14,7 +14,7 @@ use Rattle.bx_world.specs.World.{World, with_byte, with_told_size, after_window,
 
 -- ---- one step
 
--- a byte; `saved` tells how a Save ended
+-- a byte; `saved`: a Save succeeded
 abbrev pub AfterByteStep : {A : Type 0} → Data → Bool → World → ℕ → Result A StepFault → World → Type 0
 AfterByteStep d saved old b (Ok _) new = new ≡ with_byte old b (after_byte d saved old.session b)
 AfterByteStep d saved old b (Err (faults.Session refused.Paint)) new =
@@ -35,7 +35,7 @@ AfterToldStep d old height width (Err (faults.Session refused.Edit)) new = ⊥
 AfterToldStep d old height width (Err (faults.Screen fault)) new = ⊥
 AfterToldStep d old height width (Err faults.Line) new = ⊥
 
--- a terminal that has failed answers want of memory, whatever the size
+-- a failed terminal answers `OutOfMemory`, whatever the size
 abbrev pub AfterWindowStep : {A : Type 0} → World → ℕ → ℕ → Result A StepFault → World → Type 0
 AfterWindowStep old height width (Ok _) new = (is_size height width ≡ true) × IsSome old.screen × (new ≡ after_window old height width)
 AfterWindowStep old height width (Err (faults.Screen grid.SizeOutOfRange)) new =
@@ -45,15 +45,15 @@ AfterWindowStep old height width (Err (faults.Screen grid.OutOfMemory)) new =
 AfterWindowStep old height width (Err (faults.Session fault)) new = ⊥
 AfterWindowStep old height width (Err faults.Line) new = ⊥
 
--- a count above what is pending takes all
+-- a count beyond the pending bytes sends all of them
 abbrev pub AfterSendStep : {A : Type 0} → World → ℕ → Result A StepFault → World → Type 0
 AfterSendStep old count (Ok _) new = new ≡ after_send old count
 AfterSendStep old count (Err faults.Line) new = new ≡ old
 AfterSendStep old count (Err (faults.Session fault)) new = ⊥
 AfterSendStep old count (Err (faults.Screen fault)) new = ⊥
 
--- A count above what is on the line takes all. A read of no byte is answered Ok, also where the terminal has failed. Where
--- the terminal's memory runs out, the bytes that it was given are off the line.
+-- A count beyond the line reads all of it. A read of no byte is answered Ok, even by a failed terminal. If the terminal
+-- runs out of memory, the bytes of the read are off the line.
 abbrev pub AfterReadStep : {A : Type 0} → World → ℕ → Result A StepFault → World → Type 0
 AfterReadStep old count (Ok _) new = (take count old.line ≢ [] → IsSome old.screen) × (new ≡ after_read old count)
 AfterReadStep old count (Err (faults.Screen grid.OutOfMemory)) new =
@@ -62,7 +62,7 @@ AfterReadStep old count (Err (faults.Screen grid.SizeOutOfRange)) new = ⊥
 AfterReadStep old count (Err (faults.Session fault)) new = ⊥
 AfterReadStep old count (Err faults.Line) new = ⊥
 
--- a step with its answer, world and store; no step but a byte touches the store
+-- a step with its answer, world and store; only a byte changes the store
 abbrev pub StepsTo : {A : Type 0} → Data → World → StoreState → Step → Result A StepFault → World → StoreState → Type 0
 StepsTo d old store (Byte b) answer new store' =
     (saved : Bool) × StoreAfter (is_save_byte old.session b) saved old.session.editor.content.text store store' × AfterByteStep d saved old b answer new
@@ -73,7 +73,7 @@ StepsTo d old store (Read count) answer new store' = AfterReadStep old count ans
 
 -- ---- a schedule
 
--- steps with their answers, one after another
+-- a sequence of steps with their answers
 abbrev pub PlaysTo : {A : Type 0} → Data → World → StoreState → List (Step × Result A StepFault) → World → StoreState → Type 0
 PlaysTo d old store [] new store' = (new ≡ old) × (store' ≡ store)
 PlaysTo d old store (s ∷ more) new store' =
@@ -83,7 +83,7 @@ abbrev pub is_ok : {A : Type 0} → Result A StepFault → Bool
 is_ok (Ok _) = true
 is_ok (Err fault) = false
 
--- whether the last byte or told size was not refused, where `before` tells that of the one before this step
+-- whether the last byte or told size was accepted, up to this step; `before`: up to the step before
 abbrev pub accepted_after : {A : Type 0} → Bool → Step → Result A StepFault → Bool
 accepted_after before (Byte b) answer = is_ok answer
 accepted_after before (Told height width) answer = is_ok answer
@@ -91,7 +91,7 @@ accepted_after before (Window height width) answer = before
 accepted_after before (Send count) answer = before
 accepted_after before (Read count) answer = before
 
--- whether the last byte or told size of a schedule was not refused
+-- whether the last byte or told size of a schedule was accepted
 abbrev pub is_last_accepted : {A : Type 0} → Bool → List (Step × Result A StepFault) → Bool
 is_last_accepted before [] = before
 is_last_accepted before (s ∷ more) = is_last_accepted (accepted_after before s.0 s.1) more

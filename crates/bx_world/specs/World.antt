@@ -1,4 +1,4 @@
--- The world: a session, what is on its way to the terminal, the window and the terminal, and what a step makes of them.
+-- The world, which is a session, the bytes in transit, the window and the terminal, and its changes.
 use Rattle.std.specs.Prelude.{ℕ, ◌*◌, Bool, true, false, ◌&&◌, ◌==◌, List, [], ◌++◌, take, drop, replicate, Option, Some, None, option_map}
 use Rattle.bx_keys.specs.declared.key.Key.{Key}
 use Rattle.bx_keys.specs.declared.key.Key.TheVariants.{Size}
@@ -8,22 +8,22 @@ use Rattle.bx_session.specs.Session.{Session, key_of_byte, after_sending}
 
 pub record World : Type 0 where
   pub session : Session
-  -- bytes that were sent, and not yet read
+  -- bytes sent and not yet read
   pub line : List ℕ
   -- the window's rows and columns
   pub height : ℕ
   pub width : ℕ
   -- the terminal, unless memory ran out in it
   pub screen : Option Terminal
-  -- the window's last size was told since
+  -- the session was told the window's current size
   pub told : Bool
 
--- a world with the tables that its session edits by
+-- a world and its session's tables
 pub record WorldState (D : Type 0) : Type 0 where
   pub tables : D
   pub world : World
 
--- a terminal of which nothing is known
+-- a terminal with unknown content
 abbrev pub unknown_terminal : ℕ → ℕ → Terminal
 unknown_terminal height width = record {
   height = height;
@@ -35,7 +35,7 @@ unknown_terminal height width = record {
   half_read = [];
 }
 
--- a world round a session that was opened: opening counts as a telling
+-- the world of an opened session; opening tells the session the window's size
 abbrev pub around : Session → ℕ → ℕ → World
 around s height width = record {
   session = s;
@@ -46,16 +46,16 @@ around s height width = record {
   told = true;
 }
 
--- what the terminal has still to read, if nothing more is queued
+-- the bytes that the terminal has yet to read, if nothing more is queued
 abbrev pub unread : World → List ℕ
 unread w = w.line ++ w.session.pending
 
--- ---- a telling
+-- ---- told sizes
 
 abbrev pub is_window : World → ℕ → ℕ → Bool
 is_window w height width = (w.height == height) && (w.width == width)
 
--- the mark after a key, in a window of this size: the key Size is a telling
+-- the mark after a key, in a window of this size: the key Size tells a size
 abbrev pub told_after : ℕ → ℕ → Bool → Option Key → Bool
 told_after height width told (Some (Size rows columns)) = (height == rows) && (width == columns)
 told_after height width told _ = told
@@ -63,11 +63,11 @@ told_after height width told _ = told
 abbrev pub told_after_key : World → Option Key → Bool
 told_after_key w key = told_after w.height w.width w.told key
 
--- a byte was applied, which left this session
+-- a byte was applied, with this session after it
 abbrev pub with_byte : World → ℕ → Session → World
 with_byte w b s = record w { session = s; told = told_after_key w (key_of_byte w.session b) }
 
--- a size was told, which left this session
+-- a size was told, with this session after it
 abbrev pub with_told_size : World → ℕ → ℕ → Session → World
 with_told_size w height width s = record w { session = s; told = is_window w height width }
 
@@ -81,7 +81,7 @@ after_window w height width = record w {
   told = false;
 }
 
--- the first bytes that are pending go to the line
+-- the first pending bytes go to the line
 abbrev pub after_send : World → ℕ → World
 after_send w count = record w { session = after_sending w.session count; line = w.line ++ take count w.session.pending }
 

@@ -1,31 +1,31 @@
-//! What holds of runs and worlds. The functions do nothing: their contracts are the laws.
+//! Laws of runs and worlds. The functions are empty: their contracts are the laws.
 
 ghost use Rattle.bx_world.specs.Laws.{BeginsWithKeys, HeadlineInChangingWindows, HeadlineOfRuns, RunsArePlays, TurnsArePlays};
 
-/// A turn of a run, the bytes that were fed and the writing behind them, is a play in any world round its session, whatever
-/// window and terminal have done before.
+/// A turn of a run, its input bytes and then its writing, is a schedule of steps in any world with the run's session,
+/// whatever window and terminal did before.
 pub fn turns_are_plays()
     ensures { TurnsArePlays }
 {}
 
-/// A run of a session over a reader and a writer is a play of its turns, in any world round that session. So what holds of
-/// every play speaks of the program.
+/// A run of a session over a reader and a writer is the schedule of its turns, in any world with that session. So the
+/// contracts of schedules apply to the program.
 pub fn runs_are_plays()
     ensures { RunsArePlays }
 {}
 
-/// The headline, of a session that was opened, maybe sent to an offset and continued from a journal, and then run: a terminal of
-/// the session's size that has read all that was written shows what the accepted keys make of the file.
+/// The headline for a session that is opened, optionally moved to an offset and restored from a journal, and then run: a
+/// terminal of the session's size that has read all written bytes shows the file as edited by the accepted keys.
 pub fn runs_keep_headline()
     ensures { HeadlineOfRuns }
 {}
 
-/// The headline, of such a run in a window that changes while keys are read.
+/// The headline for such a run in a window whose size changes meanwhile.
 pub fn windows_keep_headline()
     ensures { HeadlineInChangingWindows }
 {}
 
-/// A session that goes on from a journal begins with what the journal's keys make of the text, without the Saves and Quits.
+/// A session restored from a journal starts with the text as edited by the journal's keys, except Saves and Quits.
 pub fn runs_begin_with_keys()
     ensures { BeginsWithKeys }
 {}

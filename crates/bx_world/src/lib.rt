@@ -1,4 +1,4 @@
-//! The world of a session: what is on its way to the terminal, the window and the terminal, under any schedule of steps.
+//! The world of a session: bytes in transit, the window and the terminal, under any schedule of steps.
 #![tactic(auto)]
 
 mod laws;

@@ -1,4 +1,4 @@
-//! A whole schedule.
+//! Running a whole schedule.
 
 ghost use Rattle.std.specs.Prelude.{◌≡◌, ◌≤◌, ℕ, List, [], Bool, IfOk, OnErr, length, not, vec_capacity};
 ghost use Rattle.std.specs.List.{zip};
@@ -15,7 +15,7 @@ use bx_store::Store;
 use bx_ucd::BidiData;
 
 impl<D: BidiData + Drop> World<D> {
-    /// Takes steps one after another, with their answers put into a list that has room for them.
+    /// Takes steps in order, and appends their answers to a list with room for them.
     fn play_into<S: Store>(
         &mut self,
         steps: &[Step],
@@ -34,13 +34,13 @@ impl<D: BidiData + Drop> World<D> {
         }
     }
 
-    /// Takes a schedule's steps in order, whatever those before answered, and gives the answers. Where the last call was not
-    /// refused, the window's last size was told since and all bytes are read, the terminal shows the picture of the state, which
-    /// is what the accepted keys make of the file; until the session's end its cursor stands on the cell of the cursor's place.
-    /// Their keys are the input grammar's for all bytes of the schedule as a whole, up to the session's end, and each save that
-    /// succeeded stored the text of its moment.
+    /// Takes all steps of a schedule in order, past refused ones, and returns the answers. If the last call was accepted,
+    /// the session knows the window's size and all bytes are read, the terminal shows the picture of the state: the file as
+    /// edited by the accepted keys. Until the session's end, the cursor is on the cell of its place. The keys are those that
+    /// the input grammar gives for the schedule's bytes as a whole, up to the session's end. Each successful save stored the
+    /// text of its moment.
     ///
-    /// Errors: `Line` for want of memory for the answers: no step was taken.
+    /// Errors: `Line` if there is no memory for the answers; no step was taken.
     pub fn play<S: Store>(
         &mut self,
         steps: &[Step],
@@ -52,7 +52,7 @@ impl<D: BidiData + Drop> World<D> {
         ensures count { IfOk result (λ answers. length answers.items ≡ length steps.now) }
         ensures tables { self.new.tables ≡ self.old.tables }
 
-        // What the user did, and what came of it.
+        // The user's input and its effects.
         ensures headline { IfOk result (λ answers. HeadlineFromOpening (D.data self.old.tables) self.old.world
             (store_state S.contents S.failure_count store.old) (zip steps.now answers.items) self.new.world
             (store_state S.contents S.failure_count store.new)) }
@@ -60,7 +60,7 @@ impl<D: BidiData + Drop> World<D> {
             (store_state S.contents S.failure_count store.old) (zip steps.now answers.items) self.new.world
             (store_state S.contents S.failure_count store.new) events) }
 
-        // What is seen, also in the midst of a schedule.
+        // The picture seen, also in the middle of a schedule.
         ensures seen { IfOk result (λ answers. (read : List ℕ) × PlaysReading (D.data self.old.tables) self.old.world
             (store_state S.contents S.failure_count store.old) (zip steps.now answers.items) self.new.world
             (store_state S.contents S.failure_count store.new) read
@@ -70,7 +70,7 @@ impl<D: BidiData + Drop> World<D> {
         ensures will_show { WillShow (D.data self.new.tables) self.new.world }
         ensures whole { StaysWhole self.new.world }
 
-        // Where no memory was left for the answers.
+        // On an error.
         ensures untouched { OnErr result (self.new ≡ self.old) }
         ensures store { OnErr result (store.new ≡ store.old) }
         ensures fault { OnErr result (result ≡ Err StepFault.Line) }

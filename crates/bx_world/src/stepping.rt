@@ -17,14 +17,14 @@ use bx_session::{Refused, Session};
 use bx_store::Store;
 use bx_ucd::BidiData;
 
-/// Whether a window has so many rows and columns.
+/// Whether a window has this many rows and columns.
 fn is_window(height: u16, width: u16, rows: u16, columns: u16) -> bool
     ensures { result ≡ (height == rows) && (width == columns) }
 {
     height == rows && width == columns
 }
 
-/// Whether a window of this size counts as told after a byte, where `told` says so of before.
+/// Whether a window's size is known to the session after a byte; `told`: it was known before.
 fn is_told_after<D: BidiData + Drop>(
     session: &Session<D>,
     height: u16,
@@ -40,7 +40,7 @@ fn is_told_after<D: BidiData + Drop>(
     }
 }
 
-/// Sets the mark of the last telling after a call, unless that was refused for more than its painting.
+/// Sets the mark `told` after a call that was accepted, or that lacked memory for its painting alone.
 fn mark_after<A>(told: &mut bool, after: bool, answer: &Result<A, Refused>)
     ensures { told.new ≡ answers.mark_after told.old after answer.now }
 {
@@ -50,7 +50,7 @@ fn mark_after<A>(told: &mut bool, after: bool, answer: &Result<A, Refused>)
     }
 }
 
-/// A session's answer as a step's.
+/// Converts a session's answer to a step's.
 fn answer_of<A: Drop>(answer: Result<A, Refused>) -> Result<(), StepFault>
     ensures { result ≡ answers.answer_of answer }
 {
@@ -60,7 +60,7 @@ fn answer_of<A: Drop>(answer: Result<A, Refused>) -> Result<(), StepFault>
     }
 }
 
-/// The first bytes, at most so many.
+/// The first `count` bytes, or all.
 fn first_bytes(bytes: &[u8], count: usize) -> &[u8]
     ensures { result.now ≡ take count bytes.now }
 {
@@ -71,9 +71,9 @@ fn first_bytes(bytes: &[u8], count: usize) -> &[u8]
     }
 }
 
-/// Puts bytes behind a line.
+/// Appends bytes to a line.
 ///
-/// Errors: `Line` for want of memory: the line is as before.
+/// Errors: `Line` if there is no memory; the line is unchanged.
 fn append(line: &mut Vec<u8>, bytes: &[u8]) -> Result<(), StepFault>
     ensures ok { OnOk result (line.new.items ≡ line.old.items ++ bytes.now) }
     ensures err { OnErr result (line.new.items ≡ line.old.items) }
@@ -85,7 +85,7 @@ fn append(line: &mut Vec<u8>, bytes: &[u8]) -> Result<(), StepFault>
     }
 }
 
-/// Takes the first bytes off a line.
+/// Removes the first `count` bytes of a line.
 fn take_off(line: &mut Vec<u8>, count: usize)
     requires { count ≤ length line.old.items }
     ensures { line.new.items ≡ drop count line.old.items }
@@ -93,9 +93,10 @@ fn take_off(line: &mut Vec<u8>, count: usize)
     line.drain(..count);
 }
 
-/// A terminal reads the first bytes of a line, at most so many.
+/// A terminal reads the first `count` bytes of a line, or all.
 ///
-/// Errors: `Screen` for want of memory, now or at an earlier call, where there is a byte to read: it is off the line.
+/// Errors: `Screen` if memory runs out, or ran out at an earlier call, and there is a byte to read. The bytes are off the
+/// line.
 fn read_some(screen: &mut Screen, line: &mut Vec<u8>, count: usize) -> Result<(), StepFault>
     ensures line { line.new.items ≡ drop count line.old.items }
     ensures ok { OnOk result (screen.new ≡ option_map (λ t. reads t (take count line.old.items)) screen.old) }
@@ -118,7 +119,7 @@ fn read_some(screen: &mut Screen, line: &mut Vec<u8>, count: usize) -> Result<()
 }
 
 impl<D: BidiData + Drop> World<D> {
-    /// A byte of input.
+    /// Feeds a byte of input to the session.
     fn type_byte<S: Store>(&mut self, byte: u8, store: &mut S) -> Result<(), StepFault>
         ensures step { (saved : Bool)
             × StoreAfter (is_save_byte self.old.world.session byte) saved self.old.world.session.editor.content.text
@@ -132,7 +133,7 @@ impl<D: BidiData + Drop> World<D> {
         answer_of(answer)
     }
 
-    /// The session is told a size.
+    /// Tells the session a size.
     fn tell(&mut self, height: u16, width: u16) -> Result<(), StepFault>
         ensures step { AfterToldStep (D.data self.old.tables) self.old.world height width result self.new.world }
         ensures tables { self.new.tables ≡ self.old.tables }
@@ -143,7 +144,7 @@ impl<D: BidiData + Drop> World<D> {
         answer_of(answer)
     }
 
-    /// The window gets another size.
+    /// Resizes the window.
     fn resize(&mut self, height: u16, width: u16) -> Result<(), StepFault>
         ensures step { AfterWindowStep self.old.world height width result self.new.world }
         ensures tables { self.new.tables ≡ self.old.tables }
@@ -159,7 +160,7 @@ impl<D: BidiData + Drop> World<D> {
         }
     }
 
-    /// Bytes go from the session's queue to the line.
+    /// Moves pending bytes from the session to the line.
     fn send(&mut self, count: usize) -> Result<(), StepFault>
         ensures step { AfterSendStep self.old.world count result self.new.world }
         ensures tables { self.new.tables ≡ self.old.tables }
@@ -171,7 +172,7 @@ impl<D: BidiData + Drop> World<D> {
         Ok(())
     }
 
-    /// The terminal reads bytes of the line.
+    /// Lets the terminal read from the line.
     fn read(&mut self, count: usize) -> Result<(), StepFault>
         ensures step { AfterReadStep self.old.world count result self.new.world }
         ensures tables { self.new.tables ≡ self.old.tables }
@@ -193,10 +194,11 @@ impl<D: BidiData + Drop> World<D> {
         }
     }
 
-    /// Takes a step, whatever those before answered. A count above what is there takes all.
+    /// Takes a step. It is valid after refused steps too. A count beyond the available bytes takes all of them.
     ///
-    /// Errors: `Session` for what the session refuses of a byte or a told size; `Screen` for a window's side that is not from
-    /// 1 to 500, and where memory ran out in the terminal, now or before; `Line` for want of memory, and nothing was moved.
+    /// Errors: `Session` if the session refuses a byte or a told size; `Screen` if a side of the window is not from 1 to
+    /// 500, or memory ran out in the terminal, now or earlier; `Line` if there is no memory for the line, and no byte was
+    /// moved.
     pub fn step<S: Store>(&mut self, step: Step, store: &mut S) -> Result<(), StepFault>
         ensures steps { StepsTo (D.data self.old.tables) self.old.world (store_state S.contents S.failure_count store.old) step result
             self.new.world (store_state S.contents S.failure_count store.new) }

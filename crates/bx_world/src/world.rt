@@ -17,18 +17,18 @@ use bx_ucd::BidiData;
 use std::alloc::Global;
 use std::marker::Model;
 
-/// A session, what is on its way from it to the terminal, the window's size, and the terminal. Whatever steps are taken, the
-/// terminal will show the picture last painted once it has read what is on its way, if the window's size was told.
+/// A session, the bytes in transit to the terminal, the window's size, and the terminal. After any steps, a terminal that
+/// has read all bytes in transit shows the picture last painted, if the session knows the window's size.
 #[derive(Drop)]
 pub struct World<D: BidiData + Drop> {
     pub(crate) session: Session<D>,
-    // bytes that were sent, and not yet read
+    // bytes sent and not yet read
     pub(crate) line: Vec<u8>,
     // the window's rows and columns
     pub(crate) height: u16,
     pub(crate) width: u16,
     pub(crate) screen: Screen,
-    // the window's last size was told since
+    // the session was told the window's current size
     pub(crate) told: bool,
 }
 
@@ -65,11 +65,10 @@ impl<D: BidiData + Drop> Model for World<D> {
 }
 
 impl<D: BidiData + Drop> World<D> {
-    /// Opens a file's bytes in a window of so many rows and columns, round which nothing was sent yet. A refusal drops the
-    /// bytes and the tables.
+    /// Opens a file's bytes in a window of this size, with an empty line. An error drops the bytes and the tables.
     ///
-    /// Errors, in this order: `TooLong` above 16,777,216 bytes; `NotUtf8` with the number of the first bytes that are UTF-8;
-    /// `SizeOutOfRange` where a side is not from 1 to 500; `OutOfMemory`.
+    /// Errors, in this order: `TooLong` above 16,777,216 bytes; `NotUtf8` with the length of the longest UTF-8 prefix;
+    /// `SizeOutOfRange` if a side is not from 1 to 500; `OutOfMemory`.
     pub fn open(
         alloc: Global,
         bytes: Vec<u8>,
@@ -109,21 +108,21 @@ impl<D: BidiData + Drop> World<D> {
         &self.session
     }
 
-    /// The bytes that were sent, and not yet read.
+    /// The bytes sent and not yet read.
     pub fn line(&self) -> &[u8]
         ensures { result.now ≡ self.now.world.line }
     {
         &self.line
     }
 
-    /// Whether the window's last size was told since.
+    /// Whether the session was told the window's current size.
     pub fn is_told(&self) -> bool
         ensures { result ≡ self.now.world.told }
     {
         self.told
     }
 
-    /// Whether the terminal shows the picture last painted, which is that of the state where no painting is owed. No memory.
+    /// Whether the terminal shows the picture last painted: the state's picture, unless a painting is owed. No memory.
     pub fn shows(&self) -> bool
         ensures painted { IsTrue result ↔ IsShownOn self.now.world.session.painted self.now.world.screen }
         ensures state { self.now.world.session.painting_owed ≡ false
@@ -133,7 +132,7 @@ impl<D: BidiData + Drop> World<D> {
         self.session.is_shown_on(&self.screen)
     }
 
-    /// What every step keeps: the terminal will show the picture last painted.
+    /// The invariant of all steps: the terminal will show the picture last painted.
     pub(crate) fn keep_up(&self)
         ensures in_step { IsInStep (D.data self.now.tables) self.now.world }
     {
