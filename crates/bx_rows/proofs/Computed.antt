@@ -1,4 +1,4 @@
--- A whole body, computed: its rows, the levels of their units, and what they show.
+-- A whole body, computed: its rows, the levels of their units, and their pictures.
 use Rattle.std.proofs.Common.{ℕ, Bool, List, map, Option}
 use Rattle.std.specs.Prelude.{flat_map, chars, encode_utf8_all, Some, None, ◌==◌, if◌then◌else◌}
 pub use Rattle.bx_ucd.specs.SmallTables.{mirror}

@@ -1,4 +1,4 @@
--- The rows of a body one after another: what a row's start and the next one's tell of its units.
+-- The rows of a body in order: a row's units, from its start and the next one's.
 use Rattle.std.proofs.Common.{◌≡◌, ℕ, zero, suc, ◌+◌, ◌-◌, max, ◌<◌, ◌≤◌, ◌==◌, nat_lt, Bool, true, false, Option, Some, None, List, [], ◌∷◌, length, get_or}
 use Rattle.std.proofs.Common.{take, drop, map, refl, sym, ap, subst, ◌∙◌, arith, All, length-drop, take_all}
 use Rattle.std.specs.Prelude.{option_map, slice_get, IfSome}

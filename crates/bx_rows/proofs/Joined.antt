@@ -1,4 +1,4 @@
--- Units and rows joined: the units of a body are the body, and the rows of units are the units.
+-- The units of a body joined are the body, and the rows of units joined are the units.
 use Rattle.std.proofs.Common.{◌≡◌, ℕ, zero, suc, ◌+◌, ◌-◌, ◌<◌, ◌≤◌, true, Bool, List, [], ◌∷◌, ◌++◌, length, take, drop, map, slice_range, All}
 use Rattle.std.proofs.Common.{refl, sym, ap, ap₂, subst, ◌∙◌, arith, take-append-drop, drop-drop}
 use Rattle.std.specs.Prelude.{flat_map}

@@ -1,4 +1,4 @@
--- Rows that follow from each law alone. Where the definition would compute, levels, classes or bodies are left open.
+-- Examples from each law alone. Where the definition would compute, levels, classes or bodies are left open.
 use Rattle.std.proofs.Common.{◌≡◌, ◌⊎◌, ℕ, suc, ◌+◌, ◌%◌, ◌<◌, ◌≤◌, List, [], ◌∷◌, length, map, drop, get_or, slice_range, true, Option, All}
 use Rattle.std.proofs.Common.{refl, ap, ap₂, subst, ◌∙◌, arith, inl, inr}
 use Rattle.std.specs.Prelude.{IsPermutation, codes, flat_map}

@@ -1,4 +1,4 @@
--- Runs of units that have one column each: how they grow, and what a row is that takes one.
+-- Runs of units of one column each: their growth, and a row that takes one.
 use Rattle.std.proofs.Common.{◌≡◌, ℕ, zero, suc, ◌+◌, ◌-◌, ◌<◌, ◌≤◌, Bool, true, false, cond, Some, None, List, [], ◌∷◌, ◌++◌, length, drop}
 use Rattle.std.proofs.Common.{refl, sym, ap, subst, ◌∙◌, ⊎_elim, arith, append_assoc, encode_utf8}
 use Rattle.std.specs.Str.{IsCharBoundary, IsUtf8}

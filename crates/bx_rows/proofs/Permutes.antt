@@ -1,4 +1,4 @@
--- The visual order is a permutation of the units' numbers, and so is what is made of each unit.
+-- The visual order is a permutation of the units' numbers, and of the lists made from the units.
 use Rattle.std.proofs.Common.{◌≡◌, ℕ, zero, suc, ◌+◌, ◌-◌, nat_le, Bool, true, false, List, [], ◌∷◌, ◌++◌, length, map, Option, Some, None}
 use Rattle.std.proofs.Common.{refl, sym, ap, subst, ◌∙◌}
 use Rattle.std.specs.Prelude.{IsPermutation, flat_map}

@@ -1,4 +1,4 @@
--- What a row of single characters shows: its glyphs are read, mirrored and put into visual order, and its blanks are added.
+-- The picture of a row of single characters: glyphs read, mirrored and moved into visual order, and blanks added.
 use Rattle.std.proofs.Common.{◌≡◌, ℕ, ◌-◌, ◌<◌, ◌≤◌, List, [], ◌∷◌, ◌++◌, map, length, take, drop, get_or, All, Option, Some, refl, sym, ap, ap₂, subst, ◌∙◌, arith}
 use Rattle.std.specs.Prelude.{IfSome}
 use Rattle.std.specs.Str.{IsUtf8}

@@ -1,4 +1,4 @@
--- What a row of plain units shows: a glyph for each of its characters.
+-- The picture of a row of plain units: one glyph per character.
 use Rattle.std.proofs.Common.{◌≡◌, ℕ, suc, ◌+◌, ◌-◌, ◌%◌, ◌<◌, List, [], ◌∷◌, ◌++◌, Bool, true, false, chars, encode_utf8, length, map, sum, get_or, take, drop}
 use Rattle.std.proofs.Common.{Option, All, refl, sym, ap, ◌∙◌, arith, append_assoc}
 use Rattle.std.specs.Prelude.{encode_utf8_all, flat_map}

@@ -1,4 +1,4 @@
--- Rows read from unit to unit: the starts so far, the row that is being read, and what is left.
+-- Rows read unit by unit: the starts so far, the current row, and the units left.
 use Rattle.std.proofs.Common.{◌≡◌, ℕ, zero, suc, ◌+◌, ◌<◌, ◌≤◌, ◌⊎◌, ◌&&◌, Bool, nat_lt, nat_le, true, false, true≢false, leb-true, ltb-true, inl, inr, ⊎_elim, List, []}
 use Rattle.std.proofs.Common.{◌∷◌, ◌++◌, map, length, take, drop, refl, sym, ap, subst, ◌∙◌, arith, append_assoc, append-nil}
 use Rattle.std.specs.Str.{chars, IsUtf8}

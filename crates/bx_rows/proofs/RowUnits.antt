@@ -1,4 +1,4 @@
--- The units that rows are read from, and the starts of all rows once no unit is left.
+-- The units of a body, and the starts of all rows once no unit is left.
 use Rattle.std.proofs.Common.{◌≡◌, ℕ, ◌+◌, ◌<◌, ◌≤◌, Bool, true, false, nat_lt, List, [], ◌∷◌, map, length, length-append, length-take-le, take}
 use Rattle.std.proofs.Common.{slice_range, Option, Some, None, refl, ap, ◌∙◌, arith}
 use Rattle.std.specs.Str.{chars, IsUtf8, IsCharBoundary}

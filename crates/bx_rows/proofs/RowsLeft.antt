@@ -1,4 +1,4 @@
--- From any row on, the rows of a body are those of what is left.
+-- From any row on, the rows of a body are those of its rest.
 use Rattle.std.proofs.Common.{◌≡◌, ℕ, zero, suc, ◌+◌, ◌-◌, max, ◌<◌, ◌==◌, nat_lt, nat_le, ◌&&◌, true, false, Bool, List, [], ◌∷◌, length, take, drop, map}
 use Rattle.std.proofs.Common.{get_or, Some, inl, inr, refl, sym, ap, ap₂, subst, ◌∙◌, arith, drop-drop, length-drop}
 use Rattle.std.specs.Prelude.{slice_get}

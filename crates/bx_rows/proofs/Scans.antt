@@ -1,4 +1,4 @@
--- Wrapping from unit to unit: what is known of the row that is being read, and how it ends.
+-- Wrapping unit by unit: the state of the current row, and its end.
 use Rattle.std.proofs.Common.{◌≡◌, ℕ, zero, suc, ◌+◌, max, ◌<◌, ◌≤◌, ◌==◌, ◌⊎◌, Bool, true, false, List, [], ◌∷◌, ◌++◌, length, take, drop, refl, sym, ap, ◌∙◌}
 use Rattle.std.proofs.Common.{arith, append_assoc, length-append, eq-eqb, ⊎_elim}
 use Rattle.std.proofs.lemmas.List.{take_at, drop_at, drop_all}

@@ -1,5 +1,5 @@
--- What the reversal of one level does to two units: they change places where no level from the one to the other is lower, and
--- else keep their order. The lowest level from the one to the other stays.
+-- The effect of one level's reversal on two units: they change places if no level from the one to the other is lower, and
+-- otherwise keep their order. The lowest level from the one to the other stays.
 use Rattle.std.proofs.Common.{◌≡◌, ◌⊎◌, ℕ, ◌<◌, ◌≤◌, List, [], ◌∷◌, ◌++◌, reverse, All}
 use Rattle.std.proofs.Common.{refl, sym, ap, ap₂, subst, ◌∙◌, arith, inl, inr}
 use Rattle.std.proofs.lemmas.Bool.{cases_lt}

@@ -1,4 +1,4 @@
--- A row's picture shows the glyphs of each unit once, and else blanks, and two units in the order of their visual order.
+-- A row's picture shows the glyphs of each unit once, in visual order, and otherwise blanks.
 use Rattle.std.proofs.Common.{◌≡◌, ℕ, zero, suc, ◌-◌, ◌%◌, List, [], ◌∷◌, ◌++◌, length, map, get_or, replicate, Option}
 use Rattle.std.proofs.Common.{sym, ap, subst, ◌∙◌, arith}
 use Rattle.std.specs.Prelude.{IsPermutation, flat_map}

@@ -1,4 +1,4 @@
--- What holds of units and rows, whatever the body.
+-- Laws of units and rows of every body.
 use Rattle.std.specs.Prelude.{◌≡◌, ◌⊎◌, ◌+◌, ◌-◌, ◌<◌, ◌≤◌, ℕ, true, All, HoldsAt, IsUtf8, List, [], ◌∷◌, Some, drop, flat_map, length, map, slice_get}
 use Rattle.bx_ucd.specs.declared.class.Class.{Class}
 use Rattle.bx_cells.specs.declared.unit.Unit.{Unit}
@@ -14,12 +14,12 @@ use Rattle.bx_rows.specs.Wrapping.{FitsWindow, is_break, row_units, wrap}
 abbrev pub UnitsMakeBody : Type 0
 UnitsMakeBody = (class : ℕ → Class) (w : ℕ) (body : List ℕ) → IsUtf8 body → flat_map (unit_text body) (units class w body) ≡ body
 
--- spans stand one behind another from one number to another, and each has something in it
+-- spans are adjacent from `start` to `stop`, and none is empty
 abbrev pub StandInTurn : ℕ → List (ℕ × ℕ) → ℕ → Type 0
 StandInTurn start [] stop = start ≡ stop
 StandInTurn start (s ∷ ss) stop = (s.0 ≡ start) × (start < s.1) × StandInTurn s.1 ss stop
 
--- the units of a body stand in it one behind another, from its begin to its end
+-- the units of a body are adjacent from its start to its end
 abbrev pub UnitsStandInTurn : Type 0
 UnitsStandInTurn = (class : ℕ → Class) (w : ℕ) (body : List ℕ) → IsUtf8 body
     → StandInTurn 0 (map (λ u. (u.start, u.stop)) (units class w body)) (length body)
@@ -28,50 +28,50 @@ UnitsStandInTurn = (class : ℕ → Class) (w : ℕ) (body : List ℕ) → IsUtf
 abbrev pub UnitsFitWindow : Type 0
 UnitsFitWindow = (class : ℕ → Class) (w : ℕ) (body : List ℕ) → IsUtf8 body → All (λ u. FitsWindow w u.face) (units class w body)
 
--- Rows that cut units: joined they are the units, so none is lost, and none stands in two rows. They stand one behind another, and
--- each has a unit and no more columns than the window. No units have one row.
+-- Rows partition units: joined they are the units, so none is lost or in two rows. The rows are adjacent, and each has a
+-- unit and no more columns than the window. No units make one row.
 pub record CutUnits (w : ℕ) (us : List Unit) (rows : List Row) : Type 0 where
   pub joined : flat_map (row_units us) rows ≡ us
   pub in_turn : 0 < length us → StandInTurn 0 (map (λ r. (r.start, r.stop)) rows) (length us)
   pub fit : All (IsRowOf w us) rows
   pub one : length us ≡ 0 → length rows ≡ 1
 
--- the rows of units that each fit in a window of some columns
+-- the rows of units that each fit in the window
 abbrev pub RowsCutUnits : Type 0
 RowsCutUnits = (class : ℕ → Class) (w : ℕ) (body : List ℕ) (us : List Unit) → 1 ≤ w → All (λ u. FitsWindow w u.face) us
     → CutUnits w us (wrap class w body us)
 
--- a row has all columns of the window, or would have more with one more unit
+-- a row fills the window, or would exceed it with one more unit
 abbrev pub IsFull : ℕ → List Unit → Row → Type 0
 IsFull w us r = (w ≤ columns_used w (row_units us r)) ⊎ (w < columns_used w (row_units us (record { start = r.start; stop = r.stop + 1 })))
 
--- A row ends with the last unit, behind a unit after which a row may end, or where it is full. A longer one that ends in one of the
--- first two ways would have more units than fit: it is full without its last.
+-- A row ends with the last unit, after a break, or where it is full. A longer row that ends in one of the first two ways
+-- would not fit: it is full without its last unit.
 pub record EndsWell (class : ℕ → Class) (w : ℕ) (body : List ℕ) (us : List Unit) (r : Row) : Type 0 where
   pub ends : (r.stop ≡ length us) ⊎ (HoldsAt (λ u. is_break class body u ≡ true) us (r.stop - 1) ⊎ IsFull w us r)
   pub longest : (last : ℕ) → r.stop ≤ last → last < length us
       → (last + 1 ≡ length us) ⊎ HoldsAt (λ u. is_break class body u ≡ true) us last → IsFull w us (record { start = r.start; stop = last })
 
--- so ends each row of units that each fit in a window of some columns
+-- each row of units that each fit in the window ends so
 abbrev pub RowsEndWell : Type 0
 RowsEndWell = (class : ℕ → Class) (w : ℕ) (body : List ℕ) (us : List Unit) → 1 ≤ w → All (λ u. FitsWindow w u.face) us
     → All (EndsWell class w body us) (wrap class w body us)
 
--- where a row begins in a body of which it is known where it begins in what is left from another row's start on
+-- the start `r` of a row in the rest of a body after the start `s`, as a start in the body
 abbrev pub behind : RowStart → RowStart → RowStart
 behind s r = record { offset = s.offset + r.offset; units = s.units + r.units; chars = s.chars + r.chars }
 
--- from any row on, the rows of a body are those of what is left, taken as a body of its own
+-- from any row on, the rows of a body are those of the rest of the body, taken as a body of its own
 abbrev pub RowsAreOfRest : Type 0
 RowsAreOfRest = (class : ℕ → Class) (w : ℕ) (body : List ℕ) (k : ℕ) (s : RowStart) → IsUtf8 body → slice_get (row_starts class w body) k ≡ Some s
     → drop k (row_starts class w body) ≡ map (behind s) (row_starts class w (drop s.offset body))
 
--- where a row begins that begins as far after `r` as `t` begins after `s`
+-- the start of the row that is as far after `r` as `t` is after `s`
 abbrev pub moved : RowStart → RowStart → RowStart → RowStart
 moved s r t = record { offset = r.offset + (t.offset - s.offset); units = r.units + (t.units - s.units); chars = r.chars + (t.chars - s.chars) }
 
--- Two bodies that are the same from the start `s` of a row of the one and the start `r` of a row of the other on: their rows
--- are the same from there on, each moved by what `r` differs from `s`.
+-- If two bodies are equal from the start `s` of a row of the one and the start `r` of a row of the other on, their rows are
+-- equal from there on, moved from `s` to `r`.
 abbrev pub RowsMeetAgain : Type 0
 RowsMeetAgain = (class : ℕ → Class) (w : ℕ) (body other : List ℕ) (k j : ℕ) (s r : RowStart) → IsUtf8 body → IsUtf8 other
     → slice_get (row_starts class w body) k ≡ Some s → slice_get (row_starts class w other) j ≡ Some r → drop s.offset body ≡ drop r.offset other

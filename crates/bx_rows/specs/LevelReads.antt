@@ -1,45 +1,45 @@
--- The levels of a row's units while its characters are read from left to right: the units after the last character that does
--- not trail have their levels only once it is known whether what follows trails.
+-- The levels of a row's units while its characters are read in text order. Units after the last character that does not
+-- trail wait: their levels depend on whether the characters that follow trail.
 use Rattle.std.specs.Prelude.{◌≡◌, ℕ, zero, suc, Bool, true, false, ◌||◌, cond, List, [], ◌∷◌, ◌++◌, drop, Option, Some, None, is_some, unwrap_or}
 use Rattle.std.specs.List.{last_or}
 use Rattle.bx_ucd.specs.declared.class.Class.{Class}
 use Rattle.bx_rows.specs.RowLevels.{CharLevel, trails, only_trailing, l1, unit_levels, levels_or_before}
 
--- levels of units, of which those from number `waiting` on have the paragraph level
+-- levels, with those from index `waiting` on set to the paragraph level
 abbrev pub settled : ℕ → ℕ → List ℕ → List ℕ
 settled paragraph waiting [] = []
 settled paragraph zero (l ∷ ls) = paragraph ∷ settled paragraph zero ls
 settled paragraph (suc waiting) (l ∷ ls) = l ∷ settled paragraph waiting ls
 
--- the same where what follows trails, else the levels as they were read
+-- likewise if the characters that follow trail, else the levels as read
 abbrev pub settled_if : Bool → ℕ → ℕ → List ℕ → List ℕ
 settled_if trailing paragraph waiting found = cond trailing (settled paragraph waiting found) found
 
--- the level of a unit with no kept character, after units of these levels
+-- the level of a unit without a kept character, after units of these levels
 abbrev pub level_before : ℕ → List ℕ → ℕ
 level_before paragraph found = unwrap_or (last_or None found) paragraph
 
--- these levels, and those of the units after by their own first levels
+-- these levels, and those of the next units by their own first levels
 abbrev pub with_levels_behind : ℕ → List ℕ → List (Option ℕ) → List ℕ
 with_levels_behind paragraph found ls = found ++ levels_or_before (level_before paragraph found) ls
 
--- the levels of all units, where those of `found` are read, the last of them but for `n` characters; `cs` are not read, with
--- those that units of these `counts` have
+-- the levels of all units: those of `found` are read, except `n` characters of the last; `cs` are the unread characters,
+-- those of the units with these `counts` included
 abbrev pub levels_from : ℕ → List ℕ → ℕ → ℕ → List ℕ → List CharLevel → List ℕ
 levels_from paragraph found waiting n counts cs =
     with_levels_behind paragraph (settled_if (only_trailing cs) paragraph waiting found) (unit_levels counts (drop n (l1 paragraph cs)))
 
--- the same inside a unit of which `n` characters are not read, and whose level is found or not
+-- likewise inside a unit with `n` unread characters; the flag tells whether the unit's level is found
 abbrev pub unit_from : Bool → ℕ → List ℕ → ℕ → ℕ → List ℕ → List CharLevel → List ℕ
 unit_from true paragraph found waiting n counts cs = levels_from paragraph found waiting n counts cs
 unit_from false paragraph found waiting n counts cs = levels_from paragraph found waiting 0 (n ∷ counts) cs
 
--- a kept character of a class is read, whatever is after it
+-- a kept character of a class is read, whatever follows it
 abbrev pub Reads : ℕ → Class → List ℕ → ℕ → List ℕ → ℕ → Type 0
 Reads paragraph class old waiting new next =
     (l : ℕ) (b : Bool) → settled_if b paragraph next new ≡ settled_if (trails (class, Some l) b) paragraph waiting old
 
--- a character of a unit is read, whose level was found or not
+-- a character of a unit is read; `is_known`: the unit's level was found before
 abbrev pub ReadsChar : ℕ → Class → Bool → Option ℕ → List ℕ → ℕ → List ℕ → ℕ → Type 0
 ReadsChar paragraph class is_known level old waiting new next =
     (n : ℕ) (counts : List ℕ) (cs : List CharLevel) → unit_from is_known paragraph old waiting (suc n) counts ((class, level) ∷ cs)

@@ -1,4 +1,4 @@
--- Runs of units that have one column each, wherever they stand in a row.
+-- Runs of units of one column each, at any column of a row.
 use Rattle.std.specs.Prelude.{◌≡◌, ℕ, ◌+◌, ◌≤◌, Bool, true, false, ⊤, List, [], ◌∷◌, ◌++◌, length, drop}
 use Rattle.std.specs.Str.{IsCharBoundary}
 use Rattle.bx_ucd.specs.declared.class.Class.{Class}
@@ -12,7 +12,7 @@ abbrev pub AreNarrow : ℕ → List Unit → Type 0
 AreNarrow w [] = ⊤
 AreNarrow w (u ∷ us) = ((c : ℕ) → columns_at w c u.face ≡ 1) × AreNarrow w us
 
--- the run has the units of a body from an offset on
+-- the run consists of the units of a body from an offset on
 pub record IsNarrowRun (class : ℕ → Class) (w : ℕ) (body : List ℕ) (at : ℕ) (r : NarrowRun) : Type 0 where
   pub us : List Unit
   pub units : units_from class w body at ≡ us ++ units_from class w body r.stop
@@ -21,7 +21,7 @@ pub record IsNarrowRun (class : ℕ → Class) (w : ℕ) (body : List ℕ) (at :
   pub last_is : up_to_last (is_break class body) us ≡ r.last
   pub next_is : units_from class w body r.next ≡ drop r.last us ++ units_from class w body r.stop
 
--- a run stands in a body from an offset on
+-- the bounds of a run in a body from an offset on
 pub record IsRunIn (body : List ℕ) (at : ℕ) (r : NarrowRun) : Type 0 where
   pub last : r.last ≤ r.count
   pub from : at ≤ r.next
@@ -30,7 +30,7 @@ pub record IsRunIn (body : List ℕ) (at : ℕ) (r : NarrowRun) : Type 0 where
   pub sum : at + r.count ≤ r.stop
   pub boundary : IsCharBoundary body r.stop
 
--- a run with one more unit, which ends at an offset
+-- a run with one more unit, which ends at `stop`
 abbrev pub grown : NarrowRun → ℕ → Bool → NarrowRun
 grown r stop true = record { stop = stop; count = r.count + 1; last = r.count + 1; next = stop }
 grown r stop false = record { stop = stop; count = r.count + 1; last = r.last; next = r.next }

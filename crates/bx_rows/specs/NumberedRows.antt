@@ -1,4 +1,4 @@
--- What a row of a body shows, by its number.
+-- The glyphs of a row of a body, by its number.
 use Rattle.std.specs.Prelude.{ℕ, List, Option}
 use Rattle.bx_ucd.specs.declared.class.Class.{Class}
 use Rattle.bx_rows.specs.RowLevels.{row_levels}

@@ -1,4 +1,4 @@
--- What holds of the visual order and of the picture of every row.
+-- Laws of the visual order and the picture of every row.
 use Rattle.std.specs.Prelude.{◌≡◌, ◌⊎◌, ◌+◌, ◌-◌, ◌%◌, ◌<◌, ◌≤◌, ℕ, All, Contains, HoldsAt, IsPermutation, List, ◌∷◌, ◌++◌, [], Option, flat_map, length, replicate, slice_index_or}
 use Rattle.std.specs.List.{between, range_with_len}
 use Rattle.bx_ucd.specs.declared.class.Class.{Class}
@@ -6,11 +6,11 @@ use Rattle.bx_cells.specs.declared.unit.Unit.{Unit}
 use Rattle.bx_rows.specs.RowPicture.{Glyph, blank, columns_used, draw, unit_columns, unit_glyphs, with_blanks}
 use Rattle.bx_rows.specs.VisualOrder.{visual}
 
--- a visual order has the number of each unit once
+-- a visual order contains each unit's number once
 abbrev pub OrdersArePermutations : Type 0
 OrdersArePermutations = (levels : List ℕ) → IsPermutation (range_with_len 0 (length levels)) (visual levels)
 
--- the one number stands left of the other
+-- `a` is left of `b`
 pub record StandsLeft (order : List ℕ) (a b : ℕ) : Type 0 where
   pub front : List ℕ
   pub middle : List ℕ
@@ -22,12 +22,12 @@ pub record IsLowest (lowest : ℕ) (levels : List ℕ) : Type 0 where
   pub one : Contains levels lowest
   pub least : All (λ l. lowest ≤ l) levels
 
--- of two units the first in the text stands left where the level is even, and right where it is odd
+-- the unit `i` is left of `j` if the level is even, and right of it if the level is odd
 pub record IsOrderAt (level : ℕ) (order : List ℕ) (i j : ℕ) : Type 0 where
   pub even : level % 2 ≡ 0 → StandsLeft order i j
   pub odd : level % 2 ≡ 1 → StandsLeft order j i
 
--- L2 without reversals: the order of two units is that of the lowest level from the one to the other
+-- L2 without reversals: the lowest level from one unit to another determines their order
 abbrev pub LowestLevelsOrder : Type 0
 LowestLevelsOrder = (levels : List ℕ) (i j lowest : ℕ) → i < j → j < length levels → IsLowest lowest (between i (j + 1) levels)
     → IsOrderAt lowest (visual levels) i j
@@ -38,24 +38,24 @@ pub record AreAtLevel (n : ℕ) (levels : List ℕ) (i j : ℕ) : Type 0 where
   pub other : HoldsAt (λ l. l ≡ n) levels j
   pub least : All (λ l. n ≤ l) (between i (j + 1) levels)
 
--- such units keep their order at an even level and turn it at an odd one
+-- such units keep their order at an even level and swap it at an odd one
 abbrev pub EqualLevelsOrder : Type 0
 EqualLevelsOrder = (levels : List ℕ) (i j n : ℕ) → i < j → j < length levels → AreAtLevel n levels i j → IsOrderAt n (visual levels) i j
 
--- a number stands between two others
+-- `k` is between `a` and `b`
 abbrev pub StandsBetween : List ℕ → ℕ → ℕ → ℕ → Type 0
 StandsBetween order a k b = (StandsLeft order a k × StandsLeft order k b) ⊎ (StandsLeft order b k × StandsLeft order k a)
 
--- what stands in the text between such units stands between them in the row
+-- units between such units in the text are between them in the row
 abbrev pub StaysBetween : Type 0
 StaysBetween = (levels : List ℕ) (i k j n : ℕ) → i < k → k < j → j < length levels → AreAtLevel n levels i j → StandsBetween (visual levels) i k j
 
--- so does what has the lowest of the levels from one unit to another
+-- so is a unit of the lowest level from one unit to another
 abbrev pub LowestStaysBetween : Type 0
 LowestStaysBetween = (levels : List ℕ) (i k j n : ℕ) → i < k → k < j → j < length levels → HoldsAt (λ l. l ≡ n) levels k
     → All (λ l. n ≤ l) (between i (j + 1) levels) → StandsBetween (visual levels) i k j
 
--- some glyphs stand together left of others
+-- the glyphs `a` are together, left of the glyphs `b`
 pub record ShowsLeft (row a b : List Glyph) : Type 0 where
   pub front : List Glyph
   pub middle : List Glyph
@@ -66,26 +66,26 @@ pub record ShowsLeft (row a b : List Glyph) : Type 0 where
 abbrev pub joined : List (List Glyph) → List Glyph
 joined pieces = flat_map (λ p. p) pieces
 
--- A row of glyphs shows each piece once, as a whole, and has else the blanks at its end: its glyphs are those of the pieces and
--- as many blanks.
+-- A row of glyphs shows each piece once, as a whole, and otherwise blanks at its end: its glyphs are those of the pieces and
+-- the `blanks` blanks.
 pub record ShowsEachOnce (paragraph blanks : ℕ) (pieces : List (List Glyph)) (row : List Glyph) : Type 0 where
   pub ordered : List (List Glyph)
   pub once : IsPermutation pieces ordered
   pub whole : row ≡ with_blanks paragraph blanks (joined ordered)
   pub glyphs : IsPermutation (joined pieces ++ replicate blanks blank) row
 
--- a row's picture shows the glyphs of each unit once, and else blanks
+-- a row's picture shows the glyphs of each unit once, and otherwise blanks
 abbrev pub PicturesShowUnits : Type 0
 PicturesShowUnits = (class : ℕ → Class) (mirror : ℕ → Option ℕ) (w : ℕ) (body : List ℕ) (paragraph : ℕ) (us : List Unit) (levels : List ℕ)
     → length levels ≡ length us → ShowsEachOnce paragraph (w - columns_used w us) (unit_glyphs class mirror w body us (unit_columns w 0 us) levels)
     (draw class mirror w body paragraph us levels)
 
--- of two units the glyphs of the first in the text are shown left where the level is even, and right where it is odd
+-- the glyphs `one` are left of the glyphs `other` if the level is even, and right of them if it is odd
 pub record IsShownAt (level : ℕ) (row one other : List Glyph) : Type 0 where
   pub even : level % 2 ≡ 0 → ShowsLeft row one other
   pub odd : level % 2 ≡ 1 → ShowsLeft row other one
 
--- a row's picture shows two units in the order of the lowest level from the one to the other
+-- the lowest level from one unit to another determines their order in a row's picture
 abbrev pub PicturesGoByLevels : Type 0
 PicturesGoByLevels = (class : ℕ → Class) (mirror : ℕ → Option ℕ) (w : ℕ) (body : List ℕ) (paragraph : ℕ) (us : List Unit) (levels : List ℕ)
     (i j lowest : ℕ) → length levels ≡ length us → i < j → j < length us → IsLowest lowest (between i (j + 1) levels)

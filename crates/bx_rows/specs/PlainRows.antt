@@ -10,30 +10,30 @@ use Rattle.bx_rows.specs.declared.drawn.Drawn.{Drawn}
 use Rattle.bx_rows.specs.RowPicture.{Glyph, glyph, shown_text}
 use Rattle.bx_rows.specs.Shown.{glyph_of}
 
--- a unit for each character, from an offset on
+-- one unit per character, from an offset on
 abbrev pub single_units : ℕ → List ℕ → List Unit
 single_units at [] = []
 single_units at (c ∷ cs) =
     let stop = at + length (encode_utf8 c) in
     record { start = at; stop = stop; face = Own 1 } ∷ single_units stop cs
 
--- a cluster ends before a text: that is empty, or begins with a character that begins a cluster
+-- a cluster ends before a text: the text is empty, or its first character begins a cluster
 abbrev pub IsClusterEnd : List ℕ → Type 0
 IsClusterEnd text = (length text ≡ 0) ⊎ ((d : ℕ) × (more : List ℕ) × (text ≡ encode_utf8 d ++ more) × (begins d ≡ true))
 
--- the glyph of a character that is not mirrored
+-- the glyph of a character, not mirrored
 abbrev pub single_glyph : ℕ → Glyph
 single_glyph c = glyph (encode_utf8 c) 1 false
 
--- the glyph of a character at a level: mirrored at an odd one
+-- the glyph of a character at a level, mirrored at an odd one
 abbrev pub leveled_glyph : (ℕ → Class) → (ℕ → Option ℕ) → ℕ → ℕ → ℕ → Glyph
 leveled_glyph class mirror w c level = glyph (shown_text class mirror w 1 level (encode_utf8 c)) 1 false
 
--- the glyphs of characters at their levels, in the order of the text
+-- the glyphs of characters at their levels, in text order
 abbrev pub leveled_glyphs : (ℕ → Class) → (ℕ → Option ℕ) → ℕ → List ℕ → List ℕ → List Glyph
 leveled_glyphs class mirror w cs levels = map (λ (c, level). leveled_glyph class mirror w c level) (zip cs levels)
 
--- the glyphs are those of the first units that a body has from an offset on, `count` of them, or all if there are fewer
+-- the glyphs are those of the first `count` units of a body, or all, from an offset on
 pub record AreSingle (class : ℕ → Class) (w : ℕ) (body : List ℕ) (at count : ℕ) (glyphs : List Drawn) : Type 0 where
   pub cs : List ℕ
   pub rest : List ℕ

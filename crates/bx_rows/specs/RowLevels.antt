@@ -24,7 +24,7 @@ is_trailing _ = false
 abbrev pub CharLevel : Type 0
 CharLevel = Class × Option ℕ
 
--- whether a character and those after it trail, given whether those after it do: one that X9 removes does not count
+-- whether a character and those after it trail, given whether those after it do; a character that X9 removes is ignored
 abbrev pub trails : CharLevel → Bool → Bool
 trails (class, None) after = after
 trails (class, Some level) after = elim (is_segment_separator class) [ true ↦ true | false ↦ is_trailing class && after ]
@@ -34,7 +34,7 @@ abbrev pub only_trailing : List CharLevel → Bool
 only_trailing [] = true
 only_trailing (c ∷ cs) = trails c (only_trailing cs)
 
--- a kept character has the paragraph level where it trails
+-- a kept character that trails has the paragraph level
 abbrev pub level_at : ℕ → CharLevel → Bool → Option ℕ
 level_at paragraph (class, None) trailing = None
 level_at paragraph (class, Some level) trailing = elim trailing [ true ↦ Some paragraph | false ↦ Some level ]
@@ -44,23 +44,23 @@ abbrev pub l1 : ℕ → List CharLevel → List (Option ℕ)
 l1 paragraph [] = []
 l1 paragraph (c ∷ cs) = level_at paragraph c (trails c (only_trailing cs)) ∷ l1 paragraph cs
 
--- the first level there is
+-- the first level that is present
 abbrev pub first_level : List (Option ℕ) → Option ℕ
 first_level [] = None
 first_level (None ∷ ls) = first_level ls
 first_level (Some level ∷ ls) = Some level
 
--- the level of the first kept character of each unit, the units having these many characters
+-- the level of the first kept character of each unit, given the units' character counts
 abbrev pub unit_levels : List ℕ → List (Option ℕ) → List (Option ℕ)
 unit_levels [] ls = []
 unit_levels (n ∷ ns) ls = first_level (take n ls) ∷ unit_levels ns (drop n ls)
 
--- a unit with no level takes that of the unit before it
+-- a unit without a level takes the level of the unit before it
 abbrev pub levels_or_before : ℕ → List (Option ℕ) → List ℕ
 levels_or_before before [] = []
 levels_or_before before (l ∷ ls) = let level = unwrap_or l before in level ∷ levels_or_before level ls
 
--- how many characters of a body stand before its units
+-- the number of a body's characters before these units
 abbrev pub chars_before : List ℕ → List Unit → ℕ
 chars_before body [] = 0
 chars_before body (u ∷ us) = length (chars (take u.start body))

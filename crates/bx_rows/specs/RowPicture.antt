@@ -1,4 +1,4 @@
--- What a row shows: the glyphs of its units in visual order, mirrored where the level is odd (L4), and blanks up to the edge.
+-- The picture of a row: the glyphs of its units in visual order, mirrored at odd levels (L4), and blanks up to the edge.
 use Rattle.std.specs.Prelude.{ℕ, zero, suc, ◌+◌, ◌-◌, ◌%◌, ◌==◌, Bool, true, false, List, [], ◌∷◌, ◌++◌, map, sum, flat_map, replicate, slice_index_or, Option}
 use Rattle.std.specs.Prelude.{unwrap_or, chars, encode_utf8_all}
 use Rattle.std.specs.List.{zip}
@@ -24,11 +24,11 @@ glyph text columns negative = record { text = text; columns = columns; negative 
 abbrev pub blank : Glyph
 blank = glyph (32 ∷ []) 1 false
 
--- own text of n columns: a glyph for each character of printable ASCII, else one glyph
+-- own text of `n` columns: one glyph per character if it is printable ASCII, else one glyph
 abbrev pub text_glyphs : ℕ → List ℕ → List Glyph
 text_glyphs n text = elim (are_ascii_printable text) [ true ↦ map (λ b. glyph (b ∷ []) 1 false) text | false ↦ glyph text n false ∷ [] ]
 
--- a text with each character mirrored that has a mirror
+-- a text with its characters mirrored; characters without a mirror stay
 abbrev pub mirror_image : (ℕ → Option ℕ) → List ℕ → List ℕ
 mirror_image mirror text = encode_utf8_all (map (λ c. unwrap_or (mirror c) c) (chars text))
 
@@ -37,26 +37,26 @@ abbrev pub is_own : ℕ → Face → Bool
 is_own n (Own m) = m == n
 is_own n _ = false
 
--- the mirrored text where that is shown as itself in as many columns, else the text
+-- the mirrored text if it is shown as itself in `n` columns, else the text
 abbrev pub mirror_image_within : (ℕ → Class) → (ℕ → Option ℕ) → ℕ → ℕ → List ℕ → List ℕ
 mirror_image_within class mirror w n text = let other = mirror_image mirror text in elim (is_own n (face class w other)) [ true ↦ other | false ↦ text ]
 
--- the text that is shown at a level: mirrored at an odd one
+-- the text shown at a level: mirrored if the level is odd
 abbrev pub shown_text : (ℕ → Class) → (ℕ → Option ℕ) → ℕ → ℕ → ℕ → List ℕ → List ℕ
 shown_text class mirror w n level text = elim (level % 2) [ zero ↦ text | suc _ ↦ mirror_image_within class mirror w n text ]
 
--- the glyphs of a face in its columns, with its own text at a level
+-- the glyphs of a face in its columns, with the unit's own text at a level
 abbrev pub face_glyphs : (ℕ → Class) → (ℕ → Option ℕ) → ℕ → List ℕ → Face → ℕ → ℕ → List Glyph
 face_glyphs class mirror w text Tab columns level = replicate columns blank
 face_glyphs class mirror w text (Mark letter) columns level = glyph (letter ∷ []) 1 true ∷ []
 face_glyphs class mirror w text (Own n) columns level = text_glyphs n (shown_text class mirror w n level text)
 
--- the columns of each unit of a row, of which `c` columns are taken
+-- the columns of each unit of a row with `c` columns taken
 abbrev pub unit_columns : ℕ → ℕ → List Unit → List ℕ
 unit_columns w c [] = []
 unit_columns w c (u ∷ us) = let n = columns_at w c u.face in n ∷ unit_columns w (c + n) us
 
--- the columns of a row's units, all together
+-- the sum of the columns of a row's units
 abbrev pub columns_used : ℕ → List Unit → ℕ
 columns_used w us = sum (unit_columns w 0 us)
 
@@ -65,7 +65,7 @@ abbrev pub unit_glyphs : (ℕ → Class) → (ℕ → Option ℕ) → ℕ → Li
 unit_glyphs class mirror w body us columns levels =
     map (λ (u, at). face_glyphs class mirror w (unit_text body u) u.face at.0 at.1) (zip us (zip columns levels))
 
--- the blanks of a row stand at its end: right in a paragraph of even level, left in one of odd level
+-- the blanks of a row are at its end: right in a paragraph of even level, left in one of odd level
 abbrev pub with_blanks : ℕ → ℕ → List Glyph → List Glyph
 with_blanks paragraph n glyphs = elim (paragraph % 2) [ zero ↦ glyphs ++ replicate n blank | suc _ ↦ replicate n blank ++ glyphs ]
 

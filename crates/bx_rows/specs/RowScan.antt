@@ -1,4 +1,4 @@
--- The row that is being read, unit by unit, and what is known of it.
+-- The current row of a scan over units, and its invariants.
 use Rattle.std.specs.Prelude.{◌≡◌, ℕ, zero, suc, ◌+◌, ◌-◌, ◌<◌, ◌≤◌, Bool, List, ◌∷◌, ◌++◌, map, length, take, drop, chars}
 use Rattle.std.specs.Str.{IsCharBoundary}
 use Rattle.bx_ucd.specs.declared.class.Class.{Class}
@@ -14,9 +14,9 @@ use Rattle.bx_rows.specs.Wrapping.{columns_at, fit_count_from, is_break, rows_fr
 abbrev pub Fits : ℕ → ℕ → Unit → Type 0
 Fits w c u = (c < w) × (c + columns_at w c u.face ≤ w)
 
--- What is known of a row that is read up to `rest`. The row begins with the units `here`: `last` units stand up to its last
--- break, and then `count` units, with which `behind` begins. All of them have these columns, and the last `count` would have
--- `since` columns in a row of their own.
+-- A row read up to `rest`. `here` are the units from its start on: `last` units up to its last break, then `count` units,
+-- with which `behind` begins. Together they have `columns` columns; the last `count` would have `since` columns in a row
+-- of their own.
 pub record IsScan (p : Unit → Bool) (w : ℕ) (here behind rest : List Unit) (columns last count since : ℕ) : Type 0 where
   pub front : List Unit
   pub back : List Unit
@@ -31,7 +31,7 @@ pub record IsScan (p : Unit → Bool) (w : ℕ) (here behind rest : List Unit) (
   pub within : columns ≤ w
   pub less : since ≤ columns
 
--- the numbers of the row that is being read are in order, and its characters are counted
+-- the numbers of the current row are in order, and the characters before it are counted
 pub record IsInOrder (w : ℕ) (body : List ℕ) (s : Scan) (at : ℕ) : Type 0 where
   pub start : IsCharBoundary body s.start.offset
   pub next : IsCharBoundary body s.next
@@ -42,7 +42,7 @@ pub record IsInOrder (w : ℕ) (body : List ℕ) (s : Scan) (at : ℕ) : Type 0 
   pub less : s.since ≤ s.columns
   pub chars : s.start.chars ≡ length (chars (take s.start.offset body))
 
--- the starts of all rows are those so far and those of what the row that is being read begins
+-- the starts so far and those from the current row on are the starts of all rows
 pub record IsRead (class : ℕ → Class) (w : ℕ) (body : List ℕ) (starts : List RowStart) (s : Scan) (rest : List Unit) : Type 0 where
   pub scan : IsScan (is_break class body) w (units_from class w body s.start.offset) (units_from class w body s.next) rest s.columns s.last s.count s.since
   pub number : drop s.start.units (units class w body) ≡ units_from class w body s.start.offset
@@ -50,31 +50,31 @@ pub record IsRead (class : ℕ → Class) (w : ℕ) (body : List ℕ) (starts : 
   pub done : starts ++ map (start_of body (units class w body)) (rows_from (is_break class body) w s.start.units 0 (units_from class w body s.start.offset))
       ≡ map (start_of body (units class w body)) (rows_from (is_break class body) w 0 0 (units class w body))
 
--- a row of which nothing is read
+-- a row with no unit yet
 abbrev pub new_scan : RowStart → Scan
 new_scan start = record { start = start; next = start.offset; columns = 0; last = 0; count = 0; since = 0 }
 
--- a row that also has `n` units of one column each, of which `m` stand up to the last break, after which `next` begins
+-- a row with `n` more units of one column each, `m` of them up to their last break, which ends at `next`
 abbrev pub with_run : Scan → ℕ → ℕ → ℕ → Scan
 with_run s n zero next =
     record { start = s.start; next = s.next; columns = s.columns + n; last = s.last; count = s.count + n; since = s.since + n }
 with_run s n (suc m) next =
     record { start = s.start; next = next; columns = s.columns + n; last = s.last + s.count + suc m; count = n - suc m; since = n - suc m }
 
--- the unit has the extent, and is the first of those of a body from there on
+-- the unit has the extent, and is the first unit of a body from there on
 pub record HasExtent (class : ℕ → Class) (w : ℕ) (body : List ℕ) (e : Extent) (u : Unit) (rest : List Unit) : Type 0 where
   pub columns : (c : ℕ) → columns_at w c u.face ≡ columns_at w c e.face
   pub breaks : is_break class body u ≡ e.is_break
   pub here : units_from class w body e.start ≡ u ∷ rest
   pub behind : units_from class w body e.stop ≡ rest
 
--- the starts and the row that is being read, before and after a unit of this extent
+-- the starts and the current row, before and after a unit of this extent
 abbrev pub Takes : ℕ → List ℕ → Extent → List RowStart → Scan → List RowStart → Scan → Type 0
 Takes w body e starts s new t =
     (class : ℕ → Class) (u : Unit) (rest : List Unit) → HasExtent class w body e u rest → IsRead class w body starts s (u ∷ rest)
     → IsRead class w body new t rest
 
--- a unit of the extent stands in a body
+-- a body has a unit of the extent
 pub record HasUnit (class : ℕ → Class) (w : ℕ) (body : List ℕ) (e : Extent) : Type 0 where
   pub unit : Unit
   pub extent : HasExtent class w body e unit (units_from class w body e.stop)

@@ -1,4 +1,4 @@
--- Where the rows of a body begin.
+-- The starts of a body's rows.
 use Rattle.std.specs.Prelude.{ℕ, zero, suc, ◌-◌, List, [], ◌∷◌, map, length, take, drop, chars, slice_get, Option, Some, None}
 use Rattle.bx_ucd.specs.declared.class.Class.{Class}
 use Rattle.bx_cells.specs.declared.unit.Unit.{Unit}
@@ -8,13 +8,13 @@ use Rattle.bx_rows.specs.declared.start_search.RowStart.{RowStart}
 use Rattle.bx_rows.specs.Wrapping.{row_units, wrap}
 pub use Rattle.bx_rows.specs.Wrapping.{first_offset}
 
--- where a row of a body's units begins: the offset of its first unit, and how many units and characters stand before it
+-- the start of a row: the offset of its first unit, and the numbers of units and characters before it
 abbrev pub start_of : List ℕ → List Unit → Row → RowStart
 start_of body us r =
     let offset = first_offset (drop r.start us) in
     record { offset = offset; units = r.start; chars = length (chars (take offset body)) }
 
--- where the rows begin into which a body is wrapped
+-- the starts of the rows of a body
 abbrev pub row_starts : (ℕ → Class) → ℕ → List ℕ → List RowStart
 row_starts class w body = let us = units class w body in map (start_of body us) (wrap class w body us)
 
@@ -23,12 +23,12 @@ abbrev pub units_in : List Unit → Option Row → List Unit
 units_in us None = []
 units_in us (Some r) = row_units us r
 
--- the units of row number `k` of a body, from 0; none where it has no such row
+-- the units of row number `k` of a body, from 0; none if it has no such row
 abbrev pub units_of_row : (ℕ → Class) → ℕ → List ℕ → ℕ → List Unit
 units_of_row class w body k = let us = units class w body in units_in us (slice_get (wrap class w body us) k)
 
--- How many units the row has at most that begins at `start`, where the next one begins at `next`. The last row has none
--- after it, and no more units than the body has bytes. In a window of no columns each row is empty.
+-- An upper bound of the unit count of the row from `start` to `next`. The last row has no next one, and no more units than
+-- the body has bytes. In a window of no columns each row is empty.
 abbrev pub most_units : ℕ → List ℕ → RowStart → Option RowStart → ℕ
 most_units zero body start next = 0
 most_units (suc w) body start None = length body

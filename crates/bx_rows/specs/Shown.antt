@@ -1,4 +1,4 @@
--- A row's glyphs as they are kept, and what the parts of a row must meet for it to be drawn.
+-- The glyphs of a row's picture, and the conditions of drawing.
 use Rattle.std.specs.Prelude.{◌≡◌, ◌≤◌, ℕ, true, ⊤, List, length}
 use Rattle.std.specs.Cow.{cow_str_bytes}
 use Rattle.bx_terms.specs.Characters.{is_ascii_printable}
@@ -10,7 +10,7 @@ use Rattle.bx_rows.specs.declared.row.Row.{Row}
 use Rattle.bx_rows.specs.RowPicture.{Glyph, glyph, columns_used}
 use Rattle.bx_rows.specs.Wrapping.{row_units}
 
--- the glyph that is kept
+-- the glyph of a drawn one
 abbrev pub glyph_of : Drawn → Glyph
 glyph_of d = glyph (cow_str_bytes d.text) d.columns d.negative
 
@@ -19,6 +19,6 @@ abbrev pub HasLetter : Face → Type 0
 HasLetter (Mark letter) = is_ascii_printable letter ≡ true
 HasLetter _ = ⊤
 
--- a row of the units that has no more columns than the window
+-- a row of the units with no more columns than the window
 abbrev pub IsRowOf : ℕ → List Unit → Row → Type 0
 IsRowOf w us r = (r.start ≤ r.stop) × (r.stop ≤ length us) × (columns_used w (row_units us r) ≤ w)

@@ -2,8 +2,8 @@
 use Rattle.std.specs.Prelude.{ℕ, zero, suc, ◌+◌, ◌-◌, ◌%◌, nat_le, max, min, true, false, List, [], ◌∷◌, ◌++◌, map, Option, Some, None}
 use Rattle.std.specs.List.{enumerate_from}
 
--- Units, each by its number and its level, with each maximal run at level `n` or higher reversed. `run` has the units of the
--- run so far, the latest first.
+-- Units, each by its number and level, with each maximal run at level `n` or higher reversed. `run` is the current run so
+-- far, the latest unit first.
 abbrev pub reverse_runs : ℕ → List (ℕ × ℕ) → List (ℕ × ℕ) → List (ℕ × ℕ)
 reverse_runs n run [] = run
 reverse_runs n run (u ∷ us) = elim (nat_le n u.1) [ true ↦ reverse_runs n (u ∷ run) us | false ↦ run ++ u ∷ reverse_runs n [] us ]
@@ -17,12 +17,12 @@ abbrev pub highest : List ℕ → ℕ
 highest [] = 0
 highest (l ∷ ls) = max l (highest ls)
 
--- the lower of a level and of one that may be there
+-- the lower of a level and an optional one
 abbrev pub lower : ℕ → Option ℕ → ℕ
 lower a None = a
 lower a (Some b) = min a b
 
--- the lowest odd of a level and of one that may be there
+-- the lowest odd level of a level and an optional odd one
 abbrev pub lower_odd : ℕ → Option ℕ → Option ℕ
 lower_odd l lowest = elim (l % 2) [ zero ↦ lowest | suc n ↦ Some (lower l lowest) ]
 

@@ -9,7 +9,7 @@ use crate::wrapping::is_blank;
 use bx_cells::printable_stop;
 use bx_ucd::BidiData;
 
-/// The offset after the last of the bytes from `at` to before `stop` after which a row may end; `at` if there is none.
+/// The offset after the last break in the bytes `at..stop`; `at` if there is none.
 #[inline(always)]
 fn break_behind<D: BidiData>(bytes: &[u8], at: usize, stop: usize, tables: &D) -> usize
     requires order { at ≤ stop }
@@ -29,8 +29,8 @@ fn break_behind<D: BidiData>(bytes: &[u8], at: usize, stop: usize, tables: &D) -
     next
 }
 
-/// The printable ASCII that stands from an offset on, but for its last byte, after which a mark may stand: a unit a byte, at
-/// most `most` of them. Only the bytes after the last break are asked for their classes.
+/// The run of printable ASCII at an offset, one unit a byte, at most `most`, without its last byte: a combining mark may
+/// follow that one. Looks up classes from the end back to the last break only.
 #[inline(always)]
 pub(crate) fn ascii_run<D: BidiData>(body: &str, at: usize, most: u16, tables: &D) -> NarrowRun
     requires { IsCharBoundary body.now at }

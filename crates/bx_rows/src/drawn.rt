@@ -1,19 +1,19 @@
-//! Glyphs as they are kept.
+//! The glyphs of a row's picture.
 use std::alloc::Global;
 use std::borrow::CowStr;
 
 /// A glyph of a row's picture.
 #[derive(Drop)]
 pub struct Drawn<'a> {
-    /// Its text: lent from the body, a fixed text, or owned, as a mirror image may be.
+    /// The text: borrowed from the body, a fixed text, or an owned mirror image.
     pub text: CowStr<'a, Global>,
-    /// Its columns, one or more.
+    /// The columns, at least one.
     pub columns: u16,
     /// Whether it is in negative image.
     pub negative: bool,
 }
 
-/// A row's glyphs from left to right, with its blanks.
+/// A row's glyphs from left to right, blanks included.
 #[derive(Drop)]
 pub struct RowPicture<'a> {
     pub glyphs: Vec<Drawn<'a>>,

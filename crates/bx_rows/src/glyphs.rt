@@ -18,7 +18,7 @@ use std::borrow::CowStr;
 const LETTERS: &str =
     " !\"#$%&'()*+,-./0123456789:;<=>?@ABCDEFGHIJKLMNOPQRSTUVWXYZ[\\]^_`abcdefghijklmnopqrstuvwxyz{|}~";
 
-/// The text of one of these letters.
+/// The text of one letter.
 fn letter_of<'a>(letters: &'a str, byte: u8) -> &'a str
     requires letters { letters.now ≡ range_with_len 32 95 }
     requires byte { is_ascii_printable byte ≡ true }
@@ -28,7 +28,7 @@ fn letter_of<'a>(letters: &'a str, byte: u8) -> &'a str
     &letters[index..index + 1]
 }
 
-/// A fixed text of one character from SPACE to TILDE.
+/// The fixed text of a character from SPACE to TILDE.
 pub(crate) fn letter<'a>(byte: u8) -> &'a str
     requires { is_ascii_printable byte ≡ true }
     ensures { result.now ≡ byte ∷ [] }
@@ -36,7 +36,7 @@ pub(crate) fn letter<'a>(byte: u8) -> &'a str
     letter_of(LETTERS, byte)
 }
 
-/// Adds a glyph of one character from SPACE to TILDE.
+/// Appends the glyph of a character from SPACE to TILDE.
 fn push_letter<'a>(glyphs: &mut Vec<Drawn<'a>>, byte: u8, negative: bool) -> Result<(), AllocError>
     requires { is_ascii_printable byte ≡ true }
     ensures { OnOk result (map glyph_of glyphs.new.items ≡ map glyph_of glyphs.old.items ++ glyph (byte ∷ []) 1 negative ∷ []) }
@@ -49,7 +49,7 @@ fn push_letter<'a>(glyphs: &mut Vec<Drawn<'a>>, byte: u8, negative: bool) -> Res
     Ok(())
 }
 
-/// Adds blanks.
+/// Appends blanks.
 fn push_blanks<'a>(glyphs: &mut Vec<Drawn<'a>>, count: u16) -> Result<(), AllocError>
     ensures { OnOk result (map glyph_of glyphs.new.items ≡ map glyph_of glyphs.old.items ++ replicate count blank) }
 {
@@ -59,7 +59,7 @@ fn push_blanks<'a>(glyphs: &mut Vec<Drawn<'a>>, count: u16) -> Result<(), AllocE
     Ok(())
 }
 
-/// Glyphs and a row's blanks: at the right in a paragraph of even level, else at the left.
+/// Adds a row's blanks to its glyphs: at the right in a paragraph of even level, else at the left.
 pub(crate) fn with_blanks<'a>(
     alloc: Global,
     glyphs: Vec<Drawn<'a>>,
@@ -80,7 +80,7 @@ pub(crate) fn with_blanks<'a>(
     Ok(all)
 }
 
-/// Adds a glyph for each character of a text that has only characters from SPACE to TILDE.
+/// Appends a glyph for each character of a text of characters from SPACE to TILDE.
 fn push_letters<'a>(glyphs: &mut Vec<Drawn<'a>>, text: &[u8]) -> Result<(), AllocError>
     requires { are_ascii_printable text.now ≡ true }
     ensures { OnOk result (map glyph_of glyphs.new.items ≡ map glyph_of glyphs.old.items ++ map (λ b. glyph (b ∷ []) 1 false) text.now) }
@@ -91,7 +91,7 @@ fn push_letters<'a>(glyphs: &mut Vec<Drawn<'a>>, text: &[u8]) -> Result<(), Allo
     Ok(())
 }
 
-/// Adds the glyphs of own text of these columns.
+/// Appends the glyphs of a text shown as itself in `columns` columns.
 fn push_text<'a>(
     glyphs: &mut Vec<Drawn<'a>>,
     text: CowStr<'a, Global>,
@@ -110,7 +110,7 @@ fn push_text<'a>(
     Ok(())
 }
 
-/// Whether a face is own text of a number of columns.
+/// Whether a face is the unit's own text in `n` columns.
 pub(crate) fn is_own(face: Face, n: u16) -> bool
     ensures { result ≡ is_own n face }
 {
@@ -120,7 +120,7 @@ pub(crate) fn is_own(face: Face, n: u16) -> bool
     }
 }
 
-/// The text that is shown at a level: mirrored at an odd one.
+/// The text shown at a level: mirrored if the level is odd.
 fn shown_text<'a, D: BidiData>(
     alloc: Global,
     text: &'a str,
@@ -143,7 +143,7 @@ fn shown_text<'a, D: BidiData>(
     }
 }
 
-/// Adds the glyphs of a face in its columns, with its own text at a level.
+/// Appends the glyphs of a face in its columns, with the unit's own text at a level.
 pub(crate) fn push_face<'a, D: BidiData>(
     glyphs: &mut Vec<Drawn<'a>>,
     alloc: Global,

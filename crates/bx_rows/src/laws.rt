@@ -1,31 +1,31 @@
-//! What holds of units, rows, orders and pictures, whatever the body. The functions do nothing: their contracts are the laws.
+//! Laws of units, rows, visual order and pictures. The functions are empty: their contracts are the laws.
 
 ghost use Rattle.bx_rows.specs.Laws.{RowsAreOfRest, RowsCutUnits, RowsEndWell, RowsMeetAgain, UnitsFitWindow, UnitsMakeBody, UnitsStandInTurn};
 ghost use Rattle.bx_rows.specs.OrderLaws.{EqualLevelsOrder, LowestLevelsOrder, LowestStaysBetween, OrdersArePermutations, PicturesGoByLevels, PicturesShowUnits, StaysBetween};
 
-/// The units of a body joined are the body. They stand one behind another from its begin to its end, and each fits in the window.
+/// The units of a body joined are the body: they are adjacent from its start to its end. Each fits in the window.
 pub fn units_make_body()
     ensures joined { UnitsMakeBody }
     ensures in_turn { UnitsStandInTurn }
     ensures fit { UnitsFitWindow }
 {}
 
-/// The rows of units joined are the units: none is lost, and none stands in two rows. Each row begins where the one before ends.
-/// It ends with the last unit, behind a unit after which a row may end, or where no more units fit, and no longer one that ends in
-/// one of the first two ways would fit.
+/// The rows of units joined are the units: none is lost or in two rows, and each row begins where the one before ends. A row
+/// ends with the last unit, after a break, or where no more units fit; no longer row that ends in one of the first two ways
+/// would fit.
 pub fn rows_cut_units()
     ensures cut { RowsCutUnits }
     ensures ends { RowsEndWell }
 {}
 
-/// The visual order of a row's units has the number of each unit once.
+/// The visual order of a row's units contains each unit's number once.
 pub fn orders_are_permutations()
     ensures { OrdersArePermutations }
 {}
 
-/// Of two units, the one that comes first in the text stands left of the other exactly where the lowest level from the one to
-/// the other is even. So units of one level, with none lower between them, keep their order or turn it as that level says, and
-/// what stands between them stays there; so does what has the lowest level between two units.
+/// Of two units, the first in the text is left of the other exactly if the lowest level from the one to the other is even.
+/// So two units of one level, with none lower between them, keep their order at an even level and swap it at an odd one,
+/// and the units between them stay between them. So does a unit of the lowest level between two others.
 pub fn lowest_levels_order_units()
     ensures lowest { LowestLevelsOrder }
     ensures equal { EqualLevelsOrder }
@@ -33,19 +33,19 @@ pub fn lowest_levels_order_units()
     ensures lowest_between { LowestStaysBetween }
 {}
 
-/// A row's picture shows the glyphs of each of its units once, each unit's together, and else blanks. Of two units, the one that
-/// comes first in the text is shown left of the other exactly where the lowest level from the one to the other is even.
+/// A row's picture shows the glyphs of each of its units once, each unit's together, and otherwise blanks. Of two units, the
+/// first in the text is shown left of the other exactly if the lowest level from the one to the other is even.
 pub fn pictures_show_units()
     ensures once { PicturesShowUnits }
     ensures order { PicturesGoByLevels }
 {}
 
-/// From any row on, the rows of a body are those of what is left, taken as a body of its own.
+/// From any row on, the rows of a body are those of the rest of the body, taken as a body of its own.
 pub fn rows_are_of_rest()
     ensures { RowsAreOfRest }
 {}
 
-/// Two bodies that end alike have the same rows once a row of each begins at the same place of what they share.
+/// Two bodies with a common end have the same rows in it, once a row of each begins at the same place of that end.
 pub fn rows_meet_again()
     ensures { RowsMeetAgain }
 {}

@@ -1,7 +1,7 @@
-//! The levels of units, read character by character from left to right.
+//! The levels of a row's units, read character by character in text order.
 //!
-//! By L1 a character that may trail has the paragraph level where all after it, up to a separator or the row's end, may
-//! trail too. So the units whose first kept characters may trail wait, from the first of them on, until that is known.
+//! By L1 a whitespace or isolate character gets the paragraph level if only such characters follow it, up to a segment
+//! separator or the row's end. So units whose first kept character is one wait until a later character decides.
 ghost use Rattle.std.specs.Prelude.{◌≡◌, ◌≤◌, ◌<◌, ◌++◌, ◌∷◌, [], Bool, IfOk, List, None, chars, drop, get_or, length, map, ℕ};
 ghost use Rattle.std.specs.List.{zip};
 ghost use Rattle.bx_rows.specs.RowLevels.{is_segment_separator, is_trailing};
@@ -29,7 +29,7 @@ fn is_trailing(class: Class) -> bool
     )
 }
 
-/// Gives the units that wait, from number `waiting` on, the paragraph level.
+/// Sets the waiting units, from index `waiting` on, to the paragraph level.
 #[tactic(auto, using(crate::proofs::LevelSteps::settled_none))]
 pub(crate) fn settle(found: &mut Vec<u8>, waiting: usize, paragraph: u8)
     ensures levels { found.new.items ≡ settled paragraph waiting found.old.items }
@@ -42,7 +42,7 @@ pub(crate) fn settle(found: &mut Vec<u8>, waiting: usize, paragraph: u8)
     }
 }
 
-/// Reads a kept character of a class; gives the number of the first unit that waits then.
+/// Reads a character, which X9 keeps, of a class. Returns the new index of the first waiting unit.
 #[inline(always)]
 pub(crate) fn read_class(found: &mut Vec<u8>, waiting: usize, class: Class, paragraph: u8) -> usize
     requires { waiting ≤ length found.old.items }
@@ -59,8 +59,8 @@ pub(crate) fn read_class(found: &mut Vec<u8>, waiting: usize, class: Class, para
     found.len()
 }
 
-/// Reads the first kept character of a unit, whose level is the unit's. Where no unit waits and it is the paragraph's level,
-/// its class is not asked for.
+/// Reads the first kept character of a unit, whose level is the unit's. Skips its class if no unit waits and the level is
+/// the paragraph's.
 #[inline(always)]
 fn read_first<D: BidiData>(
     found: &mut Vec<u8>,
@@ -101,7 +101,7 @@ fn read_more<D: BidiData>(
     read_class(found, waiting, tables.class(c), paragraph)
 }
 
-/// Reads a character of a unit, whose level is found or not.
+/// Reads a character of a unit; `is_known`: the unit's level is found already.
 #[inline(always)]
 fn read_char<D: BidiData>(
     found: &mut Vec<u8>,
@@ -125,7 +125,7 @@ fn read_char<D: BidiData>(
     read_first(found, waiting, c, level, paragraph, tables)
 }
 
-/// The level of a unit with no kept character: that of the unit before it.
+/// The level of a unit without a kept character: that of the unit before it, or the paragraph level.
 #[tactic(auto, using(crate::proofs::LevelSteps::before_some, crate::proofs::LevelSteps::before_none))]
 fn level_before(found: &[u8], paragraph: u8) -> u8
     ensures { result ≡ level_before paragraph found.now }
@@ -136,7 +136,7 @@ fn level_before(found: &[u8], paragraph: u8) -> u8
     found[found.len() - 1]
 }
 
-/// Adds a unit with no kept character, which waits where the unit before it does.
+/// Appends a unit without a kept character. It waits if the unit before it does.
 #[inline(never)]
 #[tactic(auto, using(crate::proofs::LevelSteps::before_waits, crate::proofs::LevelSteps::before_settled))]
 fn push_before(found: &mut Vec<u8>, waiting: usize, paragraph: u8) -> Result<usize, AllocError>
@@ -154,7 +154,7 @@ fn push_before(found: &mut Vec<u8>, waiting: usize, paragraph: u8) -> Result<usi
     Ok(found.len())
 }
 
-/// The first level, and those after it; none where no level is left.
+/// The first level and the levels after it; no level if the list is empty.
 #[inline(always)]
 pub(crate) fn first_level(levels: &[Level]) -> (Option<u8>, &[Level])
     ensures first { result.0 ≡ get_or levels.now 0 None }
@@ -166,7 +166,7 @@ pub(crate) fn first_level(levels: &[Level]) -> (Option<u8>, &[Level])
     (levels[0].get(), &levels[1..])
 }
 
-/// Reads a unit; gives the number of the first unit that waits then, and the levels after the unit's characters.
+/// Reads a unit. Returns the new index of the first waiting unit, and the levels after the unit's characters.
 #[inline(always)]
 pub(crate) fn read_unit<'a, D: BidiData>(
     found: &mut Vec<u8>,

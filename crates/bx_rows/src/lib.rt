@@ -1,6 +1,6 @@
-//! The rows of a paragraph: where they wrap, the levels of a row's units, their visual order, and what a row shows.
+//! The rows of a paragraph: wrapping, the levels of a row's units, their visual order, and pictures.
 //!
-//! Only the functions that answer a `Result` take memory.
+//! Only functions that return a `Result` allocate.
 #![tactic(auto)]
 
 mod ascii_part;

@@ -15,7 +15,7 @@ use bx_ucd::BidiData;
 use std::alloc::{AllocError, Global};
 use std::borrow::CowStr;
 
-/// The character of a text, if it has just one.
+/// The character of a text of exactly one.
 #[inline(always)]
 fn single_char(text: &str) -> Option<char>
     ensures { IfSome result (λ c. chars text.now ≡ c ∷ []) }
@@ -27,7 +27,7 @@ fn single_char(text: &str) -> Option<char>
     Some(c)
 }
 
-/// Whether a character of a text of any length has a mirror.
+/// Whether a character of a text has a mirror, for a text of any length.
 fn any_mirror<D: BidiData>(text: &str, tables: &D) -> bool
     ensures { result ≡ false → mirror_image (D.data tables.now).mirror text.now ≡ text.now }
 {
@@ -50,7 +50,7 @@ pub(crate) fn has_mirror<D: BidiData>(text: &str, tables: &D) -> bool
     }
 }
 
-/// A text with each character mirrored that has a mirror.
+/// A text with its characters mirrored. Characters without a mirror stay.
 fn mirror_image<D: BidiData>(alloc: Global, text: &str, tables: &D) -> Result<String, AllocError>
     ensures { IfOk result (λ t. string_bytes t ≡ mirror_image (D.data tables.now).mirror text.now) }
 {
@@ -61,7 +61,7 @@ fn mirror_image<D: BidiData>(alloc: Global, text: &str, tables: &D) -> Result<St
     Ok(other)
 }
 
-/// The fixed text of a character, if that is one from SPACE to TILDE and is shown as itself in one column.
+/// The fixed text of a character from SPACE to TILDE that is shown as itself in one column.
 fn fixed_text<'a, D: BidiData>(c: char, tables: &D, w: u16) -> Option<&'a str>
     ensures bytes { IfSome result (λ t. t.now ≡ encode_utf8 c) }
     ensures face { IfSome result (λ t. face (D.data tables.now).class w t.now ≡ Own 1) }
@@ -75,7 +75,7 @@ fn fixed_text<'a, D: BidiData>(c: char, tables: &D, w: u16) -> Option<&'a str>
     Some(letter(c as u8))
 }
 
-/// The fixed text that a text of one character is mirrored to, if that is printable ASCII, and so takes no memory.
+/// The mirror of a text of one character, if it is printable ASCII: a fixed text, so nothing is allocated.
 fn fixed_mirror<'a, D: BidiData>(text: &str, tables: &D, w: u16) -> Option<&'a str>
     ensures { IfSome result (λ t. t.now ≡ mirror_image_within (D.data tables.now).class (D.data tables.now).mirror w 1 text.now) }
 {
@@ -84,7 +84,7 @@ fn fixed_mirror<'a, D: BidiData>(text: &str, tables: &D, w: u16) -> Option<&'a s
     fixed_text(mirror, tables, w)
 }
 
-/// The mirror image of a text, where that is shown as itself in `columns` columns; none where the text stays.
+/// The mirror image of a text, if it is shown as itself in `columns` columns; else none, and the text stays.
 pub(crate) fn mirrored<'a, D: BidiData>(
     alloc: Global,
     text: &str,
@@ -108,7 +108,7 @@ pub(crate) fn mirrored<'a, D: BidiData>(
     Ok(Some(CowStr::Owned(other)))
 }
 
-/// Shows the mirror image of a glyph's text, where that is shown as itself in one column.
+/// Replaces a glyph's text by its mirror image, if that is shown as itself in one column.
 #[inline(never)]
 fn mirror_text<D: BidiData>(
     drawn: &mut Drawn<'_>,
@@ -127,8 +127,8 @@ fn mirror_text<D: BidiData>(
     Ok(())
 }
 
-/// Shows a glyph at a level: mirrored at an odd one, where one of its characters has a mirror. What few glyphs need stands in
-/// a function of its own, since a function pays for its locals on each call.
+/// Mirrors a glyph at an odd level, if one of its characters has a mirror. The rare part is a function of its own, since
+/// a function's locals cost on each call.
 #[inline(always)]
 fn mirror_at<D: BidiData>(
     drawn: &mut Drawn<'_>,
@@ -150,7 +150,7 @@ fn mirror_at<D: BidiData>(
     mirror_text(drawn, alloc, tables, w)
 }
 
-/// Mirrors the glyphs of single characters of one column that stand at an odd level, where the mirror takes one column too.
+/// Mirrors the glyphs at odd levels, each a single character of one column, if the mirror takes one column too.
 pub(crate) fn mirror_odd<D: BidiData>(
     glyphs: &mut [Drawn<'_>],
     alloc: Global,

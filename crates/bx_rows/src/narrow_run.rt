@@ -1,4 +1,4 @@
-//! Runs of units that have one column each.
+//! Runs of units of one column each.
 ghost use Rattle.std.specs.Prelude.{◌≡◌, ◌≤◌, ◌<◌, ◌+◌, None, Some, cond, ℕ};
 ghost use Rattle.std.specs.Str.{IsCharBoundary};
 ghost use Rattle.bx_rows.specs.NarrowRuns.{IsNarrowRun, IsRunIn, grown};
@@ -10,8 +10,8 @@ use bx_cells::first_char;
 use bx_cells::simple::{Simple, common_kind, simple_kind};
 use bx_ucd::BidiData;
 
-/// Units of one column each: the offset after them, how many they are, how many of them there are up to the last after which
-/// a row may end, and the offset after that one, or that of the first if there is none.
+/// A run of units of one column each: the offset after it, its unit count, the count up to its last break, and the offset
+/// after that break, or the run's start if there is none.
 #[derive(Clone, Copy)]
 pub(crate) struct NarrowRun {
     pub(crate) stop: usize,
@@ -31,7 +31,7 @@ pub(crate) fn is_blank_cluster<D: BidiData>(first: char, is_marked: bool, tables
     is_blank(tables.class(first))
 }
 
-/// The run with one more unit.
+/// A run with one more unit.
 #[inline(always)]
 fn grown(run: NarrowRun, stop: usize, is_break: bool) -> NarrowRun
     requires { run.count < 65535 }
@@ -54,8 +54,8 @@ fn grown(run: NarrowRun, stop: usize, is_break: bool) -> NarrowRun
     }
 }
 
-/// The units of one column that stand from an offset on, at most `most` of them, up to one that has more columns or whose
-/// characters do not tell it; none where the first character is no common one.
+/// The run of one-column units at an offset, at most `most`. It ends before the first unit that has more columns or needs
+/// the full cluster rules, and is empty if the first character is not common.
 #[inline(never)]
 pub(crate) fn narrow_run<D: BidiData>(body: &str, at: usize, most: u16, tables: &D) -> NarrowRun
     requires { IsCharBoundary body.now at }

@@ -1,4 +1,4 @@
-//! What a row of a body shows, by its number.
+//! The picture of a row of a body, by its number.
 ghost use Rattle.std.specs.Prelude.{◌≡◌, ◌<◌, All, IfOk, length, map, sum_by, true};
 ghost use Rattle.std.specs.Cow.{cow_str_bytes};
 ghost use Rattle.bx_terms.specs.Glyphs.{is_one_glyph, run_width};
@@ -18,8 +18,8 @@ use bx_terms::OutOfMemory;
 use bx_ucd::BidiData;
 use std::alloc::Global;
 
-/// What row `number` (from 0) of a body shows in a window of `w` columns, from left to right with its blanks, by where its
-/// rows begin and by its levels. No other row is read. It is refused only where memory runs out.
+/// Draws row `number`, from 0, of a body in a window of `w` columns: its glyphs from left to right, blanks included.
+/// `starts` are the body's row starts. Reads no other row. The only error is `OutOfMemory`.
 pub fn row_picture<'a, D: BidiData>(
     alloc: Global,
     body: &'a str,

@@ -1,4 +1,4 @@
-//! What a row shows.
+//! The picture of a row.
 ghost use Rattle.std.specs.Prelude.{◌≡◌, ◌≤◌, ◌<◌, ◌+◌, ◌++◌, [], All, IfOk, OnOk, length, map, flat_map, slice_index_or, sum_by, true};
 ghost use Rattle.std.specs.Cow.{cow_str_bytes};
 ghost use Rattle.bx_terms.specs.Glyphs.{is_one_glyph, run_width};
@@ -18,8 +18,7 @@ use bx_terms::OutOfMemory;
 use bx_ucd::BidiData;
 use std::alloc::{AllocError, Global};
 
-/// The columns of each unit of a row in a window of `w` columns, and all of them together. It is refused only where memory
-/// runs out.
+/// The columns of each unit of a row in a window of `w` columns, and their sum. The only error is `AllocError`.
 pub fn unit_columns(alloc: Global, units: &[Unit], w: u16) -> Result<(Vec<u16>, u16), AllocError>
     requires { columns_used w units.now ≤ w }
     ensures columns { IfOk result (λ r. r.0.items ≡ unit_columns w 0 units.now) }
@@ -36,7 +35,7 @@ pub fn unit_columns(alloc: Global, units: &[Unit], w: u16) -> Result<(Vec<u16>, 
     Ok((columns, c))
 }
 
-/// Adds the glyphs of a row's units in an order.
+/// Appends the glyphs of a row's units in a given order.
 fn push_units<'a, D: BidiData>(
     glyphs: &mut Vec<Drawn<'a>>,
     alloc: Global,
@@ -107,8 +106,8 @@ fn row_glyphs<'a, D: BidiData>(
     Ok(all)
 }
 
-/// What a row of a body's units shows in a window of `w` columns, from left to right with its blanks, by the levels of the
-/// row's units and the level of its paragraph. It is refused only where memory runs out.
+/// Draws a row of a body's units in a window of `w` columns: its glyphs from left to right, blanks included. `levels` are
+/// those of the row's units, `paragraph` is the paragraph level. The only error is `OutOfMemory`.
 pub fn draw<'a, D: BidiData>(
     alloc: Global,
     body: &'a str,

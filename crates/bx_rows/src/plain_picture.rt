@@ -1,4 +1,4 @@
-//! What a row shows in which each unit is one character of one column.
+//! The picture of a plain row, in which each unit is one character of one column.
 ghost use Rattle.std.specs.Prelude.{◌≡◌, ◌<◌, All, IfOk, IfSome, List, ℕ, length, map, slice_index_or, sum_by, true};
 ghost use Rattle.std.specs.Cow.{cow_str_bytes};
 ghost use Rattle.bx_terms.specs.Glyphs.{is_one_glyph, run_width};
@@ -21,7 +21,7 @@ use bx_terms::OutOfMemory;
 use bx_ucd::BidiData;
 use std::alloc::{AllocError, Global};
 
-/// The glyphs of single characters, mirrored where their level is odd, in visual order.
+/// The glyphs of a plain row in visual order, mirrored at odd levels.
 fn arranged<'a, D: BidiData>(
     alloc: Global,
     row: PlainRow<'a>,
@@ -40,8 +40,7 @@ fn arranged<'a, D: BidiData>(
     Ok(glyphs)
 }
 
-/// What row `number` of a body shows, where each of its units is one character of one column; none of other rows, of which
-/// this tells nothing.
+/// The picture of row `number` of a body, if the row is recognized as plain; none otherwise.
 pub(crate) fn plain_picture<'a, D: BidiData>(
     alloc: Global,
     body: &'a str,

@@ -1,4 +1,4 @@
-//! The units of a row and their levels, read in one pass where each unit is one character of one column.
+//! The units and levels of a plain row, in which each unit is one character of one column, read in one pass.
 ghost use Rattle.std.specs.Prelude.{◌≡◌, ◌≤◌, ◌<◌, ◌++◌, ◌∷◌, [], IfOk, IfSome, List, MatchOption, encode_utf8, length, take, true, false};
 ghost use Rattle.std.specs.Str.{IsCharBoundary};
 ghost use Rattle.bx_cells.specs.declared.unit.Face.TheVariants.{Own};
@@ -21,17 +21,17 @@ use bx_ucd::{BidiData, Class};
 use std::alloc::{AllocError, Global};
 use std::borrow::CowStr;
 
-/// How many units have room at once.
+/// The number of units to allocate room for at first.
 const FIRST_ROOM: usize = 256;
 
-/// The glyphs of a row's units in the order of the text, none of them mirrored, and the units' levels.
+/// The glyphs of a row's units in text order, not mirrored yet, and the units' levels.
 #[derive(Drop)]
 pub(crate) struct PlainRow<'a> {
     pub(crate) glyphs: Vec<Drawn<'a>>,
     pub(crate) levels: Vec<u8>,
 }
 
-/// Whether a character is a unit of one column of its own text wherever a unit begins after it.
+/// Whether a character is a unit of one column with its own text, provided that a unit begins after it.
 #[inline(always)]
 pub(crate) fn is_plain<D: BidiData>(c: char, tables: &D, w: u16) -> bool
     ensures begin { result ≡ true → begins c ≡ true }
@@ -43,7 +43,7 @@ pub(crate) fn is_plain<D: BidiData>(c: char, tables: &D, w: u16) -> bool
     is_own(simple_face(c, columns, false, tables, w), 1)
 }
 
-/// The class of such a character; none of others.
+/// The class of a plain character; none for any other.
 #[inline(always)]
 fn plain_class<D: BidiData>(c: char, tables: &D, w: u16) -> Option<Class>
     ensures begin { IfSome result (λ k. begins c ≡ true) }
@@ -56,7 +56,7 @@ fn plain_class<D: BidiData>(c: char, tables: &D, w: u16) -> Option<Class>
     Some(tables.class(c))
 }
 
-/// Reads the only character of a unit, which is kept; gives the number of the first unit that waits then.
+/// Reads the only character of a unit, which X9 keeps. Returns the new index of the first waiting unit.
 #[inline(always)]
 fn read_only(
     found: &mut Vec<u8>,
@@ -73,7 +73,7 @@ fn read_only(
     Ok(read_class(found, waiting, class, paragraph))
 }
 
-/// Whether a cluster ends before a text: that is empty, or begins with a character that begins a cluster.
+/// Whether a cluster ends before a text: the text is empty, or its first character begins a cluster.
 fn is_cluster_end(text: &str) -> bool
     ensures { result ≡ true → IsClusterEnd text.now }
 {
@@ -93,8 +93,8 @@ fn first_part(text: &str) -> Option<(char, &str, &str)>
     Some((c, &text[..text.len() - behind.len()], behind))
 }
 
-/// The first units that a body has from where a row begins on, `count` of them or all if there are fewer, with their levels by
-/// L1; none where one of them is more than a character of one column, or where no level is kept for it.
+/// The first `count` units of a body, or all, from a row's start on, with their levels by L1; none if a unit is not a single
+/// character of one column, or its character has no level.
 pub(crate) fn plain_row<'a, D: BidiData>(
     alloc: Global,
     body: &'a str,

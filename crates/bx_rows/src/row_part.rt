@@ -1,4 +1,4 @@
-//! The units of one row, found from where it begins.
+//! The units of one row, found from its start.
 ghost use Rattle.std.specs.Prelude.{◌≡◌, ◌≤◌, ◌<◌, All, IfOk, IfSome, Some, length, slice_get};
 ghost use Rattle.bx_rows.specs.declared.start_search.RowStart.{RowStart};
 ghost use Rattle.bx_cells.specs.Units.{HasFace, StandsIn};
@@ -12,14 +12,14 @@ use bx_terms::OutOfMemory;
 use bx_ucd::BidiData;
 use std::alloc::Global;
 
-/// The start of row `number`, if there is such a row.
+/// The start of row `number`, if there is one.
 pub(crate) fn start_of(starts: &[RowStart], number: usize) -> Option<RowStart>
     ensures { result ≡ slice_get starts.now number }
 {
     starts.get(number).copied()
 }
 
-/// How many units a row has at most.
+/// An upper bound of a row's unit count.
 pub(crate) fn most_units(start: RowStart, next: Option<RowStart>, body: &str, w: u16) -> usize
     requires { IfSome next (λ n. start.units ≤ n.units) }
     ensures { result ≡ most_units w body.now start next }
@@ -33,8 +33,8 @@ pub(crate) fn most_units(start: RowStart, next: Option<RowStart>, body: &str, w:
     }
 }
 
-/// The units of row `number` (from 0) of a body in a window of `w` columns, by where its rows begin. No other row is read.
-/// Their offsets are the body's. It is refused only where memory runs out.
+/// The units of row `number`, from 0, of a body in a window of `w` columns, with offsets in the body. `starts` are the
+/// body's row starts. Reads no other row. The only error is `OutOfMemory`.
 pub fn units_of_row<D: BidiData>(
     alloc: Global,
     body: &str,

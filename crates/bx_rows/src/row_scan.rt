@@ -1,4 +1,4 @@
-//! The row that is being read, unit by unit.
+//! The current row of a scan over units.
 ghost use Rattle.std.specs.Prelude.{◌≡◌, ◌≤◌, ◌<◌, ◌&&◌, ◌+◌, IfOk, List, chars, length, nat_le, nat_lt, false, take, true};
 ghost use Rattle.std.specs.Str.{IsCharBoundary};
 ghost use Rattle.bx_rows.specs.declared.start_search.RowStart.{RowStart};
@@ -13,7 +13,7 @@ use crate::wrapping::columns_at;
 use bx_cells::Face;
 use std::alloc::AllocError;
 
-/// A unit as far as rows ask for it: its offsets, a face of its columns, and whether a row may end after it.
+/// The parts of a unit that wrapping needs: its offsets, a face of its width, and whether a row may end after it.
 #[derive(Clone, Copy)]
 pub(crate) struct Extent {
     pub(crate) start: usize,
@@ -22,8 +22,8 @@ pub(crate) struct Extent {
     pub(crate) is_break: bool,
 }
 
-/// The row that is being read: where it begins, the offset after its last break, its columns, how many units it has up to
-/// that break and after it, and the columns of these in a row of their own.
+/// The current row: its start, the offset after its last break, its columns, its unit counts up to that break and after
+/// it, and the columns of the units after it in a row of their own.
 #[derive(Clone, Copy)]
 pub(crate) struct Scan {
     pub(crate) start: RowStart,
@@ -34,7 +34,7 @@ pub(crate) struct Scan {
     pub(crate) since: u16,
 }
 
-/// A row of which nothing is read.
+/// A row with no unit yet.
 pub(crate) fn new_scan(start: RowStart) -> Scan
     ensures { result ≡ new_scan start }
 {
@@ -57,7 +57,7 @@ fn fits(columns: u16, face: Face, w: u16) -> bool
     columns < w && columns_at(w, columns, face) <= w - columns
 }
 
-/// Where the next row begins.
+/// The start of the next row.
 fn start_behind(body: &str, before: RowStart, offset: usize, units: usize) -> RowStart
     requires from { IsCharBoundary body.now before.offset }
     requires to { IsCharBoundary body.now offset }
@@ -72,7 +72,7 @@ fn start_behind(body: &str, before: RowStart, offset: usize, units: usize) -> Ro
     }
 }
 
-/// The row with one more unit, which fits.
+/// Adds a unit, which fits.
 #[inline(always)]
 fn advance(scan: Scan, unit: Extent, body: &str, w: u16) -> Scan
     requires in_turn { IsInOrder w body.now scan unit.start }
@@ -103,7 +103,7 @@ fn advance(scan: Scan, unit: Extent, body: &str, w: u16) -> Scan
     }
 }
 
-/// The row with a run of units, which fit.
+/// Adds a run of units, which fit.
 #[inline(always)]
 pub(crate) fn take_run(scan: Scan, run: NarrowRun, body: &str, at: usize, w: u16) -> Scan
     requires in_turn { IsInOrder w body.now scan at }
@@ -134,7 +134,7 @@ pub(crate) fn take_run(scan: Scan, run: NarrowRun, body: &str, at: usize, w: u16
     }
 }
 
-/// Keeps the start of a row that has no unit, since the unit is wider than the window, and goes on after that unit.
+/// Ends a row without units, since the next unit is wider than the window, and starts a row after that unit.
 fn pass(
     starts: &mut Vec<RowStart>,
     scan: Scan,
@@ -156,7 +156,7 @@ fn pass(
     Ok(new_scan(start))
 }
 
-/// Reads a unit in a row that has no break yet: one that does not fit begins the next row.
+/// Adds a unit to a row without a break. A unit that does not fit begins the next row.
 fn take_unbroken(
     starts: &mut Vec<RowStart>,
     scan: Scan,
@@ -187,7 +187,7 @@ fn take_unbroken(
     pass(starts, scan, unit, body, w)
 }
 
-/// The row that begins after the last break.
+/// The next row, which begins after the last break.
 fn behind_break(scan: Scan, body: &str) -> Scan
     requires start { IsCharBoundary body.now scan.start.offset }
     requires next { IsCharBoundary body.now scan.next }
@@ -213,7 +213,7 @@ fn behind_break(scan: Scan, body: &str) -> Scan
     }
 }
 
-/// Reads a unit that does not fit: the row ends at its last break, else before the unit.
+/// Wraps at a unit that does not fit: the row ends at its last break, else before the unit.
 fn turn(
     starts: &mut Vec<RowStart>,
     scan: Scan,
@@ -236,7 +236,7 @@ fn turn(
     take_unbroken(starts, behind_break(scan, body), unit, body, w)
 }
 
-/// Reads a unit.
+/// Adds a unit, and wraps if it does not fit.
 #[inline(always)]
 pub(crate) fn take_unit(
     starts: &mut Vec<RowStart>,

@@ -1,4 +1,4 @@
-//! Where the rows of a body begin, found with no list of its units.
+//! The row starts of a body, found without a list of its units.
 ghost use Rattle.std.specs.Prelude.{◌≡◌, ◌≤◌, ◌<◌, IfOk, List, length, ℕ};
 ghost use Rattle.std.specs.Str.{IsCharBoundary};
 ghost use Rattle.bx_cells.specs.Simple.{own_columns};
@@ -18,8 +18,8 @@ use bx_terms::OutOfMemory;
 use bx_ucd::BidiData;
 use std::alloc::{AllocError, Global};
 
-/// Where a row begins: the offset of its first unit in the body, in bytes, and how many units and characters of the body
-/// stand before it.
+/// The start of a row: the offset in bytes of its first unit in the body, and the numbers of units and characters of the
+/// body before it.
 #[derive(Clone, Copy, PartialEq, Eq, Debug)]
 pub struct RowStart {
     pub offset: usize,
@@ -27,7 +27,7 @@ pub struct RowStart {
     pub chars: usize,
 }
 
-/// A face of as many columns as a simple cluster has. Where the characters have one column it has one, whatever the class.
+/// A face with a simple cluster's width. If its characters have one column, the width is one, whatever the class.
 #[inline(always)]
 fn sized_as<D: BidiData>(cluster: SimpleCluster, tables: &D, w: u16) -> Face
     requires { own_columns cluster.first ≡ cluster.columns }
@@ -39,7 +39,7 @@ fn sized_as<D: BidiData>(cluster: SimpleCluster, tables: &D, w: u16) -> Face
     simple_face(cluster.first, cluster.columns, cluster.is_marked, tables, w)
 }
 
-/// The unit that begins at an offset, as far as rows ask for it.
+/// The extent of the unit at an offset.
 #[inline(always)]
 fn extent<D: BidiData>(body: &str, at: usize, tables: &D, w: u16) -> Extent
     requires start { IsCharBoundary body.now at }
@@ -67,7 +67,7 @@ fn extent<D: BidiData>(body: &str, at: usize, tables: &D, w: u16) -> Extent
     }
 }
 
-/// Whether a common character of one column begins at an offset.
+/// Whether the character at an offset is common and has one column.
 #[inline(always)]
 fn may_begin_run(body: &str, at: usize) -> bool
     requires { IsCharBoundary body.now at }
@@ -78,7 +78,7 @@ fn may_begin_run(body: &str, at: usize) -> bool
     }
 }
 
-/// Reads the units of one column that begin at an offset, as many as fit; gives the offset after them.
+/// Adds the run of one-column units at an offset, as many as fit, and returns the offset after it.
 #[inline(always)]
 fn read_run<D: BidiData>(scan: Scan, body: &str, at: usize, tables: &D, w: u16) -> (Scan, usize)
     requires in_turn { IsInOrder w body.now scan at }
@@ -95,7 +95,7 @@ fn read_run<D: BidiData>(scan: Scan, body: &str, at: usize, tables: &D, w: u16) 
     (take_run(scan, run, body, at, w), run.stop)
 }
 
-/// Reads the unit that begins at an offset, if one is left; gives the offset after it.
+/// Adds the unit at an offset, if one is left, and returns the offset after it.
 #[inline(always)]
 fn read_unit<D: BidiData>(
     starts: &mut Vec<RowStart>,
@@ -121,8 +121,8 @@ fn read_unit<D: BidiData>(
     Ok((scan, unit.stop))
 }
 
-/// Where the rows begin into which `wrap` cuts the units of a body in a window of `w` columns. It makes no unit, and is
-/// refused only where memory runs out.
+/// The starts of a body's rows in a window of `w` columns, the rows of `wrap`. Makes no list of units. The only error is
+/// `OutOfMemory`.
 pub fn row_starts<D: BidiData>(
     alloc: Global,
     body: &str,

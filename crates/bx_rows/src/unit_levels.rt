@@ -1,4 +1,4 @@
-//! The levels of a row's units: L1, and a level for each unit.
+//! The levels of a row's units, by L1.
 ghost use Rattle.std.specs.Prelude.{◌≡◌, ◌≤◌, ◌<◌, All, IfOk, chars, length};
 ghost use Rattle.bx_cells.specs.Units.{StandsIn};
 ghost use Rattle.bx_rows.specs.RowLevels.{chars_before, row_levels};
@@ -12,14 +12,14 @@ use bx_terms::OutOfMemory;
 use bx_ucd::BidiData;
 use std::alloc::{AllocError, Global};
 
-/// How many characters a text has.
+/// The number of a text's characters.
 pub(crate) fn char_count(text: &str) -> usize
     ensures { result ≡ length (chars text.now) }
 {
     text.chars().count()
 }
 
-/// How many characters of a body stand before a row's units.
+/// The number of a body's characters before a row's units.
 #[tactic(auto, using(crate::proofs::Resets::before_none, crate::proofs::Resets::before_first))]
 fn chars_before(body: &str, units: &[Unit]) -> usize
     requires { All (StandsIn body.now) units.now }
@@ -31,7 +31,7 @@ fn chars_before(body: &str, units: &[Unit]) -> usize
     char_count(&body[..units[0].start])
 }
 
-/// The levels of a row's units, before which `chars` characters of the body stand.
+/// The levels of a row's units. `chars`: the number of the body's characters before them.
 fn each_level<D: BidiData>(
     alloc: Global,
     body: &str,
@@ -61,9 +61,8 @@ fn each_level<D: BidiData>(
     Ok(found)
 }
 
-/// The levels of a row's units, by L1: the row's end counts, not the paragraph's. A unit has the level of its first
-/// character that X9 keeps, else that of the unit before it, else the paragraph level. The characters before the row are
-/// counted.
+/// The levels of a row's units, by L1 at the row's end, not the paragraph's. A unit has the level of its first character
+/// that X9 keeps, else that of the unit before it, else the paragraph level. Counts the characters before the row.
 pub fn row_levels<D: BidiData>(
     alloc: Global,
     body: &str,
@@ -84,8 +83,8 @@ pub fn row_levels<D: BidiData>(
     row_levels_behind(alloc, body, units, chars, levels, tables)
 }
 
-/// What `row_levels` gives for a row of all these units, where it is known that `chars` characters of the body stand before
-/// them: what is before the row is not read.
+/// Like `row_levels`, for a row of all these units, with the number of the body's characters before them given. Reads
+/// nothing before the row.
 #[tactic(auto, using(crate::proofs::Resets::one_each))]
 pub fn row_levels_behind<D: BidiData>(
     alloc: Global,

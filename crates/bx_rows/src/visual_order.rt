@@ -1,4 +1,4 @@
-//! Visual order, L2: runs are reversed where they stand, from the highest level down to the lowest odd one.
+//! Visual order, L2: runs are reversed in place, from the highest level down to the lowest odd one.
 ghost use Rattle.std.specs.Prelude.{◌≡◌, ◌≤◌, ◌<◌, ℕ, All, IfOk, List, [], length, map, slice_index_or, unwrap_or, None};
 ghost use Rattle.std.specs.List.{range_with_len};
 ghost use Rattle.bx_rows.specs.ReversedRuns.{AgreeUpTo, turned};
@@ -7,7 +7,7 @@ ghost use Rattle.bx_rows.specs.VisualOrder.{highest, lower_odd, lowest_odd, reve
 use bx_terms::OutOfMemory;
 use std::alloc::{AllocError, Global};
 
-/// The highest of some levels, 0 if there is none.
+/// The highest level, or 0 if there is none.
 fn highest(levels: &[u8]) -> u8
     ensures { result ≡ highest levels.now }
 {
@@ -20,7 +20,7 @@ fn highest(levels: &[u8]) -> u8
     top
 }
 
-/// A level that is odd, else 255.
+/// The level if it is odd, else 255.
 #[inline(always)]
 fn odd_or_last(level: u8) -> u8
     ensures { result ≡ unwrap_or (lower_odd level None) 255 }
@@ -31,7 +31,7 @@ fn odd_or_last(level: u8) -> u8
     level
 }
 
-/// The level down to which runs are reversed: the lowest odd one; 255 if there is none, since all are below that then.
+/// The lowest odd level, the last at which runs are reversed; if there is none, 255, which is above all levels then.
 fn lowest_odd(levels: &[u8]) -> u8
     ensures { result ≡ unwrap_or (lowest_odd levels.now) 255 }
 {
@@ -44,7 +44,7 @@ fn lowest_odd(levels: &[u8]) -> u8
     lowest
 }
 
-/// Turns round the items from one index to another.
+/// Reverses the items `start..stop`.
 fn turn_round<T>(items: &mut [T], start: usize, stop: usize)
     requires order { start ≤ stop }
     requires within { stop ≤ length items.old }
@@ -54,7 +54,7 @@ fn turn_round<T>(items: &mut [T], start: usize, stop: usize)
     items[start..stop].reverse();
 }
 
-/// Turns round a run, if it has items: most units below a level end none.
+/// Reverses a run unless it is empty, as most are.
 #[inline(always)]
 fn turn_run<T>(items: &mut [T], start: usize, stop: usize)
     requires order { start ≤ stop }
@@ -68,8 +68,8 @@ fn turn_run<T>(items: &mut [T], start: usize, stop: usize)
     turn_round(items, start, stop);
 }
 
-/// Reverses each maximal run of items at a level or higher. The levels stay where they are: no level of a run is lower, so at
-/// each lower level they tell the same runs.
+/// Reverses each maximal run of items at `level` or higher. The levels stay in place: all levels of a run are at least
+/// `level`, so the runs at lower levels are the same.
 fn reverse_runs<T>(items: &mut [T], levels: &[u8], level: u8)
     requires { length items.old ≡ length levels.now }
     ensures count { length items.new ≡ length items.old }
@@ -87,7 +87,7 @@ fn reverse_runs<T>(items: &mut [T], levels: &[u8], level: u8)
     turn_run(items, start, levels.len());
 }
 
-/// Puts the items of a row's units, which stand in the order of the text, into visual order by the units' levels.
+/// Moves the items of a row's units from text order into visual order, by the units' levels.
 pub(crate) fn reorder<T>(items: &mut [T], levels: &[u8])
     requires { length items.old ≡ length levels.now }
     ensures count { length items.new ≡ length items.old }
@@ -101,7 +101,7 @@ pub(crate) fn reorder<T>(items: &mut [T], levels: &[u8])
     }
 }
 
-/// The numbers of units in the order of the text.
+/// The numbers of units in text order.
 fn numbers(alloc: Global, count: usize) -> Result<Vec<usize>, AllocError>
     ensures { IfOk result (λ v. v.items ≡ range_with_len 0 count) }
 {
@@ -117,7 +117,7 @@ fn numbers_in_order(alloc: Global, levels: &[u8]) -> Result<Vec<usize>, AllocErr
     Ok(numbers)
 }
 
-/// The numbers of a row's units from 0, from left to right: L2, by the units' levels.
+/// The numbers, from 0, of a row's units from left to right, by L2.
 #[tactic(auto, using(crate::proofs::NumbersBelow::below_if_visual))]
 pub fn visual(alloc: Global, levels: &[u8]) -> Result<Vec<usize>, OutOfMemory>
     ensures order { IfOk result (λ v. v.items ≡ visual levels.now) }

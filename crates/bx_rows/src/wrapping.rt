@@ -1,4 +1,4 @@
-//! Wrapping.
+//! Wrapping units into rows.
 ghost use Rattle.std.specs.Prelude.{◌≡◌, ◌≤◌, All, IfOk, length};
 ghost use Rattle.bx_cells.specs.Units.{HasFace, StandsIn};
 ghost use Rattle.bx_rows.specs.Laws.{CutUnits};
@@ -24,7 +24,7 @@ pub(crate) fn columns_at(w: u16, c: u16, face: Face) -> u16
     }
 }
 
-/// How many of the units fit in one row.
+/// The number of units that fit in one row.
 #[tactic(auto, using(crate::proofs::Wraps::fits_more, crate::proofs::Wraps::fits_no_more, crate::proofs::Wraps::fits_full, crate::proofs::Wraps::fits_all))]
 fn fit_count(units: &[Unit], w: u16) -> usize
     ensures fit_count { result ≡ fit_count w units.now }
@@ -65,7 +65,7 @@ pub(crate) fn is_break<D: BidiData>(body: &str, unit: Unit, tables: &D) -> bool
     }
 }
 
-/// How many units there are up to the last after which a row may end.
+/// The number of units up to the last break, or 0 if there is none.
 #[tactic(auto, using(crate::proofs::Breaks::last_here, crate::proofs::Breaks::last_before))]
 fn up_to_last_break<D: BidiData>(body: &str, units: &[Unit], tables: &D) -> usize
     requires { All (StandsIn body.now) units.now }
@@ -82,7 +82,7 @@ fn up_to_last_break<D: BidiData>(body: &str, units: &[Unit], tables: &D) -> usiz
     0
 }
 
-/// How many of the remaining units the next row has.
+/// The number of remaining units that the next row takes.
 fn row_len<D: BidiData>(body: &str, units: &[Unit], tables: &D, w: u16) -> usize
     requires { All (StandsIn body.now) units.now }
     ensures row { result ≡ row_len (is_break (D.data tables.now).class body.now) w units.now }
@@ -98,7 +98,7 @@ fn row_len<D: BidiData>(body: &str, units: &[Unit], tables: &D, w: u16) -> usize
     }
 }
 
-/// The rows of a body's units, one after another.
+/// The rows of a body's units in order.
 fn all_rows<D: BidiData>(
     alloc: Global,
     body: &str,
@@ -124,9 +124,9 @@ fn all_rows<D: BidiData>(
     Ok(rows)
 }
 
-/// The rows of a body's units in a window of `w` columns: a row ends after the last blank or tab among the units that fit,
-/// where not all that are left fit. A body of no units has one row of none. The units show the faces of their texts in this
-/// window, so each fits in it, and no row leaves one out.
+/// The rows of a body's units in a window of `w` columns. If not all remaining units fit, the row ends after the last
+/// blank or tab among those that do, else after the last one that does. A body without units has one empty row. The units'
+/// faces are those in this window, so each fits, and no row skips one.
 pub fn wrap<D: BidiData>(
     alloc: Global,
     body: &str,

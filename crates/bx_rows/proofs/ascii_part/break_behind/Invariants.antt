@@ -1,4 +1,4 @@
--- After no byte from `next` on may a row end.
+-- No byte from `next` on is a break.
 use Rattle.std.proofs.Common.{◌≡◌, ◌<◌, ◌≤◌, ℕ, false, get_or}
 use Rattle.bx_rows.specs.Wrapping.{is_blank}
 use Rattle.bx_rows.proofs.ascii_part.break_behind.Given as goal

@@ -1,4 +1,4 @@
--- What is read of the unit and what is left of it give all levels.
+-- The unit's characters read so far and those left give all levels.
 use Rattle.std.proofs.Common.{◌≡◌, ◌≤◌, ◌∷◌, ◌++◌, ℕ, List, map, length, chars}
 use Rattle.std.specs.List.{zip}
 use denote.Text.{Utf8}

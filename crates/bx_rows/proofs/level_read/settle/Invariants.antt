@@ -1,4 +1,4 @@
--- The units after are still to be given the level.
+-- The units from `i` on are still to be set.
 use Rattle.std.proofs.Common.{◌≡◌, ◌-◌, length}
 use Rattle.bx_rows.specs.LevelReads.{settled}
 use Rattle.bx_rows.proofs.level_read.settle.Given as goal

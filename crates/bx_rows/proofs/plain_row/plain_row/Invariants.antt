@@ -1,4 +1,4 @@
--- What is read of the row.
+-- The part of the row read so far.
 use Rattle.std.proofs.Common.{◌≤◌, length, drop}
 use denote.Text.{Utf8}
 use denote.Shadow.{shadow}

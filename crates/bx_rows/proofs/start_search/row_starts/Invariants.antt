@@ -1,4 +1,4 @@
--- The starts so far and the row that is being read tell those of the whole body.
+-- The starts so far and the current row determine the starts of the whole body.
 use Rattle.std.proofs.Common.{◌-◌, length}
 use Rattle.std.specs.Str.{IsCharBoundary}
 use Rattle.bx_cells.specs.Units.{units_from}

@@ -1,4 +1,4 @@
--- What is read of the row and what is left of it give all levels.
+-- The row's units read so far and those left give all levels.
 use Rattle.std.proofs.Common.{◌≡◌, ◌≤◌, map, length, drop}
 use Rattle.std.specs.Prelude.{flat_map}
 use Rattle.std.specs.List.{zip}
