@@ -1,4 +1,4 @@
--- The rows of a body that begins and ends as an old one.
+-- The rows of a body with the start and the end of an old one.
 use Rattle.std.proofs.Common.{◌≡◌, ℕ, zero, suc, ◌+◌, ◌-◌, ◌^◌, ◌<◌, ◌≤◌, ◌∙◌, List, [], ◌∷◌, ◌++◌, map, length, take, drop, get_or, Some, refl, sym, ap, ap₂}
 use Rattle.std.proofs.Common.{All, subst, arith, drop-drop, length-append, length-drop, take-append-drop, take_all}
 use Rattle.std.specs.Prelude.{slice_get}

@@ -1,4 +1,4 @@
--- The text that an edit of a body makes, from an offset on, in pieces.
+-- The edited body from an offset on, in pieces.
 use Rattle.std.proofs.Common.{◌≡◌, ℕ, ◌+◌, ◌-◌, ◌^◌, ◌<◌, ◌≤◌, ◌∙◌, List, ◌++◌, length, take, drop, get_or, refl, sym, ap, ap₂, subst, arith}
 use Rattle.std.proofs.Common.{All, append_assoc, length-append, length-drop, length-take-le, take-append-drop}
 use Rattle.std.specs.List.{splice}

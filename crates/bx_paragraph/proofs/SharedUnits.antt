@@ -1,4 +1,4 @@
--- Bodies that begin alike begin with the same units.
+-- Bodies with a common start begin with the same units.
 use Rattle.std.proofs.Common.{◌≡◌, ℕ, zero, suc, ◌+◌, ◌-◌, ◌<◌, ◌≤◌, Bool, true, false, cond, List, [], ◌∷◌, ◌++◌, map, length, take, drop, refl, sym, ap, ap₂}
 use Rattle.std.proofs.Common.{subst, ◌∙◌, arith, append_assoc, length-append, encode_utf8_all}
 use Rattle.std.specs.Bool.{⊤}

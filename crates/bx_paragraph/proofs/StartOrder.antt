@@ -1,4 +1,4 @@
--- Row starts rise and stay in the body, so bisection finds how many of them stand up to an offset.
+-- Row starts increase and lie in the body, so bisection finds the number of them at or before an offset.
 use Rattle.std.proofs.Common.{◌≡◌, ℕ, zero, suc, ◌+◌, ◌-◌, ◌<◌, ◌≤◌, Bool, true, false, cond, List, [], ◌∷◌, length, map, take, drop, get_or, count_by}
 use Rattle.std.proofs.Common.{All, refl, sym, ap, subst, ◌∙◌, arith, length-drop, take_all}
 use Rattle.std.specs.List.Sorted.{IsNonDecreasingBy, IsPartitionPoint}

@@ -1,4 +1,4 @@
--- The rows of a body begin where its row starts say.
+-- The rows of a body begin at its row starts.
 use Rattle.std.proofs.Common.{◌≡◌, ℕ, zero, suc, ◌+◌, ◌-◌, ◌<◌, ◌≤◌, ◌==◌, nat_lt, nat_le, Bool, true, false, List, [], ◌∷◌, length, map, take, drop, Option}
 use Rattle.std.proofs.Common.{Some, None, refl, sym, ap, ◌∙◌, arith, leb-true, get_or}
 use Rattle.std.specs.Prelude.{⊤, chars}

@@ -10,8 +10,7 @@ use Rattle.bx_rows.specs.Wrapping.{wrap, row_units, first_offset}
 use Rattle.bx_rows.specs.RowLevels.{row_levels}
 use Rattle.bx_rows.specs.RowPicture.{Glyph, draw}
 
--- a row: the body that it is of, the level of that paragraph, the row's units with their levels, and whether it is the
--- paragraph's last row
+-- a row: its body, the paragraph level, the row's units with their levels, and whether it is the paragraph's last row
 pub record BodyRow : Type 0 where
   pub body : List ℕ
   pub paragraph : ℕ
@@ -24,7 +23,7 @@ abbrev pub row_with : (ℕ → Class) → List ℕ → ℕ → List (Option ℕ)
 row_with class body paragraph each is_last us =
     record { body = body; paragraph = paragraph; units = us; levels = row_levels class body paragraph each us; is_last = is_last }
 
--- one row after another, the last one marked as the last
+-- rows in order, the last one marked as last
 abbrev pub with_last : (Bool → List Unit → BodyRow) → List (List Unit) → List BodyRow
 with_last row [] = []
 with_last row (us ∷ []) = row true us ∷ []
@@ -45,29 +44,29 @@ body_rows class bracket base w body =
 abbrev pub first_of : BodyRow → ℕ
 first_of r = first_offset r.units
 
--- the offsets of a row's places in order: where each unit begins, and in the last row where the body ends
+-- the offsets of a row's places in order: the start of each unit, and in the last row the body's end
 abbrev pub offsets_of : BodyRow → List ℕ
 offsets_of r = map (λ u. u.start) r.units ++ elim (r.is_last) [ true ↦ length r.body ∷ [] | false ↦ [] ]
 
--- the last of some offsets
+-- the last offset, or 0
 abbrev pub last_offset : List ℕ → ℕ
 last_offset [] = 0
 last_offset (p ∷ []) = p
 last_offset (p ∷ q ∷ ps) = last_offset (q ∷ ps)
 
--- the offset of a row's last place: the body's end in the last row, else where the row's last unit begins
+-- the offset of a row's last place: the body's end in the last row, else the start of the row's last unit
 abbrev pub last_of : BodyRow → ℕ
 last_of r = last_offset (offsets_of r)
 
--- the number of the last of some beginnings, in order, that is at an offset or before it
+-- the number of the last of increasing starts that is at or before an offset
 abbrev pub falls_in : List ℕ → ℕ → ℕ
 falls_in beginnings offset = count_by (λ b. nat_le b offset) beginnings - 1
 
--- the number of the row that an offset falls in: the last that begins at or before it
+-- the number of the row that an offset falls in: the last one that begins at or before it
 abbrev pub row_of : List BodyRow → ℕ → ℕ
 row_of rows offset = falls_in (map first_of rows) offset
 
--- a row of nothing, where a number is that of no row
+-- an empty row, for numbers without a row
 abbrev pub no_row : BodyRow
 no_row = record { body = []; paragraph = 0; units = []; levels = []; is_last = true }
 
@@ -75,6 +74,6 @@ no_row = record { body = []; paragraph = 0; units = []; levels = []; is_last = t
 abbrev pub row_at : List BodyRow → ℕ → BodyRow
 row_at rows k = slice_index_or rows k no_row
 
--- what a row shows, from left to right
+-- the glyphs of a row from left to right
 abbrev pub row_glyphs : (ℕ → Class) → (ℕ → Option ℕ) → ℕ → BodyRow → List Glyph
 row_glyphs class mirror w r = draw class mirror w r.body r.paragraph r.units r.levels

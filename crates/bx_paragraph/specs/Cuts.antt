@@ -1,4 +1,4 @@
--- Where strong characters cut off an edit of a text, so that the levels of all others stay.
+-- Edits cut off by strong characters: the levels of all characters outside these stay.
 use Rattle.std.specs.Prelude.{◌≡◌, ◌⊎◌, ◌<◌, ◌+◌, ◌&&◌, ℕ, Bool, true, not, List, ◌++◌, Option, chars, drop, length, slice_index_or, take}
 use Rattle.std.specs.List.{list_all}
 use Rattle.std.specs.Str.{IsUtf8}
@@ -25,32 +25,32 @@ pub record IsStrongIn (class : ℕ → Class) (text : List ℕ) (s : Strong) : T
   pub start : IsOffset text s.index s.start
   pub stop : IsOffset text (s.index + 1) s.stop
 
--- a class of one way, which leaves a text of that direction as it is
+-- a class of a way; the classes of a direction leave a text of that direction as it is
 abbrev pub is_of_way : Way → Class → Bool
 is_of_way Either c = is_unformatted c
 is_of_way FromLeft c = is_plain c
 is_of_way FromRight c = is_from_right c
 
--- the way of what may stand between two strong characters: theirs, if they have the same
+-- the way between two strong characters: theirs, if they have the same
 abbrev pub way_between : Class → Class → Way
 way_between L L = FromLeft
 way_between L _ = Either
 way_between _ L = Either
 way_between _ _ = FromRight
 
--- a character of one way that is no bracket
+-- a character of a way that is no bracket
 abbrev pub is_bare : (ℕ → Class) → (ℕ → Option (Side × ℕ)) → Way → ℕ → Bool
 is_bare class bracket way c = is_of_way way (class c) && not (is_listed bracket c)
 
--- all characters of a text are such
+-- all characters of a text are bare
 abbrev pub are_bare : (ℕ → Class) → (ℕ → Option (Side × ℕ)) → Way → List ℕ → Bool
 are_bare class bracket way text = list_all (is_bare class bracket way) (chars text)
 
--- no character of a text is a formatting one
+-- no character of a text is a formatting character
 abbrev pub are_unformatted : (ℕ → Class) → List ℕ → Bool
 are_unformatted class text = list_all (λ c. is_of_way Either (class c)) (chars text)
 
--- an edit between two texts, all of whose characters are such
+-- an edit between two texts; all characters of its own texts and of these are bare
 pub record IsBareEdit (class : ℕ → Class) (bracket : ℕ → Option (Side × ℕ)) (way : Way) (t : TextEdit) (left right : List ℕ) : Type 0 where
   pub left_is : are_bare class bracket way left ≡ true
   pub removed_is : are_bare class bracket way t.removed.now ≡ true
@@ -61,12 +61,12 @@ pub record IsBareEdit (class : ℕ → Class) (bracket : ℕ → Option (Side ×
 abbrev pub has_no_bracket : (ℕ → Option (Side × ℕ)) → List ℕ → Bool
 has_no_bracket bracket text = list_all (λ c. not (is_listed bracket c)) (chars text)
 
--- an edit with no bracket before the strong character `x` that stands before it, or none after `y` that stands after it
+-- an edit with no bracket before the strong character `x` before it, or none after the strong character `y` after it
 abbrev pub IsOpenEdit : (ℕ → Option (Side × ℕ)) → TextEdit → Strong → Strong → Type 0
 IsOpenEdit bracket t x y = ((has_no_bracket bracket t.front.now ≡ true) × (has_no_bracket bracket (take x.start t.near.now) ≡ true))
     ⊎ (has_no_bracket bracket (drop y.stop t.behind.now) ≡ true)
 
--- an edit of which all between these two is of one way, theirs, or of any where there are no brackets on one side of both
+-- all characters between these two are of their way, or of any way if one side outside them has no brackets
 abbrev pub IsCutOffEdit : (ℕ → Class) → (ℕ → Option (Side × ℕ)) → TextEdit → Strong → Strong → Type 0
 IsCutOffEdit class bracket t x y = IsBareEdit class bracket (way_between x.class y.class) t (drop x.stop t.near.now) (take y.start t.behind.now)
     ⊎ (IsBareEdit class bracket Either t (drop x.stop t.near.now) (take y.start t.behind.now) × IsOpenEdit bracket t x y)
@@ -80,7 +80,7 @@ edit_of t = record {
   behind = chars t.behind.now;
 }
 
--- an edit that turns a body into another
+-- an edit that changes the body `old` into `new`
 pub record IsEditOf (old new : List ℕ) (t : TextEdit) : Type 0 where
   pub front_is : IsUtf8 t.front.now
   pub near_is : IsUtf8 t.near.now
@@ -94,12 +94,12 @@ pub record IsEditOf (old new : List ℕ) (t : TextEdit) : Type 0 where
 abbrev pub IsCounted : List ℕ → RowStart → Type 0
 IsCounted body s = s.chars ≡ length (chars (take s.offset body))
 
--- levels are as they were
+-- levels are unchanged
 pub record AreAsBefore (was now : Levels) : Type 0 where
   pub paragraph_is : now.paragraph ≡ was.paragraph
   pub each_is : now.each.items ≡ was.each.items
 
--- from the levels of the text before an edit come those of the text after it
+-- if `was` are the levels of the text before an edit, `now` are those of the text after it
 abbrev pub FollowsEdit : (ℕ → Class) → (ℕ → Option (Side × ℕ)) → TextEdit → Levels → Levels → Type 0
 FollowsEdit class bracket t was now = (base : Base) → HasNoFormatting class (old_text (edit_of t)) → AreLevelsOf class bracket base (old_text (edit_of t)) was
     → AreLevelsOf class bracket base (new_text (edit_of t)) now

@@ -1,12 +1,12 @@
--- What holds of the rows of two bodies that begin alike.
+-- A law of the rows of two bodies with a common start.
 use Rattle.std.specs.Prelude.{◌≡◌, ◌≤◌, ◌<◌, ◌+◌, ℕ, List, Some, slice_get, take}
 use Rattle.std.specs.Str.{IsCharBoundary, IsUtf8}
 use Rattle.bx_ucd.specs.declared.class.Class.{Class}
 use Rattle.bx_rows.specs.declared.start_search.RowStart.{RowStart}
 use Rattle.bx_rows.specs.RowStarts.{row_starts}
 
--- Two bodies that are the same up to an offset, after the start of row number `q` of the first: the starts of the rows up to
--- number `k` are the same, where that begins more than a window's columns of units before row `q`.
+-- If two bodies are equal up to an offset after the start of row `q`, and row `k` begins more than `w` units before row `q`,
+-- the starts of the rows up to row `k` are equal.
 abbrev pub RowsBeforeStay : Type 0
 RowsBeforeStay = (class : ℕ → Class) (w : ℕ) (old new : List ℕ) (offset k q : ℕ) (s e : RowStart) → 1 ≤ w → IsUtf8 old → IsUtf8 new
     → IsCharBoundary old offset → IsCharBoundary new offset → take offset old ≡ take offset new → slice_get (row_starts class w old) k ≡ Some s

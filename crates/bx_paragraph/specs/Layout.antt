@@ -1,4 +1,4 @@
--- What a paragraph's layout is seen as, and the rows that it stands for.
+-- The model of a paragraph's layout, and its rows.
 use Rattle.std.specs.Prelude.{◌≡◌, ℕ, Bool, true, List, Option, chars}
 use Rattle.bx_ucd.specs.declared.class.Class.{Class}
 use Rattle.bx_ucd.specs.declared.data.Side.{Side}
@@ -9,8 +9,8 @@ use Rattle.bx_rows.specs.declared.start_search.RowStart.{RowStart}
 use Rattle.bx_rows.specs.RowStarts.{row_starts}
 use Rattle.bx_paragraph.specs.BodyRows.{BodyRow, body_rows, row_at}
 
--- a body, the base direction, the window's columns, the paragraph's level and its characters' levels, where the rows begin, and whether the
--- body is known to have no formatting characters
+-- a body, the base direction, the window's columns, the paragraph level, the characters' levels, the row starts, and whether
+-- the body is known to have no formatting characters
 pub record LayoutState : Type 0 where
   pub body : List ℕ
   pub base : Base
@@ -20,7 +20,7 @@ pub record LayoutState : Type 0 where
   pub starts : List RowStart
   pub is_unformatted : Bool
 
--- the levels and the beginnings of the rows are those that the definitions give under some data
+-- the levels and the row starts are those that the definitions give for the data
 pub record IsLayoutBy (class : ℕ → Class) (bracket : ℕ → Option (Side × ℕ)) (l : LayoutState) : Type 0 where
   pub paragraph : l.paragraph ≡ paragraph_level_under class l.base (chars l.body)
   pub each : l.each ≡ levels_under class bracket l.base (chars l.body)
@@ -31,10 +31,10 @@ pub record IsLayoutBy (class : ℕ → Class) (bracket : ℕ → Option (Side ×
 abbrev pub rows_by : (ℕ → Class) → (ℕ → Option (Side × ℕ)) → LayoutState → List BodyRow
 rows_by class bracket l = body_rows class bracket l.base l.w l.body
 
--- one of them
+-- row `k` of the layout
 abbrev pub row_by : (ℕ → Class) → (ℕ → Option (Side × ℕ)) → LayoutState → ℕ → BodyRow
 row_by class bracket l k = row_at (rows_by class bracket l) k
 
--- what is true of the layout's rows, whatever data they are by
+-- a property of the layout's rows, whatever the data
 abbrev pub OfRows : LayoutState → (List BodyRow → Type 0) → Type 0
 OfRows l P = (class : ℕ → Class) (bracket : ℕ → Option (Side × ℕ)) → IsLayoutBy class bracket l → P (rows_by class bracket l)

@@ -1,4 +1,4 @@
--- Rows that an edit of a body leaves, and rows after it that meet them again.
+-- Rows before an edit that stay, and rows after it that meet the old ones.
 use Rattle.std.specs.Prelude.{◌≡◌, ◌<◌, ◌≤◌, ◌+◌, ◌-◌, ◌^◌, ℕ, List, length, slice_index_or}
 use Rattle.bx_rows.specs.declared.start_search.RowStart.{RowStart}
 
@@ -6,7 +6,7 @@ use Rattle.bx_rows.specs.declared.start_search.RowStart.{RowStart}
 abbrev pub origin : RowStart
 origin = record { offset = 0; units = 0; chars = 0 }
 
--- row number `k` begins more than a window's columns of units before one that begins before an offset
+-- row `k` begins more than `w` units before a row that begins before an offset
 pub record IsWellBefore (w offset : ℕ) (starts : List RowStart) (k : ℕ) : Type 0 where
   pub inside : k < length starts
   pub row : ℕ
@@ -14,19 +14,19 @@ pub record IsWellBefore (w offset : ℕ) (starts : List RowStart) (k : ℕ) : Ty
   pub begins : (slice_index_or starts row origin).offset < offset
   pub ahead : (slice_index_or starts k origin).units + w < (slice_index_or starts row origin).units
 
--- a row begins as far after an offset of one text as another row after an offset of another text
+-- the row `new` begins as far after `shift` in one text as the row `old` after `stop` in another
 pub record IsSamePlace (shift stop : ℕ) (new old : RowStart) : Type 0 where
   pub behind_shift : shift ≤ new.offset
   pub behind_stop : stop ≤ old.offset
   pub same : new.offset - shift ≡ old.offset - stop
 
--- found row number `i`, at most the `last`, begins where the old one number `k` does
+-- the found row `i`, at most `last`, begins at the same place as the old row `k`
 pub record DoMeet (shift stop : ℕ) (found starts : List RowStart) (last i k : ℕ) : Type 0 where
   pub found_inside : i ≤ last
   pub old_inside : k < length starts
   pub place : IsSamePlace shift stop (slice_index_or found i origin) (slice_index_or starts k origin)
 
--- such rows, where the found ones are those of a text of `len` bytes that goes on: they begin well before its end
+-- such rows, with the found ones well before the end of the first `len` bytes of a text
 pub record DoMeetNear (w len shift stop : ℕ) (found starts : List RowStart) (i k : ℕ) : Type 0 where
   pub last : ℕ
   pub well : IsWellBefore w len found last

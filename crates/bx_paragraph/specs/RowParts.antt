@@ -1,4 +1,4 @@
--- A row of a layout, by its units and their levels as they are kept.
+-- A row of a layout, from its units and their levels.
 use Rattle.bx_paragraph.specs.declared.row_parts.RowParts.{RowParts}
 use Rattle.bx_paragraph.specs.BodyRows.{BodyRow}
 use Rattle.bx_paragraph.specs.Layout.{LayoutState}

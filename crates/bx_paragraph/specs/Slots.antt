@@ -13,16 +13,16 @@ use Rattle.bx_paragraph.specs.BodyRows.{BodyRow}
 abbrev pub slot : ℕ → ℕ → ℕ → Slot
 slot offset column columns = record { offset = offset; column = column; columns = columns }
 
--- units side by side, each by its offset and its columns; the first begins in the column `at`
+-- the slots of units side by side, each by its offset and columns, from column `at` on
 abbrev pub side_by_side : ℕ → List (ℕ × ℕ) → List Slot
 side_by_side at [] = []
 side_by_side at (u ∷ us) = slot u.0 at u.1 ∷ side_by_side (at + u.1) us
 
--- the column in which a row's leftmost unit begins: at level 0 a row begins at the left edge, at level 1 at the right edge
+-- the column of a row's leftmost unit: at level 0 a row begins at the left edge, at level 1 at the right edge
 abbrev pub left_column : ℕ → BodyRow → ℕ
 left_column w r = elim (r.paragraph % 2) [ zero ↦ 1 | suc _ ↦ w - columns_used w r.units + 1 ]
 
--- the offset and the columns of the unit of a number, among units of these columns
+-- the offset and the columns of unit `k`, among units of these columns
 abbrev pub extent_of : List Unit → List ℕ → ℕ → ℕ × ℕ
 extent_of us columns k = slice_index_or (zip (map (λ u. u.start) us) columns) k (0, 0)
 
@@ -30,11 +30,11 @@ extent_of us columns k = slice_index_or (zip (map (λ u. u.start) us) columns) k
 abbrev pub unit_slots : ℕ → BodyRow → List Slot
 unit_slots w r = side_by_side (left_column w r) (map (extent_of r.units (unit_columns w 0 r.units)) (visual r.levels))
 
--- the column of the slot of the paragraph's end: beside the units, or the last one at the edge
+-- the column of the slot of the paragraph's end: next to the units, or the last one at the edge
 abbrev pub end_column : ℕ → BodyRow → ℕ
 end_column w r = elim (r.paragraph % 2) [ zero ↦ min (columns_used w r.units + 1) w | suc _ ↦ max (w - columns_used w r.units) 1 ]
 
--- the columns of units in an order, all together
+-- the sum of the columns of units
 abbrev pub columns_of : List ℕ → List ℕ → ℕ
 columns_of columns order = sum_by (λ k. slice_index_or columns k 0) order
 
@@ -42,7 +42,7 @@ columns_of columns order = sum_by (λ k. slice_index_or columns k 0) order
 abbrev pub end_slot : ℕ → BodyRow → Slot
 end_slot w r = slot (length r.body) (end_column w r) 0
 
--- the end's slot stands right of the units at level 0, left of them at level 1
+-- the end's slot is right of the units at level 0, left of them at level 1
 abbrev pub with_end : ℕ → Slot → List Slot → List Slot
 with_end paragraph end ss = elim (paragraph % 2) [ zero ↦ ss ++ end ∷ [] | suc _ ↦ end ∷ ss ]
 
@@ -54,26 +54,26 @@ row_slots w r = elim (r.is_last) [ true ↦ with_end r.paragraph (end_slot w r) 
 abbrev pub slot_offsets : ℕ → BodyRow → List ℕ
 slot_offsets w r = map (λ s. s.offset) (row_slots w r)
 
--- the first of some offsets, if there is one
+-- the first offset, if there is one
 abbrev pub first_in : List ℕ → Option ℕ
 first_in [] = None
 first_in (p ∷ ps) = Some p
 
--- the one that follows an offset among some
+-- the offset after a given one in a list
 abbrev pub next_in : ℕ → List ℕ → Option ℕ
 next_in offset [] = None
 next_in offset (p ∷ ps) = elim (p == offset) [ true ↦ first_in ps | false ↦ next_in offset ps ]
 
--- offsets that are given from left to right, in the order in which a move to a side meets them
+-- offsets, given from left to right, in the order of a move to a side
 abbrev pub toward : Visual → List ℕ → List ℕ
 toward Right offsets = offsets
 toward Left offsets = reverse offsets
 
--- the offset of the next slot of a row to a side
+-- the offset of a row's next slot on a side
 abbrev pub beside : ℕ → BodyRow → Visual → ℕ → Option ℕ
 beside w r side offset = next_in offset (toward side (slot_offsets w r))
 
--- the side at which a paragraph of a level is read on: right at level 0, left at level 1
+-- the reading direction of a paragraph of a level: right at level 0, left at level 1
 abbrev pub reading_side : ℕ → Visual
 reading_side paragraph = elim (paragraph % 2) [ zero ↦ Right | suc _ ↦ Left ]
 
@@ -89,20 +89,20 @@ reading_order w r = toward (reading_side r.paragraph) (slot_offsets w r)
 abbrev pub reading_start : ℕ → BodyRow → Option ℕ
 reading_start w r = first_in (reading_order w r)
 
--- and of the one at its reading end, which a move from there meets first
+-- the offset of the slot at its reading end, the first in a move from there
 abbrev pub reading_end : ℕ → BodyRow → Option ℕ
 reading_end w r = first_in (toward (opposite (reading_side r.paragraph)) (slot_offsets w r))
 
--- a side is where a row is read on
+-- a side is a row's reading direction
 abbrev pub reads_on : Visual → BodyRow → Bool
 reads_on Right r = elim (r.paragraph % 2) [ zero ↦ true | suc _ ↦ false ]
 reads_on Left r = elim (r.paragraph % 2) [ zero ↦ false | suc _ ↦ true ]
 
--- the column of the slot at an offset among some, from 1
+-- the column, from 1, of the slot at an offset
 abbrev pub column_in : List Slot → ℕ → ℕ
 column_in ss offset = unwrap_or (option_map (λ s. s.column) (find (λ s. s.offset == offset) ss)) 1
 
--- the same in a row
+-- likewise in a row
 abbrev pub column_of : ℕ → BodyRow → ℕ → ℕ
 column_of w r offset = column_in (row_slots w r) offset
 
@@ -110,7 +110,7 @@ column_of w r offset = column_in (row_slots w r) offset
 abbrev pub covers : ℕ → Slot → Bool
 covers column s = nat_le s.column column && nat_lt column (s.column + s.columns)
 
--- the offset of the slot that covers a column, among some
+-- the offset of the slot that covers a column
 abbrev pub covering_in : List Slot → ℕ → Option ℕ
 covering_in ss column = option_map (λ s. s.offset) (find (covers column) ss)
 
@@ -118,15 +118,15 @@ covering_in ss column = option_map (λ s. s.offset) (find (covers column) ss)
 abbrev pub covering : ℕ → BodyRow → ℕ → Option ℕ
 covering w r column = covering_in (row_slots w r) column
 
--- the first of two that there is
+-- the first of two that is present
 abbrev pub or_else : Option ℕ → Option ℕ → Option ℕ
 or_else None other = other
 or_else (Some p) other = Some p
 
--- where a row is entered in a column: at the unit that covers it, else at the row's reading end
+-- the offset at which a row is entered in a column: the unit that covers it, else the row's reading end
 abbrev pub entry : ℕ → BodyRow → ℕ → Option ℕ
 entry w r column = or_else (covering w r column) (reading_end w r)
 
--- the same numbers, each as often, in any order: whatever is summed over them is the same
+-- the same numbers, each as often, in any order: every sum over them is the same
 abbrev pub AreReordered : List ℕ → List ℕ → Type 0
 AreReordered xs ys = (f : ℕ → ℕ) → sum_by f xs ≡ sum_by f ys

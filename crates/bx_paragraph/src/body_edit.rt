@@ -1,4 +1,4 @@
-//! An edit of a body, and the text that it makes.
+//! An edit of a body, and its result.
 ghost use Rattle.std.specs.Prelude.{◌≡◌, ◌≤◌, IfOk, drop, string_bytes};
 ghost use Rattle.std.specs.Str.{IsCharBoundary};
 ghost use Rattle.bx_paragraph.specs.BodyEdits.{IsEdit, changed};
@@ -7,8 +7,8 @@ use crate::text_edit::joined;
 use bx_rows::RowStart;
 use std::alloc::{AllocError, Global};
 
-/// An edit that puts a text in the place of a body's from an offset up to another. The body's rows begin at the starts, in a
-/// window of `w` columns.
+/// An edit that replaces the bytes `start..stop` of a body with a text. `starts` are the body's row starts in a window of
+/// `w` columns.
 #[derive(Clone, Copy)]
 pub(crate) struct BodyEdit<'t> {
     pub(crate) body: &'t str,
@@ -19,7 +19,7 @@ pub(crate) struct BodyEdit<'t> {
     pub(crate) inserted: &'t str,
 }
 
-/// The body that an edit makes, from an offset before the edit on.
+/// The edited body from an offset before the edit on.
 pub(crate) fn changed_from(
     alloc: Global,
     edit: &BodyEdit<'_>,

@@ -1,4 +1,4 @@
-//! Where the cursor may go in a row, and where it stands.
+//! The cursor's places in a row, and the moves among them.
 ghost use Rattle.std.specs.Prelude.{◌≡◌, ◌<◌, ◌++◌, ◌∷◌, [], true, false, IfOk, length, map};
 ghost use Rattle.bx_paragraph.specs.BodyRows.{last_of, offsets_of};
 ghost use Rattle.bx_paragraph.specs.Layout.{IsLayoutBy, row_by};
@@ -14,7 +14,7 @@ use bx_terms::OutOfMemory;
 use bx_ucd::BidiData;
 use std::alloc::{AllocError, Global};
 
-/// The side at which a paragraph of a level is read on.
+/// The reading direction of a paragraph of a level.
 fn reading_side(level: u8) -> Visual
     ensures { result ≡ reading_side level }
 {
@@ -35,14 +35,14 @@ fn opposite(side: Visual) -> Visual
     }
 }
 
-/// Where each of some units begins.
+/// The start of each unit.
 fn unit_offsets(alloc: Global, units: &[Unit]) -> Result<Vec<usize>, AllocError>
     ensures { IfOk result (λ v. v.items ≡ map (λ u. u.start) units.now) }
 {
     units.iter().map(|u| u.start).collect(alloc)
 }
 
-/// The offsets of the places of a row by its units, in a body of `len` bytes.
+/// The offsets of a row's places, from its units. The body has `len` bytes.
 fn place_offsets(
     alloc: Global,
     units: &[Unit],
@@ -59,8 +59,8 @@ fn place_offsets(
 }
 
 impl ParagraphLayout {
-    /// The offsets of a row's places in the order of the text, in bytes of the body: where each unit begins, and in the
-    /// last row where the body ends.
+    /// The offsets of a row's places in text order, in bytes of the body: the start of each unit, and in the last row the
+    /// body's end.
     ///
     /// Errors: `OutOfMemory`.
     pub fn offsets<D: BidiData>(&self, row: usize, tables: &D) -> Result<Vec<usize>, OutOfMemory>
@@ -77,7 +77,7 @@ impl ParagraphLayout {
         Ok(offsets)
     }
 
-    /// The offset of a row's last place: the body's end in the last row, else where the row's last unit begins.
+    /// The offset of a row's last place: the body's end in the last row, else the start of the row's last unit.
     ///
     /// Errors: `OutOfMemory`.
     pub fn last<D: BidiData>(&self, row: usize, tables: &D) -> Result<usize, OutOfMemory>
@@ -89,7 +89,7 @@ impl ParagraphLayout {
         Ok(last_offset(&offsets))
     }
 
-    /// The offsets of a row's slots in the order in which a move to a side meets them.
+    /// The offsets of a row's slots in the order of a move to a side.
     fn toward<D: BidiData>(
         &self,
         row: usize,
@@ -106,7 +106,7 @@ impl ParagraphLayout {
         Ok(offsets)
     }
 
-    /// The offset of the slot that is next to one on a side, if the row has one there.
+    /// The offset of the row's slot next to another on a side, if there is one.
     ///
     /// Errors: `OutOfMemory`.
     pub fn beside<D: BidiData>(
@@ -159,7 +159,7 @@ impl ParagraphLayout {
         Ok(first_in(&offsets))
     }
 
-    /// The offset at which a row is entered in a column, from 1: that of the unit that covers it, else the row's reading end.
+    /// The offset at which a row is entered in a column, from 1: the unit that covers it, else the row's reading end.
     ///
     /// Errors: `OutOfMemory`.
     #[tactic(auto, using(crate::proofs::LayoutRows::row_level))]

@@ -7,8 +7,8 @@ use crate::text_edit::TextEdit;
 use crate::way::{Way, are_bare, has_no_bracket, way_between};
 use bx_ucd::BidiData;
 
-/// Whether the edit and what stands on either side of it, up to the strong characters that cut it off, are of one way and have
-/// no bracket.
+/// Whether the edit's texts and those on either side of it, up to the strong characters, are of one way and have no
+/// brackets.
 pub(crate) fn is_bare_edit<D: BidiData>(
     edit: &TextEdit<'_>,
     left: &str,
@@ -27,7 +27,7 @@ pub(crate) fn is_bare_edit<D: BidiData>(
     are_bare(edit.inserted, way, tables)
 }
 
-/// Whether no bracket stands before the strong character that is before an edit.
+/// Whether no bracket precedes the strong character before an edit.
 fn is_open_before<D: BidiData>(edit: &TextEdit<'_>, before: Strong, tables: &D) -> bool
     requires { IsStrongIn (D.data tables.now).class edit.now.near.now before }
     ensures { result ≡ true → (has_no_bracket (D.data tables.now).bracket edit.now.front.now ≡ true)
@@ -39,7 +39,7 @@ fn is_open_before<D: BidiData>(edit: &TextEdit<'_>, before: Strong, tables: &D) 
     has_no_bracket(edit.front, tables)
 }
 
-/// Whether no bracket stands before the one strong character, or none after the other. The shorter side is looked at first.
+/// Whether no bracket precedes the first strong character, or none follows the second. Checks the shorter side first.
 fn is_open<D: BidiData>(edit: &TextEdit<'_>, before: Strong, behind: Strong, tables: &D) -> bool
     requires before { IsStrongIn (D.data tables.now).class edit.now.near.now before }
     requires behind { IsStrongIn (D.data tables.now).class edit.now.behind.now behind }
@@ -54,8 +54,8 @@ fn is_open<D: BidiData>(edit: &TextEdit<'_>, before: Strong, behind: Strong, tab
     is_open_before(edit, before, tables)
 }
 
-/// Whether an edit is cut off by the strong characters on its sides: all between them is of their way, or of any where no pair
-/// of brackets can stand around both.
+/// Whether the strong characters on its sides cut off an edit: all characters between them are of their way, or of any way
+/// if no bracket pair can enclose both.
 pub(crate) fn is_cut_off<D: BidiData>(
     edit: &TextEdit<'_>,
     before: Strong,

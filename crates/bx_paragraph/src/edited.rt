@@ -1,4 +1,4 @@
-//! The layout that follows an edit of its body.
+//! Updating a layout after an edit of its body.
 ghost use Rattle.std.specs.Prelude.{◌≡◌, ◌≤◌, ◌<◌, All, IfOk, OnErr, OnOk, chars, length, true};
 ghost use Rattle.std.specs.List.{splice};
 ghost use Rattle.std.specs.Str.{IsCharBoundary};
@@ -20,8 +20,7 @@ use bx_terms::OutOfMemory;
 use bx_ucd::BidiData;
 use std::mem;
 
-/// The edit that puts a text in the place of a body's from an offset up to another. Near it stands what begins with the row
-/// before the one that the edit falls in.
+/// The edit that replaces the bytes `start..stop` of a body. Its near text begins at the row before the edit's row.
 fn text_edit<'t>(
     body: &'t str,
     starts: &[RowStart],
@@ -59,7 +58,7 @@ fn text_edit<'t>(
     }
 }
 
-/// Whether a body has no formatting characters, where that is known or can be seen.
+/// Whether a body has no formatting characters. Checks them unless it is known.
 fn has_none<D: BidiData>(is_unformatted: bool, body: &str, tables: &D) -> bool
     requires { is_unformatted ≡ true → HasNoFormatting (D.data tables.now).class (chars body.now) }
     ensures { result ≡ true → HasNoFormatting (D.data tables.now).class (chars body.now) }
@@ -70,8 +69,8 @@ fn has_none<D: BidiData>(is_unformatted: bool, body: &str, tables: &D) -> bool
     are_unformatted(body, tables)
 }
 
-/// Turns the levels of a body into those of what an edit turns it into; tells whether that is known to have no formatting
-/// characters. Strong characters that cut off the edit spare all levels but those between them.
+/// Updates the levels of a body for an edit, and returns whether the edited body is known to have no formatting characters.
+/// If strong characters cut off the edit, only the levels between them are resolved again.
 ///
 /// Errors: `OutOfMemory`, and nothing has changed.
 fn edit_levels<D: BidiData>(
@@ -102,10 +101,9 @@ fn edit_levels<D: BidiData>(
 }
 
 impl ParagraphLayout {
-    /// Puts a text in the place of the body's from an offset up to another, in bytes. Where strong characters cut off the edit
-    /// (UAX #9), all levels but those between them are kept; else the whole body is resolved again. The rows are found from one
-    /// well before the edit until they meet the old ones. The body itself is changed last, in its own memory, which has room for
-    /// it by then.
+    /// Replaces the bytes `start..stop` of the body with a text. If strong characters cut off the edit (UAX #9), only the
+    /// levels between them are resolved again, else those of the whole body. Rewraps from a row well before the edit until
+    /// the rows meet the old ones. Changes the body last, in place, in room that is reserved first.
     ///
     /// Errors: `OutOfMemory`, and nothing has changed.
     pub fn edit<D: BidiData>(

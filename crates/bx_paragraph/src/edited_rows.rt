@@ -1,4 +1,4 @@
-//! Where the rows begin of a body that an edit changes: they are found from a row well before it until they meet the old ones.
+//! The row starts of an edited body, found from a row well before the edit until they meet the old ones.
 ghost use Rattle.std.specs.Prelude.{◌≡◌, ◌≤◌, ◌<◌, ◌+◌, ◌^◌, ◌++◌, All, IfSome, OnOk, drop, length, map, take, true};
 ghost use Rattle.std.specs.Str.{IsCharBoundary};
 ghost use Rattle.bx_terms.specs.Sizes.{is_side};
@@ -14,10 +14,10 @@ use bx_rows::{RowStart, row_starts};
 use bx_terms::OutOfMemory;
 use bx_ucd::BidiData;
 
-/// How many bytes after an edit a first search goes, for each column of a window.
+/// The bytes after an edit that a first search covers, per column of the window.
 const REACH: usize = 16;
 
-/// The beginning of a text: its bytes up to a number for each column of a window, and on to where a character ends.
+/// The start of a text: `REACH` bytes per column of the window, extended to a character boundary.
 fn near_text(text: &str, w: u16) -> &str
     ensures near { result.now ≡ take (length result.now) text.now }
     ensures boundary { IsCharBoundary text.now (length result.now) }
@@ -32,8 +32,8 @@ fn near_text(text: &str, w: u16) -> &str
     &text[..at]
 }
 
-/// The numbers of a row of the beginning of a text and of an old row that begin in the same place after an edit, which ends
-/// at an offset of the text. That beginning has `len` bytes; rows in which what is after it has a part are left out.
+/// The indexes of a found row and an old row that begin at the same place after the edit. The found rows are those of the
+/// first `len` bytes of a text in which the edit ends at `shift`, without rows that the bytes after them could change.
 fn meeting_near(
     found: &[RowStart],
     len: usize,
@@ -46,7 +46,7 @@ fn meeting_near(
     meeting(found, edit.starts, last, shift, edit.stop)
 }
 
-/// Adds the rows of what is left of the body that an edit makes, from the start of a row before the edit on.
+/// Appends the row starts of the edited body from `first` on, which is a row start before the edit.
 fn push_rest<D: BidiData>(
     starts: &mut Vec<RowStart>,
     first: RowStart,
@@ -88,7 +88,7 @@ fn push_rest<D: BidiData>(
     Ok(())
 }
 
-/// Finds where the rows begin of the body that an edit makes.
+/// Finds the row starts of the edited body.
 pub(crate) fn edited_starts<D: BidiData>(
     starts: &mut Vec<RowStart>,
     edit: &BodyEdit<'_>,

@@ -1,11 +1,11 @@
-//! A text that is changed in its own memory.
+//! Changing a text in place.
 ghost use Rattle.std.specs.Prelude.{◌≡◌, ◌≤◌, ◌<◌, ◌+◌, ◌^◌, OnOk, length, string_bytes, string_capacity, string_len};
 ghost use Rattle.std.specs.List.{splice};
 ghost use Rattle.std.specs.Str.{IsCharBoundary};
 
 use std::alloc::AllocError;
 
-/// Makes room in a text for a number of bytes more. It grows by an eighth at least, so that few of a row of edits ask for memory.
+/// Reserves room for `more` bytes. A text grows by at least an eighth, so that consecutive edits rarely reallocate.
 pub(crate) fn make_room(text: &mut String, more: usize) -> Result<(), AllocError>
     ensures bytes { string_bytes text.new ≡ string_bytes text.old }
     ensures room { OnOk result (string_len text.new + more ≤ string_capacity text.new) }
@@ -19,7 +19,7 @@ pub(crate) fn make_room(text: &mut String, more: usize) -> Result<(), AllocError
     Ok(())
 }
 
-/// Puts a text in the place of another's from an offset up to another, where that one has room for it.
+/// Replaces the bytes `start..stop` of a text, in room reserved before.
 pub(crate) fn replace(text: &mut String, start: usize, stop: usize, inserted: &str)
     requires start { IsCharBoundary (string_bytes text.old) start }
     requires stop { IsCharBoundary (string_bytes text.old) stop }
@@ -27,6 +27,6 @@ pub(crate) fn replace(text: &mut String, start: usize, stop: usize, inserted: &s
     requires room { string_len text.old + length inserted.now ≤ string_capacity text.old }
     ensures { string_bytes text.new ≡ splice (string_bytes text.old) start stop inserted.now }
 {
-    // With room for it this cannot fail.
+    // Cannot fail: the room is reserved.
     let _done = text.replace_range(start..stop, inserted);
 }

@@ -23,8 +23,8 @@ use bx_ucd::BidiData;
 use std::alloc::Global;
 use std::marker::Model;
 
-/// A paragraph's body in a window's columns: its levels, and where its rows begin. It is resolved once; the
-/// units of a row are made when that row is looked at.
+/// A paragraph's body laid out for a window's width: its levels and its row starts. It is resolved once; the units of a
+/// row are computed when the row is needed.
 #[derive(Drop)]
 pub struct ParagraphLayout {
     pub(crate) body: String,
@@ -96,14 +96,14 @@ impl ParagraphLayout {
         self.body.as_str()
     }
 
-    /// The base direction that it is laid out under.
+    /// The base direction.
     pub fn base(&self) -> Base
         ensures { result ≡ self.now.base }
     {
         self.base
     }
 
-    /// The columns of the window.
+    /// The window's columns.
     pub fn width(&self) -> u16
         ensures width { result ≡ self.now.w }
         ensures side { is_side result ≡ true }
@@ -111,7 +111,7 @@ impl ParagraphLayout {
         self.w
     }
 
-    /// Lays the paragraph out in a window of `w` columns. Its levels are kept, and its rows are found anew.
+    /// Rewraps the paragraph to `w` columns. Its levels are kept.
     ///
     /// Errors: `OutOfMemory`, and nothing has changed.
     #[tactic(auto, using(crate::proofs::Starts::some_start))]
@@ -138,7 +138,7 @@ impl ParagraphLayout {
         self.levels.paragraph
     }
 
-    /// How many rows it has, at least one.
+    /// The number of rows, at least one.
     #[tactic(auto, using(crate::proofs::Starts::row_count))]
     pub fn row_count(&self) -> usize
         ensures starts { result ≡ length self.now.starts }
@@ -165,7 +165,7 @@ impl ParagraphLayout {
         self.starts[row].offset
     }
 
-    /// How many units of the body stand before a row.
+    /// The number of the body's units before a row.
     pub fn units_ahead(&self, row: usize) -> usize
         requires { row < length self.now.starts }
         ensures { result ≡ slice_index_or (map (λ s. s.units) self.now.starts) row 0 }
@@ -196,7 +196,7 @@ impl ParagraphLayout {
         })
     }
 
-    /// The slots of a row from left to right, by its units and their levels.
+    /// The slots of a row from left to right, from its units and their levels.
     pub(crate) fn slots_of(&self, parts: &RowParts) -> Result<Vec<Slot>, OutOfMemory>
         requires fits { columns_used self.now.w parts.now.units.items ≤ self.now.w }
         requires levels { length parts.now.levels.items ≡ length parts.now.units.items }
@@ -229,7 +229,7 @@ impl ParagraphLayout {
         Ok(slots)
     }
 
-    /// What a row shows, from left to right with its blanks.
+    /// The glyphs of a row from left to right, blanks included.
     ///
     /// Errors: `OutOfMemory`.
     pub fn picture<D: BidiData>(
@@ -252,7 +252,7 @@ impl ParagraphLayout {
     }
 }
 
-/// How many of the beginnings are at an offset or before it.
+/// The number of row starts at or before an offset.
 pub(crate) fn starts_up_to(starts: &[RowStart], offset: usize) -> usize
     ensures within { result ≤ length starts.now }
     ensures count { IsNonDecreasingBy (λ s. s.offset) starts.now → result ≡ count_by (λ o. nat_le o offset) (map (λ s. s.offset) starts.now) }

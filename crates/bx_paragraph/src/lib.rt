@@ -1,6 +1,6 @@
 //! The rows of one paragraph: its body wrapped in a window, the slots of each row and their columns.
 //!
-//! Only the functions that answer a `Result` take memory.
+//! Only functions that return a `Result` allocate.
 #![tactic(auto)]
 
 mod body_edit;

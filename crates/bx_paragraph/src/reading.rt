@@ -1,4 +1,4 @@
-//! What is read off the slots of a row.
+//! Look-ups in the slots of a row.
 ghost use Rattle.std.specs.Prelude.{◌≡◌, IfOk, map};
 ghost use Rattle.bx_paragraph.specs.BodyRows.{last_offset};
 ghost use Rattle.bx_paragraph.specs.Slots.{column_in, covering_in, covers, first_in, next_in, toward};
@@ -14,7 +14,7 @@ fn offsets_of_slots(alloc: Global, slots: &[Slot]) -> Result<Vec<usize>, AllocEr
     slots.iter().map(|s| s.offset).collect(alloc)
 }
 
-/// The offsets of slots that are given from left to right, in the order in which a move to a side meets them.
+/// The offsets of slots, given from left to right, in the order of a move to a side.
 pub(crate) fn offsets_toward(
     alloc: Global,
     slots: &[Slot],
@@ -32,14 +32,14 @@ pub(crate) fn offsets_toward(
     }
 }
 
-/// The first of some offsets.
+/// The first offset.
 pub(crate) fn first_in(offsets: &[usize]) -> Option<usize>
     ensures { result ≡ first_in offsets.now }
 {
     offsets.first().copied()
 }
 
-/// The last of some offsets, 0 if there is none.
+/// The last offset, or 0 if there is none.
 #[tactic(auto, using(crate::proofs::Offsets::last_is, crate::proofs::Offsets::last_none))]
 pub(crate) fn last_offset(offsets: &[usize]) -> usize
     ensures { result ≡ last_offset offsets.now }
@@ -50,7 +50,7 @@ pub(crate) fn last_offset(offsets: &[usize]) -> usize
     offsets[offsets.len() - 1]
 }
 
-/// The one that follows an offset among some.
+/// The offset after a given one in a list.
 #[tactic(auto, using(crate::proofs::Offsets::next_here, crate::proofs::Offsets::next_behind, crate::proofs::Offsets::next_none))]
 pub(crate) fn next_in(offsets: &[usize], offset: usize) -> Option<usize>
     ensures { result ≡ next_in offset offsets.now }
@@ -65,7 +65,7 @@ pub(crate) fn next_in(offsets: &[usize], offset: usize) -> Option<usize>
     None
 }
 
-/// The column of the slot at an offset, 1 if there is none.
+/// The column of the slot at an offset, or 1 if there is none.
 pub(crate) fn column_in(slots: &[Slot], offset: usize) -> u16
     ensures { result ≡ column_in slots.now offset }
 {

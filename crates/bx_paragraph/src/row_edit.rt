@@ -1,4 +1,4 @@
-//! Rows that an edit of a body leaves, and rows after it that meet them again.
+//! Rows before an edit that stay, and rows after it that meet the old ones.
 ghost use Rattle.std.specs.Prelude.{◌≡◌, ◌≤◌, ◌<◌, ◌+◌, ◌++◌, All, IfSome, OnOk, length, map, true};
 ghost use Rattle.bx_rows.specs.Laws.{behind, moved};
 ghost use Rattle.bx_paragraph.specs.RowEdits.{DoMeet, HasRoom, IsSamePlace, IsWellBefore};
@@ -6,22 +6,21 @@ ghost use Rattle.bx_paragraph.specs.RowEdits.{DoMeet, HasRoom, IsSamePlace, IsWe
 use bx_rows::RowStart;
 use std::alloc::AllocError;
 
-/// Whether a row begins more than a window's columns of units before another.
+/// Whether a row begins more than `w` units before another.
 fn is_ahead(first: RowStart, row: RowStart, w: u16) -> bool
     ensures { result ≡ true → first.units + w < row.units }
 {
     row.units.saturating_sub(first.units) > usize::from(w)
 }
 
-/// How many rows begin before an offset.
+/// The number of rows that begin before an offset.
 fn count_before(starts: &[RowStart], offset: usize) -> usize
     ensures { result ≤ length starts.now }
 {
     starts.partition_point(|s| s.offset < offset)
 }
 
-/// The number of a row that begins well before an offset: what stands there and after has no part in where the rows up to it
-/// begin.
+/// The index of a row well before an offset: the text from the offset on cannot change the starts of the rows up to it.
 pub(crate) fn well_before(starts: &[RowStart], offset: usize, w: u16) -> Option<usize>
     ensures { IfSome result (IsWellBefore w offset starts.now) }
 {
@@ -39,7 +38,7 @@ pub(crate) fn well_before(starts: &[RowStart], offset: usize, w: u16) -> Option<
     None
 }
 
-/// Whether a row begins as far after an offset as another one after another offset.
+/// Whether the row `new` begins as far after `shift` as the row `old` after `stop`.
 fn is_same_place(new: RowStart, old: RowStart, shift: usize, stop: usize) -> bool
     ensures { result ≡ true → IsSamePlace shift stop new old }
 {
@@ -52,7 +51,7 @@ fn is_same_place(new: RowStart, old: RowStart, shift: usize, stop: usize) -> boo
     new.offset - shift == old.offset - stop
 }
 
-/// The numbers of a found row, at most the `last`, and of an old row that begin in the same place after an edit.
+/// The indexes of a found row, at most `last`, and of an old row that begin at the same place after an edit.
 pub(crate) fn meeting(
     found: &[RowStart],
     starts: &[RowStart],
@@ -81,7 +80,7 @@ pub(crate) fn meeting(
     None
 }
 
-/// Where a row begins in a body, of which it is known where it begins after the start of another.
+/// The start in a body of a row whose `start` is relative to the start `first`.
 pub(crate) fn behind(first: RowStart, start: RowStart) -> RowStart
     requires { HasRoom (behind first start) }
     ensures { result ≡ behind first start }
@@ -93,7 +92,7 @@ pub(crate) fn behind(first: RowStart, start: RowStart) -> RowStart
     }
 }
 
-/// Where a row begins that begins as far after `new` as it did after `old`.
+/// The start of the row that is as far after `new` as `start` is after `old`.
 fn moved(old: RowStart, new: RowStart, start: RowStart) -> RowStart
     requires { HasRoom (moved old new start) }
     ensures { result ≡ moved old new start }
@@ -105,7 +104,7 @@ fn moved(old: RowStart, new: RowStart, start: RowStart) -> RowStart
     }
 }
 
-/// Adds the rows after a row's start.
+/// Appends rows whose starts are relative to `first`.
 pub(crate) fn push_behind(
     starts: &mut Vec<RowStart>,
     first: RowStart,
@@ -121,7 +120,7 @@ pub(crate) fn push_behind(
     Ok(())
 }
 
-/// Adds rows that move from after `old` to after `new`.
+/// Appends rows, moved from after `old` to after `new`.
 pub(crate) fn push_moved(
     starts: &mut Vec<RowStart>,
     old: RowStart,

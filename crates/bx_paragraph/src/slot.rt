@@ -1,12 +1,12 @@
 //! Slots.
 
-/// A slot of a row: where the cursor may stand.
+/// A slot of a row: a position for the cursor.
 #[derive(Clone, Copy, PartialEq, Eq, Debug)]
 pub struct Slot {
-    /// Where its unit begins in the paragraph's body, in bytes, or where the body ends.
+    /// The offset, in bytes of the paragraph's body, of its unit's start or of the body's end.
     pub offset: usize,
     /// The leftmost column that it covers, from 1.
     pub column: u16,
-    /// How many columns it covers: those of its unit, 0 where the body ends.
+    /// The number of columns that it covers: those of its unit, or 0 for the body's end.
     pub columns: u16,
 }

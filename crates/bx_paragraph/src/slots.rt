@@ -1,4 +1,4 @@
-//! The slots of a row, made from its units.
+//! The slots of a row, from its units.
 ghost use Rattle.std.specs.Prelude.{◌≡◌, ◌≤◌, ◌<◌, ◌+◌, ◌++◌, ◌∷◌, [], true, false, All, IfOk, OnOk, length, map};
 ghost use Rattle.bx_terms.specs.Sizes.{is_side, largest_side};
 ghost use Rattle.bx_rows.specs.RowPicture.{columns_used};
@@ -10,7 +10,7 @@ use bx_rows::{unit_columns, visual};
 use bx_terms::OutOfMemory;
 use std::alloc::{AllocError, Global};
 
-/// Adds the slots of units side by side, in an order; the first begins in the column `at`.
+/// Appends the slots of units side by side in a given order, from column `at` on.
 fn push_units(
     slots: &mut Vec<Slot>,
     units: &[Unit],
@@ -37,7 +37,7 @@ fn push_units(
     Ok(())
 }
 
-/// Adds the slot of the paragraph's end, in the paragraph's last row.
+/// Appends the slot of the paragraph's end, if the row is the paragraph's last.
 fn push_end(
     slots: &mut Vec<Slot>,
     is_last: bool,
@@ -57,7 +57,7 @@ fn push_end(
     Ok(())
 }
 
-/// The slots of a row of a body from left to right, by its units and their levels.
+/// The slots of a row of a body from left to right, from its units and their levels.
 pub(crate) fn row_slots(
     alloc: Global,
     body: &str,

@@ -1,4 +1,4 @@
-//! Where a place stands in its row.
+//! The position of a place in its row.
 ghost use Rattle.std.specs.Prelude.{◌≡◌, ◌<◌, IfOk, count_by, length, nat_lt};
 ghost use Rattle.bx_paragraph.specs.Layout.{IsLayoutBy, row_by};
 ghost use Rattle.bx_paragraph.specs.Slots.{column_of};
@@ -9,16 +9,16 @@ use bx_cells::Unit;
 use bx_terms::OutOfMemory;
 use bx_ucd::BidiData;
 
-/// Where a place stands in its row.
+/// The position of a place in its row.
 #[derive(Clone, Copy, PartialEq, Eq, Debug)]
 pub struct Standing {
-    /// The column, from 1, of the slot at the place; 1 where none stands there.
+    /// The column, from 1, of the slot at the place; 1 if there is none.
     pub column: u16,
-    /// How many units of the row begin before it.
+    /// The number of the row's units that begin before the place.
     pub units_before: usize,
 }
 
-/// How many of some units begin before an offset.
+/// The number of units that begin before an offset.
 fn count_before(units: &[Unit], offset: usize) -> usize
     ensures { result ≡ count_by (λ u. nat_lt u.start offset) units.now }
 {
@@ -26,7 +26,7 @@ fn count_before(units: &[Unit], offset: usize) -> usize
 }
 
 impl ParagraphLayout {
-    /// Where the place at an offset of the body, in bytes, stands in a row.
+    /// The position in a row of the place at an offset of the body, in bytes.
     ///
     /// Errors: `OutOfMemory`.
     pub fn standing<D: BidiData>(

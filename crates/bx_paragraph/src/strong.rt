@@ -1,4 +1,4 @@
-//! The strong characters of a text (UAX #9, table 4: L, R and AL) that stand next to its start or its end.
+//! The first and the last strong character of a text (UAX #9, table 4: L, R and AL).
 ghost use Rattle.std.specs.Prelude.{⊤, ◌≡◌, ◌<◌, ◌∷◌, MatchOption, IfSome, true, false, Some, chars, drop, length};
 ghost use Rattle.std.specs.Str.{IsCharBoundary};
 ghost use Rattle.bx_ucd.specs.Class.{is_strong};
@@ -8,8 +8,8 @@ use bx_cells::first_char;
 use bx_ucd::class::is_strong;
 use bx_ucd::{BidiData, Class};
 
-/// A strong character of a text: how many characters stand before it, its class, and the offsets, in bytes, at which it begins
-/// and ends.
+/// A strong character of a text: the number of characters before it, its class, and the offsets of its start and end in
+/// bytes.
 #[derive(Clone, Copy)]
 pub(crate) struct Strong {
     pub(crate) index: usize,
@@ -18,7 +18,7 @@ pub(crate) struct Strong {
     pub(crate) stop: usize,
 }
 
-/// The character that begins at an offset, and the offset after it.
+/// The character at an offset, and the offset after it.
 fn next_char(text: &str, at: usize) -> Option<(char, usize)>
     requires { IsCharBoundary text.now at }
     ensures { MatchOption result (length text.now ≡ at) (λ (c, next). (at < next) × IsCharBoundary text.now next
@@ -30,7 +30,7 @@ fn next_char(text: &str, at: usize) -> Option<(char, usize)>
     }
 }
 
-/// The character if it is strong, else the one that was found before it.
+/// The character if it is strong, else the one found before it.
 fn later(found: Option<Strong>, character: Strong) -> Option<Strong>
     ensures { result ≡ elim (is_strong character.class) [ true ↦ Some character | false ↦ found ] }
 {

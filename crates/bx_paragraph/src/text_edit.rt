@@ -1,4 +1,4 @@
-//! An edit of a text, and the levels that follow it.
+//! Edits of a text, and the update of its levels.
 ghost use Rattle.std.specs.Prelude.{◌≡◌, ◌≤◌, ◌+◌, ◌++◌, IfOk, OnErr, chars, length, string_bytes, false, true};
 ghost use Rattle.bx_resolve.specs.Edited.{HasNoFormatting};
 ghost use Rattle.bx_paragraph.specs.Cuts.{AreAsBefore, FollowsEdit, IsStrongIn};
@@ -11,8 +11,8 @@ use bx_terms::OutOfMemory;
 use bx_ucd::BidiData;
 use std::alloc::{AllocError, Global};
 
-/// An edit of a text. Before what stands near it is the front, which has `ahead` characters; what it removes gives way to what
-/// it inserts, and the rest stands after.
+/// An edit of a text, in parts: the front, of `ahead` characters; the text near, just before the edit; the removed and the
+/// inserted text; and the text behind.
 #[derive(Clone, Copy)]
 pub(crate) struct TextEdit<'t> {
     pub(crate) front: &'t str,
@@ -40,14 +40,14 @@ pub(crate) fn joined(
     Ok(text)
 }
 
-/// How many characters a text has.
+/// The number of a text's characters.
 fn char_count(text: &str) -> usize
     ensures { result ≡ length (chars text.now) }
 {
     text.chars().count()
 }
 
-/// Has levels follow an edit between two strong characters; tells whether nothing between them keeps it from that.
+/// Updates levels for an edit between two strong characters. Returns false, and changes nothing, if they do not cut it off.
 fn follow_within<D: BidiData>(
     levels: &mut Levels,
     tables: &D,
@@ -78,7 +78,8 @@ fn follow_within<D: BidiData>(
     Ok(true)
 }
 
-/// Has levels follow an edit from a strong character on to the end of the text; tells whether nothing keeps it from that.
+/// Updates levels, from a strong character to the text's end, for an edit without a strong character after it. Returns
+/// false, and changes nothing, if the characters there are not bare.
 fn follow_behind<D: BidiData>(
     levels: &mut Levels,
     tables: &D,
@@ -106,7 +107,7 @@ fn follow_behind<D: BidiData>(
     Ok(true)
 }
 
-/// Has levels follow an edit that strong characters cut off; tells whether they do.
+/// Updates levels for an edit that strong characters cut off. Returns false, and changes nothing, if they do not.
 ///
 /// Errors: `OutOfMemory`, and nothing has changed.
 pub(crate) fn follow<D: BidiData>(

@@ -1,4 +1,4 @@
-//! What may stand between two strong characters that cut off an edit.
+//! The characters allowed between two strong characters that cut off an edit.
 ghost use Rattle.std.specs.Prelude.{◌≡◌, chars, not};
 ghost use Rattle.bx_resolve.specs.Edited.{is_listed};
 ghost use Rattle.bx_paragraph.specs.Cuts.{are_bare, are_unformatted, has_no_bracket, is_bare, is_of_way, way_between};
@@ -6,8 +6,8 @@ ghost use Rattle.bx_paragraph.specs.declared.way.Way.TheVariants.{Either};
 
 use bx_ucd::{BidiData, Class};
 
-/// Which characters stand in a text: any but formatting characters, or those alone that leave a text of one direction as it
-/// is.
+/// The characters allowed in a text: all but formatting characters, or only those that leave a text of one direction as
+/// it is.
 #[derive(Clone, Copy, PartialEq, Eq, Debug)]
 pub(crate) enum Way {
     Either,
@@ -15,7 +15,7 @@ pub(crate) enum Way {
     FromRight,
 }
 
-/// What may stand between two strong characters, by their classes.
+/// The way between two strong characters, by their classes.
 pub(crate) fn way_between(before: Class, behind: Class) -> Way
     ensures { result ≡ way_between before behind }
 {
@@ -31,7 +31,7 @@ pub(crate) fn way_between(before: Class, behind: Class) -> Way
     }
 }
 
-/// Whether a class is of one way.
+/// Whether a class is of a way.
 fn is_of_way(way: Way, class: Class) -> bool
     ensures { result ≡ is_of_way way class }
 {
@@ -44,14 +44,14 @@ fn is_of_way(way: Way, class: Class) -> bool
     }
 }
 
-/// Whether a character is of one way and no bracket.
+/// Whether a character is of a way and no bracket.
 fn is_bare<D: BidiData>(c: char, way: Way, tables: &D) -> bool
     ensures { result ≡ is_bare (D.data tables.now).class (D.data tables.now).bracket way c }
 {
     is_of_way(way, tables.class(c)) && tables.bracket(c).is_none()
 }
 
-/// Whether all characters of a text are of one way, and none is a bracket.
+/// Whether all characters of a text are of a way, and none is a bracket.
 pub(crate) fn are_bare<D: BidiData>(text: &str, way: Way, tables: &D) -> bool
     ensures { result ≡ are_bare (D.data tables.now).class (D.data tables.now).bracket way text.now }
 {

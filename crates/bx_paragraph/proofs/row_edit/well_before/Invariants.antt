@@ -1,4 +1,4 @@
--- The rows after the number are tried.
+-- The index is at most `row`.
 use Rattle.std.proofs.Common.{◌≤◌}
 use Rattle.bx_paragraph.proofs.row_edit.well_before.Given as goal
 

@@ -1,4 +1,4 @@
--- The place that is reached.
+-- The offset reached.
 use Rattle.std.proofs.Common.{◌≤◌, ◌-◌, length}
 use Rattle.bx_resolve.specs.Body.{IsOffset}
 use Rattle.bx_paragraph.proofs.strong.first_strong.Given as goal

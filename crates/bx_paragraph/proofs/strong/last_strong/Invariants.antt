@@ -1,4 +1,4 @@
--- The place that is reached, and the last strong character before it.
+-- The offset reached, and the last strong character before it.
 use Rattle.std.proofs.Common.{IfSome, ◌≤◌, ◌-◌, length}
 use Rattle.bx_resolve.specs.Body.{IsOffset}
 use Rattle.bx_paragraph.specs.Cuts.{IsStrongIn}
