@@ -1,4 +1,4 @@
--- Rows end with the last unit, after a break, or where no more units fit, as late as possible.
+-- Rows end with the last unit, after a unit that allows a break, or where no more units fit, as late as possible.
 use Rattle.std.proofs.Common.{◌≡◌, ◌⊎◌, ℕ, zero, suc, ◌+◌, ◌-◌, ◌<◌, ◌≤◌, ◌==◌, ◌&&◌, nat_lt, nat_le, Bool, true, false, List, [], ◌∷◌, length, take, drop, get_or, All}
 use Rattle.std.proofs.Common.{refl, sym, ap, subst, ◌∙◌, arith, inl, inr}
 use Rattle.std.specs.Prelude.{HoldsAt}

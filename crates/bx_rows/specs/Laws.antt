@@ -45,8 +45,8 @@ RowsCutUnits = (class : ℕ → Class) (w : ℕ) (body : List ℕ) (us : List Un
 abbrev pub IsFull : ℕ → List Unit → Row → Type 0
 IsFull w us r = (w ≤ columns_used w (row_units us r)) ⊎ (w < columns_used w (row_units us (record { start = r.start; stop = r.stop + 1 })))
 
--- A row ends with the last unit, after a break, or where it is full. A longer row that ends in one of the first two ways
--- would not fit: it is full without its last unit.
+-- A row ends with the last unit, after a unit that allows a break, or where it is full. A longer row that ends in one of
+-- the first two ways would not fit: it is full without its last unit.
 pub record EndsWell (class : ℕ → Class) (w : ℕ) (body : List ℕ) (us : List Unit) (r : Row) : Type 0 where
   pub ends : (r.stop ≡ length us) ⊎ (HoldsAt (λ u. is_break class body u ≡ true) us (r.stop - 1) ⊎ IsFull w us r)
   pub longest : (last : ℕ) → r.stop ≤ last → last < length us

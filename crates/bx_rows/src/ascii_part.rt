@@ -9,7 +9,7 @@ use crate::wrapping::is_blank;
 use bx_cells::printable_stop;
 use bx_ucd::BidiData;
 
-/// The offset after the last break in the bytes `at..stop`; `at` if there is none.
+/// The offset after the last byte of `at..stop` that allows a break; `at` if there is none.
 #[inline(always)]
 fn break_behind<D: BidiData>(bytes: &[u8], at: usize, stop: usize, tables: &D) -> usize
     requires order { at ≤ stop }

@@ -10,9 +10,9 @@ pub fn units_make_body()
     ensures fit { UnitsFitWindow }
 {}
 
-/// The rows of units joined are the units: none is lost or in two rows, and each row begins where the one before ends. A row
-/// ends with the last unit, after a break, or where no more units fit; no longer row that ends in one of the first two ways
-/// would fit.
+/// The rows of units joined are the units: none is lost or in two rows, and each row begins at the end of the one before.
+/// A row ends with the last unit, after a unit that allows a break, or where no more units fit; no longer row that ends in
+/// one of the first two ways would fit.
 pub fn rows_cut_units()
     ensures cut { RowsCutUnits }
     ensures ends { RowsEndWell }
