@@ -63,7 +63,7 @@ module _ (d : Data) (text : List ℕ) (direction base : Base) (k w width : ℕ) 
     pub found_fills : length (body_row_columns d w r) ≡ w
     found_fills = ap length (sym same) ∙ found_wide
 
-    -- what is put is the row
+    -- the columns put are those of the row
     pub found_put : (old later : GridState) (row : ℕ) → later ≡ with_rows old row columns → later ≡ with_rows old row (body_row_columns d w r)
     found_put old later row step = step ∙ ap (with_rows old row) same
 

@@ -87,7 +87,7 @@ glyphs-more ds i d inside =
     ∙ flat_map-append each (map glyph_of (take i ds)) (glyph_of (get_or ds i d) ∷ [])
     ∙ ap (λ cs. glyphs_columns (take i ds) ++ cs) (flat_map-cons each (glyph_of (get_or ds i d)) [] ∙ append-nil (each (glyph_of (get_or ds i d))))
 
--- ---- what the loop keeps
+-- ---- the loop's invariant
 
 -- the first `i` glyphs of a row's picture are put, and the next one begins in this column, from 1
 pub record IsPut (w : ℕ) (ds : List Drawn) (i : ℕ) (new : GridState) (column : ℕ) : Type 0 where

@@ -30,7 +30,7 @@ put_behind front rest news k len =
 abbrev pub front : (TextRow → List Col) → List TextRow → ℕ → List Col
 front cols rows n = flat_map cols (take n rows)
 
--- the first `n` of some rows stand in the first rows of a grid
+-- the first rows of a grid are the first `n` of some rows
 pub record AreDrawn (old : GridState) (cols : TextRow → List Col) (rows : List TextRow) (n : ℕ) (new : GridState) : Type 0 where
   pub grid : new ≡ record old { columns = front cols rows n ++ drop (n * old.width) old.columns }
   pub filled : length (front cols rows n) ≡ n * old.width
@@ -133,7 +133,7 @@ module _ (class : ℕ → Class) (bracket : ℕ → Option (Side × ℕ)) (d : D
   abbrev cols : TextRow → List Col
   cols r = row_columns d old.w r
 
-  -- the rows from number `k` on, of which the first `n` are drawn
+  -- the rows from number `k` on; the first `n` are drawn
   abbrev pub Drawn : ℕ → GridState → Type 0
   Drawn n grid = AreDrawn was cols (drop k rows) n grid
 
