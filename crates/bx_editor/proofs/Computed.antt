@@ -16,7 +16,7 @@ use Rattle.bx_editor.specs.Picture.{picture, next_top}
 abbrev pub tables : Data
 tables = record { class = class; bracket = bracket; mirror = mirror }
 
--- an editor of a text of these characters, and after keys, each Save of which succeeds
+-- an editor of a text of these characters, and after keys; each Save succeeds
 abbrev pub start : List ℕ → ℕ → ℕ → Editor
 start cs height width = at_start (encode_utf8_all cs) height width Auto
 

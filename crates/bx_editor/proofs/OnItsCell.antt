@@ -1,4 +1,4 @@
--- The cursor of a picture stands on the cell of its place.
+-- The cursor of a picture is on the cell of its place.
 use Rattle.std.proofs.Common.{◌≡◌, ℕ, ◌-◌, ◌≤◌, IsUtf8, ap, arith}
 use Rattle.bx_grid.specs.Picture.{PictureState}
 use Rattle.bx_view.specs.Places.{IsTextPlace}

@@ -24,7 +24,7 @@ find-high : (place : ℕ) (ps : List ℕ) → place ≤ unwrap_or (find (nat_lt 
 find-high place [] = omega arith
 find-high place (p ∷ ps) = high place p ps (nat_lt place p) refl (find-high place ps)
 
--- so a unit stands between them
+-- so there is a unit between them
 pub unit-before : (rows : List TextRow) (text new : List ℕ) (start stop : ℕ) → new ≡ text → IsCharBoundary text start → IsCharBoundary text stop
     → start ≡ step_logical rows Back stop → IsRange new start stop
 unit-before rows text new start stop same front back e =
