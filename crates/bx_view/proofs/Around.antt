@@ -115,7 +115,7 @@ module _ (class : ℕ → Class) (bracket : ℕ → Option (Side × ℕ)) (base 
         (rises-further start (map first (map (text_row start) (own p))) (start + length p.body + 1) next (omega (arith, e.0)) (own-rise start p u.0.body))
         (subst (λ h. Rises next (map first (from next ps)) h) same (ended-rise next ps u.1 e.1)))
 
-    -- of paragraphs of which the last need not
+    -- of paragraphs that all end, except maybe the last
     pub all-rise : (start : ℕ) (ps : List Paragraph) → AreUtf8 ps → AreEnded ps
         → Rises start (map first (from start ps)) (start + total (map lengths_of ps) + 1)
     all-rise start [] u e = omega arith
@@ -160,7 +160,7 @@ module _ (class : ℕ → Class) (bracket : ℕ → Option (Side × ℕ)) (base 
       abbrev stop : ℕ
       stop = start + bytes_of (lengths_of p)
 
-      -- how many rows begin at or before an offset that falls in the paragraph
+      -- the number of rows that begin at or before an offset that falls in the paragraph
       pub rank-around : (offset : ℕ) → AreUtf8 (ahead ++ p ∷ behind) → AreEnded (ahead ++ p ∷ behind) → start ≤ offset → EndsBefore behind offset stop
           → rank offset (map first (text_rows class bracket base w text)) ≡ length (from 0 ahead) + rank (offset - start) (map first_of (own p))
       rank-around offset u e low high =

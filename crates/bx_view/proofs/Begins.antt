@@ -36,7 +36,7 @@ some_chars bs (c ∷ cs) u some e = omega arith
 -- ---- a paragraph's begin
 
 module _ (class : ℕ → Class) (text : List ℕ) (utf8 : IsUtf8 text) where
-  -- a paragraph begins at an offset, and from there on stand paragraphs of these lengths
+  -- a paragraph begins at an offset, and the paragraphs from there on have these lengths
   pub record IsBegin (at : ℕ) (ls : List Lengths) : Type 0 where
     pub bounds : IsCharBoundary text at
     pub parts : parts class (chars (take at text)) (chars (drop at text)) ≡ true

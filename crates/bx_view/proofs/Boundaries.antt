@@ -29,7 +29,7 @@ use Rattle.bx_view.proofs.Told.{side-some}
 use Rattle.bx_view.proofs.Walking.{text-rank}
 use Rattle.bx_view.proofs.Within.{LiesIn, Within, body-row-lies, within-append}
 
--- ---- rows that are all such
+-- ---- a property of all rows
 
 all-moved : (Q : TextRow → Type 0) (start : ℕ) (rs : List BodyRow) → ((k : ℕ) → k < length rs → Q (text_row start (get_or rs k no_row)))
     → All Q (map (text_row start) rs)

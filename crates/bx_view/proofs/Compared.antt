@@ -2,7 +2,7 @@
 use Rattle.std.proofs.Common.{◌≡◌, ℕ, ◌+◌, ◌-◌, ◌≤◌, List, ◌++◌, length, take, drop, slice_range, sym, ap, ◌∙◌, arith, take-add}
 use Rattle.std.proofs.lemmas.List.{drop-drop, take-take}
 
--- the part of a piece that stands at an offset
+-- the part of a piece at an offset
 pub more-same : (text bytes piece : List ℕ) (start at n : ℕ) → take at (drop start text) ≡ take at bytes → take (length piece) (drop (start + at) text) ≡ piece
     → n ≤ length piece → take n piece ≡ slice_range bytes at (at + n) → take (at + n) (drop start text) ≡ take (at + n) bytes
 more-same text bytes piece start at n done lent few same =

@@ -1,4 +1,4 @@
--- A whole text, computed by the small tables: its rows, and what they show.
+-- A whole text, computed with the small tables: its rows and their glyphs.
 use Rattle.std.proofs.Common.{◌==◌, ℕ, Bool, List, [], ◌∷◌, map}
 use Rattle.std.specs.Prelude.{flat_map, count_by, chars, encode_utf8_all}
 use Rattle.std.specs.List.{list_all}
@@ -20,7 +20,7 @@ rows w cs = rows_under Auto w cs
 abbrev pub pictures : ℕ → List TextRow → List (List ℕ)
 pictures w rs = map (λ r. flat_map (λ g. chars g.text) (text_row_glyphs class mirror w r)) rs
 
--- what is shown of `t` rows from the offset `top` on
+-- the characters of `t` visible rows from the offset `top` on
 abbrev pub shown : ℕ → ℕ → ℕ → List TextRow → List (List ℕ)
 shown w t top rs = pictures w (shown_rows rs top t)
 

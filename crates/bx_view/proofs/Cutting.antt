@@ -11,12 +11,12 @@ use Rattle.bx_paras.proofs.Cuts.{ends, is_paired, parts, parts_append, parts_sam
 module _ (class : ℕ → Class) where
   -- ---- where a paragraph begins
 
-  -- characters part as before where the same ones stand after
+  -- characters part as before if the same ones follow
   pub parts_ahead : (x h r s : List ℕ) → 0 < length h → parts class x (h ++ r) ≡ true → parts class x (h ++ s) ≡ true
   parts_ahead x [] r s some p = absurd (omega (arith, some))
   parts_ahead x (c ∷ h) r s some p = parts_same class x (c ∷ h ++ s) (c ∷ h ++ r) refl ∙ p
 
-  -- and where the same ones stand in front
+  -- and if the same ones precede
   pub parts_behind : (g s t y : List ℕ) → 0 < length t → parts class (s ++ t) y ≡ true → parts class (g ++ t) y ≡ true
   parts_behind g s [] y some p = absurd (omega (arith, some))
   parts_behind g s (c ∷ t) y some p = parts_append class g c t y ∙ sym (parts_append class s c t y) ∙ p
@@ -57,7 +57,7 @@ module _ (class : ℕ → Class) where
       record { first = bare (encode_utf8 c); others = []; alone = cut_ended class c [] e alone; together = cut_ended class c z e single }
   joins_from c (d ∷ w) z p = joins_at c d w z (ends class c) (is_paired class c (d ∷ w)) refl refl (joins_from d w z p)
 
-  -- what characters before a seam have for paragraphs: those that end, and one of no bytes
+  -- the paragraphs of the characters before a seam: those that end, and an empty one
   pub record Joins (w z : List ℕ) : Type 0 where
     pub front : List Paragraph
     pub alone : cut class w ≡ front ++ bare [] ∷ []
@@ -80,13 +80,13 @@ module _ (class : ℕ → Class) where
       let single : is_paired class d cs ≡ false = grind (arith, nat_tests) in
       (encode_utf8 13 ++ encode_utf8 d, cut class cs, cut_paired class c (d ∷ cs) e p ∙ ap after_cr (cut_ended class d cs f single))
 
-  -- characters without a separator stand in the body of the first paragraph
+  -- characters without a separator are in the body of the first paragraph
   pub quiet_cut : (cs ds q : List ℕ) (others : List Paragraph) → HasNone class cs → cut class ds ≡ bare q ∷ others
       → cut class (cs ++ ds) ≡ record { body = encode_utf8_all cs; separator = q } ∷ others
   quiet_cut [] ds q others none e = e
   quiet_cut (c ∷ cs) ds q others none e = cut_plain class c (cs ++ ds) none.0 ∙ ap (after_character c) (quiet_cut cs ds q others none.1 e)
 
-  -- the characters of the first body, and what stands after it
+  -- the characters of the first body, and those after it
   pub record Opens (cs : List ℕ) : Type 0 where
     pub body : List ℕ
     pub rest : List ℕ
@@ -114,7 +114,7 @@ module _ (class : ℕ → Class) where
   opens [] = record { body = []; rest = []; separator = []; others = []; whole = refl; none = tt; behind = refl }
   opens (c ∷ cs) = opens_at c cs (ends class c) refl (opens cs)
 
-  -- ---- characters of which none is a separator
+  -- ---- characters without a separator
 
   pub none_front : (cs ds : List ℕ) → HasNone class (cs ++ ds) → HasNone class cs
   none_front [] ds h = tt

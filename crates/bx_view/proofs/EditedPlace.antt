@@ -1,4 +1,4 @@
--- The place after an edit within one paragraph is that of the body that the edit leaves.
+-- The place after an edit within one paragraph is the place in the edited body.
 use Rattle.std.proofs.Common.{◌≡◌, ℕ, ◌+◌, ◌-◌, ◌<◌, ◌≤◌, ◌==◌, ◌||◌, nat_lt, zero, suc, ◌⊎◌, inl, inr, true, List, [], ◌∷◌, ◌++◌, map, length, take, drop, chars, encode_utf8_all}
 use Rattle.std.proofs.Common.{Option, IsUtf8, IsCharBoundary, refl, sym, ap, subst, ◌∙◌, arith, append_assoc, length-append, length-drop, get_or, slice_range}
 use Rattle.std.specs.List.{splice as list_splice}
@@ -98,7 +98,7 @@ module _ (class : ℕ → Class) (text : List ℕ) (utf8 : IsUtf8 text) (number 
       ap (cut class) o.whole ∙ quiet_cut class o.body o.rest o.separator o.others o.none o.behind in
       ap first_body (sym (ap (map lengths_of) is) ∙ begin.rest)
 
-  -- what stands after its body
+  -- the text after its body
   abbrev back : List ℕ
   back = drop (length body) rest
 
@@ -226,13 +226,13 @@ module _ (class : ℕ → Class) (text : List ℕ) (utf8 : IsUtf8 text) (number 
         ∙ ap (λ n. at + n)
         (place_first class bracket base w h now back o.separator o.others (start - at + length new) now_utf8 now_none back_cut now_bytes)
 
--- ---- as a paragraph that is held tells it
+-- ---- in a held paragraph
 
 pub inner_of : (first start : ℕ) → ((first == 0) || nat_lt first start) ≡ true → (first ≡ 0) ⊎ (first < start)
 inner_of zero start e = inl refl
 inner_of (suc n) start e = let less : suc n < start = grind (arith, nat_tests) in inr less
 
--- what is held at a number
+-- the held paragraph at an index
 pub held_at : (class : ℕ → Class) (bracket : ℕ → Option (Side × ℕ)) (base : Base) (left : List ℕ) (w : ℕ) (held : List LayoutState) (i : ℕ)
     (l : LayoutState) → All (IsHeld class bracket base) held → HoldsBody left w held i → l ≡ get_or held i l
     → IsHeld class bracket base l × (l.w ≡ w) × (l.body ≡ left)
@@ -242,7 +242,7 @@ held_at class bracket base left w held i l all h e = (
   ap (λ (x : LayoutState). x.body) e ∙ h.body_is l,
 )
 
--- how many bytes a body has that an edit leaves
+-- the length of the edited body
 pub splice_most : (text : List ℕ) (first last : ℕ) (body : List ℕ) (i j : ℕ) (new : List ℕ) → last ≤ length text → slice_range text first last ≡ body
     → IsRange body i j → length (list_splice body i j new) ≤ length text + length new + length text
 splice_most text first last body i j new within e range =

@@ -136,7 +136,7 @@ shown_after : shown 4 2 2 three_lines ≡ codes "2   " ∷ codes "3   " ∷ []
 unfolding unicode_segmentation unicode_width
 shown_after = refl
 
--- a separator falls in the row that it ends, what is past the end in the last
+-- a separator falls in the row that it ends, an offset past the end in the last row
 last_row_of_lines : row_of three_lines 4 ∷ row_of three_lines 3 ∷ row_of three_lines 99 ∷ [] ≡ 2 ∷ 1 ∷ 2 ∷ []
 unfolding unicode_segmentation unicode_width
 last_row_of_lines = refl

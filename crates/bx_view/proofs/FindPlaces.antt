@@ -15,7 +15,7 @@ use Rattle.bx_view.specs.TextRows.{TextRow, first, no_text_row, places, places_o
 use Rattle.bx_view.proofs.PlacesRise.{AllHeads, IsHead, firsts-of}
 use Rattle.bx_view.proofs.Rising.{Rises, rank, rank-few, rank-here, rank-not-here, rises-ahead, rises-behind, rises-within}
 
--- ---- what is found among offsets that rise
+-- ---- searches among increasing offsets
 
 -- none of some offsets passes
 abbrev Fails : (ℕ → Bool) → List ℕ → Type 0
@@ -268,7 +268,7 @@ module _ (rows : List TextRow) (high : ℕ) (rise : Rises 0 (places rows) high) 
   next-head : n + 1 < length rows → IsHead (row_at rows (n + 1))
   next-head more = heads-at rows (n + 1) heads more
 
-  -- what passes is not before the row
+  -- an offset that passes is not before the row
   abbrev PassesFrom : (ℕ → Bool) → Type 0
   PassesFrom p = (o : ℕ) → o < first here → p o ≡ false
 

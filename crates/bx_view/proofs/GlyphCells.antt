@@ -94,7 +94,7 @@ one-is : {X : Type 0} (x y : X) → Contains (x ∷ []) y → x ≡ y
 one-is x y (zero, h, e) = e
 one-is x y (suc k, h, e) = absurd (omega (arith, h))
 
--- a slot is that of one of some units, and the glyphs of those before it fill the columns from `at` on
+-- a slot is the slot of one of some units, and the glyphs of the units before it fill the columns from `at` on
 record IsBeside (glyphs : ℕ → List Glyph) (extent : ℕ → ℕ × ℕ) (at : ℕ) (order : List ℕ) (s : Slot) : Type 0 where
   number : ℕ
   before : List ℕ
@@ -180,7 +180,7 @@ either-slot zero true end ss s c = ⊎_elim (λ a. inl a) (λ e. inr (refl, one-
 either-slot (suc n) true end ss s c = ⊎_elim (λ e. inr (refl, one-is end s e)) (λ a. inl a) (Contains-append_cases (end ∷ []) ss s c)
 either-slot n false end ss s c = inl c
 
--- the blanks of a row stand before its glyphs or after them
+-- the blanks of a row are before its glyphs or after them
 record ArePadded (odd n : ℕ) (glyphs left own : List Glyph) : Type 0 where
   rest : List Glyph
   shown : elim odd [ zero ↦ glyphs ++ replicate n blank | suc _ ↦ replicate n blank ++ glyphs ]

@@ -31,13 +31,13 @@ use Rattle.bx_view.proofs.TextPlaces.{begin-is-place, places-are, starts-are-pla
 use Rattle.bx_view.proofs.Walking.{text-rank}
 use Rattle.bx_view.proofs.Within.{LiesIn, Within}
 
--- ---- what some offsets contain
+-- ---- the members of some offsets
 
 within-of-all : (P : ℕ → Type 0) (os : List ℕ) → All P os → Within P os
 within-of-all P [] a = tt
 within-of-all P (o ∷ os) a = (All-head P o os a, within-of-all P os (All-tail P o os a))
 
--- what each of some offsets is
+-- a property of each of some offsets
 pub within-of : (P : ℕ → Type 0) (os : List ℕ) → ((o : ℕ) → Contains os o → P o) → Within P os
 within-of P os each = within-of-all P os (All-weaker (Contains os) P each os (All-contains_itself os))
 
@@ -98,7 +98,7 @@ module _ (class : ℕ → Class) (bracket : ℕ → Option (Side × ℕ)) (base 
   pub rows-leveled : (text : List ℕ) → All (λ r. HasLevels r.row) (text_rows class bracket base w text)
   rows-leveled text = leveled-from 0 (paragraphs class text)
 
--- ---- what the places of rows are, their slots are
+-- ---- properties of the places of rows hold for their slots
 
 in-places : (rows : List TextRow) (k : ℕ) (d : TextRow) → k < length rows → (o : ℕ) → Contains (places_of (get_or rows k d)) o → Contains (places rows) o
 in-places [] k d h o c = absurd (omega (arith, h))

@@ -77,7 +77,7 @@ either_place zero x h e = inl (sym e)
 either_place (suc zero) x h e = inr (sym e)
 either_place (suc (suc k)) x h e = absurd (omega (arith, h))
 
--- each move from the begin of `a` leads to its begin or to its end
+-- each move from the start of `a` leads to its start or its end
 moves_in_a : InEachWindow (λ class text w rows. MovesKeep w rows (IsTextPlace class text)) → (bracket : ℕ → Option (Side × ℕ)) (base : Base) (w : ℕ) (m : Move)
     → is_side w ≡ true → (moved w (rows_of_letter bracket base w) m 0 ≡ 0) ⊎ (moved w (rows_of_letter bracket base w) m 0 ≡ 1)
 unfolding unicode_segmentation unicode_width
@@ -104,7 +104,7 @@ module _ (law : InEachWindow (λ class text w rows. MovesLeast rows)) (class : �
   abbrev rows : List TextRow
   rows = text_rows class bracket base w text
 
-  -- where one row is shown, it is that of the place
+  -- if one row is visible, it is the place's row
   one_row_shown : (top place : ℕ) → row_of rows (follow rows top place 1) ≡ row_of rows place
   one_row_shown top place =
       let least = law class bracket base w text side valid in

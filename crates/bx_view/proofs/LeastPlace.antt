@@ -109,7 +109,7 @@ module _ (class : ℕ → Class) (bracket : ℕ → Option (Side × ℕ)) (base 
   abbrev rows : List ℕ → List TextRow
   rows text = text_rows class bracket base w text
 
-  -- the places of some paragraphs, the first of which begins at the offset `start`
+  -- the places of paragraphs; the first begins at the offset `start`
   abbrev spots : ℕ → List Paragraph → List ℕ
   spots start ps = places (rows_from class bracket base w start ps)
 
@@ -167,7 +167,7 @@ module _ (class : ℕ → Class) (bracket : ℕ → Option (Side × ℕ)) (base 
       let all : total (map lengths_of (front ++ bare [] ∷ [])) ≡ length text = ap (λ ps. total (map lengths_of ps)) (sym e) ∙ total_lengths class text utf8 in
       omega (arith, ap total (map-append lengths_of front (bare [] ∷ [])), total_push (map lengths_of front) (lengths_of (bare [])), all)
 
-  -- what stands in front of where a paragraph begins
+  -- the text before a paragraph's start
   pub place_after_front : (x v : List ℕ) (offset : ℕ) → IsUtf8 x → IsUtf8 v → parts class (chars x) (chars v) ≡ true → length x ≤ offset
       → place_from (rows (x ++ v)) offset ≡ length x + place_from (rows v) (offset - length x)
   place_after_front x v offset ux uv p order =
@@ -189,7 +189,7 @@ module _ (class : ℕ → Class) (bracket : ℕ → Option (Side × ℕ)) (base 
       (omega (arith, some, length-map (places (rows v)) (λ o. a + o)))
       ∙ least_moved a offset (places (rows v)) order some
 
-  -- and what stands after where one ends
+  -- the text after a paragraph's end
   pub place_before_back : (x y : List ℕ) (offset : ℕ) → IsUtf8 x → IsUtf8 y → parts class (chars x) (chars y) ≡ true → offset ≤ length x
       → place_from (rows (x ++ y)) offset ≡ place_from (rows x) offset
   place_before_back x y offset ux uy p within =

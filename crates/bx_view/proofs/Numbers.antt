@@ -83,7 +83,7 @@ module _ (offset : ℕ) where
       ⊎_elim (λ past. absurd (omega (arith, e, span-rank at l (m ∷ ls) h, no-span-rank next (m ∷ ls) past)))
       (λ here. holds-next at l (m ∷ ls) n (holds next m ls n here (omega (arith, e, span-rank at l (m ∷ ls) h)))) (cases_lt offset next)
 
-  -- the paragraph that an index tells for the offset
+  -- the paragraph that an index finds for the offset
   pub holds-of : (ls : List Lengths) (n : ℕ) → 0 < length ls → n ≡ paragraph_of ls offset → Holds 0 ls n
   holds-of [] n some e = absurd (omega (arith, some))
   holds-of (l ∷ ls) n some e = holds 0 l ls n (omega arith) (omega (arith, e, span-rank 0 l ls (omega arith)))
@@ -122,7 +122,7 @@ module _ (class : ℕ → Class) (text : List ℕ) where
     here-length : get_or (lengths class text) n (lengths_of (bare [])) ≡ lengths_of here
     here-length = get_or-map lengths_of all n (bare []) (lengths_of (bare [])) within
 
-    -- what an index tells of it
+    -- its numbers in an index
     pub span-is : (a b : ℕ) → slice_get (spans (lengths class text)) n ≡ Some (a, b)
         → (a ≡ start_at class text n) × (b ≡ start_at class text n + length (body_at class text n))
     span-is a b e =
@@ -194,7 +194,7 @@ module _ (class : ℕ → Class) (text : List ℕ) where
   ends-before offset stop [] h = tt
   ends-before offset stop (p ∷ ps) h = h (omega arith)
 
-  -- what is true of the paragraph that an offset falls in
+  -- a property of the paragraph that an offset falls in
   pub record Falls (offset n : ℕ) : Type 0 where
     pub within : n < count class text
     pub order : start_at class text n ≤ offset
@@ -211,7 +211,7 @@ module _ (class : ℕ → Class) (text : List ℕ) where
             (λ some. omega (arith, h.ended (omega (arith, some, length-drop (n + 1) all, lengths-count)), next-start n within));
       }
 
--- ---- a span that an index tells
+-- ---- a span from an index
 
 pub record IsSpan (class : ℕ → Class) (text : List ℕ) (n a b : ℕ) : Type 0 where
   pub start : a ≡ start_at class text n

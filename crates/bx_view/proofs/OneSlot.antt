@@ -34,12 +34,12 @@ once-more o os high p true e r few =
 once-more o os high p false e r few =
     let here : one-at p o ≡ 0 = ap (λ t. cond t 1 0) e in omega (arith, sum_by-cons (one-at p) o os, here, few)
 
--- an offset stands at most once among offsets that rise
+-- an offset occurs at most once among increasing offsets
 once-at-most : (low : ℕ) (os : List ℕ) (high p : ℕ) → Rises low os high → times p os ≤ 1
 once-at-most low [] high p r = omega arith
 once-at-most low (o ∷ os) high p r = once-more o os high p (o == p) refl r.1 (once-at-most (o + 1) os high p r.1)
 
--- one that stands among them is not below, and what follows it is above
+-- a member of them is not below, and those after it are above
 not-below : (low : ℕ) (os : List ℕ) (high p : ℕ) → Rises low os high → 0 < times p os → low ≤ p
 not-below low os high p r h =
     ⊎_elim (λ below. absurd (omega (arith, h, none-times low os high p r below))) (λ not. not) (cases_lt p low)

@@ -8,7 +8,7 @@ use Rattle.bx_ucd.specs.declared.class.Class.{Class}
 use Rattle.bx_paras.specs.Paragraphs.{Paragraph, after_character, after_cr, bare, begins_with_lf, cut, is_separator, paragraphs}
 use Rattle.bx_paras.proofs.Cuts.{width_is_some}
 
--- ---- what is true of each
+-- ---- properties of each
 
 -- the bytes of some paragraphs
 abbrev pub bytes : List Paragraph → List ℕ
@@ -30,7 +30,7 @@ AreEnded [] = Unit {0}
 AreEnded (p ∷ []) = Unit {0}
 AreEnded (p ∷ q ∷ ps) = (0 < length p.separator) × AreEnded (q ∷ ps)
 
--- what is true of the paragraphs of some characters
+-- properties of the paragraphs of some characters
 pub record AreParts (cs : List ℕ) (ps : List Paragraph) : Type 0 where
   pub bytes : bytes ps ≡ encode_utf8_all cs
   pub utf8 : AreUtf8 ps

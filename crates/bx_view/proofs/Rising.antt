@@ -60,7 +60,7 @@ rises-apart low (o ∷ os) high n zero d r h l = absurd (omega (arith, h))
 rises-apart low (o ∷ os) high zero (suc m) d r h l = omega (arith, rises-past (o + 1) os high m d r.1 (omega (arith, l)))
 rises-apart low (o ∷ os) high (suc n) (suc m) d r h l = rises-apart (o + 1) os high n m d r.1 (omega (arith, h)) (omega (arith, l))
 
--- ---- how many are at an offset or before it
+-- ---- the number of them at or before an offset
 
 module _ (offset : ℕ) where
   abbrev pub rank : List ℕ → ℕ

@@ -159,7 +159,7 @@ module _ (class : ℕ → Class) (bracket : ℕ → Option (Side × ℕ)) (base 
       let same : before (number + 1) ≡ before (suc number) = ap before next in
       omega (arith, is.is, ahead-next number within, some-row number within, same)
 
-  -- ---- what the rows of an offset tell
+  -- ---- facts from the rows of an offset
 
   module _ (offset number k : ℕ) (e : number ≡ paragraph_of (lengths class text) offset) (f : k ≡ row_of_body (mine number) (offset - begins number)) where
     pub row-there-is : row_at rows (row_of rows offset) ≡ text_row (begins number) (row_at_body (mine number) k)
@@ -168,7 +168,7 @@ module _ (class : ℕ → Class) (bracket : ℕ → Option (Side × ℕ)) (base 
     pub cell-is : cell_of w rows offset ≡ column_of w (row_at_body (mine number) k) (offset - begins number)
     cell-is = ap (λ r. column_of w r.row (offset - r.start)) row-there-is
 
-  -- ---- where rows begin tells which is before which
+  -- ---- the starts of rows determine their order
 
   pub rows-rise : Rises 0 (map first rows) (0 + total (map lengths_of all) + 1)
   rows-rise = let parts = text-parts class text utf8 in all-rise class bracket base w bodies 0 all parts.utf8 parts.ended

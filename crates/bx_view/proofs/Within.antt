@@ -130,7 +130,7 @@ starts-within : (P : ℕ → Type 0) (us : List Unit) → All (λ u. P u.start) 
 starts-within P [] a = tt
 starts-within P (u ∷ us) a = (All-head (λ v. P v.start) u us a, starts-within P us (All-tail (λ v. P v.start) u us a))
 
--- what the offsets of a row's places are
+-- a property of the offsets of a row's places
 pub record LiesIn (P : ℕ → Type 0) (w : ℕ) (r : BodyRow) : Type 0 where
   pub start : P 0
   pub slots : Within P (slot_offsets w r)
@@ -175,7 +175,7 @@ body-row-lies P class bracket base w body k utf8 each h =
     subst (LiesIn P w) (sym (last-at make xs k (omega (arith, h, length-with-last make xs))))
     (row-lies P w (make (k + 1 == length xs) (get_or xs k [])) (each 0 (IsCharBoundary-start body utf8)) (each (length body) (IsCharBoundary-end body)) all)
 
--- ---- what is known of a row
+-- ---- properties of a row
 
 pub slots-fit : (P : ℕ → Type 0) (start most : ℕ) (ss : List Slot) → ((o : ℕ) → P o → start + o ≤ most) → Within P (map (λ s. s.offset) ss)
     → All (λ s. start + s.offset ≤ most) ss
