@@ -14,7 +14,7 @@ more-written bytes a b c written rest count is next = record {
   appends = Appends-trans a b c written (take count rest) is.appends next;
 }
 
--- what follows where all went well
+-- the consequence if all parts were written
 pub then-ok : {T E : Type 0} (r : Result T E) (P Q : Type 0) → (P → Q) → OnOk r P → OnOk r Q
 then-ok (Ok x) P Q f p = f p
 then-ok (Err e) P Q f p = p
