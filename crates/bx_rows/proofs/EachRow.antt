@@ -145,7 +145,7 @@ take_none : (n : ℕ) → take {A = Unit} n [] ≡ []
 take_none zero = refl
 take_none (suc n) = refl
 
--- what a row's start and the next one's tell of it
+-- a row's units, from its start and the next one's
 pub record IsRowPart (class : ℕ → Class) (w : ℕ) (body : List ℕ) (us here : List Unit) (start : RowStart) (next : Option RowStart) : Type 0 where
   pub boundary : IsCharBoundary body start.offset
   pub order : IfSome next (λ n. start.units ≤ n.units)
@@ -214,7 +214,7 @@ module _ (class : ℕ → Class) (body : List ℕ) (us : List Unit) where
       })
   part-none w (suc k) s e none first h = cc
 
-  -- of a list of units of which each begins the units from its offset on
+  -- a list of units; each begins the units from its offset on
   part-by : (p : Unit → Bool) (w k : ℕ) (s : RowStart) → (vs : List Unit) → vs ≡ us → length us ≤ length body → All (λ u. FitsWindow w u.face) us
       → ((j : ℕ) (u : Unit) (rest : List Unit) → drop j us ≡ u ∷ rest → IsUnitAt class w body u rest)
       → (us ≡ [] → units_from class w body 0 ≡ []) → IsCharBoundary body 0

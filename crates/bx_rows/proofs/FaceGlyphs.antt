@@ -1,4 +1,4 @@
--- The glyphs of a unit whose face is that of its text: each is one glyph, and their columns are the unit's.
+-- The glyphs of a unit with the face of its text: each is one glyph, and their columns add up to the unit's.
 use Rattle.std.proofs.Common.{◌≡◌, ℕ, zero, suc, ◌%◌, ◌≤◌, ◌==◌, nat_lt, nat_le, Bool, true, false, not, ◌&&◌, ◌||◌, List, [], ◌∷◌, length, map, sum_by}
 use Rattle.std.proofs.Common.{chars, Option, Some, None, All, refl, sym, subst, ap, ◌∙◌, arith}
 use Rattle.std.specs.Prelude.{⊤}
@@ -23,7 +23,7 @@ use Rattle.bx_rows.specs.RowPicture.{Glyph, glyph, blank, mirror_image, is_own, 
 use Rattle.bx_rows.specs.Wrapping.{columns_at}
 use Rattle.bx_rows.specs.Shown.{HasLetter}
 
--- ---- what a face tells of its text
+-- ---- a text from its face
 
 -- own text has no control and as many columns, one or more; a mark has a letter
 abbrev pub Tells : List ℕ → Face → Type 0

@@ -107,7 +107,7 @@ too-wide (r ∷ rows) e a =
     let here = a 0 r (omega arith) in
     let fits : columns_used 1 (row_units letters r) ≤ 1 = here.2 in omega (arith, wide, fits)
 
--- in a window of one column two letters stand in two rows
+-- in a window of one column two letters are in two rows
 two-rows : RowsCutUnits → (class : ℕ → Class) (body : List ℕ) → map {B = ℕ × ℕ} (λ r. (r.start, r.stop)) (wrap class 1 body letters) ≡ (0, 1) ∷ (1, 2) ∷ []
 two-rows law class body =
     let cut = law class 1 body letters (omega arith) letters-fit in
@@ -129,7 +129,7 @@ too-short class body (r ∷ rows) e a =
     subst (λ k. IsFull 5 letters (record { start = k; stop = 1 })) start (here.longest 1 (omega (arith, stop)) (omega arith) (inl refl)) in
     elim full as (λ _. ⊥) [ inl h ↦ omega (arith, h) | inr h ↦ omega (arith, h) ]
 
--- in a window of five columns they stand in one row, wherever rows may end
+-- in a window of five columns they are in one row, wherever rows may end
 one-row : RowsCutUnits → RowsEndWell → (class : ℕ → Class) (body : List ℕ)
     → map {B = ℕ × ℕ} (λ r. (r.start, r.stop)) (wrap class 5 body letters) ≡ (0, 2) ∷ []
 one-row cuts ends class body =
@@ -163,12 +163,12 @@ other-words : IsUtf8 (codes "b cd ef")
 unfolding unicode_segmentation unicode_width
 other-words = (codes "b cd ef", (refl, refl))
 
--- behind `ab ` stand the rows of `cd ef`, three bytes further on
+-- after `ab ` follow the rows of `cd ef`, three bytes further on
 rows-of-rest : RowsAreOfRest → drop 1 (row_starts small 3 (codes "ab cd ef")) ≡ start 3 ∷ start 6 ∷ []
 unfolding unicode_segmentation unicode_width
 rows-of-rest law = law small 3 (codes "ab cd ef") 1 (start 3) words refl
 
--- behind `b ` stand the same rows as behind `ab `, a byte nearer
+-- after `b ` follow the same rows as after `ab `, a byte nearer
 rows-meet : RowsMeetAgain → drop 1 (row_starts small 3 (codes "b cd ef")) ≡ start 2 ∷ start 5 ∷ []
 unfolding unicode_segmentation unicode_width
 rows-meet law = law small 3 (codes "ab cd ef") (codes "b cd ef") 1 1 (start 3) (start 2) words other-words refl refl refl
@@ -187,7 +187,7 @@ either-order (x ∷ y ∷ []) p =
 either-order (x ∷ y ∷ z ∷ zs) p =
     let count : suc (suc (suc (length zs))) ≡ 2 = length_permutation (0 ∷ 1 ∷ []) (x ∷ y ∷ z ∷ zs) p in absurd (omega (arith, count))
 
--- two units stand as in the text or the other way round, whatever their levels
+-- two units are in text order or the other way round, whatever their levels
 two-orders : OrdersArePermutations → (a b : ℕ) → (visual (a ∷ b ∷ []) ≡ 0 ∷ 1 ∷ []) ⊎ (visual (a ∷ b ∷ []) ≡ 1 ∷ 0 ∷ [])
 two-orders law a b = either-order (visual (a ∷ b ∷ [])) (law (a ∷ b ∷ []))
 
@@ -206,7 +206,7 @@ last-lowest = record {
 abbrev levels : List ℕ
 levels = 0 ∷ 1 ∷ 1 ∷ 0 ∷ []
 
--- units of the levels 0 1 1 0 stand in the order 0 2 1 3
+-- units of the levels 0 1 1 0 are in the order 0 2 1 3
 by-lowest-levels : LowestLevelsOrder → StandsLeft (visual levels) 0 2 × StandsLeft (visual levels) 2 1 × StandsLeft (visual levels) 1 3
 by-lowest-levels law =
     let none : All (λ x. 0 ≤ x) [] = All-nil (λ x. 0 ≤ x) in

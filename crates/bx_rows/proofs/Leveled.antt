@@ -12,7 +12,7 @@ use Rattle.bx_rows.specs.Shown.{glyph_of}
 abbrev pub at_level : (ℕ → Class) → (ℕ → Option ℕ) → ℕ → Glyph → ℕ → Glyph
 at_level class mirror w g level = glyph (shown_text class mirror w 1 level g.text) g.columns g.negative
 
--- glyphs, of which those that have a level stand at it
+-- glyphs; those with a level are mirrored by it
 abbrev pub leveled : (ℕ → Class) → (ℕ → Option ℕ) → ℕ → List Glyph → List ℕ → List Glyph
 leveled class mirror w [] levels = []
 leveled class mirror w (g ∷ gs) [] = g ∷ gs
@@ -30,7 +30,7 @@ later-same class mirror w (g ∷ gs) levels zero = refl
 later-same class mirror w (g ∷ gs) [] (suc i) = refl
 later-same class mirror w (g ∷ gs) (l ∷ ls) (suc i) = later-same class mirror w gs ls i
 
--- one more glyph stands at its level
+-- one more glyph is mirrored by its level
 one-leveled : (class : ℕ → Class) (mirror : ℕ → Option ℕ) (w : ℕ) (gs : List Glyph) (levels : List ℕ) (i d : ℕ) → i < length levels
     → set (leveled class mirror w gs (take i levels)) i (at_level class mirror w (get_or gs i blank) (get_or levels i d))
     ≡ leveled class mirror w gs (take (suc i) levels)

@@ -22,7 +22,7 @@ at-highest (l ∷ ls) (suc k) h = let rest = at-highest ls k (omega (arith, h)) 
 abbrev choice : ℕ → Option ℕ → ℕ → Option ℕ
 choice l o p = elim p as (λ _. Option ℕ) [ zero ↦ o | suc n ↦ Some (lower l o) ]
 
--- what is known of the lowest odd level: it is odd, and no odd level of the list is below it
+-- the lowest odd level is odd, and no odd level of the list is below it
 abbrev IsOdd : Option ℕ → Type 0
 IsOdd None = Unit {0}
 IsOdd (Some low) = low % 2 ≡ 1
@@ -206,7 +206,7 @@ lowest-order levels i j m h g l =
     let pair = after-all (lowest_odd levels) (highest levels) m u v (enumerate_from 0 levels) bound (lowest-is-odd levels) under (pair-of m i j levels h g low) in
     record { even = λ e. left-if-pair m u v all (pair.even e); odd = λ e. left-if-pair m v u all (pair.odd e) }
 
--- ---- what follows
+-- ---- consequences
 
 -- one of the units from one index to another has the lowest of all levels
 lowest-part : (n : ℕ) (levels : List ℕ) (i a at b j : ℕ) → i ≤ a → a ≤ at → at ≤ b → b ≤ j → j < length levels

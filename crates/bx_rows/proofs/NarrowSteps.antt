@@ -66,7 +66,7 @@ run-grown class w body at r first stop k false n s no_end =
           ∙ sym (ap (λ x. x ++ rest) (drop_push n.us r.last u (omega (arith, last-length p n.us, n.last_is))));
     }
 
--- where it stands
+-- its bounds
 pub run-in-none : (body : List ℕ) (at : ℕ) → IsCharBoundary body at → IsRunIn body at (record { stop = at; count = 0; last = 0; next = at })
 run-in-none body at b =
     record { last = omega arith; from = omega arith; order = omega arith; next = b; sum = omega arith; boundary = b }
@@ -80,7 +80,7 @@ run-in-grown body at r stop false i more b =
     let sum = i.sum in let last = i.last in let order = i.order in
     record { last = omega (arith, last); from = i.from; order = omega (arith, order, more); next = i.next; sum = omega (arith, sum, more); boundary = b }
 
--- a cluster of one column is open, after which a row may end as it stands, or not
+-- a cluster of one column is open; the flag tells whether a row may end after it so far
 pub record HasOpen (class : ℕ → Class) (body : List ℕ) (start : ℕ) (b : Bool) (rest : List ℕ) : Type 0 where
   pub first : ℕ
   pub is_marked : Bool
@@ -103,7 +103,7 @@ mark-narrow class body start m b rest more o e h = record {
   end = refl;
 }
 
--- the run with the open cluster, whose end the next character or the body's end tells
+-- the run with the open cluster, which the next character or the body's end closes
 pub record IsLonger (class : ℕ → Class) (body : List ℕ) (at : ℕ) (r : NarrowRun) : Type 0 where
   pub bounds : IsRunIn body at r
   pub units : (w : ℕ) → IsNarrowRun class w body at r

@@ -15,7 +15,7 @@ permutes-either : {X : Type 0} (f : ℕ × ℕ → List X) (b : Bool) (all : Lis
 permutes-either f true all xs ys h k = h
 permutes-either f false all xs ys h k = k
 
--- what is made of one unit goes to the front
+-- the list made from one unit moves to the front
 to-front : {X : Type 0} (xs ys zs : List X) → IsPermutation (xs ++ (ys ++ zs)) (ys ++ (xs ++ zs))
 to-front xs ys zs =
     subst (λ all. IsPermutation all (ys ++ (xs ++ zs))) (append_assoc xs ys zs)
@@ -53,7 +53,7 @@ numbers : (n : ℕ) (levels : List ℕ) → map (λ u. u.0) (enumerate_from n le
 numbers n [] = refl
 numbers n (l ∷ ls) = ap (λ xs. n ∷ xs) (numbers (n + 1) ls)
 
--- what is made of each number
+-- lists made from each number
 pub made-permutes : {X : Type 0} (f : ℕ → List X) (levels : List ℕ)
     → IsPermutation (flat_map f (range_with_len 0 (length levels))) (flat_map f (visual levels))
 made-permutes {X} f levels =

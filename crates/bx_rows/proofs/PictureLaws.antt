@@ -107,6 +107,6 @@ pub sum_if_drawn : (class : ℕ → Class) (mirror : ℕ → Option ℕ) (w : �
     → sum_by (λ d. d.columns) ds ≡ w
 sum_if_drawn class mirror w body paragraph us levels ds e a f g = sum-kept ds ∙ ap columns_of_glyphs e ∙ draw-sum class mirror w body paragraph us levels a f g
 
--- what holds of all units holds of a row's
+-- a property of all units holds for a row's units
 pub faces-row : (P : Unit → Type 0) (us : List Unit) (r : Row) → All P us → All P (row_units us r)
 faces-row P us r a = All-take P (r.stop - r.start) (drop r.start us) (All-drop P r.start us a)

@@ -44,7 +44,7 @@ module _ (class : ℕ → Class) (w : ℕ) (body : List ℕ) (k count : ℕ) (st
       let same = ap (columns_used w) (sym taken ∙ s.units) ∙ columns-single w start.offset s.cs in
       omega (arith, within, same, singles-count class w body start.offset count first s)
 
-  -- what the steps make is what the row shows
+  -- the result of the steps is the row's picture
   pub drawn-single : (mirror : ℕ → Option ℕ) (paragraph n : ℕ) (each : List (Option ℕ)) (first : List Drawn) (two all : List Glyph) (found : List ℕ)
       → AreSingle class w body start.offset count first → length found ≡ length first
       → found ≡ row_levels class body paragraph each (units_of_row class w body k)
@@ -65,7 +65,7 @@ module _ (class : ℕ → Class) (w : ℕ) (body : List ℕ) (k count : ℕ) (st
 pub written : {A : Type 0} (n : ℕ) (new old : List A) → length new ≡ n → take n (new ++ drop (length new) old) ≡ new
 written n new old e = take_at new (drop (length new) old) n e
 
--- what glyphs show that are chosen by their numbers
+-- glyphs chosen by their numbers
 shown-chosen : (ds : List Drawn) (d : Drawn) (ks : List ℕ) → All (λ k. k < length ds) ks
     → map glyph_of (map (λ k. get_or ds k d) ks) ≡ map (λ k. get_or (map glyph_of ds) k blank) ks
 shown-chosen ds d [] a = refl
@@ -90,6 +90,6 @@ pub arranged-are : (class : ℕ → Class) (mirror : ℕ → Option ℕ) (w : �
 arranged-are class mirror w cs levels one two e f first ordered =
     shown-ordered one two levels e f ordered ∙ ap (λ gs. map (λ k. get_or gs k blank) (visual levels)) first
 
--- what a clause says of a value that is there
+-- a clause about a value that is present
 pub if_some : {A : Type 0} (P : A → Type 0) (o : Option A) (x : A) → o ≡ Some x → IfSome o P → P x
 if_some P o x e h = subst (λ y. IfSome y P) e h

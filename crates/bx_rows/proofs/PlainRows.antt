@@ -168,7 +168,7 @@ settled_if-length false p waiting ls = refl
 reads-length : (p : ℕ) (class : Class) (old : List ℕ) (waiting : ℕ) (new : List ℕ) (next : ℕ) → Reads p class old waiting new next → length new ≡ length old
 reads-length p class old waiting new next reads = ap length (reads 0 false) ∙ settled_if-length (trails (class, Some 0) false) p waiting old
 
--- what is read of a row up to `rest`: single characters, their glyphs, and their levels but for those that wait
+-- a row read up to `rest`: single characters, their glyphs, and their levels except the waiting ones
 pub record IsReadTo (class : ℕ → Class) (w p : ℕ) (body : List ℕ) (at : ℕ) (levels : List (Option ℕ)) (glyphs : List Drawn) (found : List ℕ) (waiting : ℕ)
     (left : List (Option ℕ)) (rest : List ℕ) : Type 0 where
   pub cs : List ℕ
@@ -227,7 +227,7 @@ taken-is [] vs (suc n) h none = ap (take (suc n)) (none (omega arith))
 taken-is (x ∷ us) vs zero h none = absurd (omega (arith, h))
 taken-is (x ∷ us) vs (suc n) h none = ap (λ xs. x ∷ xs) (taken-is us vs n (omega (arith, h)) (λ less. none (omega (arith, less))))
 
--- what is read are the first units
+-- the units read are the first ones
 pub units-single : (class : ℕ → Class) (w p : ℕ) (body : List ℕ) (at count : ℕ) (levels : List (Option ℕ)) (glyphs : List Drawn) (found : List ℕ) (waiting : ℕ)
     (left : List (Option ℕ)) (rest : List ℕ) → IsUtf8 body → IsCharBoundary body at → (i : IsReadTo class w p body at levels glyphs found waiting left rest)
     → IsClusterEnd rest → length glyphs ≤ count → (length glyphs < count → length rest ≡ 0) → take count (units_from class w body at) ≡ single_units at i.cs
@@ -246,7 +246,7 @@ same-levels class each k m (c ∷ cs) us size h =
     let some : suc (length cs) ≡ length (c ∷ cs) = refl in
     ap (λ n. zip (map class (c ∷ cs)) (drop n each)) (h (omega (arith, size, some)))
 
--- the levels are those of the first units, once what waits is settled
+-- the levels are those of the first units, once the waiting ones are settled
 pub levels-are : (class : ℕ → Class) (w p : ℕ) (body : List ℕ) (at count k : ℕ) (each : List (Option ℕ)) (glyphs : List Drawn) (found new : List ℕ)
     (waiting : ℕ) (left : List (Option ℕ)) (rest : List ℕ) (us : List Unit) → IsUtf8 body → IsCharBoundary body at
     → (i : IsReadTo class w p body at (drop k each) glyphs found waiting left rest) → us ≡ single_units at i.cs → (0 < length us → k ≡ chars_before body us)

@@ -19,7 +19,7 @@ high n run u us h = ap (choice n run u us) (le-leb n u.1 h)
 pub low : (n : ℕ) (run : List (ℕ × ℕ)) (u : ℕ × ℕ) (us : List (ℕ × ℕ)) → u.1 < n → reverse_runs n run (u ∷ us) ≡ run ++ u ∷ reverse_runs n [] us
 low n run u us h = let e : nat_le n u.1 ≡ false = grind (arith, leb_tells) in ap (choice n run u us) e
 
--- the run from one index to another, and what stands after it
+-- the run from one index to another, and the units after it
 abbrev pub run_to : ℕ → List (ℕ × ℕ) → ℕ → ℕ → List (ℕ × ℕ)
 run_to n us from i = reverse_runs n (reverse (between from i us)) (drop i us)
 

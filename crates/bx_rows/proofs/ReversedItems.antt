@@ -28,7 +28,7 @@ map-turned f i j xs =
     ∙ ap₂ (λ a b. a ++ b) (map-append f (take i xs) (reverse run)
     ∙ ap₂ (λ a b. a ++ b) (sym (take-map f i xs)) (map-reverse f run ∙ ap reverse (sym same))) (sym (drop-map f j xs))
 
--- the first run of what stands after `done`
+-- the first run after `done`
 turned-behind : {X : Type 0} (done xs : List X) (i j : ℕ) → length done ≡ i → i ≤ j
     → turned i j (done ++ drop i xs) ≡ done ++ reverse (between i j xs) ++ drop j xs
 turned-behind done xs i j e h =
@@ -108,7 +108,7 @@ all_runs g items new ls level start i us agree a h e w =
 
 -- ---- all levels
 
--- the items are those of units of which the reversals from a level down make all
+-- the items are those of units that the reversals from a level down turn into `all`
 pub record IsAtLevel {X : Type 0} (g : ℕ × ℕ → X) (items : List X) (ls : List ℕ) (low level : ℕ) (all : List (ℕ × ℕ)) : Type 0 where
   pub units : List (ℕ × ℕ)
   pub shown : items ≡ map g units

@@ -97,7 +97,7 @@ module _ (class : ℕ → Class) (w : ℕ) (body : List ℕ) (starts : List RowS
     done = r.done;
   }
 
-  -- the start of a row is what was kept of it
+  -- the start of a row is the one kept for it
   start-is : (rest : List Unit) (stop : ℕ) → IsRead class w body starts s rest → 0 < length here
       → start_of body all_units (record { start = s.start.units; stop = stop }) ≡ s.start
   start-is rest stop r some =

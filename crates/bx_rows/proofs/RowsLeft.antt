@@ -25,7 +25,7 @@ use Rattle.bx_rows.proofs.RowUnits.{chars-behind, starts-of-none, starts-of-some
 use Rattle.bx_rows.proofs.RowsFit.{rest-of}
 use Rattle.bx_rows.proofs.Wraps.{no_unit, rows_turn}
 
--- ---- units that stand some bytes further on
+-- ---- units moved some bytes further on
 
 abbrev pub shifted : ℕ → Unit → Unit
 shifted d u = record { start = d + u.start; stop = d + u.stop; face = u.face }
@@ -39,7 +39,7 @@ units-shifted class w d at (g ∷ gs) =
     ap₂ (λ x xs. x ∷ xs) (ap (λ n. record { start = d + at; stop = n; face = face class w g }) next)
     (ap (λ n. map (unit_at class w) (with_offsets n gs)) next ∙ units-shifted class w d (at + length g) gs)
 
--- the units of what is left
+-- the units of the rest
 left-units : (class : ℕ → Class) (w d : ℕ) (body : List ℕ) → units_from class w body d ≡ map (shifted d) (units class w (drop d body))
 left-units class w d body =
     let gs = graphemes true (drop d body) in
@@ -79,7 +79,7 @@ len-shifted p q d w same us =
 
 -- ---- where they begin
 
--- of the units `us` of a body those from number `i` on are the units `left`, which stand `d` bytes further on
+-- the units `us` of a body from number `i` on are the units `left`, moved `d` bytes further on
 record AreLeft (body : List ℕ) (us left : List Unit) (d i : ℕ) : Type 0 where
   pub valid : IsUtf8 body
   pub boundary : IsCharBoundary body d

@@ -11,7 +11,7 @@ use Rattle.bx_rows.specs.Wrapping.{columns_at, fit_count_from, up_to_last, up_to
 use Rattle.bx_rows.specs.RowScan.{Fits, IsScan}
 use Rattle.bx_rows.proofs.Wraps.{fit_cons, fits_no_more, fits_full, rows_turn}
 
--- what begins sooner ends no later
+-- units that begin sooner end no later
 pub sooner : (w c d : ℕ) (f : Face) → c ≤ d → d ≤ w → c + columns_at w c f ≤ d + columns_at w d f
 sooner w c d Tab h k = omega (arith, h, k)
 sooner w c d (Mark letter) h k = omega (arith, h)
@@ -106,7 +106,7 @@ scan-break p w here behind u rest columns last count since s f is_break =
       less = omega arith;
     }
 
--- what is left after the break, and after all that was read
+-- the units after the break, and after all that were read
 module _ (p : Unit → Bool) (w : ℕ) (here behind rest : List Unit) (columns last count since : ℕ) (s : IsScan p w here behind rest columns last count since)
   where
     scan-size : length (s.front ++ s.back) ≡ last + count

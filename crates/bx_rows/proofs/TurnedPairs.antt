@@ -35,7 +35,7 @@ in-run n run (x ∷ xs) us a =
     high n run x (xs ++ us) (All-head (λ u. n ≤ u.1) x xs a) ∙ in-run n (x ∷ run) xs us (All-tail (λ u. n ≤ u.1) x xs a)
     ∙ ap (λ zs. reverse_runs n zs us) (sym turned)
 
--- the run so far stands together, and what gets in front of it is in the run too
+-- the run so far is contiguous, and a unit moved in front of it is in the run too
 record Kept (m n : ℕ) (run us all : List (ℕ × ℕ)) : Type 0 where
   front : List (ℕ × ℕ)
   back : List (ℕ × ℕ)
@@ -73,7 +73,7 @@ kept m n run (u ∷ us) =
 lower : (m n : ℕ) (us : List (ℕ × ℕ)) → m ≤ n → AtLeast n us → AtLeast m us
 lower m n us h a = All-weaker (λ u. n ≤ u.1) (λ u. m ≤ u.1) (λ u k. omega (arith, h, k)) us a
 
--- ---- what gets between a lower unit and another
+-- ---- units between a lower unit and another
 
 record Front (m : ℕ) (v : ℕ × ℕ) (us : List (ℕ × ℕ)) : Type 0 where
   before : List (ℕ × ℕ)
@@ -148,7 +148,7 @@ pub record Reaches (m : ℕ) (us : List (ℕ × ℕ)) : Type 0 where
   pub us_is : us ≡ before ++ (unit ∷ behind)
   pub at : unit.1 ≡ m
 
--- the one unit stands left of the other, and `m` is the lowest level from the one to the other
+-- the one unit is left of the other, and `m` is the lowest level from the one to the other
 pub record IsPair (m : ℕ) (u v : ℕ × ℕ) (us : List (ℕ × ℕ)) : Type 0 where
   pub front : List (ℕ × ℕ)
   pub middle : List (ℕ × ℕ)

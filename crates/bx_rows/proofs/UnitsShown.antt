@@ -68,7 +68,7 @@ left-joined : {X : Type 0} (f : X → List Glyph) (front : List X) (a : X) (midd
 left-joined f front a middle b back =
     flat_map-append f front (a ∷ (middle ++ (b ∷ back))) ∙ ap (λ xs. flat_map f front ++ (f a ++ xs)) (flat_map-append f middle (b ∷ back))
 
--- the blanks stand behind all, or in front
+-- the blanks are after all glyphs, or before them
 left-of-blanks : (odd n : ℕ) (glyphs a b : List Glyph) → ShowsLeft glyphs a b
     → ShowsLeft (elim odd [ zero ↦ glyphs ++ replicate n blank | suc _ ↦ replicate n blank ++ glyphs ]) a b
 left-of-blanks zero n glyphs a b s =

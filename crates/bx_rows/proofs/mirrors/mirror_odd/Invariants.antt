@@ -1,4 +1,4 @@
--- The glyphs read so far stand at their levels.
+-- The glyphs up to `i` are mirrored by their levels.
 use Rattle.std.proofs.Common.{◌≡◌, length, map, take}
 use Rattle.bx_rows.specs.Shown.{glyph_of}
 use Rattle.bx_rows.proofs.Leveled.{leveled}
