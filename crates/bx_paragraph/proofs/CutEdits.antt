@@ -30,7 +30,7 @@ module _ (class : ℕ → Class) (bracket : ℕ → Option (Side × ℕ)) (t : T
   abbrev near : List ℕ
   near = chars t.near.now
 
-  -- what stands from the strong character on, and after it
+  -- the text from the strong character on, and after it
   from-x : drop i (front ++ near) ≡ chars (drop x.start t.near.now)
   from-x = ap (λ k. drop k (front ++ near)) i_is ∙ drop-append-add front near x.index ∙ sym at_x.start.rest
 
@@ -67,7 +67,7 @@ module _ (class : ℕ → Class) (bracket : ℕ → Option (Side × ℕ)) (t : T
         ∙ ap₂ (λ a b. a ++ (chars t.inserted.now ++ b)) (sym from-x)
         (chars-before t.behind.now (y.index + 1) y.stop utf8 at_y.stop (omega (arith, at_y.inside)))
 
-    -- no pair of brackets around both sees what stands between the two
+    -- no bracket pair around both strong characters sees the text between them
     abbrev IsOut : List Class → Type 0
     IsOut m = (one_way x.class y.class m ≡ true) ⊎ ((list_any (is_listed bracket) (take i (front ++ near)) ≡ false)
         ⊎ (list_any (is_listed bracket) (drop (y.index + 1) (chars t.behind.now)) ≡ false))
@@ -136,7 +136,7 @@ module _ (class : ℕ → Class) (bracket : ℕ → Option (Side × ℕ)) (t : T
     follows-within was now last text un ui e l law (inr cut) =
         follows-by Either cut.0 (λ m pass. out-open un cut.1 m) was now last text un ui e l law
 
-    -- what it inserts has no formatting characters
+    -- the inserted text has no formatting characters
     pub cut-unformatted : IsCutOffEdit class bracket t x y → HasNoFormatting class (chars t.inserted.now)
     cut-unformatted (inl bare) = bare-unformatted class bracket (way_between x.class y.class) (chars t.inserted.now) bare.inserted_is
     cut-unformatted (inr cut) = bare-unformatted class bracket Either (chars t.inserted.now) cut.0.inserted_is

@@ -58,7 +58,7 @@ kept-rows class w old new offset k starts some valid also at_old at_new shared e
           ∙ ap (take (k + 1)) (sym e);
     }
 
--- the rows up to one, and those of what is left
+-- the rows up to one, and those of the rest
 pub rows-joined : (class : ℕ → Class) (w : ℕ) (body : List ℕ) (starts found : List RowStart) (k : ℕ) → IsUtf8 body → AreKept class w body starts k
     → found ≡ row_starts class w (drop (get_or starts k origin).offset body)
     → take k starts ++ map (behind (get_or starts k origin)) found ≡ row_starts class w body

@@ -47,7 +47,7 @@ mixed = codes "a " ++ (alef ∷ bet ∷ []) ++ codes " " ++ (gimel ∷ [])
 abbrev number : List ℕ
 number = (alef ∷ bet ∷ []) ++ codes " 12"
 
--- Hebrew letters of a line from left to right stand from right to left; the end is a slot of the last row alone
+-- Hebrew letters in a line from left to right are from right to left; the end is a slot of the last row alone
 mixed_slots : slots 5 (rows 5 mixed) ≡ ((0, 1, 1) ∷ (1, 2, 1) ∷ (4, 3, 1) ∷ (2, 4, 1) ∷ (6, 5, 1) ∷ []) ∷ ((7, 1, 1) ∷ (9, 2, 0) ∷ []) ∷ []
 unfolding unicode_segmentation unicode_width
 mixed_slots = refl
@@ -82,12 +82,12 @@ mixed_covering : map (covering 5 (row_at (rows 5 mixed) 0)) (1 ∷ 3 ∷ 4 ∷ 6
 unfolding unicode_segmentation unicode_width
 mixed_covering = refl
 
--- from right to left the end stands left of the units
+-- from right to left the end is left of the units
 end_beside_units : slots 8 (rows 8 number) ≡ ((7, 3, 0) ∷ (5, 4, 1) ∷ (6, 5, 1) ∷ (4, 6, 1) ∷ (2, 7, 1) ∷ (0, 8, 1) ∷ []) ∷ []
 unfolding unicode_segmentation unicode_width
 end_beside_units = refl
 
--- in a full row it stands in the first column
+-- in a full row it is in the first column
 end_at_edge : slots 5 (rows 5 number) ≡ ((7, 1, 0) ∷ (5, 1, 1) ∷ (6, 2, 1) ∷ (4, 3, 1) ∷ (2, 4, 1) ∷ (0, 5, 1) ∷ []) ∷ []
 unfolding unicode_segmentation unicode_width
 end_at_edge = refl
@@ -102,7 +102,7 @@ reads_from_right : map (reading_order 8) (rows 8 number) ≡ (0 ∷ 2 ∷ 4 ∷ 
 unfolding unicode_segmentation unicode_width
 reads_from_right = refl
 
--- the end of a full row from left to right stands in the last column
+-- the end of a full row from left to right is in the last column
 end_of_full_row : slots 2 (rows 2 (codes "ab")) ≡ ((0, 1, 1) ∷ (1, 2, 1) ∷ (2, 2, 0) ∷ []) ∷ []
 unfolding unicode_segmentation unicode_width
 end_of_full_row = refl
@@ -152,7 +152,7 @@ entered_past_units : map (entry 6 (row_at (rows 6 (codes "d")) 0)) (1 ∷ 4 ∷ 
 unfolding unicode_segmentation unicode_width
 entered_past_units = refl
 
--- ---- what follows from the law alone
+-- ---- examples from the law alone
 
 abbrev start : ℕ → RowStart
 start n = record { offset = n; units = n; chars = n }

@@ -14,7 +14,7 @@ pub next_here : (offset : ℕ) (ps : List ℕ) (i : ℕ) → i < length ps → g
 next_here offset ps i h e =
     at_drop_more (next_in offset) ps i 0 h ∙ next-step offset (get_or ps i 0) (drop (i + 1) ps) true (eq-eqb (get_or ps i 0) offset e)
 
--- it stands after
+-- it is further on
 pub next_behind : (offset : ℕ) (ps : List ℕ) (i : ℕ) → i < length ps → get_or ps i 0 ≢ offset
     → next_in offset (drop i ps) ≡ next_in offset (drop (i + 1) ps)
 next_behind offset ps i h e =

@@ -51,7 +51,7 @@ pub strong-at : (class : ℕ → Class) (text : List ℕ) (s : Strong) (c : ℕ)
 strong-at class text s c p h e strong =
     record { inside = h.inside; class_is = e ∙ ap class h.char_is; strong = strong; start = p; stop = h.place }
 
--- what is left of a text, where a character begins at an offset
+-- the rest of a text from an offset at which a character begins
 pub next-char : (text rest : List ℕ) (at c : ℕ) → IsUtf8 text → IsCharBoundary text at → drop at text ≡ encode_utf8 c ++ rest
     → (at < length text - length rest) × IsCharBoundary text (length text - length rest)
     × (chars (drop at text) ≡ c ∷ chars (drop (length text - length rest) text))

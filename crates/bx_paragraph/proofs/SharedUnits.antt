@@ -22,7 +22,7 @@ use Rattle.bx_rows.specs.Wrapping.{is_break, is_one_blank}
 
 -- ---- clusters
 
--- how many characters pieces have
+-- the number of characters of pieces
 abbrev pub count_of : List (List ℕ) → ℕ
 count_of [] = 0
 count_of (p ∷ ps) = length p + count_of ps
@@ -65,7 +65,7 @@ some-count : (t : Bool) (c m : ℕ) (ys : List (List ℕ)) → 0 < count_of (tak
 some-count true c m ys = omega (arith, one c)
 some-count false c m ys = omega (arith, ap count_of (take-prepend m (c ∷ []) ys) ∙ count-prepend (c ∷ []) (take (suc m) ys), one c)
 
--- the clusters that end before the character `n` are the same whatever stands after it
+-- the clusters that end before the character `n` are the same, whatever follows it
 same-pieces : (before xs : List ℕ) (n : ℕ) (ys zs : List ℕ) (k : ℕ) → count_of (take k (cut (is_grapheme_break true) before (xs ++ n ∷ ys) [])) ≤ length xs
     → take k (cut (is_grapheme_break true) before (xs ++ n ∷ ys) []) ≡ take k (cut (is_grapheme_break true) before (xs ++ n ∷ zs) [])
 unfolding cut
@@ -117,7 +117,7 @@ units-taken class w k body =
 zero-more : (n : ℕ) → 0 + n ≡ n
 zero-more n = omega arith
 
--- the clusters before a unit make up what stands before it
+-- the clusters before a unit make up the text before it
 record EndsAt (body : List ℕ) (k o : ℕ) : Type 0 where
   text : chars (take o body) ≡ concat (take k (pieces body))
   bytes : take o body ≡ concat (map encode_utf8_all (take k (pieces body)))
@@ -154,7 +154,7 @@ take-less (suc o) (suc s) (x ∷ xs) (y ∷ ys) h e =
     let tail : take s xs ≡ take s ys = cc in
     ap₂ (λ z zs. z ∷ zs) head (take-less o s xs ys (omega (arith, h)) tail)
 
--- a unit that two bodies share: a row may end after it in both or in none, and the same stands before it
+-- a unit shared by two bodies: a row may end after it in both or in neither, and the text before it is the same
 pub record AgreeAt (p q : Unit → Bool) (old new : List ℕ) (u : Unit) : Type 0 where
   pub same : p u ≡ q u
   pub before : take u.start old ≡ take u.start new

@@ -72,7 +72,7 @@ starts-rise class w body valid i j d le h =
     ∙ get_or-map (behind s) rest (j - i) d d (omega (arith, size, h, le)) in
     omega (arith, ap (λ x. x.offset) at)
 
--- a row's start stands between characters of the body, and no more units or characters before it than the body has bytes
+-- a row's start is a character boundary of the body, with no more units or characters before it than the body has bytes
 pub record IsInBody (body : List ℕ) (s : RowStart) : Type 0 where
   pub boundary : IsCharBoundary body s.offset
   pub units_few : s.units ≤ length body
