@@ -93,7 +93,7 @@ HasKeysOfAll journal events = (front back : List Event) → events ≡ front ++ 
 
 -- ---- the events of a schedule
 
--- a byte's key was applied, unless memory ran out
+-- a byte's key was applied, unless there was no memory to apply it
 abbrev pub is_applied : {A : Type 0} → Result A StepFault → Bool
 is_applied (Err (faults.Session refused.Edit)) = false
 is_applied _ = true

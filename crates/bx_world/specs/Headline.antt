@@ -32,9 +32,9 @@ pub record Follows {A : Type 0} (d : Data) (old : World) (store : StoreState) (s
 -- The headline, for a session's first editor state and the bytes of a journal, if any. The events are the bytes up to the
 -- session's end and the told sizes, each as it was answered. Their keys, after the journal's, are those that the input
 -- grammar gives for all bytes as a whole. The state is the result of the accepted keys and told sizes, in order, from the
--- first state. Each successful save stored the text of its moment. If the session knows the window's size, the last call
--- was accepted and all bytes are read, the terminal shows exactly the picture of that state. Until the session's end, the
--- cursor of that picture is on the cell of its place.
+-- first state. Each successful save stored the text of its moment. If the session was told the window's last size, the
+-- last call was accepted and all bytes are read, the terminal shows exactly the picture of that state. Until the session's
+-- end, the cursor of that picture is on the cell of its place.
 pub record Headline {A : Type 0} (d : Data) (start : Editor) (journal : List ℕ) (store : StoreState) (schedule : List (Step × Result A StepFault))
     (new : World) (store' : StoreState) (events : List Event) : Type 0 where
   pub events_are : AreEvents d start schedule events

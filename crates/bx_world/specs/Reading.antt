@@ -37,9 +37,9 @@ abbrev pub is_window_changed : {A : Type 0} → List (Step × Result A StepFault
 is_window_changed [] = false
 is_window_changed (s ∷ more) = is_change s.0 s.1 || is_window_changed more
 
--- A promised picture is seen once its last byte is read, whatever is queued after it: if the session knew the window's size
--- and no painting was owed, the window has not been resized since, and the terminal has read as many bytes as were unread
--- then, it shows the picture of that moment.
+-- A promised picture is seen once its last byte is read, whatever is queued after it: if the session had been told the
+-- window's last size and no painting was owed, the window has not been resized since, and the terminal has read as many
+-- bytes as were unread then, it shows the picture of that moment.
 abbrev pub SeesPromised : {A : Type 0} → Data → World → List (Step × Result A StepFault) → List ℕ → World → Type 0
 SeesPromised d old schedule read new =
     old.told ≡ true → old.session.painting_owed ≡ false → is_window_changed schedule ≡ false → length read ≡ length (unread old)

@@ -65,7 +65,7 @@ pub record IsAmong (run schedule : Schedule) : Type 0 where
 
 -- ---- the start of a run
 
--- a session at a terminal, before any byte is sent; the session knows the window's size if it is its own
+-- a session at a terminal, before any byte is sent; the window's size counts as told if it is the session's
 abbrev pub begins_at : Session → Terminal → World
 begins_at s t = record {
   session = s;
@@ -76,8 +76,9 @@ begins_at s t = record {
   told = (t.height == s.editor.height) && (t.width == s.editor.width);
 }
 
--- A schedule from that world ends with this session, and the headline holds: if the session knows the window's size, the
--- last call was accepted and all bytes are read, the terminal shows the picture of the start state as changed by the keys.
+-- A schedule from that world ends with this session, and the headline holds: if the session was told the window's last
+-- size, the last call was accepted and all bytes are read, the terminal shows the picture of the start state as changed by
+-- the keys.
 pub record RunsInWindow (d : Data) (b : Beginning) (begun s : Session) (store store' : StoreState) (t : Terminal) (schedule : Schedule)
     : Type 0 where
   pub new : World

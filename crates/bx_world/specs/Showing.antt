@@ -17,7 +17,7 @@ picture_of d s = picture d s.editor s.top
 abbrev pub AfterAll : World → (Terminal → Type 0) → Type 0
 AfterAll w holds = IfSome w.screen (λ t. holds (reads t (unread w)))
 
--- if the session knows the window's size and no painting is owed, the terminal will show the picture of the state
+-- if the session was told the window's last size and no painting is owed, the terminal will show the picture of the state
 abbrev pub WillShow : Data → World → Type 0
 WillShow d w = w.told ≡ true → w.session.painting_owed ≡ false → AfterAll w (λ t. Shows t (picture_of d w.session))
 
@@ -29,8 +29,8 @@ StaysWhole w = AfterAll w IsIdle
 abbrev pub ShowsNow : Data → World → Type 0
 ShowsNow d w = IfSome w.screen (λ t. Shows t (picture_of d w.session))
 
--- if the last call was accepted, the session knows the window's size and all bytes are read, the terminal shows the
--- picture of the state
+-- if the last call was accepted, the session was told the window's last size and all bytes are read, the terminal shows
+-- the picture of the state
 abbrev pub ShowsWhenRead : Bool → Data → World → Type 0
 ShowsWhenRead accepted d w = accepted ≡ true → w.told ≡ true → w.line ≡ [] → w.session.pending ≡ [] → ShowsNow d w
 
@@ -59,7 +59,7 @@ pub record IsInStep (d : Data) (w : World) : Type 0 where
   -- unless a painting is owed, the picture last painted is the state's, and the screen is assumed to show it
   pub state : ShowsState d w.session
   pub cursor : CursorStands d w.session
-  -- if the session knows the window's size, the terminal will show the picture that the screen is assumed to show
+  -- if the session was told the window's last size, the terminal will show the picture that the screen is assumed to show
   pub follows : w.told ≡ true → IfSome w.session.known (λ p. AfterAll w (λ t. Shows t p))
   pub whole : StaysWhole w
   pub screen : IfSome w.screen (λ t. HasSize w.height w.width t × NoRunInSequence t)

@@ -15,7 +15,7 @@ pub record World : Type 0 where
   pub width : ℕ
   -- the terminal, unless memory ran out in it
   pub screen : Option Terminal
-  -- the session was told the window's current size
+  -- the session was told the window's last size
   pub told : Bool
 
 -- a world and its session's tables

@@ -24,7 +24,7 @@ fn is_window(height: u16, width: u16, rows: u16, columns: u16) -> bool
     height == rows && width == columns
 }
 
-/// Whether a window's size is known to the session after a byte; `told`: it was known before.
+/// Whether the session was told the window's last size, after a byte; `told`: before the byte.
 fn is_told_after<D: BidiData + Drop>(
     session: &Session<D>,
     height: u16,

@@ -18,7 +18,7 @@ use std::alloc::Global;
 use std::marker::Model;
 
 /// A session, the bytes in transit to the terminal, the window's size, and the terminal. After any steps, a terminal that
-/// has read all bytes in transit shows the picture last painted, if the session knows the window's size.
+/// has read all bytes in transit shows the picture last painted, if the session was told the window's last size.
 #[derive(Drop)]
 pub struct World<D: BidiData + Drop> {
     pub(crate) session: Session<D>,
@@ -28,7 +28,7 @@ pub struct World<D: BidiData + Drop> {
     pub(crate) height: u16,
     pub(crate) width: u16,
     pub(crate) screen: Screen,
-    // the session was told the window's current size
+    // the session was told the window's last size
     pub(crate) told: bool,
 }
 
@@ -115,7 +115,7 @@ impl<D: BidiData + Drop> World<D> {
         &self.line
     }
 
-    /// Whether the session was told the window's current size.
+    /// Whether the session was told the window's last size.
     pub fn is_told(&self) -> bool
         ensures { result ≡ self.now.world.told }
     {
