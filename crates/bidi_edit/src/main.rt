@@ -1,7 +1,7 @@
 //! A full-screen editor: keys come from standard input, the screen goes to standard output.
 //!
-//! `bidi_edit [--rows N] [--cols N] [--direction auto|ltr|rtl] [--line N] [--text PATH] [--journal PATH] [--replay PATH
-//! [--to PATH]] --classes F --brackets F --mirroring F FILE`. Exit status 0: ended by Quit, or the input ended with nothing
+//! `bidi_edit [--rows N] [--cols N] [--direction auto|ltr|rtl] [--line N] [--text PATH] [--unsaved] [--journal PATH] [--replay
+//! PATH [--to PATH]] --classes F --brackets F --mirroring F FILE`. Exit status 0: ended by Quit, or the input ended with nothing
 //! changed; 1: a fault, which a line on standard error tells; 2: the command line was refused, and standard error tells why.
 #![tactic(auto)]
 

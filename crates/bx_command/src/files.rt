@@ -12,10 +12,24 @@ pub struct Files {
     pub brackets: Vec<u8>,
     /// The bytes of BidiMirroring.txt.
     pub mirroring: Vec<u8>,
-    /// The bytes of the text that is opened; none where no file is there.
+    /// The bytes of the text that is opened; None where FILE is opened and is not there.
     pub text: Option<Vec<u8>>,
     /// The bytes of the keys that are replayed; empty where no journal is named.
     pub keys: Vec<u8>,
+}
+
+/// The bytes of the text that is opened. A text that is named must be there; FILE itself may be made by the first save.
+fn opened_text<'a>(
+    rt: &HostRuntime,
+    options: &Options<'a>,
+) -> Result<Option<Vec<u8>>, FileFault<'a>> {
+    let Some(path) = options.text else {
+        return text_of(rt, options.file);
+    };
+    match text_of(rt, path)? {
+        Some(bytes) => Ok(Some(bytes)),
+        None => Err(FileFault::Unreadable(path)),
+    }
 }
 
 impl Files {
@@ -27,7 +41,7 @@ impl Files {
             classes: bytes_of(rt, options.classes)?,
             brackets: bytes_of(rt, options.brackets)?,
             mirroring: bytes_of(rt, options.mirroring)?,
-            text: text_of(rt, options.text)?,
+            text: opened_text(rt, options)?,
             keys: match options.replay {
                 Some(path) => bytes_of(rt, path)?,
                 None => Vec::new(rt.alloc()),

@@ -6,7 +6,7 @@ ghost use Rattle.bx_terms.specs.Sizes.{is_side};
 use bx_explicit::Base;
 use bx_words::{direction, direction_of, side, side_of, table};
 use clap::error::ErrorKind;
-use clap::{Arg, ArgMatches, Command, value_parser};
+use clap::{Arg, ArgAction, ArgMatches, Command, value_parser};
 use std::alloc::{AllocError, Global};
 use std::convert::AsStr;
 
@@ -25,8 +25,10 @@ pub struct Options<'a> {
     pub mirroring: &'a str,
     /// The path of the file that is edited, where saves go.
     pub file: &'a str,
-    /// The path of the file whose text is opened.
-    pub text: &'a str,
+    /// The path of the file whose text is opened; None where FILE itself is opened.
+    pub text: Option<&'a str>,
+    /// Whether the text counts as changed from the start.
+    pub unsaved: bool,
     /// The path of the journal that the keys are appended to.
     pub journal: Option<&'a str>,
     /// The path of the journal that is replayed.
@@ -54,6 +56,13 @@ fn line<'a>(alloc: Global) -> Arg<'a> {
         .value_parser(value_parser!(u64).range(1..))
 }
 
+/// The flag of a text that counts as changed from the start.
+fn unsaved<'a>(alloc: Global) -> Arg<'a> {
+    Arg::new(alloc, "unsaved")
+        .long("unsaved")
+        .action(ArgAction::SetTrue)
+}
+
 /// The command line that the program takes.
 fn command<'a>(alloc: Global) -> Result<Command<'a>, AllocError> {
     Command::new(alloc, "bidi_edit")
@@ -68,6 +77,7 @@ fn command<'a>(alloc: Global) -> Result<Command<'a>, AllocError> {
         .arg(table(alloc, "mirroring"))?
         .arg(line(alloc))?
         .arg(path(alloc, "text"))?
+        .arg(unsaved(alloc))?
         .arg(path(alloc, "journal"))?
         .arg(path(alloc, "replay"))?
         .arg(path(alloc, "to").requires_arg("replay")?)?
@@ -76,15 +86,15 @@ fn command<'a>(alloc: Global) -> Result<Command<'a>, AllocError> {
 
 /// What clap found; none where it lacks a value or has one that is none of ours.
 fn options_of<'a>(matches: &ArgMatches<'a>) -> Option<Options<'a>> {
-    let file = matches.get_str("file")?;
     Some(Options {
         rows: side_of(matches, "rows")?,
         cols: side_of(matches, "cols")?,
         classes: matches.get_str("classes")?,
         brackets: matches.get_str("brackets")?,
         mirroring: matches.get_str("mirroring")?,
-        file,
-        text: matches.get_str("text").unwrap_or(file),
+        file: matches.get_str("file")?,
+        text: matches.get_str("text"),
+        unsaved: matches.get_flag("unsaved"),
         journal: matches.get_str("journal"),
         replay: matches.get_str("replay"),
         to: matches.get_str("to"),

@@ -40,7 +40,8 @@ fn three_tables_and_file(rt: HostRuntime) -> Result<(), Fail> {
     assert_eq!(rt; options.direction, Base::Auto);
     assert_eq!(rt; (options.classes, options.brackets), ("c", "b"));
     assert_eq!(rt; (options.mirroring, options.file), ("m", "f"));
-    assert_eq!(rt; (options.text, options.line), ("f", None));
+    assert_eq!(rt; (options.text, options.line), (None, None));
+    assert!(rt; !options.unsaved);
     assert_eq!(rt; (options.journal, options.replay), (None, None));
     Ok(())
 }
@@ -52,6 +53,7 @@ fn options_of_a_session_that_goes_on(rt: HostRuntime) -> Result<(), Fail> {
         "--brackets=b",
         "--mirroring=m",
         "--text=t",
+        "--unsaved",
         "--journal=j",
         "--replay=r",
         "--to=o",
@@ -59,7 +61,8 @@ fn options_of_a_session_that_goes_on(rt: HostRuntime) -> Result<(), Fail> {
         "f",
     ];
     let options = command_line(rt.alloc(), &words)?;
-    assert_eq!(rt; (options.file, options.text), ("f", "t"));
+    assert_eq!(rt; (options.file, options.text), ("f", Some("t")));
+    assert!(rt; options.unsaved);
     assert_eq!(rt; (options.journal, options.replay), (Some("j"), Some("r")));
     assert_eq!(rt; (options.to, options.line), (Some("o"), Some(7)));
     Ok(())

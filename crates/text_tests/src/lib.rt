@@ -8,6 +8,8 @@ mod command;
 #[cfg(test)]
 mod counting;
 #[cfg(test)]
+mod journal;
+#[cfg(test)]
 mod paragraphs;
 #[cfg(test)]
 mod pieces;

@@ -1,0 +1,67 @@
+//! The file of a journal that cannot be opened or written, and the files that a session begins with.
+
+use bx_command::{Files, JournalFile, command_line};
+use bx_words::FileFault;
+use std::io::Write;
+use std::path::PathBuf;
+use std::test::Fail;
+use std::{env, fs, process};
+
+/// A path of this process's own in the system's folder for such.
+fn path_of(rt: &HostRuntime, name: &str) -> Result<PathBuf, Fail> {
+    let name = format!(in rt.alloc(); "bx_command-{}-{name}", process::id(rt.process()))?;
+    Ok(env::temp_dir(rt)?.join(rt.alloc(), name.as_str())?)
+}
+
+/// Writes bytes and flushes, and answers whether both went well.
+fn is_kept(journal: &mut JournalFile<'_>, bytes: &[u8]) -> bool {
+    journal.write_all(bytes).is_ok() && journal.flush().is_ok()
+}
+
+#[test]
+fn a_journal_is_opened_again_at_each_write(rt: HostRuntime) -> Result<(), Fail> {
+    let folder = path_of(&rt, "journal")?;
+    let path = folder.join(rt.alloc(), "keys")?;
+    let mut journal = JournalFile::open(rt, Some(path.as_str()));
+    let before = [is_kept(&mut journal, b"a"), is_kept(&mut journal, b"b")];
+    fs::create_dir(&rt, folder.as_path())?;
+    let after = [is_kept(&mut journal, b"c"), is_kept(&mut journal, b"d")];
+    let bytes = fs::read(&rt, path.as_path())?;
+    fs::remove_dir_all(&rt, folder.as_path())?;
+    assert_eq!(rt; (before, after), ([false; 2], [true; 2]));
+    assert_eq!(rt; bytes.as_slice(), b"cd".as_slice());
+    Ok(())
+}
+
+#[test]
+fn a_disk_without_room_takes_no_journal(rt: HostRuntime) {
+    let mut journal = JournalFile::open(rt, Some("/dev/full"));
+    assert!(rt; !is_kept(&mut journal, b"a"));
+    assert!(rt; !is_kept(&mut journal, b"b"));
+}
+
+#[test]
+fn no_journal_takes_all(rt: HostRuntime) {
+    let mut journal = JournalFile::open(rt, None);
+    assert!(rt; is_kept(&mut journal, b"a"));
+}
+
+#[test]
+fn a_text_that_is_named_must_be_there(rt: HostRuntime) -> Result<(), Fail> {
+    let tables = ["--classes=/dev/null", "--brackets=/dev/null"];
+    let mirroring = "--mirroring=/dev/null";
+    let words = [tables[0], tables[1], mirroring, "not here"];
+    let opened = Files::read(&rt, &command_line(rt.alloc(), &words)?)?;
+    assert!(rt; opened.text.is_none());
+    let words = [
+        tables[0],
+        tables[1],
+        mirroring,
+        "--text=no text",
+        "/dev/null",
+    ];
+    let options = command_line(rt.alloc(), &words)?;
+    let refused = Files::read(&rt, &options).map(|_| ());
+    assert_eq!(rt; refused, Err(FileFault::Unreadable("no text")));
+    Ok(())
+}
