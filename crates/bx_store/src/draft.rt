@@ -1,11 +1,12 @@
-//! What is being saved, in a file beside the one that it will replace.
+//! The file that a save is written to, before it gets the name of the file that it replaces.
 
-use crate::target::folder_of;
+use crate::owner::{set_ids, take_place};
+use crate::target::{folder_of, if_found, is_same_file};
 use std::alloc::Global;
-use std::fs::{Metadata, OpenFile, OpenOptions, Permissions};
+use std::fs::{Metadata, OpenFile, OpenOptions};
 use std::io::{self, BufWriter, ErrorKind, Write};
 use std::os::fd::AsFd;
-use std::os::unix::fs::{MetadataExt, OpenOptionsExt, PermissionsExt, fchown};
+use std::os::unix::fs::OpenOptionsExt;
 use std::rt::Files;
 
 /// What the names of a draft add to the file's, in the order in which they are tried.
@@ -28,6 +29,17 @@ pub struct Draft<F: Write + OpenFile + AsFd + Drop> {
     file: BufWriter<F>,
     path: String,
     target: String,
+    /// The permissions that it has once it is whole; 0 where they stay as they are.
+    mode: u32,
+}
+
+/// Makes a file where none is.
+fn make<R: Files>(files: &R, path: &str, mode: u32) -> io::Result<R::File> {
+    OpenOptions::new()
+        .write(true)
+        .create_new(true)
+        .mode(mode)
+        .open(files, path)
 }
 
 /// Makes the first file beside another whose name is free. What has one of the names is the user's, or was left by a save that
@@ -40,12 +52,7 @@ fn make_beside<R: Files>(
 ) -> io::Result<(R::File, String)> {
     for ending in ENDINGS {
         let path = format!(in alloc; "{target}{ending}")?;
-        let file = OpenOptions::new()
-            .write(true)
-            .create_new(true)
-            .mode(mode)
-            .open(files, path.as_str());
-        match file {
+        match make(files, path.as_str(), mode) {
             Ok(file) => return Ok((file, path)),
             Err(error) if error.kind() == ErrorKind::AlreadyExists => {}
             Err(error) => return Err(error),
@@ -54,54 +61,18 @@ fn make_beside<R: Files>(
     Err(ErrorKind::AlreadyExists.into())
 }
 
-/// Gives a new file an owner and a group, and answers whether it has the group. Who is not root may be refused either.
-fn take_owner<F: OpenFile + AsFd>(file: &F, old: &Metadata) -> io::Result<bool> {
-    let new = file.metadata()?;
-    let is_root = new.uid() == 0;
-    let mut has_group = true;
-    if new.gid() != old.gid() {
-        let answer = fchown(file, None, Some(old.gid()));
-        has_group = answer.is_ok();
-        if is_root {
-            answer?;
-        }
-    }
-    if new.uid() != old.uid() {
-        let answer = fchown(file, Some(old.uid()), None);
-        if is_root {
-            answer?;
-        }
-    }
-    Ok(has_group)
-}
-
-/// Permissions in which a group that is not the file's own may do what all others may.
-fn without_group(mode: u32) -> u32 {
-    let others = mode & 0o007;
-    (mode & !0o070) | (others << 3)
-}
-
-/// Gives a new file the owner, the group and the permissions of the one that it will replace.
-fn take_place<F: OpenFile + AsFd>(file: &F, old: &Metadata) -> io::Result<()> {
-    let has_group = take_owner(file, old)?;
-    let mode = if has_group {
-        old.mode()
-    } else {
-        without_group(old.mode())
-    };
-    file.set_permissions(Permissions::from_mode(mode & 0o7777))
-}
-
-/// A buffer in front of a new file, which gets the owner and the permissions of what was last there, if anything was.
+/// A buffer in front of a new file, which gets the owner and the permissions of what was last there, if anything was; and the
+/// permissions that it has once it is whole.
 fn buffered<F: Write + OpenFile + AsFd + Drop>(
     alloc: Global,
     file: F,
     old: Option<&Metadata>,
-) -> io::Result<BufWriter<F>> {
-    if let Some(old) = old {
-        take_place(&file, old)?;
-    }
-    BufWriter::with_capacity(alloc, BUFFER_SIZE, file)
+) -> io::Result<(BufWriter<F>, u32)> {
+    let mode = match old {
+        Some(old) => take_place(&file, old)?,
+        None => 0,
+    };
+    Ok((BufWriter::with_capacity(alloc, BUFFER_SIZE, file)?, mode))
 }
 
 impl<F: Write + OpenFile + AsFd + Drop> Draft<F> {
@@ -119,13 +90,39 @@ impl<F: Write + OpenFile + AsFd + Drop> Draft<F> {
         };
         let (file, path) = make_beside(files, alloc, target.as_str(), mode)?;
         match buffered(alloc, file, old) {
-            Ok(file) => Ok(Draft { file, path, target }),
+            Ok((file, mode)) => Ok(Draft {
+                file,
+                path,
+                target,
+                mode,
+            }),
             Err(error) => {
                 // the fault that is told is the first
                 let _ = files.remove_file(path.as_str());
                 Err(error)
             }
         }
+    }
+
+    /// An empty draft of a file of the program's own, which its owner alone reads. A draft that was left by a save that was cut off
+    /// gives way to it.
+    pub fn of_own<R: Files<File = F>>(files: &R, alloc: Global, target: &str) -> io::Result<Self> {
+        let target = String::from_str(alloc, target)?;
+        let path = format!(in alloc; "{target}.bx")?;
+        if_found(files.remove_file(path.as_str()))?;
+        let file = make(files, path.as_str(), OWNERS_ALONE)?;
+        let (file, mode) = buffered(alloc, file, None)?;
+        Ok(Draft {
+            file,
+            path,
+            target,
+            mode,
+        })
+    }
+
+    /// The path of the file that it replaces.
+    pub fn target(&self) -> &str {
+        self.target.as_str()
     }
 
     /// Puts the next bytes, of which the last ones may wait in the buffer.
@@ -136,11 +133,21 @@ impl<F: Write + OpenFile + AsFd + Drop> Draft<F> {
     /// Writes what waits, and puts all on the disk.
     pub fn sync(&mut self) -> io::Result<()> {
         self.file.flush()?;
+        set_ids(self.file.get_ref(), self.mode)?;
         self.file.get_ref().sync_all()
+    }
+
+    /// Whether its path still leads to it: a folder of the path may be another by now.
+    fn is_at_its_path<R: Files<File = F>>(&self, files: &R) -> io::Result<bool> {
+        let found = files.symlink_metadata(self.path.as_str())?;
+        Ok(is_same_file(&found, &self.metadata()?))
     }
 
     /// Takes the place of the file that it replaces.
     pub fn replace<R: Files<File = F>>(&self, files: &R) -> io::Result<()> {
+        if !self.is_at_its_path(files)? {
+            return Err(ErrorKind::NotFound.into());
+        }
         files.rename(self.path.as_str(), self.target.as_str())
     }
 
@@ -159,14 +166,18 @@ impl<F: Write + OpenFile + AsFd + Drop> Draft<F> {
 
     /// Takes away a draft that replaces nothing.
     pub fn remove<R: Files<File = F>>(self, files: &R) {
+        let is_there = matches!(&self.is_at_its_path(files), Ok(true));
         let Draft {
             file,
             path,
             target: _,
+            mode: _,
         } = self;
         // what waits is written no more
         let _ = file.into_parts();
-        // the fault that ended it is told already
-        let _ = files.remove_file(path.as_str());
+        if is_there {
+            // the fault that ended it is told already
+            let _ = files.remove_file(path.as_str());
+        }
     }
 }

@@ -31,6 +31,17 @@ where
     failures: u64,
 }
 
+/// The file that a path leads to, as it is now; None where nothing is there, or what is there cannot be looked at.
+///
+/// Errors: a fault where there is no memory for the path.
+fn seen_at<R: Files>(files: &R, alloc: Global, path: &str) -> Result<Option<Metadata>, StoreFault> {
+    let found = target_of(files, alloc, path).and_then(|target| find(files, target.as_str()));
+    match found {
+        Err(error) if error.kind() == ErrorKind::OutOfMemory => Err(StoreFault),
+        answer => Ok(answer.unwrap_or(None)),
+    }
+}
+
 impl<'a, R: Files> FileStore<'a, R>
 where
     R::File: AsFd,
@@ -42,19 +53,19 @@ where
         Ok(FileStore {
             files,
             path: String::from_str(alloc, path)?,
-            // what cannot be looked at was not seen
-            seen: find(files, path).unwrap_or(None),
+            seen: seen_at(files, alloc, path)?,
             draft: None,
             failures: 0,
         })
     }
 
-    /// Looks whether the file is as it was last seen, or gone; what is there now is seen.
-    fn look(&mut self) -> io::Result<()>
+    /// Finds the file that the path leads to, and looks whether it is as it was last seen, or gone; what is there now is seen.
+    fn look(&mut self) -> io::Result<String>
         ensures { self.new.failures ≡ self.old.failures }
     {
-        let Some(found) = find(self.files, self.path.as_str())? else {
-            return Ok(());
+        let target = target_of(self.files, *self.path.allocator(), self.path.as_str())?;
+        let Some(found) = find(self.files, target.as_str())? else {
+            return Ok(target);
         };
         if !found.is_file() {
             return Err(ErrorKind::InvalidInput.into());
@@ -65,7 +76,7 @@ where
         };
         self.seen = Some(found);
         if is_known {
-            Ok(())
+            Ok(target)
         } else {
             Err(ErrorKind::AlreadyExists.into())
         }
@@ -75,10 +86,20 @@ where
     fn open_draft(&mut self) -> io::Result<Draft<R::File>>
         ensures { self.new.failures ≡ self.old.failures }
     {
-        self.look()?;
+        let target = self.look()?;
         let alloc = *self.path.allocator();
-        let target = target_of(self.files, alloc, self.path.as_str())?;
         Draft::beside(self.files, alloc, target, self.seen.as_ref())
+    }
+
+    /// Looks once more, where the path must lead to the same place: a folder or a link in it may be another by now.
+    fn look_again(&mut self, target: &str) -> io::Result<()>
+        ensures { self.new.failures ≡ self.old.failures }
+    {
+        if self.look()?.as_str() == target {
+            Ok(())
+        } else {
+            Err(ErrorKind::NotFound.into())
+        }
     }
 
     /// Gives a draft the place of the file, if that is still as it was seen.
@@ -86,7 +107,7 @@ where
         ensures { self.new.failures ≡ self.old.failures }
     {
         draft.sync()?;
-        self.look()?;
+        self.look_again(draft.target())?;
         draft.replace(self.files)?;
         self.seen = draft.metadata().ok();
         // the file is replaced, whatever comes of its folder

@@ -4,6 +4,7 @@
 mod draft;
 mod file_store;
 mod memory_store;
+mod owner;
 mod store;
 mod target;
 

@@ -10,8 +10,8 @@ use std::rt::Files;
 /// How many links the system follows from one name.
 const MOST_LINKS: u32 = 40;
 
-/// The path without an error where nothing is there.
-fn if_found<T>(answer: io::Result<T>) -> io::Result<Option<T>> {
+/// An answer without an error where nothing is there.
+pub fn if_found<T>(answer: io::Result<T>) -> io::Result<Option<T>> {
     match answer {
         Ok(found) => Ok(Some(found)),
         Err(error) if error.kind() == ErrorKind::NotFound => Ok(None),
@@ -19,25 +19,30 @@ fn if_found<T>(answer: io::Result<T>) -> io::Result<Option<T>> {
     }
 }
 
-/// What is at a path, where links are followed; None where nothing is.
+/// The file at a path, or the link if it is one; None where nothing is.
 pub fn find<R: Files>(files: &R, path: &str) -> io::Result<Option<Metadata>> {
-    if_found(files.metadata(path))
+    if_found(files.symlink_metadata(path))
+}
+
+/// The folder of a path, and the name in it.
+fn parts_of(path: &str) -> (&str, &str) {
+    match path.rsplit_once('/') {
+        Some(("", name)) => ("/", name),
+        Some((folder, name)) => (folder, name),
+        None => (".", path),
+    }
 }
 
 /// The folder in which a path is.
 pub fn folder_of(path: &str) -> &str {
-    match path.rsplit_once('/') {
-        Some(("", _)) => "/",
-        Some((folder, _)) => folder,
-        None => ".",
-    }
+    parts_of(path).0
 }
 
-/// What links that lead nowhere name in the end; the path itself where it is no link.
+/// The path that links name in the end which lead nowhere; the path itself where it is no link.
 fn end_of_links<R: Files>(files: &R, alloc: Global, path: &str) -> io::Result<String> {
     let mut path = String::from_str(alloc, path)?;
     for _ in 0..MOST_LINKS {
-        match if_found(files.symlink_metadata(path.as_str()))? {
+        match find(files, path.as_str())? {
             Some(metadata) if metadata.is_symlink() => {
                 let link = files.read_link(alloc, path.as_str())?;
                 let folder = Path::new(folder_of(path.as_str()));
@@ -49,21 +54,35 @@ fn end_of_links<R: Files>(files: &R, alloc: Global, path: &str) -> io::Result<St
     Err(ErrorKind::FilesystemLoop.into())
 }
 
+/// A path of which nothing is there but the folder, with no link in it.
+fn in_its_folder<R: Files>(files: &R, alloc: Global, path: &str) -> io::Result<String> {
+    let (folder, name) = parts_of(path);
+    let folder = files.canonicalize(alloc, folder)?;
+    Ok(folder.as_path().join(alloc, name)?.into_string())
+}
+
 /// The path, with no link in it, of the file that a path leads to. Where nothing is there, the path that a file is made at.
 pub fn target_of<R: Files>(files: &R, alloc: Global, path: &str) -> io::Result<String> {
     match if_found(files.canonicalize(alloc, path))? {
         Some(target) => Ok(target.into_string()),
-        None => end_of_links(files, alloc, path),
+        None => {
+            let end = end_of_links(files, alloc, path)?;
+            in_its_folder(files, alloc, end.as_str())
+        }
     }
+}
+
+/// Whether two looks saw one file, changed or not.
+pub fn is_same_file(old: &Metadata, new: &Metadata) -> bool {
+    old.dev() == new.dev() && old.ino() == new.ino()
 }
 
 /// Whether two looks saw the same file with no change between them: its contents, its owner, its permissions and its names.
 pub fn is_unchanged(old: &Metadata, new: &Metadata) -> bool {
-    let is_same_file = old.dev() == new.dev() && old.ino() == new.ino();
     let is_as_written = old.size() == new.size()
         && old.mtime() == new.mtime()
         && old.mtime_nsec() == new.mtime_nsec();
-    is_same_file
+    is_same_file(old, new)
         && is_as_written
         && old.ctime() == new.ctime()
         && old.ctime_nsec() == new.ctime_nsec()
