@@ -31,6 +31,8 @@ pub struct Options<'a> {
     pub unsaved: bool,
     /// The path of the journal that the keys are appended to.
     pub journal: Option<&'a str>,
+    /// The path of the file that has the whole text while a save writes FILE itself; None where saves replace FILE.
+    pub in_place: Option<&'a str>,
     /// The path of the journal that is replayed.
     pub replay: Option<&'a str>,
     /// The path where the replayed text is stored, with no terminal.
@@ -63,6 +65,15 @@ fn unsaved<'a>(alloc: Global) -> Arg<'a> {
         .action(ArgAction::SetTrue)
 }
 
+/// The option of saves that write FILE itself. The journal, which has the text too, outlives a save that is cut off.
+fn in_place<'a>(alloc: Global) -> Result<Arg<'a>, AllocError> {
+    Arg::new(alloc, "in-place")
+        .long("in-place")
+        .value_name("MARK")
+        .requires_arg("journal")?
+        .conflicts_with("to")
+}
+
 /// The command line that the program takes.
 fn command<'a>(alloc: Global) -> Result<Command<'a>, AllocError> {
     Command::new(alloc, "bidi_edit")
@@ -79,6 +90,7 @@ fn command<'a>(alloc: Global) -> Result<Command<'a>, AllocError> {
         .arg(path(alloc, "text"))?
         .arg(unsaved(alloc))?
         .arg(path(alloc, "journal"))?
+        .arg(in_place(alloc)?)?
         .arg(path(alloc, "replay"))?
         .arg(path(alloc, "to").requires_arg("replay")?)?
         .arg(Arg::new(alloc, "file").value_name("FILE").required(true))
@@ -96,6 +108,7 @@ fn options_of<'a>(matches: &ArgMatches<'a>) -> Option<Options<'a>> {
         text: matches.get_str("text"),
         unsaved: matches.get_flag("unsaved"),
         journal: matches.get_str("journal"),
+        in_place: matches.get_str("in-place"),
         replay: matches.get_str("replay"),
         to: matches.get_str("to"),
         line: matches.get_one::<u64>("line"),

@@ -3,8 +3,10 @@
 
 mod draft;
 mod file_store;
+mod in_place;
 mod memory_store;
 mod owner;
+mod saving;
 mod store;
 mod target;
 

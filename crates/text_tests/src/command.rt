@@ -43,6 +43,7 @@ fn three_tables_and_file(rt: HostRuntime) -> Result<(), Fail> {
     assert_eq!(rt; (options.text, options.line), (None, None));
     assert!(rt; !options.unsaved);
     assert_eq!(rt; (options.journal, options.replay), (None, None));
+    assert_eq!(rt; options.in_place, None);
     Ok(())
 }
 
@@ -65,6 +66,35 @@ fn options_of_a_session_that_goes_on(rt: HostRuntime) -> Result<(), Fail> {
     assert!(rt; options.unsaved);
     assert_eq!(rt; (options.journal, options.replay), (Some("j"), Some("r")));
     assert_eq!(rt; (options.to, options.line), (Some("o"), Some(7)));
+    Ok(())
+}
+
+#[test]
+fn saves_into_the_file_itself_want_a_journal(rt: HostRuntime) -> Result<(), Fail> {
+    let tables = ["--classes=c", "--brackets=b", "--mirroring=m"];
+    let journal = "--journal=j";
+    let mark = "--in-place=k";
+    let words = [tables[0], tables[1], tables[2], journal, mark, "f"];
+    assert_eq!(rt; command_line(rt.alloc(), &words)?.in_place, Some("k"));
+    assert_eq!(rt;
+        refusal_of_option(rt.alloc(), "--in-place", "k"),
+        Some(ErrorKind::MissingRequiredArgument)
+    );
+    let to = "--to=o";
+    let words = [
+        tables[0],
+        tables[1],
+        tables[2],
+        journal,
+        mark,
+        "--replay=r",
+        to,
+        "f",
+    ];
+    assert_eq!(rt;
+        refusal(rt.alloc(), &words),
+        Some(ErrorKind::ArgumentConflict)
+    );
     Ok(())
 }
 

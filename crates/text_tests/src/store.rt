@@ -149,3 +149,54 @@ fn a_draft_takes_the_place_of_no_file(rt: HostRuntime) -> Result<(), Fail> {
     assert_eq!(rt; text.as_slice(), b"old".as_slice());
     Ok(())
 }
+
+#[test]
+fn a_store_that_distrusts_fails_once(rt: HostRuntime) -> Result<(), Fail> {
+    let path = path_of(&rt, "distrusted")?;
+    fs::write(&rt, path.as_path(), b"old")?;
+    let mut store = FileStore::new(&rt, rt.alloc(), path.as_str())?;
+    store.distrust();
+    let first = save(&mut store, b"new", b"");
+    let second = save(&mut store, b"new", b"");
+    let text = fs::read(&rt, path.as_path())?;
+    fs::remove_file(&rt, path.as_path())?;
+    assert_eq!(rt; (first, second), (Err(StoreFault), Ok(())));
+    assert_eq!(rt; text.as_slice(), b"new".as_slice());
+    Ok(())
+}
+
+#[test]
+fn a_file_that_is_written_itself_keeps_its_names(rt: HostRuntime) -> Result<(), Fail> {
+    let path = path_of(&rt, "itself")?;
+    let other = path_of(&rt, "itself-too")?;
+    let mark = path_of(&rt, "mark")?;
+    fs::write(&rt, path.as_path(), b"longer than what is saved")?;
+    fs::hard_link(&rt, path.as_path(), other.as_path())?;
+    let mut store = FileStore::in_place(&rt, rt.alloc(), path.as_str(), mark.as_str())?;
+    save(&mut store, b"a", b"b")?;
+    let first = fs::read(&rt, other.as_path())?;
+    // by its other name, which is a change by another program
+    fs::write(&rt, other.as_path(), b"theirs")?;
+    let outcomes = [
+        save(&mut store, b"c", b"").is_ok(),
+        save(&mut store, b"c", b"").is_ok(),
+    ];
+    let second = fs::read(&rt, other.as_path())?;
+    let is_left = fs::metadata(&rt, mark.as_path()).is_ok();
+    fs::remove_file(&rt, path.as_path())?;
+    // what is gone is made anew
+    save(&mut store, b"d", b"")?;
+    let texts = [
+        fs::read(&rt, path.as_path())?,
+        fs::read(&rt, other.as_path())?,
+    ];
+    fs::remove_file(&rt, path.as_path())?;
+    fs::remove_file(&rt, other.as_path())?;
+    assert_eq!(rt; first.as_slice(), b"ab".as_slice());
+    assert_eq!(rt; outcomes, [false, true]);
+    assert_eq!(rt; second.as_slice(), b"c".as_slice());
+    assert!(rt; !is_left);
+    assert_eq!(rt; texts[0].as_slice(), b"d".as_slice());
+    assert_eq!(rt; texts[1].as_slice(), b"c".as_slice());
+    Ok(())
+}

@@ -27,6 +27,7 @@ fn outcome<'a>(
         text: None,
         unsaved: false,
         journal: None,
+        in_place: None,
         replay: None,
         to: None,
         line: None,
