@@ -1,25 +1,28 @@
 //! A full-screen editor: keys come from standard input, the screen goes to standard output.
 //!
-//! `bidi_edit [--rows N] [--cols N] [--direction auto|ltr|rtl] [--line N] [--text PATH] [--unsaved] [--journal PATH] [--replay
-//! PATH [--to PATH]] --classes F --brackets F --mirroring F FILE`. Exit status 0: ended by Quit, or the input ended with nothing
-//! changed; 1: a fault, which a line on standard error tells; 2: the command line was refused, and standard error tells why.
+//! `bidi_edit [--rows N] [--cols N] [--direction auto|ltr|rtl] [--line N] [--text PATH] [--unsaved] [--journal PATH [--in-place
+//! MARK]] [--replay PATH [--to PATH]] --classes F --brackets F --mirroring F FILE`. Exit status 0: ended by Quit, or the input
+//! ended with nothing changed; 1: a fault, which a line on standard error tells; 2: the command line was refused, and standard
+//! error tells why.
 #![tactic(auto)]
 
 mod beginning;
 mod edit;
 mod exit;
 mod fault;
+mod foreign;
 mod recover;
 mod replaying;
 
 use beginning::Beginning;
 use bx_command::{Files, JournalFile, Options, command_line, empty_journal};
 use bx_session::{Recorder, WrittenJournal};
-use bx_store::{FileStore, Store};
+use bx_store::{FileStore, Store, StoreFault};
 use bx_words::{refuse, refuse_words, text_of};
 use edit::{Changes, edit};
 use exit::{finish, tell_lost_journal};
 use fault::ProgramFault;
+use foreign::is_foreign;
 use recover::recover;
 use std::env;
 use std::io::{self, Read, Write};
@@ -73,6 +76,60 @@ fn recover_to<'a, W: Write, S: Store>(
     }
 }
 
+/// What a session over these files begins with.
+fn beginning_of<'a>(
+    options: &Options<'_>,
+    files: &'a Files,
+    text: Option<Vec<u8>>,
+) -> Beginning<'a> {
+    Beginning {
+        unicode: files.unicode(),
+        text,
+        rows: options.rows,
+        cols: options.cols,
+        direction: options.direction,
+        line: options.line,
+        keys: files.keys.as_slice(),
+    }
+}
+
+/// The store that saves go to.
+fn store_of<'a>(
+    rt: &'a HostRuntime,
+    options: &Options<'_>,
+) -> Result<FileStore<'a, HostRuntime>, StoreFault> {
+    match options.in_place {
+        Some(mark) => FileStore::in_place(rt, rt.alloc(), options.file, mark),
+        None => FileStore::new(rt, rt.alloc(), options.to.unwrap_or(options.file)),
+    }
+}
+
+/// Whether FILE may have been changed since the text that is opened was taken from it.
+fn is_changed(
+    rt: &HostRuntime,
+    options: &Options<'_>,
+    files: &Files,
+) -> Result<bool, ProgramFault<'static>> {
+    if options.text.is_none() || options.to.is_some() {
+        return Ok(false);
+    }
+    let Ok(held) = text_of(rt, options.file) else {
+        return Ok(true);
+    };
+    let (Some(held), Some(text)) = (held, &files.text) else {
+        return Ok(false);
+    };
+    if held.as_slice() == text.as_slice() {
+        return Ok(false);
+    }
+    let text = Vec::from_slice(rt.alloc(), text.as_slice())?;
+    is_foreign(
+        rt.alloc(),
+        beginning_of(options, files, Some(text)),
+        held.as_slice(),
+    )
+}
+
 /// Does what the command line asks for.
 fn program<'a, R: Read + Drop, W: Write>(
     rt: &HostRuntime,
@@ -81,19 +138,13 @@ fn program<'a, R: Read + Drop, W: Write>(
     writer: &mut W,
 ) -> Result<(), ProgramFault<'a>> {
     // before the reading, so that what another program changes in between is seen at the first save
-    let path = options.to.unwrap_or(options.file);
-    let mut store = FileStore::new(rt, rt.alloc(), path)?;
+    let mut store = store_of(rt, options)?;
     let mut files = Files::read(rt, options)?;
+    if is_changed(rt, options, &files)? {
+        store.distrust();
+    }
     let text = files.text.take();
-    let beginning = Beginning {
-        unicode: files.unicode(),
-        text,
-        rows: options.rows,
-        cols: options.cols,
-        direction: options.direction,
-        line: options.line,
-        keys: files.keys.as_slice(),
-    };
+    let beginning = beginning_of(options, &files, text);
     match options.to {
         None => edit_file(rt, options, beginning, reader, writer, &mut store),
         Some(_) => recover_to(rt, options, beginning, writer, &mut store),
