@@ -8,7 +8,7 @@ use Rattle.bx_session.specs.Session.{Session, SessionState, after_replaying, at_
 use Rattle.bx_session.specs.Saving.{StoreState, with_text}
 use Rattle.bx_session.specs.Painting.{QueuesPicture}
 use Rattle.bx_session.specs.Journal.{RecorderState, RunsRecorded}
-use Rattle.bx_session.specs.Beginning.{after_going_to}
+use Rattle.bx_session.specs.Beginning.{after_going_to, changed_if}
 use Rattle.bidi_edit.specs.declared.edit.Changes.{Changes}
 use Rattle.bidi_edit.specs.declared.edit.Changes.TheVariants.{Saved}
 use Rattle.bidi_edit.specs.Run.{AreOfFiles, Edits, IsOpened, Recovers, begins_with, bytes_of}
@@ -20,25 +20,26 @@ bytes_or_none None none result empty is = ap (λ (v : Vec ℕ). vec_items v) is 
 bytes_or_none (Some bytes) none result empty is = ap (λ (v : Vec ℕ). vec_items v) is
 
 pub opened_is : {D : Type 0} (says : D → Data) (tables : D) (first new : SessionState D) (text text' : List ℕ) (height width : ℕ) (base : Base)
-    (offset : Option ℕ) (classes brackets mirroring : List ℕ) → AreOfFiles (says tables) classes brackets mirroring
+    (unsaved : Bool) (offset : Option ℕ) (classes brackets mirroring : List ℕ) → AreOfFiles (says tables) classes brackets mirroring
     → first ≡ record { tables = tables; session = at_opening (says tables) text' height width base }
     → QueuesPicture (says tables) [] None first.session → text' ≡ text
-    → new ≡ record first { session = after_going_to (says first.tables) first.session offset }
-    → (offset' : Option ℕ) × AreOfFiles (says new.tables) classes brackets mirroring × IsOpened (says new.tables) text height width base offset' new.session
-opened_is {D} says tables first new text text' height width base offset classes brackets mirroring are is queued same gone =
+    → new ≡ record first { session = changed_if unsaved (after_going_to (says first.tables) first.session offset) }
+    → (offset' : Option ℕ) × AreOfFiles (says new.tables) classes brackets mirroring
+    × IsOpened (says new.tables) (begins_with text height width base unsaved [] offset') new.session
+opened_is {D} says tables first new text text' height width base unsaved offset classes brackets mirroring are is queued same gone =
     let stays : first.tables ≡ tables = ap (λ (x : SessionState D). x.tables) is in
     let kept : new.tables ≡ tables = ap (λ (x : SessionState D). x.tables) gone ∙ stays in
     let begins : first.session ≡ at_opening (says tables) text height width base =
     ap (λ (x : SessionState D). x.session) is ∙ ap (λ (t : List ℕ). at_opening (says tables) t height width base) same in
-    let opened : IsOpened (says tables) text height width base offset new.session = record {
+    let opened : IsOpened (says tables) (begins_with text height width base unsaved [] offset) new.session = record {
       session = ap (λ (x : SessionState D). x.session) gone
-          ∙ ap (λ (t : D). after_going_to (says t) first.session offset) stays
-          ∙ ap (λ (s : Session). after_going_to (says tables) s offset) begins;
+          ∙ ap (λ (t : D). changed_if unsaved (after_going_to (says t) first.session offset)) stays
+          ∙ ap (λ (s : Session). changed_if unsaved (after_going_to (says tables) s offset)) begins;
       paints = subst (QueuesPicture (says tables) [] None) begins queued;
     } in (
       offset,
       subst (λ (t : D). AreOfFiles (says t) classes brackets mirroring) (sym kept) are,
-      subst (λ (t : D). IsOpened (says t) text height width base offset new.session) (sym kept) opened,
+      subst (λ (t : D). IsOpened (says t) (begins_with text height width base unsaved [] offset) new.session) (sym kept) opened,
     )
 
 -- ---- going on
@@ -74,17 +75,17 @@ runs_again {D} says contents failures old mid painted keys new store store' read
 -- ---- a whole run
 
 pub edits_of : {J E : Type 0} (contents : J → Option (List ℕ)) (failures : J → ℕ) (d : Data) (text : List ℕ) (height width : ℕ) (base : Base)
-    (keys classes brackets mirroring : List ℕ) (s new : Session) (store store' : StoreState) (reader reader' writer writer' : Option (List ℕ))
+    (unsaved : Bool) (keys classes brackets mirroring : List ℕ) (s new : Session) (store store' : StoreState) (reader reader' writer writer' : Option (List ℕ))
     (journal journal' : RecorderState J) (r : Result Changes E)
-    → (offset : Option ℕ) × AreOfFiles d classes brackets mirroring × IsOpened d text height width base offset s
+    → (offset : Option ℕ) × AreOfFiles d classes brackets mirroring × IsOpened d (begins_with text height width base unsaved [] offset) s
     → OnOk r (QueuesPicture d (after_replaying d s keys).pending (after_replaying d s keys).known (with_painting d (after_replaying d s keys)))
     → OnOk r (RunsRecorded contents failures d (with_painting d (after_replaying d s keys)) new store store' reader reader' writer writer' journal journal')
     → (r ≡ Ok Saved → new.editor.changed ≡ false)
-    → IfOk r (λ changes. Edits contents failures (λ offset. begins_with text height width base offset keys) classes brackets mirroring store store'
+    → IfOk r (λ changes. Edits contents failures (begins_with text height width base unsaved keys) classes brackets mirroring store store'
     reader reader' writer writer' journal journal' changes)
-edits_of contents failures d text height width base keys classes brackets mirroring s new store store' reader reader' writer writer' journal journal'
+edits_of contents failures d text height width base unsaved keys classes brackets mirroring s new store store' reader reader' writer writer' journal journal'
     (Err fault) opened paints runs saved = tt
-edits_of contents failures d text height width base keys classes brackets mirroring s new store store' reader reader' writer writer' journal journal'
+edits_of contents failures d text height width base unsaved keys classes brackets mirroring s new store store' reader reader' writer writer' journal journal'
     (Ok changes) opened paints runs saved =
     let is = opened.2.session in record {
       tables = d;
@@ -101,12 +102,12 @@ edits_of contents failures d text height width base keys classes brackets mirror
       saved = λ e. saved (ap Ok e);
     }
 
-pub recovers_of : {A E : Type 0} (d : Data) (text : List ℕ) (height width : ℕ) (base : Base) (keys classes brackets mirroring : List ℕ) (s : Session)
-    (store store' : StoreState) (r : Result A E) → (offset : Option ℕ) × AreOfFiles d classes brackets mirroring × IsOpened d text height width base offset s
+pub recovers_of : {A E : Type 0} (d : Data) (text : List ℕ) (height width : ℕ) (base : Base) (unsaved : Bool) (keys classes brackets mirroring : List ℕ) (s : Session)
+    (store store' : StoreState) (r : Result A E) → (offset : Option ℕ) × AreOfFiles d classes brackets mirroring × IsOpened d (begins_with text height width base unsaved [] offset) s
     → OnOk r (store' ≡ with_text (after_replaying d s keys).editor.content.text store)
-    → OnOk r (Recovers (λ offset. begins_with text height width base offset keys) classes brackets mirroring store store')
-recovers_of d text height width base keys classes brackets mirroring s store store' (Err fault) opened stored = tt
-recovers_of d text height width base keys classes brackets mirroring s store store' (Ok done) opened stored = record {
+    → OnOk r (Recovers (begins_with text height width base unsaved keys) classes brackets mirroring store store')
+recovers_of d text height width base unsaved keys classes brackets mirroring s store store' (Err fault) opened stored = tt
+recovers_of d text height width base unsaved keys classes brackets mirroring s store store' (Ok done) opened stored = record {
   tables = d;
   offset = opened.0;
   answers = opened.1;

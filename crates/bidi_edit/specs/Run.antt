@@ -1,6 +1,6 @@
 -- What a run of the program begins from, and what it leaves.
 use Rattle.std.specs.Global.{Vec}
-use Rattle.std.specs.Prelude.{◌≡◌, ℕ, false, List, [], Option, Some, None, vec_items}
+use Rattle.std.specs.Prelude.{◌≡◌, ℕ, Bool, false, List, [], Option, Some, None, vec_items}
 use Rattle.bx_explicit.specs.declared.base.Base.{Base}
 use Rattle.bx_ucd.specs.Reading.{refusal, class_in_file, bracket_in_file, mirror_in_file}
 use Rattle.bx_ucd.specs.Data.{Data}
@@ -19,17 +19,10 @@ pub record AreOfFiles (d : Data) (classes brackets mirroring : List ℕ) : Type 
   pub brackets_are : (code : ℕ) → d.bracket code ≡ bracket_in_file brackets code
   pub mirrors_are : (code : ℕ) → d.mirror code ≡ mirror_in_file mirroring code
 
--- a session that was opened with a text in a window, with the cursor sent to an offset, if any
-pub record IsOpened (d : Data) (text : List ℕ) (height width : ℕ) (base : Base) (offset : Option ℕ) (s : Session) : Type 0 where
-  pub session : s ≡ at_offset d (record {
-    text = text;
-    height = height;
-    width = width;
-    base = base;
-    offset = offset;
-    journal = [];
-  })
-  pub paints : QueuesPicture d [] None (at_opening d text height width base)
+-- a session that begins so was opened: its journal is not replayed yet
+pub record IsOpened (d : Data) (b : Beginning) (s : Session) : Type 0 where
+  pub session : s ≡ at_offset d b
+  pub paints : QueuesPicture d [] None (at_opening d b.text b.height b.width b.base)
 
 -- a file that is not there is an empty text
 abbrev pub bytes_of : Option (Vec ℕ) → List ℕ
@@ -37,13 +30,14 @@ bytes_of None = []
 bytes_of (Some bytes) = vec_items bytes
 
 -- what a session begins from, with the bytes of a journal
-abbrev pub begins_with : List ℕ → ℕ → ℕ → Base → Option ℕ → List ℕ → Beginning
-begins_with text height width base offset journal = record {
+abbrev pub begins_with : List ℕ → ℕ → ℕ → Base → Bool → List ℕ → Option ℕ → Beginning
+begins_with text height width base unsaved journal offset = record {
   text = text;
   height = height;
   width = width;
   base = base;
   offset = offset;
+  unsaved = unsaved;
   journal = journal;
 }
 

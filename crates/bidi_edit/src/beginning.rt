@@ -1,9 +1,9 @@
 //! What a session begins with.
 
-ghost use Rattle.std.specs.Prelude.{◌≡◌, ℕ, IfOk, OnOk, Option, true};
+ghost use Rattle.std.specs.Prelude.{◌≡◌, [], ℕ, IfOk, OnOk, Option, true};
 ghost use Rattle.bx_terms.specs.Sizes.{is_side};
-ghost use Rattle.bx_session.specs.Beginning.{after_going_to};
-ghost use Rattle.bidi_edit.specs.Run.{AreOfFiles, IsOpened, bytes_of};
+ghost use Rattle.bx_session.specs.Beginning.{after_going_to, changed_if};
+ghost use Rattle.bidi_edit.specs.Run.{AreOfFiles, IsOpened, begins_with, bytes_of};
 
 use crate::fault::ProgramFault;
 use bx_command::start_of_line;
@@ -27,6 +27,8 @@ pub struct Beginning<'a> {
     pub direction: Base,
     /// The line that the cursor goes to, from 1.
     pub line: Option<u64>,
+    /// Whether the text counts as changed from the start.
+    pub unsaved: bool,
     /// The bytes of the keys that are replayed then.
     pub keys: &'a [u8],
     ghost has_rows: { is_side rows ≡ true },
@@ -42,9 +44,11 @@ pub fn open(
 ) -> Result<Session<Tables>, ProgramFault<'static>>
     ensures begins { IfOk result (λ s. (offset : Option ℕ)
         × AreOfFiles (⟦<Tables as BidiData>⟧.data s.tables) beginning.entry.unicode.classes.now beginning.entry.unicode.brackets.now beginning.entry.unicode.mirroring.now
-        × IsOpened (⟦<Tables as BidiData>⟧.data s.tables) (bytes_of beginning.entry.text) beginning.entry.rows beginning.entry.cols beginning.entry.direction offset s.session) }
+        × IsOpened (⟦<Tables as BidiData>⟧.data s.tables) (begins_with (bytes_of beginning.entry.text) beginning.entry.rows beginning.entry.cols beginning.entry.direction
+            beginning.entry.unsaved [] offset) s.session) }
 {
     let (rows, cols, direction) = (beginning.rows, beginning.cols, beginning.direction);
+    let unsaved = beginning.unsaved;
     let unicode = beginning.unicode;
     let tables = Tables::read(alloc, unicode.classes, unicode.brackets, unicode.mirroring)?;
     let text = beginning.text.unwrap_or(Vec::new(alloc));
@@ -52,21 +56,25 @@ pub fn open(
         .line
         .map(|line| start_of_line(text.as_slice(), line));
     let mut session = Session::open(alloc, text, tables, rows, cols, direction)?;
-    go_to(&mut session, start)?;
+    prepare(&mut session, start, unsaved)?;
     Ok(session)
 }
 
-/// Sends the cursor to an offset, if there is one.
-fn go_to<D: BidiData + Drop>(
+/// Sends the cursor to an offset, if there is one, and counts the text as changed where it is unsaved.
+fn prepare<D: BidiData + Drop>(
     session: &mut Session<D>,
     offset: Option<usize>,
+    unsaved: bool,
 ) -> Result<(), ProgramFault<'static>>
     ensures { OnOk result (session.new ≡ record session.old {
-      session = after_going_to (D.data session.old.tables) session.old.session offset;
+      session = changed_if unsaved (after_going_to (D.data session.old.tables) session.old.session offset);
     }) }
 {
-    match offset {
-        Some(offset) => Ok(session.go_to(offset)?),
-        None => Ok(()),
+    if let Some(offset) = offset {
+        session.go_to(offset)?;
     }
+    if unsaved {
+        session.count_as_changed();
+    }
+    Ok(())
 }

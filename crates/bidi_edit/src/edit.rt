@@ -83,7 +83,7 @@ pub fn edit<R: Read, J: Journal + Drop, W: Write, S: Store>(
     beginning: Beginning<'_>,
 ) -> Result<Changes, ProgramFault<'static>>
     ensures edits { IfOk result (λ changes. Edits J.contents J.failure_count
-        (λ offset. begins_with (bytes_of beginning.entry.text) beginning.entry.rows beginning.entry.cols beginning.entry.direction offset beginning.entry.keys.now)
+        (begins_with (bytes_of beginning.entry.text) beginning.entry.rows beginning.entry.cols beginning.entry.direction beginning.entry.unsaved beginning.entry.keys.now)
         beginning.entry.unicode.classes.now beginning.entry.unicode.brackets.now beginning.entry.unicode.mirroring.now
         (store_state S.contents S.failure_count store.old) (store_state S.contents S.failure_count store.new)
         (R.remaining reader.old) (R.remaining reader.new) (W.contents writer.old) (W.contents writer.new) recorder.old recorder.new changes) }

@@ -41,7 +41,7 @@ fn edit_file<'a, R: Read + Drop, W: Write, S: Store>(
     store: &mut S,
 ) -> Result<(), ProgramFault<'a>> {
     let journal = JournalFile::open(*rt, options.journal);
-    let mut recorder = Recorder::new(WrittenJournal::new(journal));
+    let mut recorder = Recorder::new(rt.alloc(), WrittenJournal::new(journal));
     let changes = edit(
         rt.alloc(),
         &mut reader,
@@ -50,7 +50,7 @@ fn edit_file<'a, R: Read + Drop, W: Write, S: Store>(
         store,
         beginning,
     );
-    if recorder.has_failed() {
+    if !recorder.has_all() {
         tell_lost_journal(rt);
     }
     match (changes?, options.journal) {

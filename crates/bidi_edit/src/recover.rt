@@ -42,7 +42,7 @@ pub fn recover<S: Store>(
     file: &[u8],
 ) -> Result<Replayed, ProgramFault<'static>>
     ensures recovers { OnOk result (Recovers
-        (λ offset. begins_with (bytes_of beginning.entry.text) beginning.entry.rows beginning.entry.cols beginning.entry.direction offset beginning.entry.keys.now)
+        (begins_with (bytes_of beginning.entry.text) beginning.entry.rows beginning.entry.cols beginning.entry.direction beginning.entry.unsaved beginning.entry.keys.now)
         beginning.entry.unicode.classes.now beginning.entry.unicode.brackets.now beginning.entry.unicode.mirroring.now
         (store_state S.contents S.failure_count store.old) (store_state S.contents S.failure_count store.new)) }
 {

@@ -62,6 +62,13 @@ impl<D: BidiData + Drop> Editor<D> {
         self.height = height;
     }
 
+    /// Counts the text as changed since the last save. No memory.
+    pub fn count_as_changed(&mut self)
+        ensures { self.new ≡ record self.old { editor = record self.old.editor { changed = true } } }
+    {
+        self.changed = true;
+    }
+
     /// The text's pieces in order, which joined are the text. No memory.
     pub fn pieces(&self) -> Slices<'_>
         ensures text { result ≡ self.now.editor.content.text }

@@ -29,20 +29,45 @@ a_byte_is_fed new all store store' writer writer' [] dropped written run =
     absurd (let is : codes "x" ≡ [] = run.reads ∙ append-nil dropped ∙ none in cc is)
 a_byte_is_fed new all store store' writer writer' (a ∷ answered) dropped written run = first_alone a.0 (bytes_of answered) dropped run.reads
 
--- a journal that has not failed has what was read behind what stood there
-pub what_is_read_is_kept : {J : Type 0} (contents : J → Option (List ℕ)) (failures : J → ℕ) (old new : RecorderState J) (there : List ℕ)
-    → HasKept contents failures old new (codes "x") → new.failed ≡ false → contents old.journal ≡ Some (codes "ab") → contents new.journal ≡ Some there
-    → there ≡ codes "abx"
-what_is_read_is_kept contents failures old new there kept well before after =
-    let grows : Appends (Some (codes "ab")) (Some there) kept.kept =
-    subst (λ (x : Option (List ℕ)). Appends x (Some there) kept.kept) before
-    (subst (λ (x : Option (List ℕ)). Appends (contents old.journal) x kept.kept) after kept.grows) in
-    grows ∙ ap (λ xs. codes "ab" ++ xs) (kept.all well)
+kept_in_all : {J : Type 0} (contents : J → Option (List ℕ)) (failures : J → ℕ) (old new : RecorderState J) (bytes : List ℕ)
+    (kept : HasKept contents failures old new bytes) (held : List ℕ) → waiting old.kept ≡ held → new.kept ≡ Whole → kept.appended ≡ held ++ bytes
+kept_in_all contents failures old new bytes kept held was is =
+    let none : kept.lost ≡ [] = kept.all (λ h. let g : Whole ≡ Cut = sym is ∙ h in cc g) in
+    sym (append-nil kept.appended)
+    ∙ ap (λ xs. kept.appended ++ xs) (sym none)
+    ∙ ap (λ k. kept.appended ++ (waiting k ++ kept.lost)) (sym is)
+    ∙ sym kept.order
+    ∙ ap (λ xs. xs ++ bytes) was
 
--- a journal fails only where one of its calls did
+grown : {appended bytes there : List ℕ} {before after : Option (List ℕ)} → appended ≡ bytes → before ≡ Some (codes "ab") → after ≡ Some there
+    → Appends before after appended → there ≡ codes "ab" ++ bytes
+grown {appended} {bytes} {there} {before} {after} same was is grows =
+    subst (λ (x : Option (List ℕ)). Appends x (Some there) appended) was (subst (λ (x : Option (List ℕ)). Appends before x appended) is grows)
+    ∙ ap (λ xs. codes "ab" ++ xs) same
+
+some_faults : (n count : ℕ) → 1 ≤ n → after_faults n count ≢ 0
+some_faults zero count some = absurd (omega (arith, some))
+some_faults (suc n) count some = λ h. absurd (grind (arith, nat_tests, h))
+
+-- a journal that is whole before and after has what was read at its end
+pub what_is_read_is_kept : {J : Type 0} (contents : J → Option (List ℕ)) (failures : J → ℕ) (old new : RecorderState J) (there : List ℕ)
+    → HasKept contents failures old new (codes "x") → old.kept ≡ Whole → new.kept ≡ Whole → contents old.journal ≡ Some (codes "ab")
+    → contents new.journal ≡ Some there → there ≡ codes "abx"
+what_is_read_is_kept contents failures old new there kept was is before after =
+    grown (kept_in_all contents failures old new (codes "x") kept [] (ap waiting was) is) before after kept.grows
+
+-- what waited comes before it
+pub what_waits_comes_first : {J : Type 0} (contents : J → Option (List ℕ)) (failures : J → ℕ) (old new : RecorderState J) (held : Vec ℕ) (there : List ℕ)
+    → HasKept contents failures old new (codes "y") → old.kept ≡ Waiting held → vec_items held ≡ codes "x" → new.kept ≡ Whole
+    → contents old.journal ≡ Some (codes "ab") → contents new.journal ≡ Some there → there ≡ codes "abxy"
+what_waits_comes_first contents failures old new held there kept was has is before after =
+    grown (kept_in_all contents failures old new (codes "y") kept (codes "x") (ap waiting was ∙ has) is) before after kept.grows
+
+-- a journal is no more whole only where one of its calls failed
 pub no_failure_is_no_fault : {J : Type 0} (contents : J → Option (List ℕ)) (failures : J → ℕ) (old new : RecorderState J)
-    → HasKept contents failures old new (codes "x") → old.failed ≡ false → failures old.journal ≡ 0 → failures new.journal ≡ 0 → new.failed ≡ false
-no_failure_is_no_fault contents failures old new kept works none still = by new.failed refl where
-  by : (failed : Bool) → new.failed ≡ failed → failed ≡ false
-  by false is = refl
-  by true is = absurd (let one = sym still ∙ kept.fault works is in cc (one, none))
+    → HasKept contents failures old new (codes "x") → old.kept ≡ Whole → failures old.journal ≡ 0 → failures new.journal ≡ 0 → new.kept ≢ Cut
+    → new.kept ≡ Whole
+no_failure_is_no_fault contents failures old new kept works none still there = elim (is_whole new.kept) [
+  | inl whole ↦ whole
+  | inr part ↦ absurd (some_faults kept.faults (failures old.journal) (kept.fault works part) (sym kept.counted ∙ still))
+]

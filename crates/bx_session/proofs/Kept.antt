@@ -1,107 +1,184 @@
 -- What a journal keeps of the bytes that are handed to it.
-use Rattle.std.proofs.Common.{◌≡◌, ℕ, Bool, true, false, List, [], ◌++◌, Option, Result, Ok, Err, drop, take, refl, sym, ap, subst, ◌∙◌, append_assoc}
-use Rattle.std.specs.Prelude.{OnErr, OnOk, is_err}
+use Rattle.std.specs.Global.{Vec}
+use Rattle.std.proofs.Common.{◌≡◌, ◌≢◌, ◌≤◌, ◌+◌, ℕ, zero, suc, List, [], ◌++◌, Option, drop, take, length, refl, sym, ap, subst, ◌∙◌, append_assoc, arith}
+use Rattle.std.specs.Prelude.{vec_items}
 use Rattle.std.specs.Io.KnownBytes.{Appends}
 use Rattle.std.proofs.KnownBytes.{Appends-nil, Appends-trans}
 use Rattle.std.proofs.lemmas.List.{append-nil, take-append-drop}
 use Rattle.bx_store.specs.Stores.{one_more}
-use Rattle.bx_session.specs.Journal.{RecorderState, HasKept}
+use Rattle.bx_session.specs.declared.journal.Kept.{Kept}
+use Rattle.bx_session.specs.declared.journal.Kept.TheVariants.{Whole, Waiting, Cut}
+use Rattle.bx_session.specs.Journal.{RecorderState, HasKept, Holds, waiting, after_faults}
 
--- one write more
-pub written_more : (bytes written rest left : List ℕ) (count : ℕ) → bytes ≡ written ++ rest → left ≡ drop count rest
-    → bytes ≡ (written ++ take count rest) ++ left
-written_more bytes written rest left count e d =
-    e
-    ∙ ap (λ l. written ++ l) (sym (take-append-drop count rest))
-    ∙ sym (append_assoc written (take count rest) (drop count rest))
-    ∙ ap (λ l. (written ++ take count rest) ++ l) (sym d)
+-- ---- one call
 
--- all is written where nothing is left
-pub all_written : (bytes written rest : List ℕ) → bytes ≡ written ++ rest → rest ≡ [] → written ≡ bytes
-all_written bytes written rest e n = sym (e ∙ ap (λ l. written ++ l) n ∙ append-nil written)
+module _ {J : Type 0} (contents : J → Option (List ℕ)) (failures : J → ℕ) (old new : RecorderState J) (bytes : List ℕ) where
+  -- all is appended
+  pub kept_whole : new.kept ≡ Whole → Appends (contents old.journal) (contents new.journal) (waiting old.kept ++ bytes)
+      → failures new.journal ≡ failures old.journal → old.kept ≢ Cut → HasKept contents failures old new bytes
+  kept_whole is grows well there = record {
+    appended = waiting old.kept ++ bytes;
+    lost = [];
+    faults = 0;
+    order = sym (ap (λ k. (waiting old.kept ++ bytes) ++ (waiting k ++ [])) is ∙ append-nil (waiting old.kept ++ bytes));
+    grows = grows;
+    all = λ h. refl;
+    stays = λ h. absurd (there h);
+    counted = well;
+    fault = λ h k. absurd (k is);
+  }
 
--- what a journal has kept, by how the appending of these bytes ended
-pub kept_by : {J A E : Type 0} (contents : J → Option (List ℕ)) (failures : J → ℕ) (old new : RecorderState J) (bytes : List ℕ) (r : Result A E)
-    → OnOk r (Appends (contents old.journal) (contents new.journal) bytes)
-    → (written : List ℕ) × (left : List ℕ) × (bytes ≡ written ++ left) × Appends (contents old.journal) (contents new.journal) written
-    → OnOk r (failures new.journal ≡ failures old.journal) → OnErr r (failures new.journal ≡ one_more (failures old.journal))
-    → old.failed ≡ false → new.failed ≡ is_err r → HasKept contents failures old new bytes
-kept_by contents failures old new bytes (Ok done) all part well fault works is = record {
-  kept = bytes;
-  lost = [];
-  is_beginning = sym (append-nil bytes);
-  grows = all;
-  all = λ h. refl;
-  well = λ h. well;
-  fault = λ h k. absurd (let g = sym is ∙ k in cc g);
-  stays = λ h. absurd (let g = sym works ∙ h in cc g);
-}
-kept_by contents failures old new bytes (Err error) all part well fault works is = record {
-  kept = part.0;
-  lost = part.1;
-  is_beginning = part.2;
-  grows = part.3;
-  all = λ h. absurd (let g = sym is ∙ h in cc g);
-  well = λ h. absurd (let g = sym is ∙ h in cc g);
-  fault = λ h k. fault;
-  stays = λ h. absurd (let g = sym works ∙ h in cc g);
-}
+  -- the first ones are appended, and the others held, if there is memory for them
+  pub kept_part : (n : ℕ) → Holds new.kept (drop n (waiting old.kept ++ bytes))
+      → Appends (contents old.journal) (contents new.journal) (take n (waiting old.kept ++ bytes))
+      → failures new.journal ≡ one_more (failures old.journal) → old.kept ≢ Cut → HasKept contents failures old new bytes
+  kept_part n holds grows fault there = by_kept new.kept refl where
+    all : List ℕ
+    all = waiting old.kept ++ bytes
 
--- a journal that failed is left alone
-pub kept_alone : {J : Type 0} (contents : J → Option (List ℕ)) (failures : J → ℕ) (s : RecorderState J) (bytes : List ℕ) → s.failed ≡ true
+    split : all ≡ take n all ++ drop n all
+    split = sym (take-append-drop n all)
+
+    by_kept : (k : Kept) → new.kept ≡ k → HasKept contents failures old new bytes
+    by_kept Whole e = absurd (subst (λ x. Holds x (drop n all)) e holds)
+    by_kept (Waiting held) e =
+        let is : vec_items held ≡ drop n all = subst (λ x. Holds x (drop n all)) e holds in record {
+          appended = take n all;
+          lost = [];
+          faults = 1;
+          order = split
+              ∙ ap (λ xs. take n all ++ xs) (sym (append-nil (drop n all)))
+              ∙ ap (λ xs. take n all ++ (xs ++ [])) (sym is)
+              ∙ ap (λ x. take n all ++ (waiting x ++ [])) (sym e);
+          grows = grows;
+          all = λ h. refl;
+          stays = λ h. absurd (there h);
+          counted = fault;
+          fault = λ h k. omega arith;
+        }
+    by_kept Cut e = record {
+      appended = take n all;
+      lost = drop n all;
+      faults = 1;
+      order = split ∙ ap (λ x. take n all ++ (waiting x ++ drop n all)) (sym e);
+      grows = grows;
+      all = λ h. absurd (h e);
+      stays = λ h. absurd (there h);
+      counted = fault;
+      fault = λ h k. omega arith;
+    }
+
+  -- no memory for bytes after those that wait
+  pub kept_lost : new.kept ≡ Cut → new.journal ≡ old.journal → old.kept ≢ Whole → old.kept ≢ Cut → HasKept contents failures old new bytes
+  kept_lost is same waits there = record {
+    appended = [];
+    lost = waiting old.kept ++ bytes;
+    faults = 0;
+    order = ap (λ x. waiting x ++ (waiting old.kept ++ bytes)) (sym is);
+    grows = subst (λ (x : J). Appends (contents old.journal) (contents x) []) (sym same) (Appends-nil (contents old.journal));
+    all = λ h. absurd (h is);
+    stays = λ h. absurd (there h);
+    counted = ap failures same;
+    fault = λ h k. absurd (waits h);
+  }
+
+-- a journal that is cut is left alone
+pub kept_alone : {J : Type 0} (contents : J → Option (List ℕ)) (failures : J → ℕ) (s : RecorderState J) (bytes : List ℕ) → s.kept ≡ Cut
     → HasKept contents failures s s bytes
-kept_alone contents failures s bytes failed = record {
-  kept = [];
+kept_alone contents failures s bytes cut = record {
+  appended = [];
   lost = bytes;
-  is_beginning = refl;
+  faults = 0;
+  order = refl;
   grows = Appends-nil (contents s.journal);
-  all = λ h. absurd (let g = sym failed ∙ h in cc g);
-  well = λ h. refl;
-  fault = λ h k. absurd (let g = sym h ∙ k in cc g);
+  all = λ h. absurd (h cut);
   stays = λ h. refl;
+  counted = refl;
+  fault = λ h k. absurd (k h);
 }
+
+-- ---- calls one after another
 
 -- where nothing was read
 pub kept_nothing : {J : Type 0} (contents : J → Option (List ℕ)) (failures : J → ℕ) (s : RecorderState J) → HasKept contents failures s s []
 kept_nothing contents failures s = record {
-  kept = [];
+  appended = [];
   lost = [];
-  is_beginning = refl;
+  faults = 0;
+  order = refl;
   grows = Appends-nil (contents s.journal);
   all = λ h. refl;
-  well = λ h. refl;
-  fault = λ h k. absurd (let g = sym h ∙ k in cc g);
   stays = λ h. refl;
+  counted = refl;
+  fault = λ h k. absurd (k h);
 }
+
+faults_more : (n m count : ℕ) → after_faults n (after_faults m count) ≡ after_faults (n + m) count
+faults_more zero m count = refl
+faults_more (suc n) m count = ap one_more (faults_more n m count)
+
+is_cut : (k : Kept) → (k ≡ Cut) ⊎ (k ≢ Cut)
+is_cut Whole = inr (λ h. cc h)
+is_cut (Waiting held) = inr (λ h. cc h)
+is_cut Cut = inl refl
+
+is_whole : (k : Kept) → (k ≡ Whole) ⊎ (k ≢ Whole)
+is_whole Whole = inl refl
+is_whole (Waiting held) = inr (λ h. cc h)
+is_whole Cut = inr (λ h. cc h)
 
 -- bytes after others
 pub kept_more : {J : Type 0} (contents : J → Option (List ℕ)) (failures : J → ℕ) (old mid new : RecorderState J) (bytes more : List ℕ)
     → HasKept contents failures old mid bytes → HasKept contents failures mid new more → HasKept contents failures old new (bytes ++ more)
-kept_more {J} contents failures old mid new bytes more first next = by_failed mid.failed refl where
-  by_failed : (failed : Bool) → mid.failed ≡ failed → HasKept contents failures old new (bytes ++ more)
-  by_failed false works = record {
-    kept = bytes ++ next.kept;
-    lost = next.lost;
-    is_beginning = ap (λ xs. bytes ++ xs) next.is_beginning ∙ sym (append_assoc bytes next.kept next.lost);
-    grows = Appends-trans (contents old.journal) (contents mid.journal) (contents new.journal) bytes next.kept
-        (subst (λ (xs : List ℕ). Appends (contents old.journal) (contents mid.journal) xs) (first.all works) first.grows) next.grows;
-    all = λ h. ap (λ xs. bytes ++ xs) (next.all h);
-    well = λ h. next.well h ∙ first.well works;
-    fault = λ h k. next.fault works k ∙ ap one_more (first.well works);
-    stays = λ h. absurd (let g = sym works ∙ ap (λ (x : RecorderState J). x.failed) (first.stays h) ∙ h in cc g);
-  }
-  by_failed true failed =
-      let same : new ≡ mid = next.stays failed in
-      let journal : new.journal ≡ mid.journal = ap (λ (x : RecorderState J). x.journal) same in
-      let over : new.failed ≡ true = ap (λ (x : RecorderState J). x.failed) same ∙ failed in record {
-        kept = first.kept;
+kept_more {J} contents failures old mid new bytes more first next = elim (is_cut mid.kept) [
+  | inl cut ↦ alone cut
+  | inr there ↦ joined there
+] where
+  counts : failures new.journal ≡ after_faults (next.faults + first.faults) (failures old.journal)
+  counts = next.counted ∙ ap (after_faults next.faults) first.counted ∙ faults_more next.faults first.faults (failures old.journal)
+
+  faulty : old.kept ≡ Whole → new.kept ≢ Whole → 1 ≤ next.faults + first.faults
+  faulty h k = elim (is_whole mid.kept) [
+    | inl whole ↦ let some = next.fault whole k in omega (arith, some)
+    | inr part ↦ let some = first.fault h part in omega (arith, some)
+  ]
+
+  alone : mid.kept ≡ Cut → HasKept contents failures old new (bytes ++ more)
+  alone cut =
+      let same : new ≡ mid = next.stays cut in record {
+        appended = first.appended;
         lost = first.lost ++ more;
-        is_beginning = ap (λ xs. xs ++ more) first.is_beginning ∙ append_assoc first.kept first.lost more;
-        grows = subst (λ (x : J). Appends (contents old.journal) (contents x) first.kept) (sym journal) first.grows;
-        all = λ h. absurd (let g = sym over ∙ h in cc g);
-        well = λ h. absurd (let g = sym over ∙ h in cc g);
-        fault = λ h k. ap failures journal ∙ first.fault h failed;
+        faults = next.faults + first.faults;
+        order = sym (append_assoc (waiting old.kept) bytes more)
+            ∙ ap (λ xs. xs ++ more) first.order
+            ∙ append_assoc first.appended (waiting mid.kept ++ first.lost) more
+            ∙ ap (λ xs. first.appended ++ xs) (append_assoc (waiting mid.kept) first.lost more)
+            ∙ ap (λ (x : RecorderState J). first.appended ++ (waiting x.kept ++ (first.lost ++ more))) (sym same);
+        grows = subst (λ (x : RecorderState J). Appends (contents old.journal) (contents x.journal) first.appended) (sym same) first.grows;
+        all = λ h. absurd (h (ap (λ (x : RecorderState J). x.kept) same ∙ cut));
         stays = λ h. same ∙ first.stays h;
+        counted = counts;
+        fault = faulty;
+      }
+
+  joined : mid.kept ≢ Cut → HasKept contents failures old new (bytes ++ more)
+  joined there =
+      let none : first.lost ≡ [] = first.all there in record {
+        appended = first.appended ++ next.appended;
+        lost = next.lost;
+        faults = next.faults + first.faults;
+        order = sym (append_assoc (waiting old.kept) bytes more)
+            ∙ ap (λ xs. xs ++ more) first.order
+            ∙ ap (λ xs. (first.appended ++ (waiting mid.kept ++ xs)) ++ more) none
+            ∙ ap (λ xs. (first.appended ++ xs) ++ more) (append-nil (waiting mid.kept))
+            ∙ append_assoc first.appended (waiting mid.kept) more
+            ∙ ap (λ xs. first.appended ++ xs) next.order
+            ∙ sym (append_assoc first.appended next.appended (waiting new.kept ++ next.lost));
+        grows = Appends-trans (contents old.journal) (contents mid.journal) (contents new.journal) first.appended next.appended first.grows next.grows;
+        all = next.all;
+        stays = λ h. absurd (there (ap (λ (x : RecorderState J). x.kept) (first.stays h) ∙ h));
+        counted = counts;
+        fault = faulty;
       }
 
 -- a read that gave nothing

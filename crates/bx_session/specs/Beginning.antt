@@ -1,17 +1,19 @@
 -- What a session begins from.
-use Rattle.std.specs.Prelude.{ℕ, List, [], Option, Some, None}
+use Rattle.std.specs.Prelude.{ℕ, Bool, true, false, List, [], Option, Some, None}
 use Rattle.bx_explicit.specs.declared.base.Base.{Base}
 use Rattle.bx_ucd.specs.Data.{Data}
-use Rattle.bx_session.specs.Session.{Session, at_opening, after_going, after_replaying, with_painting}
+use Rattle.bx_session.specs.Session.{Session, at_opening, after_going, as_changed, after_replaying, with_painting}
 use Rattle.bx_session.specs.Painting.{QueuesPicture}
 
--- a text in a window, the offset that the cursor is sent to, if any, and the bytes of a journal, which may be none
+-- a text in a window, the offset that the cursor is sent to, if any, whether the text is not saved, and the bytes of a journal, which
+-- may be none
 pub record Beginning : Type 0 where
   pub text : List ℕ
   pub height : ℕ
   pub width : ℕ
   pub base : Base
   pub offset : Option ℕ
+  pub unsaved : Bool
   pub journal : List ℕ
 
 -- the text is opened, and the cursor sent to the offset
@@ -19,8 +21,14 @@ abbrev pub after_going_to : Data → Session → Option ℕ → Session
 after_going_to d s None = s
 after_going_to d s (Some offset) = after_going d s offset
 
+-- it counts as changed where it is not saved
+abbrev pub changed_if : Bool → Session → Session
+changed_if true s = as_changed s
+changed_if false s = s
+
+-- before the journal's keys
 abbrev pub at_offset : Data → Beginning → Session
-at_offset d b = after_going_to d (at_opening d b.text b.height b.width b.base) b.offset
+at_offset d b = changed_if b.unsaved (after_going_to d (at_opening d b.text b.height b.width b.base) b.offset)
 
 -- the journal's bytes are replayed, and not painted yet
 abbrev pub unpainted_at : Data → Beginning → Session

@@ -142,12 +142,16 @@ abbrev pub after_replaying : Data → Session → List ℕ → Session
 after_replaying d s [] = s
 after_replaying d s (b ∷ bs) = after_replaying d (after_replay d s b) bs
 
--- ---- an offset that the cursor is sent to
+-- ---- before the keys: an offset that the cursor is sent to, and a text that is not saved
 
 -- the cursor stands at the least place that is not before an offset, or at the last one, and a painting is owed
 abbrev pub after_going : Data → Session → ℕ → Session
 after_going d s offset =
     with_painting_owed (record s { editor = with_place (without_message s.editor) (place_from (rows d s.editor) offset) })
+
+-- the text counts as changed, and a painting is owed
+abbrev pub as_changed : Session → Session
+as_changed s = with_painting_owed (record s { editor = record s.editor { changed = true } })
 
 -- ---- a told size
 

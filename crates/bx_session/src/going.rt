@@ -1,7 +1,7 @@
-//! The cursor is sent to an offset of the text.
+//! What a session is told before its keys: an offset that the cursor goes to, and that its text is not saved.
 
 ghost use Rattle.std.specs.Prelude.{◌≡◌, OnErr, OnOk};
-ghost use Rattle.bx_session.specs.Session.{after_going};
+ghost use Rattle.bx_session.specs.Session.{after_going, as_changed};
 
 use crate::error::Refused;
 use crate::session::Session;
@@ -22,5 +22,14 @@ impl<D: BidiData + Drop> Session<D> {
         }
         self.painting_owed = true;
         Ok(())
+    }
+
+    /// Counts the text as changed since the last save, as one is that was recovered. Nothing is painted: [`Session::paint`] makes
+    /// the screen right. No memory.
+    pub fn count_as_changed(&mut self)
+        ensures { self.new ≡ record self.old { session = as_changed self.old.session } }
+    {
+        self.editor.count_as_changed();
+        self.painting_owed = true;
     }
 }

@@ -1,25 +1,30 @@
 //! A journal of what is read, from which it can be replayed.
 
-ghost use Rattle.std.specs.Prelude.{◌≡◌, ◌++◌, ℕ, List, false, OnErr, OnOk};
+ghost use Rattle.std.specs.Prelude.{◌≡◌, ◌≤◌, ◌++◌, ◌↔◌, ℕ, List, IsTrue, IfErr, OnErr, OnOk, length, take, drop};
 ghost use Rattle.std.specs.Io.KnownBytes.{Appends};
+ghost use Rattle.bx_session.specs.Journal.{Holds};
 
-use std::io::{self, ErrorKind, Write};
+use std::alloc::Global;
+use std::io::Write;
 use std::marker::Model;
 use thiserror::Error;
 
 /// A call of a journal failed.
 #[derive(Clone, Copy, PartialEq, Eq, Debug, Error)]
-#[error("the journal failed")]
-pub struct JournalFault;
+#[error("the journal failed after {written} bytes")]
+pub struct JournalFault {
+    /// How many of the call's bytes the journal took.
+    pub written: usize,
+}
 
-/// Where what is read is kept. A call that answers a fault raises the count of failures by one, unless it is the greatest u64, and
-/// no other call does.
+/// Where the bytes that are read are kept. A call that answers a fault raises the count of failures by one, unless it is the greatest
+/// u64, and no other call does.
 pub trait Journal {
-    ghost use Rattle.std.specs.Prelude.{◌≡◌, ◌++◌, ℕ, List, Option, OnErr, OnOk};
+    ghost use Rattle.std.specs.Prelude.{◌≡◌, ◌≤◌, ℕ, List, Option, IfErr, OnErr, OnOk, length, take};
     ghost use Rattle.std.specs.Io.KnownBytes.{Appends};
     ghost use Rattle.bx_store.specs.Stores.{one_more};
 
-    /// What stands in the journal, where it tells its bytes.
+    /// The journal's bytes, where it tells them.
     ghost contents: { Self → Option (List ℕ) };
 
     /// How many calls answered a fault.
@@ -27,10 +32,11 @@ pub trait Journal {
 
     /// Appends bytes.
     ///
-    /// Errors: `JournalFault`: a beginning of the bytes was appended.
+    /// Errors: `JournalFault`: the first `written` bytes were appended.
     fn append(&mut self, bytes: &[u8]) -> Result<(), JournalFault>
         ensures all { OnOk result (Appends (contents self.old) (contents self.new) bytes.now) }
-        ensures part { (written : List ℕ) × (left : List ℕ) × (bytes.now ≡ written ++ left) × Appends (contents self.old) (contents self.new) written }
+        ensures count { IfErr result (λ fault. fault.written ≤ length bytes.now) }
+        ensures part { IfErr result (λ fault. Appends (contents self.old) (contents self.new) (take fault.written bytes.now)) }
         ensures no_failure { OnOk result (failure_count self.new ≡ failure_count self.old) }
         ensures failure { OnErr result (failure_count self.new ≡ one_more (failure_count self.old)) };
 }
@@ -77,39 +83,54 @@ impl<W: Write + Drop> Journal for WrittenJournal<W> {
     ghost failure_count = { λ s. s.failures };
 
     fn append(&mut self, bytes: &[u8]) -> Result<(), JournalFault> {
-        match write_out(&mut self.writer, bytes) {
-            Ok(()) => Ok(()),
-            Err(_) => {
-                self.failures = self.failures.saturating_add(1);
-                Err(JournalFault)
-            }
+        let answer = write_out(&mut self.writer, bytes);
+        if answer.is_err() {
+            self.failures = self.failures.saturating_add(1);
         }
+        answer
     }
 }
 
 /// Writes all of the bytes, and flushes.
 ///
-/// Errors: those of the writer, and `WriteZero` where it takes no byte: a beginning of the bytes was written.
-fn write_out<W: Write>(writer: &mut W, bytes: &[u8]) -> io::Result<()>
+/// Errors: those of the writer, and a write of no byte.
+fn write_out<W: Write>(writer: &mut W, bytes: &[u8]) -> Result<(), JournalFault>
     ensures all { OnOk result (Appends (W.contents writer.old) (W.contents writer.new) bytes.now) }
-    ensures part { (written : List ℕ) × (left : List ℕ) × (bytes.now ≡ written ++ left) × Appends (W.contents writer.old) (W.contents writer.new) written }
+    ensures count { IfErr result (λ fault. fault.written ≤ length bytes.now) }
+    ensures part { IfErr result (λ fault. Appends (W.contents writer.old) (W.contents writer.new) (take fault.written bytes.now)) }
 {
-    let mut rest = bytes;
-    'writes: while !rest.is_empty() {
-        match writer.write(rest) {
-            Ok(0) => return Err(ErrorKind::WriteZero.into()),
-            Ok(count) => rest = &rest[count..],
-            Err(error) => return Err(error),
+    let mut written = 0;
+    'writes: while written < bytes.len() {
+        match writer.write(&bytes[written..]) {
+            Ok(0) => return Err(JournalFault { written }),
+            Ok(count) => written += count,
+            Err(_) => return Err(JournalFault { written }),
         }
     }
-    writer.flush()
+    match writer.flush() {
+        Ok(()) => Ok(()),
+        Err(_) => Err(JournalFault { written }),
+    }
 }
 
-/// Keeps what is read in a journal. A journal that failed is left alone from then on, which changes nothing of what is read.
+/// How much a journal has of the bytes that were handed to it.
+#[derive(Drop)]
+pub enum Kept {
+    /// All of them.
+    Whole,
+    /// All before these, which the next call appends first.
+    Waiting(Vec<u8>),
+    /// The first ones. The others were lost for want of memory.
+    Cut,
+}
+
+/// Keeps the bytes that are read in a journal. Bytes that the journal does not take wait in memory, and are appended before all later
+/// ones, so the journal has no gap. One that is cut is left alone from then on. Nothing of this changes the bytes that are read.
 #[derive(Drop)]
 pub struct Recorder<J: Journal + Drop> {
+    alloc: Global,
     journal: J,
-    failed: bool,
+    kept: Kept,
 }
 
 impl<J: Journal + Drop> Model for Recorder<J> {
@@ -117,35 +138,71 @@ impl<J: Journal + Drop> Model for Recorder<J> {
 
     ghost Value = { RecorderState J };
 
-    ghost view = { λ s. record { journal = s.journal; failed = s.failed } };
+    ghost view = { λ s. record { journal = s.journal; kept = s.kept } };
 }
 
 impl<J: Journal + Drop> Recorder<J> {
-    ghost use Rattle.bx_session.specs.Journal.{HasKept};
+    ghost use Rattle.std.specs.Prelude.{◌≡◌};
+    ghost use Rattle.bx_session.specs.Journal.{HasKept, waiting};
 
     /// A recorder that appends to a journal.
-    pub fn new(journal: J) -> Recorder<J>
-        ensures { result ≡ record { journal = journal; failed = false } }
+    pub fn new(alloc: Global, journal: J) -> Recorder<J>
+        ensures { result ≡ record { journal = journal; kept = Kept.Whole } }
     {
         Recorder {
+            alloc,
             journal,
-            failed: false,
+            kept: Kept::Whole,
         }
     }
 
-    /// Whether a call of the journal failed. No memory.
-    pub fn has_failed(&self) -> bool
-        ensures { result ≡ self.now.failed }
+    /// Whether the journal has all bytes that were handed to it. No memory.
+    pub fn has_all(&self) -> bool
+        ensures { IsTrue result ↔ (self.now.kept ≡ Kept.Whole) }
     {
-        self.failed
+        matches!(&self.kept, Kept::Whole)
     }
 
-    /// Appends bytes to the journal, unless it has failed.
+    /// Appends bytes to the journal, after those that wait.
     pub(crate) fn keep(&mut self, bytes: &[u8])
         ensures keeps { HasKept J.contents J.failure_count self.old self.new bytes.now }
     {
-        if !self.failed {
-            self.failed = self.journal.append(bytes).is_err();
+        match &mut self.kept {
+            Kept::Whole => {
+                if let Err(fault) = self.journal.append(bytes) {
+                    self.kept = held(self.alloc, &bytes[fault.written..]);
+                }
+            }
+            Kept::Waiting(waiting) => {
+                if waiting.extend_from_slice(bytes).is_err() {
+                    self.kept = Kept::Cut;
+                    return;
+                }
+                match self.journal.append(waiting.as_slice()) {
+                    Ok(()) => self.kept = Kept::Whole,
+                    Err(fault) => drop_first(waiting, fault.written),
+                }
+            }
+            Kept::Cut => {}
         }
     }
+}
+
+/// Bytes that wait, if there is memory for them.
+fn held(alloc: Global, bytes: &[u8]) -> Kept
+    ensures { Holds result bytes.now }
+{
+    let mut waiting = Vec::new(alloc);
+    match waiting.extend_from_slice(bytes) {
+        Ok(()) => Kept::Waiting(waiting),
+        Err(_) => Kept::Cut,
+    }
+}
+
+/// Takes the first bytes off those that wait.
+fn drop_first(waiting: &mut Vec<u8>, count: usize)
+    requires { count ≤ length waiting.old.items }
+    ensures { waiting.new.items ≡ drop count waiting.old.items }
+{
+    waiting.drain(..count);
 }

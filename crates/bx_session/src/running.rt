@@ -120,7 +120,7 @@ pub fn run_within<D: BidiData + Drop, R: Read, W: Write, S: Store>(
     ensures ends { EndsWith result session.new.session (R.remaining reader.new) }
     ensures limit { IsErrOf result RunFault.ReadLimit → HasRead limit (R.remaining reader.old) (R.remaining reader.new) }
 {
-    let mut recorder = Recorder::new(NoJournal);
+    let mut recorder = Recorder::new(*session.queue.allocator(), NoJournal);
     run_turns(limit, reader, &mut recorder, writer, store, session)
 }
 

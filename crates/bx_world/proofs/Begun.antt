@@ -14,7 +14,7 @@ use Rattle.bx_editor.specs.Keys.{after_keys}
 use Rattle.bx_session.specs.Session.{Session, at_opening, after_replay, after_replayed_key, after_spending, is_replayed, key_of_byte, session_after_key}
 use Rattle.bx_session.specs.Painting.{QueuesPicture}
 use Rattle.bx_session.specs.Laws.{keys_from, after_replaying}
-use Rattle.bx_session.specs.Beginning.{Beginning, IsBegun, after_going_to, at_offset, unpainted_at, begun}
+use Rattle.bx_session.specs.Beginning.{Beginning, IsBegun, after_going_to, changed_if, at_offset, unpainted_at, begun}
 use Rattle.bx_session.proofs.Input.{keys_of_input}
 use Rattle.bx_session.proofs.Pictures.{picture_height, picture_width}
 use Rattle.bx_session.proofs.Replayed.{replays_keys, rest_from, replayed_rest}
@@ -106,13 +106,23 @@ going_stays : (d : Data) (t : Terminal) (s : Session) (offset : Option ℕ) → 
 going_stays d t s None = stays_at t s
 going_stays d t s (Some offset) = record { pending = refl; known = known_at (fits t.height t.width s.editor) s.known }
 
+changed_stays : (unsaved : Bool) (t : Terminal) (s : Session) → StaysKnown t s (changed_if unsaved s)
+changed_stays false t s = stays_at t s
+changed_stays true t s = record { pending = refl; known = known_at (fits t.height t.width s.editor) s.known }
+
+offset_stays : (d : Data) (t : Terminal) (b : Beginning) → StaysKnown t (at_opening d b.text b.height b.width b.base) (at_offset d b)
+offset_stays d t b =
+    let s : Session = at_opening d b.text b.height b.width b.base in
+    let there : Session = after_going_to d s b.offset in
+    stays_on t s there (at_offset d b) (going_stays d t s b.offset) (changed_stays b.unsaved t there)
+
 -- ---- a session that begins a run
 
 pub begun_at : (d : Data) (b : Beginning) (t : Terminal) → IsIdle t → IsBegun d b → IsInStep d (begins_at (begun d b) t)
 begun_at d b t idle begins =
     let s : Session = at_opening d b.text b.height b.width b.base in
     let stays : StaysKnown t s (unpainted_at d b) =
-    stays_on t s (at_offset d b) (unpainted_at d b) (going_stays d t s b.offset) (bytes_stay d t (at_offset d b) b.journal) in
+    stays_on t s (at_offset d b) (unpainted_at d b) (offset_stays d t b) (bytes_stay d t (at_offset d b) b.journal) in
     painted d (begins_at s t) (begun d b) (fits t.height t.width (begun d b).editor) (unpainted_at d b).known (opened_at d s t idle begins.opened)
     (subst (λ (q : List ℕ). QueuesPicture d q (unpainted_at d b).known (begun d b)) stays.pending begins.painted)
     stays.known (λ on. window_is t.height t.width (begun d b).editor on)
@@ -127,11 +137,23 @@ going_rest : (d : Data) (s : Session) (offset : Option ℕ) → (after_going_to 
 going_rest d s None = refl
 going_rest d s (Some offset) = refl
 
+changed_goes_on : (unsaved : Bool) (s : Session) → s.editor.ended ≡ false → (changed_if unsaved s).editor.ended ≡ false
+changed_goes_on true s on = on
+changed_goes_on false s on = on
+
+changed_rest : (unsaved : Bool) (s : Session) → (changed_if unsaved s).rest ≡ s.rest
+changed_rest true s = refl
+changed_rest false s = refl
+
 offset_goes_on : (d : Data) (b : Beginning) → (at_offset d b).editor.ended ≡ false
-offset_goes_on d b = going_goes_on d (at_opening d b.text b.height b.width b.base) b.offset refl
+offset_goes_on d b =
+    let s : Session = at_opening d b.text b.height b.width b.base in
+    changed_goes_on b.unsaved (after_going_to d s b.offset) (going_goes_on d s b.offset refl)
 
 offset_rest : (d : Data) (b : Beginning) → (at_offset d b).rest ≡ []
-offset_rest d b = going_rest d (at_opening d b.text b.height b.width b.base) b.offset
+offset_rest d b =
+    let s : Session = at_opening d b.text b.height b.width b.base in
+    changed_rest b.unsaved (after_going_to d s b.offset) ∙ going_rest d s b.offset
 
 pub begun_rest : (d : Data) (b : Beginning) → (begun d b).rest ≡ rest_from [] b.journal
 begun_rest d b =

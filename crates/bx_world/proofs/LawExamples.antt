@@ -34,6 +34,7 @@ left = record {
   width = 5;
   base = Auto;
   offset = None;
+  unsaved = false;
   journal = 0x61 ∷ 0x13 ∷ 0x62 ∷ 0x11 ∷ [];
 }
 
@@ -44,7 +45,7 @@ a_run_goes_on_from_its_journal law = ap (λ (e : Editor). e.content.text) (law t
 -- ---- `ab` is typed into an empty file in a window of one row of five columns
 
 abbrev empty : Beginning
-empty = record { text = []; height = 1; width = 5; base = Auto; offset = None; journal = [] }
+empty = record { text = []; height = 1; width = 5; base = Auto; offset = None; unsaved = false; journal = [] }
 
 abbrev fed : List ByteAnswer
 fed = (0x61, Ok Running) ∷ (0x62, Ok Running) ∷ []

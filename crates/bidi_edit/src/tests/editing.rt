@@ -26,6 +26,7 @@ fn beginning_with<'a>(unicode: UnicodeFiles<'a>, text: Option<Vec<u8>>) -> Begin
         cols: 5,
         direction: Base::Auto,
         line: None,
+        unsaved: false,
         keys: &[],
     }
 }
@@ -40,7 +41,7 @@ fn run_over<R: Read, W: Write>(
     edit(
         alloc,
         reader,
-        &mut Recorder::new(NoJournal),
+        &mut Recorder::new(alloc, NoJournal),
         writer,
         &mut MemoryStore::new(alloc, None),
         beginning(file),
@@ -69,7 +70,7 @@ fn line_of(
     let outcome = edit(
         alloc,
         &mut b"".as_slice(),
-        &mut Recorder::new(NoJournal),
+        &mut Recorder::new(alloc, NoJournal),
         &mut Vec::new(alloc),
         &mut MemoryStore::new(alloc, None),
         beginning_with(unicode, file),

@@ -31,6 +31,7 @@ fn outcome<'a>(
         replay: None,
         to: None,
         line: None,
+        unsaved: false,
         direction: Base::Auto,
     };
     let mut written = Vec::new(rt.alloc());

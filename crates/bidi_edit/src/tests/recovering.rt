@@ -11,7 +11,7 @@ use bx_session::{NoJournal, Recorder, Session, WrittenJournal, run_recorded};
 use bx_store::MemoryStore;
 use bx_ucd::sample_tables;
 use std::alloc::Global;
-use std::io::{self, ErrorKind, Write};
+use std::io::{self, ErrorKind, Read, Write};
 use std::test::Fail;
 
 fn beginning<'a>(alloc: Global, keys: &'a [u8]) -> Result<Beginning<'a>, Fail> {
@@ -22,6 +22,7 @@ fn beginning<'a>(alloc: Global, keys: &'a [u8]) -> Result<Beginning<'a>, Fail> {
         cols: 5,
         direction: Base::Auto,
         line: None,
+        unsaved: false,
         keys,
     })
 }
@@ -65,7 +66,7 @@ fn resumed(alloc: Global, store: &mut MemoryStore, keys: &[u8]) -> Result<bool, 
     let changes = edit(
         alloc,
         &mut b"y\x13\x11".as_slice(),
-        &mut Recorder::new(NoJournal),
+        &mut Recorder::new(alloc, NoJournal),
         &mut Vec::new(alloc),
         store,
         beginning(alloc, keys)?,
@@ -81,17 +82,32 @@ fn typing_goes_on_behind_what_is_replayed(rt: HostRuntime) -> Result<(), Fail> {
     Ok(())
 }
 
-/// A journal that has room for so many bytes, and takes two at once.
+/// Keys that are read two at a time.
+#[derive(Drop)]
+struct Pairs<'a>(&'a [u8]);
+
+impl Read for Pairs<'_> {
+    fn read(&mut self, buf: &mut [u8]) -> io::Result<usize> {
+        let count = self.0.len().min(buf.len()).min(2);
+        buf[..count].copy_from_slice(&self.0[..count]);
+        self.0 = &self.0[count..];
+        Ok(count)
+    }
+}
+
+/// A journal that refuses its first writes, has room for some bytes then, and takes two at once.
 #[derive(Drop)]
 struct Small {
     bytes: Vec<u8>,
+    refused: u32,
     room: usize,
 }
 
 impl Write for Small {
     fn write(&mut self, buf: &[u8]) -> io::Result<usize> {
         let count = buf.len().min(self.room).min(2);
-        if count == 0 {
+        if count == 0 || self.refused > 0 {
+            self.refused = self.refused.saturating_sub(1);
             return Err(ErrorKind::StorageFull.into());
         }
         self.bytes.extend_from_slice(&buf[..count])?;
@@ -104,7 +120,7 @@ impl Write for Small {
     }
 }
 
-/// Runs over the input `abcdef`, and answers whether all of it was typed and whether the journal failed.
+/// Runs over the input `abcdef`, and answers whether all of it was typed and whether the journal has all.
 fn run_kept(alloc: Global, journal: &mut Small) -> Result<(bool, bool), Fail> {
     let mut session = Session::open(
         alloc,
@@ -114,8 +130,8 @@ fn run_kept(alloc: Global, journal: &mut Small) -> Result<(bool, bool), Fail> {
         9,
         Base::Auto,
     )?;
-    let mut recorder = Recorder::new(WrittenJournal::new(journal));
-    let mut input = b"abcdef".as_slice();
+    let mut recorder = Recorder::new(alloc, WrittenJournal::new(journal));
+    let mut input = Pairs(b"abcdef");
     let mut output = Vec::new(alloc);
     let mut store = MemoryStore::new(alloc, None);
     let _ = run_recorded(
@@ -125,20 +141,23 @@ fn run_kept(alloc: Global, journal: &mut Small) -> Result<(bool, bool), Fail> {
         &mut store,
         &mut session,
     );
-    Ok((session.has_text(b"abcdef"), recorder.has_failed()))
+    Ok((session.has_text(b"abcdef"), recorder.has_all()))
 }
 
 #[test]
 fn a_journal_holds_what_was_read(rt: HostRuntime) -> Result<(), Fail> {
-    for (room, kept, fails) in [
-        (6, b"abcdef".as_slice(), false),
-        (3, b"abc".as_slice(), true),
+    for (refused, room, kept, has_all) in [
+        (0, 6, b"abcdef".as_slice(), true),
+        (0, 3, b"abc".as_slice(), false),
+        (2, 6, b"abcdef".as_slice(), true),
+        (3, 6, b"".as_slice(), false),
     ] {
         let mut journal = Small {
             bytes: Vec::new(rt.alloc()),
+            refused,
             room,
         };
-        assert_eq!(rt; run_kept(rt.alloc(), &mut journal)?, (true, fails));
+        assert_eq!(rt; run_kept(rt.alloc(), &mut journal)?, (true, has_all));
         assert_eq!(rt; journal.bytes.as_slice(), kept);
     }
     Ok(())

@@ -24,12 +24,13 @@ fn save<S: Store>(
         cols: 5,
         direction: Base::Auto,
         line: None,
+        unsaved: false,
         keys: &[],
     };
     edit(
         alloc,
         &mut b"x\x13\x11".as_slice(),
-        &mut Recorder::new(NoJournal),
+        &mut Recorder::new(alloc, NoJournal),
         &mut Vec::new(alloc),
         store,
         beginning,

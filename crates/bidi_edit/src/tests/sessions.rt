@@ -93,12 +93,13 @@ impl Given {
             cols: self.cols,
             direction: self.direction,
             line: None,
+            unsaved: false,
             keys: &[],
         };
         let outcome = edit(
             alloc,
             &mut self.keys.as_slice(),
-            &mut Recorder::new(NoJournal),
+            &mut Recorder::new(alloc, NoJournal),
             written,
             store,
             beginning,

@@ -20,7 +20,7 @@ returns c =
       brackets_are = c.in_ok-tables.ensures.brackets;
       mirrors_are = c.in_ok-tables.ensures.mirrors;
     } in record {
-      begins = opened_is says c.in_ok-tables.tables c.in_ok-session.session c.go_to.new.session (bytes_of b.text) _ b.rows b.cols b.direction
+      begins = opened_is says c.in_ok-tables.tables c.in_ok-session.session c.prepare.new.session (bytes_of b.text) _ b.rows b.cols b.direction b.unsaved
           c.map-start.result _ _ _ are c.in_ok-session.ensures.ok c.in_ok-session.ensures.paints
-          (bytes_or_none b.text c.new.result c.unwrap_or-text.result c.new.ensures.items c.unwrap_or-text.ensures) c.in_ok-go_to.ensures;
+          (bytes_or_none b.text c.new.result c.unwrap_or-text.result c.new.ensures.items c.unwrap_or-text.ensures) c.in_ok-prepare.ensures;
     }
