@@ -5,10 +5,6 @@ use Rattle.bidi_edit.proofs.replaying.replay.Goals as goal
 
 pub loop-byte-preserved : goal.loop-byte-preserved
 loop-byte-preserved g c =
-    let says : g.row.D.Denot → Data = λ t. record {
-      class = (g.D.BidiData.data t).class;
-      bracket = (g.D.BidiData.data t).bracket;
-      mirror = (g.D.BidiData.data t).mirror;
-    } in
+    let says : g.row.D.Denot → Data = g.D.BidiData.data in
     replayed_one says c.args.session.now.tables c.loop-byte.session c.replay.new.self c.args.session.now.session c.args.keys.now c.loop-byte.byte-index _
     c.loop-byte.invariant (take_more c.args.keys.now c.loop-byte.byte-index 0 c.loop-byte-test.true) c.in_ok-replay.ensures.after_byte

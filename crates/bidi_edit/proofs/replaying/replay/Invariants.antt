@@ -4,9 +4,5 @@ use Rattle.bidi_edit.proofs.replaying.replay.Given as goal
 
 abbrev pub invariant-loop-byte : goal.invariant-loop-byte
 invariant-loop-byte g l =
-    (l.session.session ≡ after_replaying (record {
-      class = (g.D.BidiData.data l.fn.session.tables).class;
-      bracket = (g.D.BidiData.data l.fn.session.tables).bracket;
-      mirror = (g.D.BidiData.data l.fn.session.tables).mirror;
-    }) l.fn.session.session (take l.byte-index l.keys))
+    (l.session.session ≡ after_replaying (g.D.BidiData.data l.fn.session.tables) l.fn.session.session (take l.byte-index l.keys))
     × (l.session.tables ≡ l.fn.session.tables)

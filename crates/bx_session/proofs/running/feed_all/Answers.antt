@@ -15,11 +15,7 @@ returns-then-ended-clause-bytes g c =
 
 pub loop-byte-preserved : goal.loop-byte-preserved
 loop-byte-preserved g c =
-    let says : g.row.D.Denot → Data = λ t. record {
-      class = (g.D.BidiData.data t).class;
-      bracket = (g.D.BidiData.data t).bracket;
-      mirror = (g.D.BidiData.data t).mirror;
-    } in
+    let says : g.row.D.Denot → Data = g.D.BidiData.data in
     let h = c.loop-byte.invariant.0 in
     let stay = c.loop-byte.invariant.1 in (
       (

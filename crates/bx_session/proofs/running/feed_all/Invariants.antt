@@ -7,10 +7,6 @@ use Rattle.bx_session.proofs.running.feed_all.Given as goal
 abbrev pub invariant-loop-byte : goal.invariant-loop-byte
 invariant-loop-byte g l =
     ((answered : List ByteAnswer)
-    × Fed (record {
-      class = (g.D.BidiData.data l.initial.session.tables).class;
-      bracket = (g.D.BidiData.data l.initial.session.tables).bracket;
-      mirror = (g.D.BidiData.data l.initial.session.tables).mirror;
-    }) l.initial.session.session (store_state g.S.Store.contents g.S.Store.failure_count l.initial.store) l.bytes l.byte-index l.session.session
+    × Fed (g.D.BidiData.data l.initial.session.tables) l.initial.session.session (store_state g.S.Store.contents g.S.Store.failure_count l.initial.store) l.bytes l.byte-index l.session.session
     (store_state g.S.Store.contents g.S.Store.failure_count l.store) answered)
     × (l.session.tables ≡ l.initial.session.tables)

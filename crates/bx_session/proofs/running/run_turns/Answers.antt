@@ -36,11 +36,7 @@ returns-then-count-eq0-clause-runs g c =
 
 pub returns-in_err-send-2-clause-runs : goal.returns-in_err-send-2-clause-runs
 returns-in_err-send-2-clause-runs g c =
-    let says : g.row.D.Denot → Data = λ t. record {
-      class = (g.D.BidiData.data t).class;
-      bracket = (g.D.BidiData.data t).bracket;
-      mirror = (g.D.BidiData.data t).mirror;
-    } in
+    let says : g.row.D.Denot → Data = g.D.BidiData.data in
     let run = c.reads.invariant.0 in
     let fed = c.feed_all.ensures.bytes in
     let sent = c.send-in-reads.ensures.sent in
@@ -61,11 +57,7 @@ returns-in_err-send-2-clause-runs g c =
 
 pub reads-preserved : goal.reads-preserved
 reads-preserved g c =
-    let says : g.row.D.Denot → Data = λ t. record {
-      class = (g.D.BidiData.data t).class;
-      bracket = (g.D.BidiData.data t).bracket;
-      mirror = (g.D.BidiData.data t).mirror;
-    } in
+    let says : g.row.D.Denot → Data = g.D.BidiData.data in
     let run = c.reads.invariant.0 in
     let fed = c.feed_all.ensures.bytes in
     let sent = c.send-in-reads.ensures.sent in

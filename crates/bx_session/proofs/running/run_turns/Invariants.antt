@@ -6,11 +6,7 @@ use Rattle.bx_session.proofs.running.run_turns.Given as goal
 
 abbrev pub invariant-reads : goal.invariant-reads
 invariant-reads g l =
-    RunsRecorded g.J.Journal.contents g.J.Journal.failure_count (record {
-      class = (g.D.BidiData.data l.fn.session.tables).class;
-      bracket = (g.D.BidiData.data l.fn.session.tables).bracket;
-      mirror = (g.D.BidiData.data l.fn.session.tables).mirror;
-    }) l.fn.session.session l.session.session (store_state g.S.Store.contents g.S.Store.failure_count l.fn.store)
+    RunsRecorded g.J.Journal.contents g.J.Journal.failure_count (g.D.BidiData.data l.fn.session.tables) l.fn.session.session l.session.session (store_state g.S.Store.contents g.S.Store.failure_count l.fn.store)
     (store_state g.S.Store.contents g.S.Store.failure_count l.store) (g.R.Read.remaining l.fn.reader) (g.R.Read.remaining l.reader)
     (g.W.Write.contents l.fn.writer) (g.W.Write.contents l.writer) l.fn.recorder l.recorder
     × (l.session.session.pending ≡ [])

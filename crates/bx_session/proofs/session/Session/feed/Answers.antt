@@ -4,11 +4,7 @@ use Rattle.bx_session.proofs.session.Session.feed.Goals as goal
 
 pub returns-clause-after_byte : goal.returns-clause-after_byte
 returns-clause-after_byte g c =
-    let says : g.row.D.Denot → Data = λ t. record {
-      class = (g.D.BidiData.data t).class;
-      bracket = (g.D.BidiData.data t).bracket;
-      mirror = (g.D.BidiData.data t).mirror;
-    } in
+    let says : g.row.D.Denot → Data = g.D.BidiData.data in
     let h = c.in_ok-enter.ensures.after_byte in (
       h.0,
       h.1,
@@ -22,10 +18,6 @@ returns-clause-after_byte g c =
 
 pub returns-clause-paints : goal.returns-clause-paints
 returns-clause-paints g c asks =
-    let says : g.row.D.Denot → Data = λ t. record {
-      class = (g.D.BidiData.data t).class;
-      bracket = (g.D.BidiData.data t).bracket;
-      mirror = (g.D.BidiData.data t).mirror;
-    } in
+    let says : g.row.D.Denot → Data = g.D.BidiData.data in
     let h = c.in_ok-enter.ensures.after_byte in
     byte_paints says h.0 c.args.self.now c.enter.new.self c.paint.new.self.session c.args.byte h.2 c.in_ok-paint.ensures.paints

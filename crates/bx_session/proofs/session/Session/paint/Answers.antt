@@ -9,11 +9,7 @@ use Rattle.bx_session.proofs.session.Session.paint.Goals as goal
 
 pub invariant_of-self-2 : goal.invariant_of-self-2
 invariant_of-self-2 g c =
-    let d : Data = record {
-      class = (g.D.BidiData.data c.self.inside.editor.tables).class;
-      bracket = (g.D.BidiData.data c.self.inside.editor.tables).bracket;
-      mirror = (g.D.BidiData.data c.self.inside.editor.tables).mirror;
-    } in
+    let d : Data = g.D.BidiData.data c.self.inside.editor.tables in
     let e : Editor = c.self.inside.editor.editor in
     let same : c.picture.new.self.editor ≡ e = ap (λ (x : EditorState g.row.D.Denot). x.editor) c.in-Ok-picture.ensures.same in (
       omega (
@@ -30,11 +26,7 @@ invariant_of-self-2 g c =
 
 pub returns-clause-ok : goal.returns-clause-ok
 returns-clause-ok g c =
-    let d : Data = record {
-      class = (g.D.BidiData.data c.self.inside.editor.tables).class;
-      bracket = (g.D.BidiData.data c.self.inside.editor.tables).bracket;
-      mirror = (g.D.BidiData.data c.self.inside.editor.tables).mirror;
-    } in
+    let d : Data = g.D.BidiData.data c.self.inside.editor.tables in
     let s : Session = record {
       editor = c.self.inside.editor.editor;
       top = c.self.inside.top;
@@ -52,11 +44,7 @@ returns-clause-ok g c =
 
 pub returns-clause-paints : goal.returns-clause-paints
 returns-clause-paints g c =
-    let d : Data = record {
-      class = (g.D.BidiData.data c.self.inside.editor.tables).class;
-      bracket = (g.D.BidiData.data c.self.inside.editor.tables).bracket;
-      mirror = (g.D.BidiData.data c.self.inside.editor.tables).mirror;
-    } in
+    let d : Data = g.D.BidiData.data c.self.inside.editor.tables in
     let s : Session = record {
       editor = c.self.inside.editor.editor;
       top = c.self.inside.top;

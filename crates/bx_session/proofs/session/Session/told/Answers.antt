@@ -5,10 +5,6 @@ use Rattle.bx_session.proofs.session.Session.told.Goals as goal
 
 pub returns-clause-told : goal.returns-clause-told
 returns-clause-told g c =
-    let says : g.row.D.Denot → Data = λ t. record {
-      class = (g.D.BidiData.data t).class;
-      bracket = (g.D.BidiData.data t).bracket;
-      mirror = (g.D.BidiData.data t).mirror;
-    } in
+    let says : g.row.D.Denot → Data = g.D.BidiData.data in
     told_is says c.args.self.now c.resize.new.self c.paint.new.self c.args.height c.args.width c.paint.result
     (sym c.is_size.ensures ∙ c.if-not-is_size.false) c.resize.ensures c.paint.ensures.ok c.paint.ensures.err c.paint.ensures.memory

@@ -7,11 +7,7 @@ use Rattle.bx_world.proofs.world.World.play_into.Goals as goal
 
 pub loop-step-preserved : goal.loop-step-preserved
 loop-step-preserved g c =
-    let says : g.row.D.Denot → Data = λ t. record {
-      class = (g.D.BidiData.data t).class;
-      bracket = (g.D.BidiData.data t).bracket;
-      mirror = (g.D.BidiData.data t).mirror;
-    } in
+    let says : g.row.D.Denot → Data = g.D.BidiData.data in
     let h = c.loop-step.invariant in (
       one_played says c.args.self.now.tables c.loop-step.self.tables c.args.self.now.world c.loop-step.self.world c.step.new.self.world
           (store_state g.S.Store.contents g.S.Store.failure_count c.args.store.now) (store_state g.S.Store.contents g.S.Store.failure_count c.loop-step.store)

@@ -6,11 +6,7 @@ use Rattle.bx_world.proofs.world.World.play_into.Given as goal
 
 abbrev pub invariant-loop-step : goal.invariant-loop-step
 invariant-loop-step g l =
-    Played (record {
-      class = (g.D.BidiData.data l.initial.self.tables).class;
-      bracket = (g.D.BidiData.data l.initial.self.tables).bracket;
-      mirror = (g.D.BidiData.data l.initial.self.tables).mirror;
-    }) l.initial.self.world (store_state g.S.Store.contents g.S.Store.failure_count l.initial.store) l.steps l.step-index l.self.world
+    Played (g.D.BidiData.data l.initial.self.tables) l.initial.self.world (store_state g.S.Store.contents g.S.Store.failure_count l.initial.store) l.steps l.step-index l.self.world
     (store_state g.S.Store.contents g.S.Store.failure_count l.store) l.answers.items
     × (l.self.tables ≡ l.initial.self.tables)
     × (vec_capacity l.answers ≡ vec_capacity l.initial.answers)

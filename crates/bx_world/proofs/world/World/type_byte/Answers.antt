@@ -9,11 +9,7 @@ use Rattle.bx_world.proofs.world.World.type_byte.Goals as goal
 
 pub invariant_of-self : goal.invariant_of-self
 invariant_of-self g c =
-    let says : g.row.D.Denot → Data = λ t. record {
-      class = (g.D.BidiData.data t).class;
-      bracket = (g.D.BidiData.data t).bracket;
-      mirror = (g.D.BidiData.data t).mirror;
-    } in
+    let says : g.row.D.Denot → Data = g.D.BidiData.data in
     let w : World = record {
       session = c.self.inside.session.session;
       line = c.self.inside.line.items;
@@ -30,11 +26,7 @@ invariant_of-self g c =
 
 pub returns-clause-step : goal.returns-clause-step
 returns-clause-step g c =
-    let says : g.row.D.Denot → Data = λ t. record {
-      class = (g.D.BidiData.data t).class;
-      bracket = (g.D.BidiData.data t).bracket;
-      mirror = (g.D.BidiData.data t).mirror;
-    } in
+    let says : g.row.D.Denot → Data = g.D.BidiData.data in
     let w : World = record {
       session = c.self.inside.session.session;
       line = c.self.inside.line.items;
