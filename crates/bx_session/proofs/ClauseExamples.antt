@@ -1,13 +1,18 @@
 -- Worked rows, each of which follows from a clause of a run alone.
-use Rattle.std.proofs.Common.{◌≡◌, ◌≢◌, ℕ, Bool, true, false, List, [], ◌∷◌, ◌++◌, Option, Some, refl, sym, ap, subst, ◌∙◌}
-use Rattle.std.specs.Prelude.{codes}
+use Rattle.std.proofs.Common.{◌≡◌, ◌≢◌, ◌≤◌, ℕ, zero, suc, Bool, true, false, List, [], ◌∷◌, ◌++◌, Option, Some, inl, inr, refl, sym, ap, subst, ◌∙◌, arith}
+use Rattle.std.specs.Global.{Vec}
+use Rattle.std.specs.Prelude.{codes, vec_items}
 use Rattle.std.specs.Io.KnownBytes.{Appends}
+use Rattle.std.proofs.lemmas.Bool.Decides.{nat_tests}
 use Rattle.std.proofs.lemmas.List.{append-nil}
-use Rattle.bx_session.specs.Journal.{RecorderState, HasKept}
+use Rattle.bx_session.specs.declared.journal.Kept.{Kept}
+use Rattle.bx_session.specs.declared.journal.Kept.TheVariants.{Whole, Waiting, Cut}
+use Rattle.bx_session.specs.Journal.{RecorderState, HasKept, waiting, after_faults}
 use Rattle.bx_session.specs.Running.{ByteAnswer, HasRun, bytes_of}
 use Rattle.bx_session.specs.Saving.{StoreState}
 use Rattle.bx_session.specs.Session.{Session}
 use Rattle.bx_session.proofs.Computed.{start}
+use Rattle.bx_session.proofs.Kept.{is_whole}
 use Rattle.bx_editor.proofs.Computed.{tables}
 
 none_dropped : (dropped : List ℕ) (ended : Bool) → (dropped ≢ [] → ended ≡ true) → ended ≡ false → dropped ≡ []

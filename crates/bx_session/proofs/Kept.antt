@@ -1,14 +1,31 @@
 -- What a journal keeps of the bytes that are handed to it.
 use Rattle.std.specs.Global.{Vec}
-use Rattle.std.proofs.Common.{◌≡◌, ◌≢◌, ◌≤◌, ◌+◌, ℕ, zero, suc, List, [], ◌++◌, Option, drop, take, length, refl, sym, ap, subst, ◌∙◌, append_assoc, arith}
-use Rattle.std.specs.Prelude.{vec_items}
+use Rattle.std.proofs.Common.{◌≡◌, ◌≢◌, ◌≤◌, ◌+◌, ◌-◌, ℕ, Bool, true, false, Result, Ok, Err, zero, suc, List, [], ◌++◌, Option, drop, take, length, refl, sym, ap, subst, ◌∙◌, append_assoc, ◌⊎◌, inl, inr, arith}
+use Rattle.std.specs.Prelude.{is_err, is_ok, vec_items, if◌then◌else◌}
 use Rattle.std.specs.Io.KnownBytes.{Appends}
 use Rattle.std.proofs.KnownBytes.{Appends-nil, Appends-trans}
-use Rattle.std.proofs.lemmas.List.{append-nil, take-append-drop}
+use Rattle.std.proofs.lemmas.List.{append-nil, length-drop, take-append-drop, take_rest}
+use Rattle.std.proofs.Math.Seq.{take-add}
 use Rattle.bx_store.specs.Stores.{one_more}
 use Rattle.bx_session.specs.declared.journal.Kept.{Kept}
 use Rattle.bx_session.specs.declared.journal.Kept.TheVariants.{Whole, Waiting, Cut}
 use Rattle.bx_session.specs.Journal.{RecorderState, HasKept, Holds, waiting, after_faults}
+
+-- ---- writes
+
+pub written_more : (bytes : List ℕ) (w count : ℕ) → take w bytes ++ take count (take (length bytes - w) (drop w bytes)) ≡ take (w + count) bytes
+written_more bytes w count = ap (λ xs. take w bytes ++ take count xs) (take_rest bytes w) ∙ sym (take-add w count bytes)
+
+pub within_more : (bytes : List ℕ) (w count : ℕ) → w ≤ length bytes → count ≤ length (take (length bytes - w) (drop w bytes)) → w + count ≤ length bytes
+within_more bytes w count within some =
+    let left : length (take (length bytes - w) (drop w bytes)) ≡ length bytes - w = ap length (take_rest bytes w) ∙ length-drop w bytes in
+    omega (arith, within, some, left)
+
+-- bytes for which there was room
+pub extended : {A E : Type 0} (r : Result A E) (failed : Bool) (items all some : List ℕ) → failed ≡ is_err r → failed ≡ false
+    → items ≡ (if is_ok r then all else some) → items ≡ all
+extended (Ok done) failed items all some is works e = e
+extended (Err error) failed items all some is works e = absurd (let g = sym is ∙ works in cc g)
 
 -- ---- one call
 
@@ -114,15 +131,16 @@ kept_nothing contents failures s = record {
 }
 
 faults_more : (n m count : ℕ) → after_faults n (after_faults m count) ≡ after_faults (n + m) count
-faults_more zero m count = refl
-faults_more (suc n) m count = ap one_more (faults_more n m count)
+faults_more zero m count = let same : m ≡ 0 + m = omega arith in ap (λ k. after_faults k count) same
+faults_more (suc n) m count =
+    let same : suc (n + m) ≡ suc n + m = omega arith in ap one_more (faults_more n m count) ∙ ap (λ k. after_faults k count) same
 
 is_cut : (k : Kept) → (k ≡ Cut) ⊎ (k ≢ Cut)
 is_cut Whole = inr (λ h. cc h)
 is_cut (Waiting held) = inr (λ h. cc h)
 is_cut Cut = inl refl
 
-is_whole : (k : Kept) → (k ≡ Whole) ⊎ (k ≢ Whole)
+pub is_whole : (k : Kept) → (k ≡ Whole) ⊎ (k ≢ Whole)
 is_whole Whole = inl refl
 is_whole (Waiting held) = inr (λ h. cc h)
 is_whole Cut = inr (λ h. cc h)

@@ -2,11 +2,12 @@
 
 ghost use Rattle.std.specs.Prelude.{◌≡◌, ◌≤◌, ◌++◌, ◌↔◌, ℕ, List, IsTrue, IfErr, OnErr, OnOk, length, take, drop};
 ghost use Rattle.std.specs.Io.KnownBytes.{Appends};
-ghost use Rattle.bx_session.specs.Journal.{Holds};
+ghost use Rattle.bx_session.specs.Journal.{HasKept, Holds};
 
 use std::alloc::Global;
 use std::io::Write;
 use std::marker::Model;
+use std::mem;
 use thiserror::Error;
 
 /// A call of a journal failed.
@@ -143,7 +144,7 @@ impl<J: Journal + Drop> Model for Recorder<J> {
 
 impl<J: Journal + Drop> Recorder<J> {
     ghost use Rattle.std.specs.Prelude.{◌≡◌};
-    ghost use Rattle.bx_session.specs.Journal.{HasKept, waiting};
+    ghost use Rattle.bx_session.specs.Journal.{HasKept};
 
     /// A recorder that appends to a journal.
     pub fn new(alloc: Global, journal: J) -> Recorder<J>
@@ -167,23 +168,37 @@ impl<J: Journal + Drop> Recorder<J> {
     pub(crate) fn keep(&mut self, bytes: &[u8])
         ensures keeps { HasKept J.contents J.failure_count self.old self.new bytes.now }
     {
-        match &mut self.kept {
-            Kept::Whole => {
-                if let Err(fault) = self.journal.append(bytes) {
-                    self.kept = held(self.alloc, &bytes[fault.written..]);
-                }
-            }
-            Kept::Waiting(waiting) => {
-                if waiting.extend_from_slice(bytes).is_err() {
-                    self.kept = Kept::Cut;
-                    return;
-                }
-                match self.journal.append(waiting.as_slice()) {
-                    Ok(()) => self.kept = Kept::Whole,
-                    Err(fault) => drop_first(waiting, fault.written),
-                }
-            }
-            Kept::Cut => {}
+        let kept = mem::replace(&mut self.kept, Kept::Cut);
+        self.kept = append_to(&mut self.journal, self.alloc, kept, bytes);
+    }
+}
+
+/// Appends bytes to a journal that has so much of the ones before.
+fn append_to<J: Journal + Drop>(journal: &mut J, alloc: Global, kept: Kept, bytes: &[u8]) -> Kept
+    ensures { HasKept J.contents J.failure_count (record { journal = journal.old; kept = kept }) (record { journal = journal.new; kept = result }) bytes.now }
+{
+    match kept {
+        Kept::Whole => match journal.append(bytes) {
+            Ok(()) => Kept::Whole,
+            Err(fault) => held(alloc, &bytes[fault.written..]),
+        },
+        Kept::Waiting(waiting) => append_waiting(journal, waiting, bytes),
+        Kept::Cut => Kept::Cut,
+    }
+}
+
+/// Appends the bytes that wait to a journal, and these.
+fn append_waiting<J: Journal + Drop>(journal: &mut J, mut waiting: Vec<u8>, bytes: &[u8]) -> Kept
+    ensures { HasKept J.contents J.failure_count (record { journal = journal.old; kept = Kept.Waiting waiting }) (record { journal = journal.new; kept = result }) bytes.now }
+{
+    if waiting.extend_from_slice(bytes).is_err() {
+        return Kept::Cut;
+    }
+    match journal.append(waiting.as_slice()) {
+        Ok(()) => Kept::Whole,
+        Err(fault) => {
+            drop_first(&mut waiting, fault.written);
+            Kept::Waiting(waiting)
         }
     }
 }

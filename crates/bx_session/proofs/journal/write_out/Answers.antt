@@ -1,53 +1,50 @@
-use Rattle.std.proofs.Common.{◌≡◌, ℕ, Bool, true, List, [], ◌∷◌, ◌++◌, Result, Ok, Err, take, drop, length, suc, refl, sym, subst, ◌∙◌, eqb-true, arith}
-use Rattle.std.specs.Prelude.{◌==◌, OnOk}
+use Rattle.std.proofs.Common.{◌≡◌, ◌+◌, ◌-◌, length, take, drop, ap, subst, ◌∙◌, arith}
 use Rattle.std.specs.Io.KnownBytes.{Appends}
 use Rattle.std.proofs.KnownBytes.{Appends-nil, Appends-trans, Appends-kept}
-use Rattle.std.proofs.lemmas.List.{take_rest}
-use Rattle.bx_session.proofs.Kept.{written_more, all_written}
+use Rattle.std.proofs.Math.Seq.{take-length}
+use Rattle.bx_session.proofs.Kept.{written_more, within_more}
 use Rattle.bx_session.proofs.journal.write_out.Goals as goal
 
-empty_is_nil : (xs : List ℕ) (b : Bool) → b ≡ (length xs == 0) → b ≡ true → xs ≡ []
-empty_is_nil [] b e h = refl
-empty_is_nil (x ∷ xs) b e h = let none : suc (length xs) ≡ 0 = eqb-true (suc (length xs)) 0 (sym e ∙ h) in absurd (omega arith)
-
-on_ok : {A E : Type 0} (P : Type 0) (r : Result A E) → P → OnOk r P
-on_ok P (Ok x) h = h
-on_ok P (Err x) h = tt
-
 pub writes-init : goal.writes-init
-writes-init g c = ([], refl, Appends-nil _)
+writes-init g c = (omega arith, Appends-nil _)
 
 pub writes-preserved : goal.writes-preserved
 writes-preserved g c =
-    let h = c.writes.invariant in
-    let part = take c.in-Ok.count c.writes.rest.now in (
-      h.0 ++ part,
-      written_more c.args.bytes.now h.0 c.writes.rest.now _ c.in-Ok.count h.1 (take_rest c.writes.rest.now c.in-Ok.count),
-      Appends-trans _ _ _ h.0 part h.2 c.in-Ok.ensures.bytes,
+    let bytes = c.args.bytes.now in
+    let w = c.writes.written in (
+      within_more bytes w c.in-Ok.count c.writes.invariant.0 c.in-Ok.ensures.bound,
+      subst (Appends (g.W.Write.contents c.args.writer.now) (g.W.Write.contents c.write.new.self)) (written_more bytes w c.in-Ok.count)
+          (Appends-trans _ _ _ (take w bytes) (take c.in-Ok.count (take (length bytes - w) (drop w bytes))) c.writes.invariant.1 c.in-Ok.ensures.bytes),
     )
+
+pub writes-smaller : goal.writes-smaller
+writes-smaller g c =
+    let within = within_more c.args.bytes.now c.writes.written c.in-Ok.count c.writes.invariant.0 c.in-Ok.ensures.bound in
+    omega (arith, within, c.in-Ok.count-test.1)
 
 pub returns-in-Ok-eq0-clause-part : goal.returns-in-Ok-eq0-clause-part
 returns-in-Ok-eq0-clause-part g c =
-    let h = c.writes.invariant in
-    let part = take c.in-Ok-eq0.field-0 c.writes.rest.now in (
-      h.0 ++ part,
-      drop c.in-Ok-eq0.field-0 c.writes.rest.now,
-      written_more c.args.bytes.now h.0 c.writes.rest.now _ c.in-Ok-eq0.field-0 h.1 refl,
-      Appends-trans _ _ _ h.0 part h.2 c.in-Ok-eq0.ensures.bytes,
-    )
+    let bytes = c.args.bytes.now in
+    let w = c.writes.written in
+    let n = c.in-Ok-eq0.field-0 in
+    let none : w + n ≡ w = omega (arith, c.in-Ok-eq0.field-0-test) in
+    subst (Appends (g.W.Write.contents c.args.writer.now) (g.W.Write.contents c.write.new.self))
+    (written_more bytes w n ∙ ap (λ k. take k bytes) none)
+    (Appends-trans _ _ _ (take w bytes) (take n (take (length bytes - w) (drop w bytes))) c.writes.invariant.1 c.in-Ok-eq0.ensures.bytes)
 
 pub returns-in-Err-clause-part : goal.returns-in-Err-clause-part
-returns-in-Err-clause-part g c = let h = c.writes.invariant in (h.0, c.writes.rest.now, h.1, Appends-kept _ _ _ h.0 h.2 c.in-Err.ensures.bytes)
+returns-in-Err-clause-part g c = Appends-kept _ _ _ (take c.writes.written c.args.bytes.now) c.writes.invariant.1 c.in-Err.ensures.bytes
 
-pub returns-clause-all : goal.returns-clause-all
-returns-clause-all g c =
-    let h = c.writes.invariant in
-    let before = g.W.Write.contents c.args.writer.now in
-    let after = g.W.Write.contents c.flush.new.self in
-    let written : Appends before after h.0 = Appends-kept _ _ _ h.0 h.2 c.flush.ensures.bytes in
-    let whole : h.0 ≡ c.args.bytes.now =
-    all_written c.args.bytes.now h.0 c.writes.rest.now h.1 (empty_is_nil c.writes.rest.now c.is_empty.result c.is_empty.ensures c.writes-test.false) in
-    on_ok _ c.flush.result (subst (λ (l : List ℕ). Appends before after l) whole written)
+pub returns-in-Ok-flush-clause-all : goal.returns-in-Ok-flush-clause-all
+returns-in-Ok-flush-clause-all g c =
+    let bytes = c.args.bytes.now in
+    let all : c.writes.written ≡ length bytes = omega (arith, c.writes.invariant.0, c.writes-test.false) in
+    subst (Appends (g.W.Write.contents c.args.writer.now) (g.W.Write.contents c.flush.new.self))
+    (ap (λ k. take k bytes) all ∙ take-length bytes)
+    (Appends-kept _ _ _ (take c.writes.written bytes) c.writes.invariant.1 c.in-Ok-flush.ensures.bytes)
 
-pub returns-clause-part : goal.returns-clause-part
-returns-clause-part g c = let h = c.writes.invariant in (h.0, c.writes.rest.now, h.1, Appends-kept _ _ _ h.0 h.2 c.flush.ensures.bytes)
+pub returns-in-Err-flush-clause-count : goal.returns-in-Err-flush-clause-count
+returns-in-Err-flush-clause-count g c = c.writes.invariant.0
+
+pub returns-in-Err-flush-clause-part : goal.returns-in-Err-flush-clause-part
+returns-in-Err-flush-clause-part g c = Appends-kept _ _ _ (take c.writes.written c.args.bytes.now) c.writes.invariant.1 c.in-Err-flush.ensures.bytes
