@@ -2,14 +2,16 @@
 # Saves with the built program, and stops it: killed at each system call of a save, with each of three errors at each call, with a
 # file that another program changes meanwhile, and beside files, links and owners of all kinds. FILE is the old bytes or the new,
 # whole, with its owner and permissions; a link stays a link; nothing but the draft of a killed save is left beside it; no one else
-# reads what is on its way. It stands beside the gate and wants strace; some points want root. The word after it is the program.
-# It prints how many points of each kind there were; the status is 1 where one failed, 77 where there is nothing to check with.
+# reads what is on its way. All this by both ways: saves that replace FILE, and those that write FILE itself, where FILE may be torn
+# while the mark has the whole new text. It stands beside the gate and wants strace; some points want root. The word after it is
+# the program. It prints how many points of each kind there were; the status is 1 where one failed, 77 where there is nothing to
+# check with.
 set -u
 
 export LC_ALL=C.UTF-8
 top=$(cd "$(dirname "$0")/.." && pwd)
 editor=$(readlink -f "${1:-$top/crates/bidi_edit/out/bidi_edit}") || editor=''
-least=200
+least=500
 points=0 failures=0 skipped=0 kind='' kind_points=0
 
 if ! [ -x "$editor" ]; then
@@ -26,6 +28,9 @@ fi
 
 folder=$(mktemp -d)
 place=$folder/place
+# The program's own folder, which has the journal and the mark of saves into FILE itself.
+own=$folder/own
+mark=$own/mark
 program='' mounted=''
 
 clean_up() {
@@ -93,8 +98,14 @@ head -c 80000 /dev/zero | tr '\0' a >"$folder/rest"
 printf 'zyx' >"$folder/typed"
 printf 'theirs\n' >"$folder/theirs"
 printf 'x\033[B\033[Hy\033[B\033[Hz\023' >"$folder/keys"
+# and once more, for a save after one that failed
+{ cat "$folder/keys" && printf '\023'; } >"$folder/keys_twice"
+cp "$folder/keys" "$folder/keys_of_all"
 scenes='plain long secret linked made dangling beset'
-! is_root || scenes="$scenes owned"
+scenes_in_place='plain long linked made doubled'
+! is_root || scenes="$scenes owned" scenes_in_place="$scenes_in_place owned"
+# How saves come to FILE: `beside` or `in_place`; the file whose text is opened, where that is not FILE; the journal that is replayed.
+way=beside copy='' replay=''
 
 put_old() { # PATH MODE
     cat "$folder/old" >"$1"
@@ -107,8 +118,9 @@ prepare() { # SCENE
     scene=$1
     cp "$folder/lines" "$folder/old"
     cp "$folder/edited" "$folder/new"
-    rm -rf "$place"
+    rm -rf "$place" "$own"
     mkdir -m 755 "$place" "$place/links"
+    mkdir -m 700 "$own"
     file=$place/text kept=$place/text mode=640 owner=$(id -u):$(id -g) others='links text'
     case $scene in
     plain) put_old "$kept" 640 ;;
@@ -145,6 +157,10 @@ prepare() { # SCENE
         put_old "$kept" 660
         chown "$owner" "$kept"
         ;;
+    doubled)
+        put_old "$kept" 640
+        ln "$kept" "$place/links/second"
+        ;;
     esac
 }
 
@@ -175,7 +191,24 @@ check_place() {
     linked) same "the link" "$(readlink "$file")" ../text ;;
     dangling) same "the links" "$(readlink "$file") $(readlink "$place/links/second")" 'second ../text' ;;
     beset) same "the user's own FILE.bx" "$(cat "$kept.bx")" 'of the user' ;;
+    doubled) same "the file of FILE's other name" "$(stat -c %i "$place/links/second")" "$(stat -c %i "$kept")" ;;
     esac
+}
+
+# What came of a save into FILE itself that broke off: FILE is old or new, or it is a beginning of the new text, and the mark has all.
+check_torn() { # STATE
+    if [ "$way" != in_place ] || [ "$1" != torn ]; then
+        same "FILE" "$1" "$(had_before)"
+        return
+    fi
+    head -c "$(stat -c %s "$kept")" "$folder/new" | cmp -s - "$kept" || fails "FILE is not the new text's beginning"
+    cmp -s "$mark" "$folder/new" || fails "FILE is torn, and the mark has not all of its text"
+    same "the mark's mode" "$(stat -c %a "$mark")" 600
+}
+
+# The mark is gone; what has `.bx` behind its name never counts.
+check_no_mark() {
+    [ ! -e "$mark" ] || fails "the mark is left"
 }
 
 names() {
@@ -212,8 +245,10 @@ check_draft() {
 
 # What stands before the program is run with it: strace, or the change of a user.
 edit() { # COMMAND..
-    timeout 30 "$@" "$folder/editor" --rows 5 --cols 40 --classes "$folder/DerivedBidiClass.txt" \
-        --brackets "$folder/BidiBrackets.txt" --mirroring "$folder/BidiMirroring.txt" "$file"
+    set -- "$@" "$folder/editor"
+    [ "$way" = beside ] || set -- "$@" --in-place "$mark" --journal "$own/journal"
+    timeout 30 "$@" --rows 5 --cols 40 --classes "$folder/DerivedBidiClass.txt" --brackets "$folder/BidiBrackets.txt" \
+        --mirroring "$folder/BidiMirroring.txt" ${copy:+--text "$copy"} ${replay:+--replay "$replay"} "$file"
 }
 
 # The calls of a scene's save, from its key to the program's end: a line each, with the number of calls of that name so far.
@@ -234,19 +269,17 @@ check_kill() { # CALL NUMBER
     edit strace -o "$folder/log" -e "trace=$1" -e "inject=$1:signal=KILL:when=$2" <"$folder/keys" >/dev/null 2>&1
     same "the status" $? 137
     now=$(state)
-    case $now in
-    new) ;;
-    *) same "FILE" "$now" "$(had_before)" ;;
-    esac
+    [ "$now" = new ] || check_torn "$now"
     check_place
     check_draft
     check_nothing_left
     states="$states $now"
 }
 
-check_kills() {
-    begin_kind 'killed at a call'
-    for scene in $scenes; do
+check_kills() { # KIND SCENE..
+    begin_kind "$1"
+    shift
+    for scene in "$@"; do
         prepare "$scene"
         list_calls
         states=''
@@ -270,10 +303,23 @@ check_error() { # CALL NUMBER ERROR
     status=$?
     grep -q INJECTED "$folder/log" || fails "the call was not met"
     # the input ends after the save, so the status tells whether all is saved
+    now=$(state)
     case $status in
-    0) same "FILE, told to be saved," "$(state)" new ;;
+    0)
+        same "FILE, told to be saved," "$now" new
+        # only the call that takes the mark away may leave it
+        [ ! -e "$mark" ] || [ "$1" = unlink ] || fails "the mark is left"
+        ;;
     1)
-        same "FILE, told not to be saved," "$(state)" "$(had_before)"
+        case $way,$now in
+        # all is written, but it may not be on the disk
+        in_place,new) cmp -s "$mark" "$folder/new" || fails "the mark has not FILE's text" ;;
+        *,torn) check_torn "$now" ;;
+        *)
+            same "FILE, told not to be saved," "$now" "$(had_before)"
+            check_no_mark
+            ;;
+        esac
         grep -q 'failed' "$folder/out" || fails "no message tells that the save failed"
         ;;
     *) fails "the status is $status" ;;
@@ -282,9 +328,22 @@ check_error() { # CALL NUMBER ERROR
     check_nothing_left
 }
 
-check_errors() {
-    begin_kind 'an error at a call'
-    for scene in $scenes; do
+# The same, and a Save behind it, which goes through.
+check_next_save() { # CALL NUMBER ERROR
+    begin_point "$scene, $3 at $1 $2, and a save behind it"
+    prepare "$scene"
+    edit strace -o "$folder/log" -e "trace=$1" -e "inject=$1:error=$3:when=$2" <"$folder/keys_twice" >"$folder/out" 2>/dev/null
+    same "the status" $? 0
+    same "FILE" "$(state)" new
+    check_no_mark
+    check_place
+    check_nothing_left
+}
+
+check_errors() { # KIND SCENE..
+    begin_kind "$1"
+    shift
+    for scene in "$@"; do
         prepare "$scene"
         list_calls
         while read -r call number what; do
@@ -294,6 +353,7 @@ check_errors() {
             for error in ENOSPC EIO EDQUOT; do
                 check_error "$call" "$number" "$error" </dev/null
             done
+            check_next_save "$call" "$number" EIO </dev/null
         done <"$folder/calls"
     done
 }
@@ -385,22 +445,53 @@ check_between_saves() {
     close_session 0
 }
 
-# The program waits half a second before it puts the draft on the disk.
+# The program waits half a second before it puts the draft on the disk. Meanwhile a command is run.
+save_and_meanwhile() { # COMMAND..
+    open_session strace -o "$folder/log" -e trace=fsync -e inject=fsync:delay_enter=500000:when=1
+    if [ "$way" = in_place ]; then draft=$mark.bx; else draft=$kept.bx; fi
+    cat "$folder/keys" >&3
+    for _ in $(seq 100); do
+        [ ! -e "$draft" ] || break
+        sleep 0.02
+    done
+    "$@"
+    wait_for_more "$(stat -c %s "$folder/out")"
+}
+
 check_amid_save() {
     begin_point 'amid a save'
     prepare plain
-    open_session strace -o "$folder/log" -e trace=fsync -e inject=fsync:delay_enter=500000:when=1
-    cat "$folder/keys" >&3
-    for _ in $(seq 100); do
-        [ ! -e "$kept.bx" ] || break
-        sleep 0.02
-    done
-    change_in_place
-    wait_for_more "$(stat -c %s "$folder/out")"
+    save_and_meanwhile change_in_place
     same "FILE after the first save" "$(state)" theirs
     press '\023'
     same "FILE after the second save" "$(state)" new
     check_nothing_left
+    close_session 0
+}
+
+exchange_folder() {
+    mv "$place/inner" "$place/gone"
+    ln -s elsewhere "$place/inner"
+}
+
+# The folder's place is taken by a link, to where FILE has another name, and where a file of the user has the draft's.
+check_exchanged() {
+    begin_point "a folder of the path that is a link by now, $way"
+    prepare plain
+    mkdir "$place/inner" "$place/elsewhere"
+    mv "$kept" "$place/inner/text"
+    file=$place/inner/text kept=$place/inner/text
+    ln "$kept" "$place/elsewhere/text"
+    echo 'of the user' >"$place/elsewhere/text.bx"
+    save_and_meanwhile exchange_folder
+    kept=$place/gone/text
+    same "FILE after the first save" "$(state)" old
+    same "what has FILE's path after the first save" "$(cat "$file")" "$(cat "$folder/old")"
+    same "the user's own file" "$(cat "$place/elsewhere/text.bx")" 'of the user'
+    check_no_mark
+    press '\023'
+    same "what has FILE's path after the second save" "$(cat "$file")" "$(cat "$folder/new")"
+    same "the user's own file" "$(cat "$place/elsewhere/text.bx")" 'of the user'
     close_session 0
 }
 
@@ -431,6 +522,56 @@ check_vanished() {
     close_session 0
 }
 
+# The same, of saves into FILE itself.
+check_changes_in_place() {
+    begin_kind 'changed by another program, in place'
+    way=in_place
+    check_foreign 'written in place' plain change_in_place
+    check_foreign 'replaced' plain change_by_rename
+    check_foreign 'written in place, with the old size and time' plain change_unseen
+    check_foreign 'written behind a link' linked change_in_place
+    check_between_saves
+    check_amid_save
+    check_no_mark
+    check_exchanged
+    check_vanished
+    check_no_mark
+    check_gone_when_torn
+    check_mark_of_before
+    way=beside
+}
+
+# FILE is torn by a save whose last call fails, and taken away: the next save makes it by the other way, and takes the mark away.
+check_gone_when_torn() {
+    begin_point 'a file that was torn and is gone'
+    prepare plain
+    open_session strace -o "$folder/log" -e trace=fsync -e inject=fsync:error=EIO:when=3
+    save_all
+    grep -q INJECTED "$folder/log" || fails "the call was not met"
+    [ -e "$mark" ] || fails "the mark is not there"
+    rm "$kept"
+    press '\023'
+    same "FILE after the second save" "$(state)" new
+    check_no_mark
+    check_place
+    check_nothing_left
+    close_session 0
+}
+
+# A save before this session broke off: the mark stays until a save of this session goes through.
+check_mark_of_before() {
+    begin_point 'a mark that is there at the start'
+    prepare plain
+    echo 'of before' >"$mark"
+    edit strace -o "$folder/log" -e trace=ftruncate -e inject=ftruncate:error=EIO <"$folder/keys" >/dev/null 2>&1
+    same "the status" $? 1
+    same "FILE" "$(state)" old
+    cmp -s "$mark" "$folder/new" || fails "the mark has not all of the new text"
+    check_save 'the same, and a save that goes through' new env
+    check_no_mark
+    check_nothing_left
+}
+
 check_no_file() { # NAME COMMAND..
     begin_point "$1"
     shift
@@ -447,6 +588,50 @@ check_no_file() { # NAME COMMAND..
     close_session 1
 }
 
+# The text that is opened was taken from FILE before another program changed it, or after; keys are replayed over it, or none.
+check_before_start() { # NAME CHANGE KEYS WANTED
+    begin_point "$1"
+    prepare plain
+    copy=$own/text replay=''
+    cp "$folder/old" "$copy"
+    if [ -n "$3" ]; then
+        # shellcheck disable=SC2059 # keys are written as escapes
+        printf "$3" >"$own/keys"
+        replay=$own/keys
+        printf 'xxab\nycd\nzef\n' >"$folder/new"
+    fi
+    "$2"
+    had=$(cat "$kept" 2>/dev/null)
+    open_session env
+    # back to where the keys of all scenes begin
+    [ -z "$3" ] || press '\033[H'
+    save_all
+    copy='' replay=''
+    if [ "$4" = told ]; then
+        same "FILE after the first save" "$(cat "$kept")" "$had"
+        press '\023'
+    fi
+    same "FILE" "$(state)" new
+    check_nothing_left
+    close_session 0
+}
+
+remove_file() { rm "$kept"; }
+save_first_letter() { sed -i '1s/^/x/' "$kept"; }
+save_other_letter() { sed -i '1s/^/w/' "$kept"; }
+
+check_before_starts() {
+    begin_kind 'changed before the start'
+    check_before_start 'nothing' true '' stored
+    check_before_start 'other bytes' change_in_place '' told
+    check_before_start 'no file any more' remove_file '' stored
+    check_before_start 'nothing, and a key' true 'x' stored
+    check_before_start 'the bytes that a key makes' save_first_letter 'x' stored
+    check_before_start 'other bytes, and a key' change_in_place 'x' told
+    check_before_start 'the bytes that a Save stored' save_other_letter 'w\023\177x' stored
+    check_before_start 'bytes between two Saves' save_other_letter '\023w\177\023x' told
+}
+
 check_changes() {
     begin_kind 'changed by another program'
     check_foreign 'written in place' plain change_in_place
@@ -457,6 +642,7 @@ check_changes() {
     check_foreign 'made behind a link' dangling change_in_place
     check_between_saves
     check_amid_save
+    check_exchanged
     check_retargeted
     check_vanished
     check_no_file 'a folder by now' mkdir
@@ -514,6 +700,45 @@ check_names() {
 
 # ---- other users' files
 
+# The bits that run a program as its owner or in its group stay where it has both, and go else. Nothing is written of an empty
+# text, so that the system takes none of them away.
+check_set_ids() {
+    prepare secret
+    chown -R 54322:54322 "$place"
+    chmod 6751 "$kept"
+    owner=54322:54322 mode=6751
+    check_save 'an own file that runs as its owner' new "$folder/as_other"
+    check_place
+
+    for kind_of_text in whole empty; do
+        prepare secret
+        [ "$kind_of_text" = whole ] || empty_texts
+        chown -R 54322:54322 "$place"
+        chgrp 54323 "$kept"
+        chmod 6775 "$kept"
+        owner=54322:54322 mode=755
+        check_save "a $kind_of_text file that runs in a group that is not the user's" new "$folder/as_other"
+        check_place
+
+        prepare secret
+        [ "$kind_of_text" = whole ] || empty_texts
+        chown 54322 "$place"
+        chmod 6755 "$kept"
+        owner=54322:54322 mode=755
+        check_save "a $kind_of_text file that runs as another user" new "$folder/as_other"
+        check_place
+    done
+    cp "$folder/keys_of_all" "$folder/keys"
+}
+
+# A text of one letter, which is erased.
+empty_texts() {
+    printf x >"$folder/old"
+    : >"$folder/new"
+    put_old "$kept" 600
+    printf '\033[3~\023' >"$folder/keys"
+}
+
 check_owners() {
     begin_kind 'other users'
     if ! is_root; then
@@ -542,6 +767,8 @@ check_owners() {
     check_save "another user's file in an own folder" new "$folder/as_other"
     check_place
 
+    check_set_ids
+
     prepare plain
     chmod 666 "$kept"
     check_save 'a folder that may not be written' old "$folder/as_other"
@@ -552,6 +779,24 @@ check_owners() {
     chmod 1777 "$place"
     check_save "another user's file in a folder like /tmp" old "$folder/as_other"
     check_nothing_left
+
+    way=in_place
+    prepare plain
+    chmod 666 "$kept"
+    chown 54322 "$own"
+    mode=666
+    check_save "another user's file, in place" new "$folder/as_other"
+    check_place
+    check_no_mark
+    check_nothing_left
+
+    prepare plain
+    chmod 644 "$kept"
+    chown 54322 "$own"
+    check_save "another user's file that may not be written, in place" old "$folder/as_other"
+    check_no_mark
+    check_nothing_left
+    way=beside
 }
 
 # ---- disks that take no text
@@ -582,12 +827,26 @@ check_disks() {
     mount --bind "$kept" "$kept" && mounted=$kept
     check_save 'a file that is mounted by itself' old env
     check_nothing_left
+    way=in_place
+    check_save 'a file that is mounted by itself, in place' new env
+    check_no_mark
+    check_nothing_left
+    way=beside
     umount "$kept" && mounted=''
 }
 
-check_kills
-check_errors
+# shellcheck disable=SC2086 # scenes are words
+{
+    check_kills 'killed at a call' $scenes
+    check_errors 'an error at a call' $scenes
+    way=in_place
+    check_kills 'killed at a call, in place' $scenes_in_place
+    check_errors 'an error at a call, in place' plain long
+    way=beside
+}
 check_changes
+check_changes_in_place
+check_before_starts
 check_drafts
 check_names
 check_owners

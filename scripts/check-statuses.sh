@@ -67,6 +67,16 @@ ended without_end 1 'bidi_edit: file too long'
 mkdir folder
 run folder
 ended a_folder 1 'bidi_edit: cannot read folder'
+run --text missing text
+ended text_that_is_not_there 1 'bidi_edit: cannot read missing'
+printf 'x\023\021' >keys
+run --journal missing/journal text
+ended journal_not_kept 0 'bidi_edit: the journal could not be written'
+[ "$(tail -n 1 told)" = 'bidi_edit: the journal could not be written, so a crash would have lost what was not saved' ] || {
+    failed=$((failed + 1))
+    echo "FAILS journal_not_kept: $(tail -n 1 told)"
+}
+: >keys
 run --classes missing text
 ended two_class_files 2 'error: '
 "$editor" --classes missing --brackets missing --mirroring missing text <keys >screen 2>told
@@ -88,6 +98,8 @@ status=$?
 ended input_failed 1 'bidi_edit: input failed'
 run
 ended no_file 2 'error: '
+run --in-place mark text
+ended in_place_without_journal 2 'error: '
 run --rows 501 text
 ended rows_past_500 2 'error: '
 run --direction up text

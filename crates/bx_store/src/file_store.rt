@@ -22,9 +22,9 @@ use std::rt::Files;
 /// file's owner, group and permissions, and read by no one else before.
 ///
 /// A store that is made with a mark, the path of another file, writes the file itself, which keeps its names, its access list
-/// and its place. The draft is beside the mark, and a commit has the system put its bytes on the disk, gives it the mark's name,
-/// and then writes the file. A kill or a fault may leave the file torn: a beginning of its new bytes. The mark is there then, and
-/// has all of them. A file that is not there is made by the other way.
+/// and its place. The draft is beside the mark; a commit has the system put its bytes on the disk, gives it the mark's name, and
+/// then writes the file and removes the mark. A kill or a fault may leave the file torn, with a beginning of its new bytes; the mark
+/// is there then and holds all of them. A file that is not there is made by the other way.
 ///
 /// A save of a file that another program changed since the store last saw it is a fault, once: the next save goes through.
 #[derive(Drop)]
@@ -38,7 +38,7 @@ where
     mark: Option<String>,
     /// The file as it was last seen; None where it never was.
     seen: Option<Metadata>,
-    /// Whether the last save into the file itself broke off, so that the mark has what the file lacks.
+    /// Whether a save into the file itself broke off, so that the file may lack bytes that the mark holds.
     is_torn: bool,
     draft: Option<Saving<R::File>>,
     failures: u64,
@@ -75,7 +75,7 @@ where
         })
     }
 
-    /// As [`FileStore::new`]; but saves write the file itself, with this mark.
+    /// The same, but saves write the file itself, with this mark. A mark that is there already is that of a save that broke off.
     ///
     /// Errors: a fault where there is no memory for the paths.
     pub fn in_place(
@@ -84,13 +84,13 @@ where
         path: &str,
         mark: &str,
     ) -> Result<Self, StoreFault> {
-        let mark = String::from_str(alloc, mark)?;
         let mut store = FileStore::new(files, alloc, path)?;
-        store.mark = Some(mark);
+        store.is_torn = !matches!(&find(files, mark), Ok(None));
+        store.mark = Some(String::from_str(alloc, mark)?);
         Ok(store)
     }
 
-    /// Makes the next save of a file that is there a fault, as one of a file that another program changed.
+    /// Takes the file for one that another program changed: the next save is a fault, unless the file is gone then.
     pub fn distrust(&mut self) {
         self.seen = None;
     }
@@ -180,7 +180,7 @@ where
         Ok(())
     }
 
-    /// Takes away the mark of a file that was torn and is whole now.
+    /// Removes the mark of a file that may have been torn and is whole now.
     fn drop_mark(&mut self)
         ensures { self.new.failures ≡ self.old.failures }
     {

@@ -8,7 +8,7 @@ use std::io::{self, ErrorKind, Read, Write};
 use std::os::fd::AsFd;
 use std::rt::Files;
 
-/// A save into a file itself, which another file, the mark, has as a whole from before the first byte of the file changes until
+/// A save into a file itself. Another file, the mark, holds the whole new text from before the first byte of the file changes until
 /// the last one is on the disk.
 #[derive(Drop)]
 pub struct InPlace<F: Write + OpenFile + AsFd + Drop> {
@@ -70,7 +70,7 @@ impl<F: Write + OpenFile + AsFd + Drop> InPlace<F> {
         }
     }
 
-    /// Takes away the draft, and the mark too, unless the file lacks bytes that the mark has.
+    /// Removes the draft, and the mark too, unless the file may lack bytes that the mark holds.
     pub fn remove<R: Files<File = F>>(self, files: &R, is_torn: bool) {
         let InPlace {
             draft,
@@ -85,7 +85,7 @@ impl<F: Write + OpenFile + AsFd + Drop> InPlace<F> {
     }
 }
 
-/// Takes away a mark, whose text is that of the file. One that stays is overwritten by the next save.
+/// Removes a mark that the file does not need. One that stays is overwritten by the next save.
 pub fn remove_mark<R: Files>(files: &R, mark: &str) {
     let _ = files.remove_file(mark);
 }
