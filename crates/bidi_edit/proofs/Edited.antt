@@ -1,5 +1,5 @@
 -- What a run of the program begins from, and what it leaves, put together from what each call left.
-use Rattle.std.proofs.Common.{◌≡◌, ℕ, false, List, [], Option, None, Result, Ok, Err, sym, ap, subst, ◌∙◌}
+use Rattle.std.proofs.Common.{◌≡◌, ℕ, Bool, false, List, [], Option, None, Result, Ok, Err, sym, ap, subst, ◌∙◌}
 use Rattle.std.specs.Prelude.{IfOk, OnOk, vec_items, unwrap_or, Some}
 use Rattle.std.specs.Global.{Vec}
 use Rattle.bx_explicit.specs.declared.base.Base.{Base}

@@ -45,7 +45,7 @@ pub fn open(
     ensures begins { IfOk result (λ s. (offset : Option ℕ)
         × AreOfFiles (⟦<Tables as BidiData>⟧.data s.tables) beginning.entry.unicode.classes.now beginning.entry.unicode.brackets.now beginning.entry.unicode.mirroring.now
         × IsOpened (⟦<Tables as BidiData>⟧.data s.tables) (begins_with (bytes_of beginning.entry.text) beginning.entry.rows beginning.entry.cols beginning.entry.direction
-            beginning.entry.unsaved [] offset) s.session) }
+        beginning.entry.unsaved [] offset) s.session) }
 {
     let (rows, cols, direction) = (beginning.rows, beginning.cols, beginning.direction);
     let unsaved = beginning.unsaved;

@@ -89,6 +89,7 @@ fn beginning_of<'a>(
         cols: options.cols,
         direction: options.direction,
         line: options.line,
+        unsaved: options.unsaved,
         keys: files.keys.as_slice(),
     }
 }

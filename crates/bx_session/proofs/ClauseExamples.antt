@@ -5,7 +5,6 @@ use Rattle.std.specs.Prelude.{codes, vec_items}
 use Rattle.std.specs.Io.KnownBytes.{Appends}
 use Rattle.std.proofs.lemmas.Bool.Decides.{nat_tests}
 use Rattle.std.proofs.lemmas.List.{append-nil}
-use Rattle.bx_session.specs.declared.journal.Kept.{Kept}
 use Rattle.bx_session.specs.declared.journal.Kept.TheVariants.{Whole, Waiting, Cut}
 use Rattle.bx_session.specs.Journal.{RecorderState, HasKept, waiting, after_faults}
 use Rattle.bx_session.specs.Running.{ByteAnswer, HasRun, bytes_of}

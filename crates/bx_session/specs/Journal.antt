@@ -1,5 +1,4 @@
 -- A journal of what is read.
-use Rattle.std.specs.Global.{Vec}
 use Rattle.std.specs.Prelude.{◌≡◌, ◌≢◌, ◌≤◌, ℕ, zero, suc, List, [], ◌++◌, Option, vec_items}
 use Rattle.std.specs.Io.KnownBytes.{Appends}
 use Rattle.bx_ucd.specs.Data.{Data}

@@ -50,11 +50,7 @@ impl<D: BidiData + Drop> Model for World<D> {
       };
     } };
 
-    ghost invariant = { λ w. IsInStep (record {
-      class = (D.data w.session.tables).class;
-      bracket = (D.data w.session.tables).bracket;
-      mirror = (D.data w.session.tables).mirror;
-    }) (record {
+    ghost invariant = { λ w. IsInStep (D.data w.session.tables) (record {
       session = w.session.session;
       line = w.line.items;
       height = w.height;
