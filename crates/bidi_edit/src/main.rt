@@ -105,13 +105,14 @@ fn store_of<'a>(
     }
 }
 
-/// Whether FILE may have been changed since the text that is opened was taken from it.
+/// Whether FILE may have been changed since the text that is opened was taken from it. A text that counts as changed from the start
+/// is not FILE's.
 fn is_changed(
     rt: &HostRuntime,
     options: &Options<'_>,
     files: &Files,
 ) -> Result<bool, ProgramFault<'static>> {
-    if options.text.is_none() || options.to.is_some() {
+    if options.text.is_none() || options.to.is_some() || options.unsaved {
         return Ok(false);
     }
     let Ok(held) = text_of(rt, options.file) else {
