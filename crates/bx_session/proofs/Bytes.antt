@@ -1,4 +1,4 @@
--- What a byte and a told size leave, put together from what each call left.
+-- The session after a byte and after a told size, from the contracts of the calls within.
 use Rattle.std.proofs.Common.{◌≡◌, ℕ, Bool, true, false, List, [], drop, Option, Some, None, Result, Ok, Err, refl, sym, ap, subst, ◌∙◌, if◌then◌else◌}
 use Rattle.std.specs.Prelude.{not, OnOk, OnErr}
 use Rattle.bx_explicit.specs.declared.base.Base.{Base}
@@ -70,7 +70,7 @@ asks_where_not_idle false asks e h = refl
 pub is_not_idle : (s : Session) (b : ℕ) (asks : Bool) → asks ≡ not (is_idle s b) → asks ≡ true → is_idle s b ≡ false
 is_not_idle s b asks e h = asks_where_not_idle (is_idle s b) asks e h
 
--- ---- what is known of the screen before the painting
+-- ---- the knowledge of the screen before the painting
 
 same_pending : (ended : Bool) (s : Session) (rest : List ℕ) → (if ended then s else record s { rest = rest }).pending ≡ s.pending
 same_pending true s rest = refl
@@ -80,7 +80,7 @@ pub same_pending_after : (d : Data) (saved : Bool) (s : Session) (key : Option K
 same_pending_after d saved s None = refl
 same_pending_after d saved s (Some key) = refl
 
--- it does not depend on how a Save ends
+-- it does not depend on a Save's success
 same_screen_after : (d : Data) (saved : Bool) (s : Session) (key : Option Key)
     → (session_after_any d saved s key).known ≡ (session_after_any d true s key).known
 same_screen_after d true s key = refl

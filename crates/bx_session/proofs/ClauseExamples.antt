@@ -1,4 +1,4 @@
--- Worked rows, each of which follows from a clause of a run alone.
+-- Worked examples, each from a clause of a run alone.
 use Rattle.std.proofs.Common.{◌≡◌, ◌≢◌, ◌≤◌, ℕ, zero, suc, Bool, true, false, List, [], ◌∷◌, ◌++◌, Option, Some, inl, inr, refl, sym, ap, subst, ◌∙◌, arith}
 use Rattle.std.specs.Global.{Vec}
 use Rattle.std.specs.Prelude.{codes, vec_items}
@@ -53,21 +53,21 @@ some_faults : (n count : ℕ) → 1 ≤ n → after_faults n count ≢ 0
 some_faults zero count some = absurd (omega (arith, some))
 some_faults (suc n) count some = λ h. absurd (grind (arith, nat_tests, h))
 
--- a journal that is whole before and after has what was read at its end
+-- a journal that is whole before and after ends with the bytes read
 pub what_is_read_is_kept : {J : Type 0} (contents : J → Option (List ℕ)) (failures : J → ℕ) (old new : RecorderState J) (there : List ℕ)
     → HasKept contents failures old new (codes "x") → old.kept ≡ Whole → new.kept ≡ Whole → contents old.journal ≡ Some (codes "ab")
     → contents new.journal ≡ Some there → there ≡ codes "abx"
 what_is_read_is_kept contents failures old new there kept was is before after =
     grown (kept_in_all contents failures old new (codes "x") kept [] (ap waiting was) is) before after kept.grows
 
--- what waited comes before it
+-- waiting bytes come before them
 pub what_waits_comes_first : {J : Type 0} (contents : J → Option (List ℕ)) (failures : J → ℕ) (old new : RecorderState J) (held : Vec ℕ) (there : List ℕ)
     → HasKept contents failures old new (codes "y") → old.kept ≡ Waiting held → vec_items held ≡ codes "x" → new.kept ≡ Whole
     → contents old.journal ≡ Some (codes "ab") → contents new.journal ≡ Some there → there ≡ codes "abxy"
 what_waits_comes_first contents failures old new held there kept was has is before after =
     grown (kept_in_all contents failures old new (codes "y") kept (codes "x") (ap waiting was ∙ has) is) before after kept.grows
 
--- a journal is no more whole only where one of its calls failed
+-- a whole journal stops being whole only if one of its calls fails
 pub no_failure_is_no_fault : {J : Type 0} (contents : J → Option (List ℕ)) (failures : J → ℕ) (old new : RecorderState J)
     → HasKept contents failures old new (codes "x") → old.kept ≡ Whole → failures old.journal ≡ 0 → failures new.journal ≡ 0 → new.kept ≢ Cut
     → new.kept ≡ Whole

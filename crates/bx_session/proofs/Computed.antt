@@ -1,4 +1,4 @@
--- A session, computed, by the small tables.
+-- A session computed with the small tables.
 use Rattle.std.proofs.Common.{ℕ, true, List, [], ◌∷◌}
 use Rattle.bx_explicit.specs.declared.base.Base.TheVariants.{Auto}
 use Rattle.bx_editor.proofs.Computed.{tables}
@@ -8,20 +8,20 @@ use Rattle.bx_session.specs.Session.{Session, at_opening, after_byte}
 abbrev pub start : List ℕ → ℕ → ℕ → Session
 start text height width = at_opening tables text height width Auto
 
--- all that is pending has gone
+-- all pending bytes were sent
 abbrev pub with_all_sent : Session → Session
 with_all_sent s = record s { pending = [] }
 
--- after these bytes, each answered Ok, and each Save a success
+-- after these bytes; each is answered Ok, and each Save succeeds
 abbrev pub after : Session → List ℕ → Session
 after s [] = s
 after s (b ∷ bs) = after (after_byte tables true s b) bs
 
--- what each of these inputs queues
+-- the bytes that each of these inputs queues
 abbrev pub outputs : Session → List (List ℕ) → List (List ℕ)
 outputs s [] = []
 outputs s (bs ∷ more) = let next = after (with_all_sent s) bs in next.pending ∷ outputs next more
 
--- CSI and these characters
+-- CSI followed by these characters
 abbrev pub csi : List ℕ → List ℕ
 csi body = 0x1b ∷ 0x5b ∷ body

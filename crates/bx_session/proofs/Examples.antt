@@ -1,4 +1,4 @@
--- Worked examples: what is queued after input.
+-- Worked examples: the bytes queued after input.
 use Rattle.std.proofs.Common.{◌≡◌, ℕ, true, List, [], ◌∷◌, ◌++◌, refl}
 use Rattle.std.specs.Prelude.{codes}
 use Rattle.std.specs.Fmt.{digits}

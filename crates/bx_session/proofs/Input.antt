@@ -1,4 +1,4 @@
--- What a session keeps of its input stands for all that waits.
+-- The kept part of the input represents the whole unfinished input.
 use Rattle.std.proofs.Common.{◌≡◌, ℕ, List, [], ◌∷◌, ◌++◌, length, refl, sym, ap, ◌∙◌, append_assoc, arith}
 use Rattle.std.specs.Prelude.{option_to_list}
 use Rattle.std.proofs.lemmas.List.{append-nil, length-take}
@@ -12,7 +12,7 @@ use Rattle.bx_keys.proofs.Standing.{stands_for_itself, waiting_key, waiting_rest
 use Rattle.bx_keys.proofs.Taking.{HasTaken, none_taken, one_more_taken}
 use Rattle.bx_session.specs.Laws.{keys_from, HasKeysOfInput}
 
--- what is kept has the same key with a byte more, and goes on to stand for what waits
+-- with one more byte the kept part gives the same key, and still represents the unfinished input
 record Agrees (v rest : List ℕ) (b : ℕ) : Type 0 where
   pub key : key_after v b ≡ key_after rest b
   pub stands : StandsFor (head_of (rest_after v b)) (rest_after rest b)

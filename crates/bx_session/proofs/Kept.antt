@@ -1,4 +1,4 @@
--- What a journal keeps of the bytes that are handed to it.
+-- The bytes that a recorder appends, holds and loses.
 use Rattle.std.proofs.Common.{◌≡◌, ◌≢◌, ◌≤◌, ◌+◌, ◌-◌, ℕ, Bool, false, Result, Ok, Err, zero, suc, List, [], ◌++◌, Option, drop, take, length, refl, sym, ap, subst, ◌∙◌, append_assoc, ◌⊎◌, inl, inr, arith}
 use Rattle.std.specs.Prelude.{is_err, is_ok, vec_items, if◌then◌else◌}
 use Rattle.std.specs.Io.KnownBytes.{Appends}
@@ -20,7 +20,7 @@ within_more bytes w count within some =
     let left : length (take (length bytes - w) (drop w bytes)) ≡ length bytes - w = ap length (take_rest bytes w) ∙ length-drop w bytes in
     omega (arith, within, some, left)
 
--- bytes for which there was room
+-- bytes that fit in memory
 pub extended : {A E : Type 0} (r : Result A E) (failed : Bool) (items all some : List ℕ) → failed ≡ is_err r → failed ≡ false
     → items ≡ (if is_ok r then all else some) → items ≡ all
 extended (Ok done) failed items all some is works e = e
@@ -84,7 +84,7 @@ module _ {J : Type 0} (contents : J → Option (List ℕ)) (failures : J → ℕ
       fault = λ h k. omega arith;
     }
 
-  -- no memory for bytes after those that wait
+  -- out of memory for bytes after those that wait
   pub kept_lost : new.kept ≡ Cut → new.journal ≡ old.journal → old.kept ≢ Whole → old.kept ≢ Cut → HasKept contents failures old new bytes
   kept_lost is same waits there = record {
     appended = [];
@@ -113,9 +113,9 @@ kept_alone contents failures s bytes cut = record {
   fault = λ h k. absurd (k h);
 }
 
--- ---- calls one after another
+-- ---- calls in sequence
 
--- where nothing was read
+-- nothing was read
 pub kept_nothing : {J : Type 0} (contents : J → Option (List ℕ)) (failures : J → ℕ) (s : RecorderState J) → HasKept contents failures s s []
 kept_nothing contents failures s = record {
   appended = [];
@@ -198,7 +198,7 @@ kept_more {J} contents failures old mid new bytes more first next = elim (is_cut
         fault = faulty;
       }
 
--- a read that gave nothing
+-- a read that gave no byte
 pub kept_none : {J : Type 0} (contents : J → Option (List ℕ)) (failures : J → ℕ) (old mid new : RecorderState J) (bytes buffer : List ℕ) (count : ℕ)
     → count ≡ 0 → HasKept contents failures old mid bytes → HasKept contents failures mid new (take count buffer)
     → HasKept contents failures old new bytes

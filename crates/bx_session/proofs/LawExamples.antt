@@ -1,4 +1,4 @@
--- Worked rows, each of which follows from a law alone.
+-- Worked examples, each from a law alone.
 use Rattle.std.proofs.Common.{◌≡◌, ℕ, true, List, [], ◌∷◌, Some, Result, Err, refl, sym, ap, ◌∙◌}
 use Rattle.std.specs.Prelude.{◌≢◌, codes}
 use Rattle.std.specs.Fmt.{digits}
@@ -30,7 +30,7 @@ pub the_letter_is_painted : AlwaysShowsState
 unfolding unicode_segmentation unicode_width digits
 the_letter_is_painted law = (law.byte tables true opened 0x78 (law.opening tables (codes "ab") 1 5 Auto) refl).0
 
--- all 22 bytes of the opening's painting have gone
+-- all 22 bytes of the opening's painting were sent
 pub nothing_is_sent_anew : AlwaysStaysPainted → (with_painting tables (after_sending opened 22)).pending ≡ []
 unfolding unicode_segmentation unicode_width digits
 nothing_is_sent_anew law =
@@ -52,7 +52,7 @@ saves_and_quits_are_passed_over law = ap (λ (e : Editor). e.content.text) (law 
 abbrev fed : Result Status Refused → Result Status Refused → Result Status Refused → Result Status Refused → List ByteAnswer
 fed a save b undo = (0x61, a) ∷ (0x13, save) ∷ (0x62, b) ∷ (0x1a, undo) ∷ []
 
--- a session that was fed them, and refused no key, has the text that their replay has, whatever else was answered
+-- a session that was fed them and refused no key has the text of their replay, whatever its other answers
 pub a_save_is_no_end_of_the_past : RecoveryGivesBack → (store store' : StoreState) (a save b undo : Result Status Refused) (new : Session)
     → FeedsAll tables (start (codes "x") 1 5) store (fed a save b undo) new store' → RefusesNoKey (fed a save b undo)
     → new.editor.content.text ≡ codes "ax"
@@ -60,7 +60,7 @@ unfolding unicode_segmentation unicode_width digits
 a_save_is_no_end_of_the_past law store store' a save b undo new feeds none =
     ap (λ (t : Edited). t.text) (sym (law.gives_back tables (codes "x") 1 5 Auto store store' (fed a save b undo) new feeds none).content)
 
--- there is such a session: one of which each painting was refused
+-- such a session exists: one whose paintings were all refused
 abbrev unpainted : List ℕ → List ByteAnswer
 unpainted [] = []
 unpainted (b ∷ bs) = (b, Err Paint) ∷ unpainted bs
@@ -112,7 +112,7 @@ its_replay_gives_the_text_back law =
     let back = law.gives_back tables (codes "x") 1 5 Auto (storing []) (storing (codes "ax")) (unpainted input) (of_x input) is_fed (none_refused input) in
     ap (λ (t : Edited). t.text) back.content
 
--- a session of which b was refused for want of memory has the text ax, and its replay has abx
+-- a session that refused b when memory ran out has the text ax, and its replay has abx
 pub a_refused_key_is_applied : RecoveryGivesBack → (store store' : StoreState) (new : Session)
     → FeedsAll tables (start (codes "x") 1 5) store ((0x61, Err Paint) ∷ (0x62, Err Edit) ∷ []) new store'
     → (new.editor.content.text ≡ codes "ax")

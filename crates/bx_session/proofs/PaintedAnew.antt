@@ -1,4 +1,4 @@
--- Where no painting is owed, to paint anew changes nothing.
+-- If no painting is owed, another painting changes nothing.
 use Rattle.std.proofs.Common.{◌≡◌, ℕ, Bool, true, false, List, [], ◌∷◌, ◌++◌, length, drop, refl, ap, ◌∙◌, arith, length-append, if◌then◌else◌}
 use Rattle.std.proofs.lemmas.List.{append-nil}
 use Rattle.bx_paint.proofs.Few.{same_changes}
@@ -12,7 +12,7 @@ use Rattle.bx_session.specs.Session.{Session, painting, with_picture, with_paint
 use Rattle.bx_session.specs.Session.{unpainted_after_told}
 use Rattle.bx_session.specs.Anew.{StaysPainted, AlwaysStaysPainted}
 
--- a painting is as good as two
+-- a second painting changes nothing
 twice : (d : Data) (s : Session) → HasRows s.editor → with_painting d (with_painting d s) ≡ with_painting d s
 twice d s has =
     let new = with_painting d s in
@@ -21,7 +21,7 @@ twice d s has =
     ∙ ap (λ bytes. record new { pending = new.pending ++ bytes }) (same_changes p p refl)
     ∙ ap (λ bytes. record new { pending = bytes }) (append-nil new.pending)
 
--- ---- what changes nothing that is painted
+-- ---- changes that leave the picture as it is
 
 spending_at : (ended : Bool) (d : Data) (s : Session) (rest : List ℕ) → StaysPainted d s → StaysPainted d (if ended then s else record s { rest = rest })
 spending_at true d s rest h = h
@@ -44,7 +44,7 @@ sending_stays d s count h owed =
     ∙ ap (λ bs. record s { pending = queue ++ bs }) none
     ∙ ap (λ bs. record s { pending = bs }) (append-nil queue)
 
--- ---- whatever is answered
+-- ---- every call, whether it succeeds or is refused
 
 either_stays : (idle : Bool) (d : Data) (s spent : Session) → HasRows (if idle then spent else with_painting d s).editor → StaysPainted d spent
     → StaysPainted d (if idle then spent else with_painting d s)

@@ -1,4 +1,4 @@
--- Pictures have their editor's size, and what a painting leaves of a session.
+-- Pictures have their editor's size, and the session after a painting.
 use Rattle.std.proofs.Common.{◌≡◌, ℕ, ◌≤◌, Bool, true, false, List, ◌++◌, length, drop, Some, refl, ap, ◌∙◌, if◌then◌else◌}
 use Rattle.std.proofs.lemmas.List.{drop-append-le}
 use Rattle.bx_grid.specs.Picture.{PictureState, AreWholeTokens, IsPicture}
@@ -22,7 +22,7 @@ picture_height d e top = either_height e.ended (blank_picture e.height e.width) 
 pub picture_width : (d : Data) (e : Editor) (top : ℕ) → (picture d e top).width ≡ e.width
 picture_width d e top = either_width e.ended (blank_picture e.height e.width) (text_picture d e top (rows d e)) e.width refl refl
 
--- bytes behind a queue of which the first have gone
+-- bytes appended to a queue whose first bytes were sent
 pub longer_queue : (n : ℕ) (queue more new : List ℕ) → n ≤ length queue → new ≡ queue ++ more → drop n new ≡ drop n queue ++ more
 longer_queue n queue more new fits is = ap (drop n) is ∙ drop-append-le n queue more fits
 

@@ -1,4 +1,4 @@
--- Bytes that are replayed give back what the session had.
+-- Replayed bytes restore the session.
 use Rattle.std.proofs.Common.{◌≡◌, ℕ, Bool, true, false, not, ◌&&◌, List, [], ◌∷◌, Option, Some, None, Result, Ok, Err, refl, sym, ap, subst, ◌∙◌, if◌then◌else◌, arith}
 use Rattle.std.specs.Prelude.{◌≢◌, ◌+◌, ◌==◌, ◌||◌, length, is_some, encode_utf8, option_to_list}
 use Rattle.std.specs.List.{filter}
@@ -28,9 +28,9 @@ use Rattle.bx_session.specs.Session.{with_painting}
 use Rattle.bx_session.proofs.Input.{keys_of_input}
 use Rattle.bx_session.proofs.Replayed.{applies, replays_keys}
 
--- ---- what lasts
+-- ---- lasting state
 
--- what neither a Save nor a Quit changes of an editor
+-- the parts of an editor that neither a Save nor a Quit changes
 record Lasting : Type 0 where
   pub content : Edited
   pub place : ℕ
@@ -41,7 +41,7 @@ record Lasting : Type 0 where
 abbrev lasting : Editor → Lasting
 lasting e = record { content = e.content; place = e.place; base = e.base; height = e.height; width = e.width }
 
--- an editor that has it from another one
+-- an editor that has these parts of another one
 abbrev with : Lasting → Editor → Editor
 with l e = record e { content = l.content; place = l.place; base = l.base; height = l.height; width = l.width }
 
@@ -50,7 +50,7 @@ either_lasts : (b : Bool) (p q p' q' : Editor) → lasting p ≡ lasting p' → 
 either_lasts true p q p' q' h k = h
 either_lasts false p q p' q' h k = k
 
--- ---- a key makes the same of it
+-- ---- a key changes these parts alike
 
 abbrev put_in : Editor → List ℕ → ℕ → Editor
 put_in e new after = record e { content = inserted e.content e.place new e.place after; place = after; changed = true }
@@ -126,7 +126,7 @@ any_lasts d saved e f (Some key) h =
     subst (λ (l : Lasting). lasting (after_key d saved e key) ≡ lasting (after_keys d false (with l f) (filter is_replayed (key ∷ [])))) h
     (key_lasts d saved e f key)
 
--- ---- what a byte leaves in the session
+-- ---- the session after a byte
 
 record Leaves (d : Data) (saved : Bool) (old : Session) (key : Option Key) (rest : List ℕ) (new : Session) : Type 0 where
   pub editor : new.editor ≡ editor_after d saved old.editor key
@@ -142,7 +142,7 @@ unpainted_at true d saved s key rest e = absurd (cc e)
 unpainted_at false d saved s key rest e =
     let each = any_leaves d saved (record s { rest = rest }) key in record { editor = each.editor; rest_is = each.rest_is }
 
--- a byte that is idle ends no key, so it is all the same whether there is a painting
+-- an idle byte completes no key, so a painting makes no difference
 painted_at : (idle owed : Bool) (key : Option Key) (d : Data) (saved : Bool) (old spent : Session) (ends : Option Key) (rest : List ℕ)
     → (not (is_some key) && not owed) ≡ idle → Leaves d saved old ends rest (session_after_any d saved spent key)
     → Leaves d saved old ends rest (if idle then spent else with_painting d (session_after_any d saved spent key))
@@ -193,7 +193,7 @@ all_follow d s r store store' (a ∷ answered) new before feeds none =
     (byte_follows d s r store feeds.1 a.0 a.1 feeds.0 before feeds.2 (none 0 a (omega arith)) feeds.3)
     feeds.5 (All-tail (λ (x : ByteAnswer). x.1 ≢ Err refused.Edit) a answered none)
 
--- ---- said of each part
+-- ---- for each part
 
 same_lasts : (e f : Editor) → f.content ≡ e.content → f.place ≡ e.place → f.base ≡ e.base → f.height ≡ e.height → f.width ≡ e.width
     → lasting e ≡ lasting f

@@ -1,4 +1,4 @@
--- Bytes that are replayed apply their keys one after another.
+-- Replayed bytes apply their keys in order.
 use Rattle.std.proofs.Common.{◌≡◌, ℕ, Bool, true, false, List, [], ◌∷◌, ◌++◌, Option, Some, None, refl, sym, ap, ◌∙◌, append_assoc, if◌then◌else◌}
 use Rattle.std.proofs.lemmas.List.Elements.{filter-append}
 use Rattle.std.specs.List.{filter}
@@ -53,7 +53,7 @@ goes_on d e (Size height width) r h = h
 
 -- ---- a byte
 
--- what a byte leaves, where its key is given
+-- the session after a byte with a given key
 pub record Applies (d : Data) (old : Session) (rest : List ℕ) (keys : List Key) (new : Session) : Type 0 where
   pub editor : new.editor ≡ after_keys d false old.editor (filter is_replayed keys)
   pub rest_is : new.rest ≡ rest
@@ -102,7 +102,7 @@ replays_keys d s (b ∷ bs) h =
     (sym (ap (after_keys d false s.editor) (filter-append is_replayed (option_to_list key) others)
     ∙ keys_in_parts d s.editor (filter is_replayed (option_to_list key)) (filter is_replayed others)))
 
--- ---- what waits behind bytes
+-- ---- the unfinished input after bytes
 
 abbrev pub rest_from : List ℕ → List ℕ → List ℕ
 rest_from rest [] = rest

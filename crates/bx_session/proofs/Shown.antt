@@ -1,4 +1,4 @@
--- Where no painting is owed, the picture last painted is that of the session's state, and the screen is taken to show it.
+-- If no painting is owed, the picture last painted is the one of the session's state, and the screen is taken to show it.
 use Rattle.std.proofs.Common.{ℕ, Bool, true, false, List, refl, if◌then◌else◌}
 use Rattle.bx_keys.specs.Keys.{rest_after}
 use Rattle.bx_keys.specs.Waiting.{head_of}

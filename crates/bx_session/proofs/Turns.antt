@@ -20,7 +20,7 @@ use Rattle.bx_session.specs.Saving.{StoreState, AfterByte, Feeds}
 use Rattle.bx_session.specs.Running.{ByteAnswer, bytes_of, FeedsAll, FedUntilEnd, HasRead, Sent, HasRun}
 use Rattle.bx_session.specs.Running.{Turn, IsRead, TakesTurn, TakesTurns, read_in, read_size, fed_in, dropped_in, written_in}
 
--- ---- what was pending before does not matter
+-- ---- bytes pending before do not matter
 
 -- the session with these bytes pending before the others
 abbrev pub prefixed : List ℕ → Session → Session
@@ -117,7 +117,7 @@ pub record Fed (d : Data) (old : Session) (store : StoreState) (bytes : List ℕ
   pub so_far : bytes_of answered ≡ take i bytes
   pub feeds : FeedsAll d old store answered now now_store
 
--- the tables are the same all along
+-- the tables stay the same
 pub fed_more : {D : Type 0} (says : D → Data) (tables tables1 : D) (old now new : Session) (store store1 store2 : StoreState) (bytes : List ℕ)
     (i b : ℕ) (a : Result Status Refused) (answered : List ByteAnswer) → Fed (says tables) old store bytes i now store1 answered → tables1 ≡ tables
     → now.editor.ended ≡ false → Feeds (says tables1) now store1 b a new store2
@@ -158,7 +158,7 @@ none_written None b h = tt
 none_written (Some xs) None h = h
 none_written (Some xs) (Some ys) h = h ∙ append-nil xs
 
--- some of what is pending was written and taken off
+-- some pending bytes were written and removed
 pub took : (s s1 : Session) (w w1 : Option (List ℕ)) (count : ℕ) (buffer : List ℕ) → buffer ≡ s.pending → Appends w w1 (take count buffer)
     → s1 ≡ record s { pending = drop count s.pending } → Sent s s1 w w1 (take count buffer)
 took s s1 w w1 count buffer is written e =
@@ -241,7 +241,7 @@ few_dropped d s s2 store store2 [] dropped feeds running drops most =
 few_dropped d s s2 store store2 (a ∷ answered) dropped feeds running drops most =
     omega (arith, most, length-append (bytes_of answered) dropped)
 
--- what was read so far, and a read more
+-- the bytes read so far, and one more read
 pub read_on : (s s2 : Session) (answered answered' : List ByteAnswer) (dropped dropped' bytes : List ℕ) → (dropped ≢ [] → s.editor.ended ≡ true)
     → s.editor.ended ≡ false → bytes ≡ bytes_of answered' ++ dropped'
     → (bytes_of answered ++ dropped) ++ bytes ≡ bytes_of (answered ++ answered') ++ dropped'
@@ -252,7 +252,7 @@ read_on s s2 answered answered' dropped dropped' bytes drops running is =
     ∙ sym (append_assoc (bytes_of answered) (bytes_of answered') dropped')
     ∙ ap (λ xs. xs ++ dropped') (sym (map-append (λ (x : ByteAnswer). x.0) answered answered'))
 
--- what was dropped before, in a session that has not ended
+-- the bytes dropped before, in a session that has not ended
 pub run_drops : (d : Data) (old s : Session) (store store1 : StoreState) (r r1 w w1 : Option (List ℕ)) (answered : List ByteAnswer)
     (dropped written : List ℕ) (all : Session) → HasRun d old s store store1 r r1 w w1 answered dropped written all
     → dropped ≢ [] → s.editor.ended ≡ true
@@ -325,7 +325,7 @@ pub fewer : (s s1 : Session) (count : ℕ) → (count ≡ 0 → ⊥) → count �
 fewer s s1 count some fits e =
     omega (arith, ap (λ (x : Session). length x.pending) e, length-drop count s.pending)
 
--- a read that gave nothing
+-- a read that gave no byte
 pub read_nothing : (d : Data) (old s : Session) (store store1 : StoreState) (r r1 r2 w w1 : Option (List ℕ)) (answered : List ByteAnswer)
     (dropped written : List ℕ) (all : Session) → HasRun d old s store store1 r r1 w w1 answered dropped written all → Consumes r1 r2 []
     → HasRun d old s store store1 r r2 w w1 answered dropped written all

@@ -1,4 +1,4 @@
--- What a session paints anew.
+-- A second painting.
 use Rattle.std.specs.Prelude.{◌≡◌, ℕ, Bool, false, List}
 use Rattle.bx_explicit.specs.declared.base.Base.{Base}
 use Rattle.bx_editor.specs.Data.{Data}
@@ -6,11 +6,11 @@ use Rattle.bx_editor.specs.Laws.{HasRows}
 use Rattle.bx_session.specs.Session.{Session, with_painting, at_opening, after_spending, after_byte, owing_after_byte, after_told, owing_after_told, after_sending}
 use Rattle.bx_session.specs.Session.{after_going, after_replay}
 
--- where no painting is owed, to paint anew changes nothing: no byte is queued, and the top and the picture stay
+-- if no painting is owed, another painting changes nothing: it queues no byte, and the top and the picture stay
 abbrev pub StaysPainted : Data → Session → Type 0
 StaysPainted d s = s.painting_owed ≡ false → with_painting d s ≡ s
 
--- so it is at opening, and so it stays, whatever is answered
+-- this holds at opening, and every call preserves it, whether it succeeds or is refused
 pub record AlwaysStaysPainted : Type 0 where
   pub opening : (d : Data) (text : List ℕ) (height width : ℕ) (base : Base) → HasRows (at_opening d text height width base).editor
       → StaysPainted d (at_opening d text height width base)

@@ -1,12 +1,11 @@
--- What a session begins from.
+-- The start of a session.
 use Rattle.std.specs.Prelude.{ℕ, Bool, true, false, List, [], Option, Some, None}
 use Rattle.bx_explicit.specs.declared.base.Base.{Base}
 use Rattle.bx_ucd.specs.Data.{Data}
 use Rattle.bx_session.specs.Session.{Session, at_opening, after_going, as_changed, after_replaying, with_painting}
 use Rattle.bx_session.specs.Painting.{QueuesPicture}
 
--- a text in a window, the offset that the cursor is sent to, if any, whether the text is not saved, and the bytes of a journal, which
--- may be none
+-- a text in a window, the offset that the cursor goes to, if any, whether the text is unsaved, and the bytes of a journal, maybe none
 pub record Beginning : Type 0 where
   pub text : List ℕ
   pub height : ℕ
@@ -16,29 +15,29 @@ pub record Beginning : Type 0 where
   pub unsaved : Bool
   pub journal : List ℕ
 
--- the text is opened, and the cursor sent to the offset
+-- the cursor goes to the offset, if there is one
 abbrev pub after_going_to : Data → Session → Option ℕ → Session
 after_going_to d s None = s
 after_going_to d s (Some offset) = after_going d s offset
 
--- it counts as changed where it is not saved
+-- an unsaved text counts as changed
 abbrev pub changed_if : Bool → Session → Session
 changed_if true s = as_changed s
 changed_if false s = s
 
--- before the journal's keys
+-- opened, before the journal's keys
 abbrev pub at_offset : Data → Beginning → Session
 at_offset d b = changed_if b.unsaved (after_going_to d (at_opening d b.text b.height b.width b.base) b.offset)
 
--- the journal's bytes are replayed, and not painted yet
+-- after the replay of the journal's bytes, not painted yet
 abbrev pub unpainted_at : Data → Beginning → Session
 unpainted_at d b = after_replaying d (at_offset d b) b.journal
 
--- and painted: here a run begins
+-- painted: a run starts here
 abbrev pub begun : Data → Beginning → Session
 begun d b = with_painting d (unpainted_at d b)
 
--- what the calls give that begin a run: the first picture was queued, and then the one after the journal's keys
+-- the paintings before a run: the first picture was queued, then the picture after the journal's keys
 pub record IsBegun (d : Data) (b : Beginning) : Type 0 where
   pub opened : QueuesPicture d [] None (at_opening d b.text b.height b.width b.base)
   pub painted : QueuesPicture d (unpainted_at d b).pending (unpainted_at d b).known (begun d b)

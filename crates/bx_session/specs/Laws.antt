@@ -1,4 +1,4 @@
--- What holds of sessions, whatever their input.
+-- Laws of sessions, for any input.
 use Rattle.std.specs.Prelude.{◌≡◌, ℕ, Bool, false, List, []}
 use Rattle.std.specs.List.{filter}
 use Rattle.bx_explicit.specs.declared.base.Base.{Base}
@@ -11,7 +11,7 @@ use Rattle.bx_session.specs.Session.{after_going, after_replay, is_replayed}
 pub use Rattle.bx_session.specs.Session.{after_replaying}
 pub use Rattle.bx_session.specs.Painting.{ShowsState}
 
--- what `ShowsState` says holds at opening, and stays, whatever is answered
+-- `ShowsState` holds at opening, and every call preserves it, whether it succeeds or is refused
 pub record AlwaysShowsState : Type 0 where
   pub opening : (d : Data) (text : List ℕ) (height width : ℕ) (base : Base) → ShowsState d (at_opening d text height width base)
   pub byte : (d : Data) (saved : Bool) (s : Session) (b : ℕ) → ShowsState d s → ShowsState d (after_byte d saved s b)
@@ -23,11 +23,11 @@ pub record AlwaysShowsState : Type 0 where
   pub going : (d : Data) (s : Session) (offset : ℕ) → ShowsState d (after_going d s offset)
   pub sending : (d : Data) (s : Session) (count : ℕ) → ShowsState d s → ShowsState d (after_sending s count)
 
--- keys byte by byte are those of the bytes as a whole
+-- decoding byte by byte gives the keys of the bytes as a whole
 abbrev pub HasKeysOfInput : Type 0
 HasKeysOfInput = (bs : List ℕ) → keys_from [] bs ≡ (decoding bs).keys
 
--- bytes of a journal apply their keys one after another, but for the Saves and the Quits
+-- a journal's bytes apply their keys in order, except Saves and Quits
 abbrev pub ReplaysKeys : Type 0
 ReplaysKeys =
     (d : Data) (s : Session) (bs : List ℕ) → s.editor.ended ≡ false

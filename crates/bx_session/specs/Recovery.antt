@@ -1,4 +1,4 @@
--- What a replay of a session's bytes gives back.
+-- Recovery: the replay of a session's bytes.
 use Rattle.std.specs.Prelude.{◌≡◌, ◌≢◌, ℕ, false, List, All, Err}
 use Rattle.std.specs.List.{filter}
 use Rattle.bx_explicit.specs.declared.base.Base.{Base}
@@ -12,12 +12,12 @@ use Rattle.bx_session.specs.Running.{ByteAnswer, FeedsAll, bytes_of}
 use Rattle.bx_session.specs.Saving.{StoreState}
 use Rattle.bx_session.specs.Session.{Session, at_opening, is_replayed}
 
--- no key was refused for want of memory
+-- no key was refused because memory ran out
 abbrev pub RefusesNoKey : List ByteAnswer → Type 0
 RefusesNoKey answered = All (λ (a : ByteAnswer). a.1 ≢ Err refused.Edit) answered
 
--- a replayed session has what the other one had: the text with its past and future, the cursor's place, the direction, the
--- window and the input that waits; and it has not ended
+-- a replayed session has the other's text with its past and future, cursor's place, direction, window and unfinished input;
+-- and it has not ended
 pub record HasBack (had replayed : Session) : Type 0 where
   pub content : replayed.editor.content ≡ had.editor.content
   pub place : replayed.editor.place ≡ had.editor.place
@@ -27,18 +27,16 @@ pub record HasBack (had replayed : Session) : Type 0 where
   pub rest : replayed.rest ≡ had.rest
   pub goes_on : replayed.editor.ended ≡ false
 
--- what the bytes of a session give when they are replayed
+-- the state after a replay of a session's bytes
 pub record RecoveryGivesBack : Type 0 where
-  -- over the text that it was opened with, where no key was refused: they give back what it had, wherever it saved and even if
-  -- it quit
+  -- over the opened text, if no key was refused, they restore the session, wherever it saved and even if it quit
   pub gives_back : (d : Data) (text : List ℕ) (height width : ℕ) (base : Base) (store store' : StoreState) (answered : List ByteAnswer)
       (new : Session) → FeedsAll d (at_opening d text height width base) store answered new store' → RefusesNoKey answered
       → HasBack new (after_replaying d (at_opening d text height width base) (bytes_of answered))
-  -- So they do from any start where both have the same: after the cursor was sent to a line, or in a session that was
-  -- recovered before.
+  -- the same from any common start: after the cursor was sent to a line, or in a session that was recovered before
   pub keeps_up : (d : Data) (old replayed : Session) (store store' : StoreState) (answered : List ByteAnswer) (new : Session) → HasBack old replayed
       → FeedsAll d old store answered new store' → RefusesNoKey answered → HasBack new (after_replaying d replayed (bytes_of answered))
-  -- Whatever was answered, they apply all their keys but the Saves and the Quits, and so those too that the session refused.
+  -- in every case they apply all their keys except Saves and Quits, even those that the session refused
   pub applies_all : (d : Data) (text : List ℕ) (height width : ℕ) (base : Base) (bytes : List ℕ)
       → (after_replaying d (at_opening d text height width base) bytes).editor
       ≡ after_keys d false (at_start text height width base) (filter is_replayed (decoding bytes).keys)

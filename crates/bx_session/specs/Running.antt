@@ -1,4 +1,4 @@
--- A session run over a reader, a writer and a store.
+-- Runs of a session over a reader, a writer and a store.
 use Rattle.std.specs.Prelude.{◌≡◌, ◌≢◌, ◌≤◌, ◌<◌, length, ℕ, true, false, List, [], ◌∷◌, ◌++◌, map, Option, Result, Ok, Err, OnOk}
 use Rattle.std.specs.Io.KnownBytes.{Appends, Consumes, IsAtEnd}
 use Rattle.bx_ucd.specs.Data.{Data}
@@ -12,29 +12,28 @@ use Rattle.bx_session.specs.Session.{Session, is_idle}
 use Rattle.bx_session.specs.Saving.{StoreState, Feeds}
 use Rattle.bx_session.specs.Painting.{FeedPaints}
 
--- a byte, and what it was answered
+-- a byte and the answer to it
 abbrev pub ByteAnswer : Type 0
 ByteAnswer = ℕ × Result Status Refused
 
 abbrev pub bytes_of : List ByteAnswer → List ℕ
 bytes_of answered = map (λ a. a.0) answered
 
--- session and store after these bytes, all fed before the session's end, each as it was answered; nothing of what is pending
--- is taken
+-- session and store after these bytes, each with its answer; all are fed before the session's end, and no pending byte is sent
 abbrev pub FeedsAll : Data → Session → StoreState → List ByteAnswer → Session → StoreState → Type 0
 FeedsAll d old store [] new store' = (new ≡ old) × (store' ≡ store)
 FeedsAll d old store (a ∷ answered) new store' =
     (mid : Session) × (mid_store : StoreState) × (old.editor.ended ≡ false) × Feeds d old store a.0 a.1 mid mid_store
     × (is_idle old a.0 ≡ false → OnOk a.1 (FeedPaints d old a.0 mid)) × FeedsAll d mid mid_store answered new store'
 
--- bytes were fed up to the session's end, and the others dropped
+-- bytes are fed up to the session's end, and the rest is dropped
 pub record FedUntilEnd (d : Data) (old : Session) (store : StoreState) (bytes : List ℕ) (new : Session) (store' : StoreState)
     (answered : List ByteAnswer) (dropped : List ℕ) : Type 0 where
   pub all : bytes ≡ bytes_of answered ++ dropped
   pub feeds : FeedsAll d old store answered new store'
   pub drops : dropped ≢ [] → new.editor.ended ≡ true
 
--- a prefix of what is pending was written, and the rest is still pending
+-- a prefix of the pending bytes was written, and the rest is still pending
 pub record Sent (old new : Session) (writer writer' : Option (List ℕ)) (written : List ℕ) : Type 0 where
   pub writes : Appends writer writer' written
   pub order : old.pending ≡ written ++ new.pending
@@ -44,8 +43,7 @@ pub record Sent (old new : Session) (writer writer' : Option (List ℕ)) (writte
 abbrev pub read_size : ℕ
 read_size = 256
 
--- a turn of a run: the bytes of one read, which are fed until the session ends, and dropped from there on; and then bytes that
--- were written
+-- a turn of a run: the bytes of one read, fed until the session ends and dropped from there on, and the bytes written then
 pub record Turn : Type 0 where
   pub fed : List ByteAnswer
   pub dropped : List ℕ
@@ -54,8 +52,8 @@ pub record Turn : Type 0 where
 abbrev pub read_in : Turn → List ℕ
 read_in turn = bytes_of turn.fed ++ turn.dropped
 
--- Where a turn begins: a read comes only where the session has not ended and all that was queued has gone out, and gives some
--- bytes. They are dropped only behind the session's end.
+-- The read of a turn. It comes only before the session's end and once all queued bytes were sent, and gives at least one byte.
+-- Bytes are dropped only after the session's end.
 pub record IsRead (old : Session) (turn : Turn) (all : Session) : Type 0 where
   pub goes_on : old.editor.ended ≡ false
   pub sent : old.pending ≡ []
@@ -63,14 +61,14 @@ pub record IsRead (old : Session) (turn : Turn) (all : Session) : Type 0 where
   pub most : length (read_in turn) ≤ read_size
   pub drops : turn.dropped ≢ [] → all.editor.ended ≡ true
 
--- session and store after a turn, where the bytes fed leave the session `all`: a prefix of what is pending was written
+-- session and store after a turn: the bytes fed lead to the session `all`, and a prefix of its pending bytes was written
 pub record TakesTurn (d : Data) (old : Session) (store : StoreState) (turn : Turn) (new : Session) (store' : StoreState) (all : Session)
     : Type 0 where
   pub feeds : FeedsAll d old store turn.fed all store'
   pub order : all.pending ≡ turn.written ++ new.pending
   pub session : new ≡ record all { pending = new.pending }
 
--- turns one after another
+-- turns in sequence
 abbrev pub TakesTurns : Data → Session → StoreState → List Turn → Session → StoreState → Type 0
 TakesTurns d old store [] new store' = (new ≡ old) × (store' ≡ store)
 TakesTurns d old store (turn ∷ more) new store' =
@@ -89,8 +87,8 @@ abbrev pub written_in : List Turn → List ℕ
 written_in [] = []
 written_in (turn ∷ more) = turn.written ++ written_in more
 
--- All that was fed, dropped and written. First a prefix of what was pending went out, which left the session `begun`; then came
--- the turns.
+-- All bytes fed, dropped and written. First a prefix of the pending bytes is written, which leaves the session `begun`; then
+-- the turns follow.
 pub record InTurns (d : Data) (old new : Session) (store store' : StoreState) (answered : List ByteAnswer) (dropped written : List ℕ)
     : Type 0 where
   pub first : List ℕ
@@ -103,13 +101,13 @@ pub record InTurns (d : Data) (old new : Session) (store store' : StoreState) (a
   pub drops : dropped_in turns ≡ dropped
   pub wrote : first ++ written_in turns ≡ written
 
--- so many bytes at least were read
+-- at least `count` bytes were read
 abbrev pub HasRead : ℕ → Option (List ℕ) → Option (List ℕ) → Type 0
 HasRead count reader reader' = (bytes : List ℕ) × (count ≤ length bytes) × Consumes reader reader' bytes
 
--- How far a run has come. `answered` are the bytes that were read up to the session's end, and `dropped` those behind it.
--- `all` is what the session would be if nothing were written, so that its queue has all that was pending at the start and
--- was appended since. That is what was written, and then what is pending.
+-- The progress of a run. `answered` are the bytes read up to the session's end, `dropped` those after it. `all` is the session
+-- as if nothing were written: its queue has the bytes pending at the start and all appended since, which are the bytes
+-- written and then those still pending.
 pub record HasRun (d : Data) (old new : Session) (store store' : StoreState) (reader reader' writer writer' : Option (List ℕ))
     (answered : List ByteAnswer) (dropped written : List ℕ) (all : Session) : Type 0 where
   pub feeds : FeedsAll d old store answered all store'
@@ -126,7 +124,7 @@ Runs d old new store store' reader reader' writer writer' =
     (answered : List ByteAnswer) × (dropped : List ℕ) × (written : List ℕ) × (all : Session)
     × HasRun d old new store store' reader reader' writer writer' answered dropped written all
 
--- what the answer of a run says of the session after it and of the bytes that the reader has left
+-- the session and the reader's unread bytes after a run, by its answer
 abbrev pub EndsWith : Result End RunFault → Session → Option (List ℕ) → Type 0
 EndsWith (Ok Quit) s left = (s.editor.ended ≡ true) × (s.pending ≡ [])
 EndsWith (Ok (InputEnded changed)) s left = (s.editor.ended ≡ false) × (s.pending ≡ []) × (changed ≡ s.editor.changed) × IsAtEnd left

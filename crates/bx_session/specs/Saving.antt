@@ -1,4 +1,4 @@
--- What a byte leaves in the store, and what each answer to a byte or a told size says.
+-- The store after a byte, and the meaning of each answer to a byte or a told size.
 use Rattle.std.specs.Prelude.{◌≡◌, ℕ, Bool, true, false, List, Option, Some, None, option_map, Result, Ok, Err}
 use Rattle.bx_keys.specs.declared.key.Key.{Key}
 use Rattle.bx_grid.specs.Picture.{is_size}
@@ -10,7 +10,7 @@ use Rattle.bx_session.specs.declared.error.Refused.{Refused}
 use Rattle.bx_session.specs.declared.error.Refused.TheVariants as refused
 use Rattle.bx_session.specs.Session.{Session, key_of_byte, after_spending, after_byte, owing_after_byte, status_of, is_idle, after_told, owing_after_told}
 
--- what a store keeps, where it tells that, and how many of its calls failed
+-- a store's content, if it is known, and the number of its failed calls
 pub record StoreState : Type 0 where
   pub contents : Option (List ℕ)
   pub failures : ℕ
@@ -18,11 +18,11 @@ pub record StoreState : Type 0 where
 abbrev pub store_state : {S : Type 0} → (S → Option (List ℕ)) → (S → ℕ) → S → StoreState
 store_state contents failures store = record { contents = contents store; failures = failures store }
 
--- a store that keeps this text, where it tells what it keeps
+-- the store with this text as its content
 abbrev pub with_text : List ℕ → StoreState → StoreState
 with_text text store = record store { contents = option_map (λ _. text) store.contents }
 
--- a save that succeeds leaves the text; one that fails leaves what was there, and one call more failed
+-- a save that succeeds stores the text; one that fails leaves the content as it was and counts one more failed call
 abbrev pub SaveEnds : Bool → List ℕ → StoreState → StoreState → Type 0
 SaveEnds true text old new = new ≡ with_text text old
 SaveEnds false text old new = (new.contents ≡ old.contents) × (new.failures ≡ one_more old.failures)
@@ -31,11 +31,11 @@ abbrev pub is_save_key : Option Key → Bool
 is_save_key None = false
 is_save_key (Some key) = is_save key
 
--- the byte ends a Save
+-- the byte completes a Save
 abbrev pub is_save_byte : Session → ℕ → Bool
 is_save_byte s b = is_save_key (key_of_byte s b)
 
--- the store after a byte: no key but Save changes it
+-- the store after a byte: only a Save changes it
 abbrev pub StoreAfter : Bool → Bool → List ℕ → StoreState → StoreState → Type 0
 StoreAfter true saved text old new = SaveEnds saved text old new
 StoreAfter false saved text old new = new ≡ old
@@ -44,19 +44,19 @@ abbrev pub is_edit_or_move_key : Option Key → Bool
 is_edit_or_move_key None = false
 is_edit_or_move_key (Some key) = is_edit_or_move key
 
--- the session after a byte, by what was answered; `saved` tells how a Save ended
+-- the session after a byte, by the answer; `saved`: a Save succeeded
 abbrev pub AfterByte : Data → Bool → Session → ℕ → Result Status Refused → Session → Type 0
 AfterByte d saved old b (Ok status) new = (new ≡ after_byte d saved old b) × (status ≡ status_of new)
 AfterByte d saved old b (Err refused.Edit) new = (new ≡ after_spending old b) × (is_edit_or_move_key (key_of_byte old b) ≡ true)
 AfterByte d saved old b (Err refused.Paint) new = (new ≡ owing_after_byte d saved old b) × (is_idle old b ≡ false)
 AfterByte d saved old b (Err refused.Size) new = ⊥
 
--- a byte, session and store
+-- session and store after a byte
 abbrev pub Feeds : Data → Session → StoreState → ℕ → Result Status Refused → Session → StoreState → Type 0
 Feeds d old store b result new store' =
     (saved : Bool) × StoreAfter (is_save_byte old b) saved old.editor.content.text store store' × AfterByte d saved old b result new
 
--- a told size
+-- the session after a told size, by the answer
 abbrev pub ToldBy : {A : Type 0} → Data → Session → ℕ → ℕ → Result A Refused → Session → Type 0
 ToldBy d old height width (Ok _) new = (is_size height width ≡ true) × (new ≡ after_told d old height width)
 ToldBy d old height width (Err refused.Size) new = (is_size height width ≡ false) × (new ≡ old)

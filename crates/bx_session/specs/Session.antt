@@ -1,4 +1,4 @@
--- The session's state, and what a byte and a told size make of it.
+-- The session's state, and its changes.
 use Rattle.std.specs.Prelude.{ℕ, Bool, true, false, not, ◌&&◌, ◌||◌, is_some, List, [], ◌∷◌, ◌++◌, drop, Option, Some, None, if◌then◌else◌}
 use Rattle.bx_explicit.specs.declared.base.Base.{Base}
 use Rattle.bx_keys.specs.declared.key.Key.{Key}
@@ -18,29 +18,29 @@ pub record Session : Type 0 where
   pub editor : Editor
   -- the offset that the top row was last shown from
   pub top : ℕ
-  -- input that waits for more, as far as a key can still come of it
+  -- the unfinished input, as far as it can still become a key
   pub rest : List ℕ
   -- the picture last painted; none before the first
   pub painted : Option PictureState
-  -- what the screen is taken to show once all is read; none where nothing is known of it
+  -- the picture that the screen will show once it has read all bytes; none if its content is unknown
   pub known : Option PictureState
-  -- a painting was refused, and none was queued since
+  -- the screen needs a painting that is not queued yet
   pub painting_owed : Bool
   -- bytes for the terminal
   pub pending : List ℕ
 
--- a session with the tables that it edits by
+-- a session and its tables
 pub record SessionState (D : Type 0) : Type 0 where
   pub tables : D
   pub session : Session
 
 -- ---- painting
 
--- the picture last painted, where the screen is taken to show it
+-- the picture last painted, if the screen is taken to show it
 abbrev pub known_if : Bool → Option PictureState → Option PictureState
 known_if is_known painted = if is_known then painted else None
 
--- the bytes that lead to a picture: what differs from the one that is shown, or the whole where none is known to be
+-- the bytes that paint a picture: its changes from the picture shown, or the whole if none is known to be shown
 abbrev pub painting : Option PictureState → PictureState → List ℕ
 painting None new = whole_bytes new
 painting (Some old) new = changes_bytes old new
@@ -54,7 +54,7 @@ with_picture s top new = record s {
   pending = s.pending ++ painting s.known new;
 }
 
--- the top follows the cursor, and the picture is painted
+-- scrolls to the cursor and paints the picture
 abbrev pub with_painting : Data → Session → Session
 with_painting d s = let top = next_top d s.editor s.top in with_picture s top (picture d s.editor top)
 
@@ -80,7 +80,7 @@ at_opening d text height width base = with_painting d (before_painting text heig
 
 -- ---- a byte
 
--- the key that a byte ends; after the end it ends none
+-- the key that a byte completes; none after the session's end
 abbrev pub key_of_byte : Session → ℕ → Option Key
 key_of_byte s b = if s.editor.ended then None else key_after s.rest b
 
@@ -88,11 +88,11 @@ key_of_byte s b = if s.editor.ended then None else key_after s.rest b
 abbrev pub after_spending : Session → ℕ → Session
 after_spending s b = if s.editor.ended then s else record s { rest = head_of (rest_after s.rest b) }
 
--- what is known of the screen after a key that leaves the editor so: nothing where the key asks for that, or at the end
+-- the picture known to be shown after a key that leads to this editor: none if the key asks for that, or at the end
 abbrev pub known_after : Option PictureState → Key → Editor → Option PictureState
 known_after known key e = if asks_for_whole key || e.ended then None else known
 
--- a key is applied, and not yet painted; `saved` tells how a Save ends
+-- a key is applied, and not yet painted; `saved`: a Save succeeds
 abbrev pub session_after_key : Data → Bool → Session → Key → Session
 session_after_key d saved s key =
     let e = after_key d saved s.editor key in
@@ -106,7 +106,7 @@ session_after_any d saved s (Some key) = session_after_key d saved s key
 abbrev pub unpainted_after_byte : Data → Bool → Session → ℕ → Session
 unpainted_after_byte d saved s b = session_after_any d saved (after_spending s b) (key_of_byte s b)
 
--- the byte ends no key, and no painting is owed
+-- the byte completes no key, and no painting is owed
 abbrev pub is_idle : Session → ℕ → Bool
 is_idle s b = not (is_some (key_of_byte s b)) && not s.painting_owed
 
@@ -123,7 +123,7 @@ status_of s = if s.editor.ended then Ended else Running
 
 -- ---- a byte of a journal
 
--- a key that a replay applies: Saves and Quits are passed over
+-- a key that a replay applies: it skips Saves and Quits
 abbrev pub is_replayed : Key → Bool
 is_replayed Save = false
 is_replayed Quit = false
@@ -142,9 +142,9 @@ abbrev pub after_replaying : Data → Session → List ℕ → Session
 after_replaying d s [] = s
 after_replaying d s (b ∷ bs) = after_replaying d (after_replay d s b) bs
 
--- ---- before the keys: an offset that the cursor is sent to, and a text that is not saved
+-- ---- before the keys: the cursor's offset, and an unsaved text
 
--- the cursor stands at the least place that is not before an offset, or at the last one, and a painting is owed
+-- the cursor goes to the first place at or after an offset, or to the last place, and a painting is owed
 abbrev pub after_going : Data → Session → ℕ → Session
 after_going d s offset =
     with_painting_owed (record s { editor = with_place (without_message s.editor) (place_from (rows d s.editor) offset) })
@@ -155,7 +155,7 @@ as_changed s = with_painting_owed (record s { editor = record s.editor { changed
 
 -- ---- a told size
 
--- nothing is known of a screen of another size
+-- the content of a resized screen is unknown
 abbrev pub unpainted_after_told : Session → ℕ → ℕ → Session
 unpainted_after_told s height width = record s { editor = with_size s.editor height width; known = None }
 
@@ -167,6 +167,6 @@ owing_after_told s height width = with_painting_owed (unpainted_after_told s hei
 
 -- ---- sending
 
--- so many bytes have gone
+-- the first `count` pending bytes were sent
 abbrev pub after_sending : Session → ℕ → Session
 after_sending s count = record s { pending = drop count s.pending }

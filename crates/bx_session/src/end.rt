@@ -7,7 +7,7 @@ use thiserror::Error;
 pub enum End {
     /// The session ended.
     Quit,
-    /// The input ended before the session: whether the text has changed.
+    /// The input ended before the session. `changed`: there are unsaved changes.
     InputEnded { changed: bool },
 }
 
@@ -16,10 +16,10 @@ pub enum End {
 pub enum RunFault {
     #[error("input failed")]
     ReadFault,
-    /// A prefix of the output went out, and the rest is still pending.
+    /// A prefix of the output was written; the rest is still pending.
     #[error("output failed")]
     WriteFault,
-    /// As many reads were made as are allowed.
+    /// The limit of reads is reached.
     #[error("too many reads")]
     ReadLimit,
 }

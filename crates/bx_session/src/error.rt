@@ -1,11 +1,11 @@
-//! The refusals.
+//! Why a session refuses a call.
 
-/// Why a session refuses a byte or a size.
+/// Why a session refuses a call.
 #[derive(Clone, Copy, PartialEq, Eq, Debug)]
 pub enum Refused {
-    /// No memory to apply the key: it is spent, and nothing has changed.
+    /// Out of memory while applying a key or moving the cursor: nothing has changed, and the key's bytes are spent.
     Edit,
-    /// No memory to paint: what was asked for is done, and the next call that is not refused paints.
+    /// Out of memory while painting: the key or the size is applied, and the next call that succeeds paints.
     Paint,
     /// A side of the window is not from 1 to 500: nothing has changed.
     Size,

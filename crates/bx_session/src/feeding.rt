@@ -1,4 +1,4 @@
-//! What a byte of input and a told size do.
+//! Feeding a session: input bytes, and the window's size.
 
 ghost use Rattle.std.specs.Prelude.{◌≡◌, Bool, true, false, not, IfOk, IfSome, IsOk, OnErr, OnOk};
 ghost use Rattle.bx_grid.specs.Picture.{is_size};
@@ -18,23 +18,23 @@ use bx_store::Store;
 use bx_terms::is_side;
 use bx_ucd::BidiData;
 
-/// A key after which nothing is taken for known of the screen.
+/// Whether the screen's content counts as unknown after a key.
 pub(crate) fn asks_for_whole(key: Key) -> bool
     ensures { result ≡ keys.asks_for_whole key }
 {
     matches!(key, Key::Repaint | Key::Size(_, _))
 }
 
-/// Each side is from 1 to 500.
+/// Whether each side is from 1 to 500.
 fn is_size(height: u16, width: u16) -> bool
     ensures { result ≡ is_size height width }
 {
     is_side(height) && is_side(width)
 }
 
-/// Applies a key that does not save.
+/// Applies a key other than Save.
 ///
-/// Errors: `Edit` for want of memory, for a key that edits or moves: nothing has changed.
+/// Errors: `Edit` if memory runs out, only for a key that edits or moves; nothing has changed.
 pub(crate) fn apply_unsaved<D: BidiData + Drop>(
     editor: &mut Editor<D>,
     key: Key,
@@ -59,7 +59,7 @@ pub(crate) fn apply_unsaved<D: BidiData + Drop>(
 
 /// Applies a key; a Save goes to the store.
 ///
-/// Errors: `Edit` for want of memory, for a key that edits or moves: nothing has changed.
+/// Errors: `Edit` if memory runs out, only for a key that edits or moves; nothing has changed.
 fn apply<D: BidiData + Drop, S: Store>(
     editor: &mut Editor<D>,
     key: Key,
@@ -86,7 +86,7 @@ fn apply<D: BidiData + Drop, S: Store>(
 }
 
 impl<D: BidiData + Drop> Session<D> {
-    /// Spends a byte, and gives the key that it ends; after the end it ends none.
+    /// Decodes a byte. Returns the key that it completes; none after the session's end.
     pub(crate) fn decode(&mut self, byte: u8) -> Option<Key>
         ensures key { result ≡ key_of_byte self.old.session byte }
         ensures rest { self.new ≡ record self.old { session = after_spending self.old.session byte } }
@@ -98,9 +98,9 @@ impl<D: BidiData + Drop> Session<D> {
         self.decoder.feed(byte)
     }
 
-    /// Applies a key, and paints nothing.
+    /// Applies a key without painting.
     ///
-    /// Errors: `Edit` for want of memory, for a key that edits or moves: nothing has changed.
+    /// Errors: `Edit` if memory runs out, only for a key that edits or moves; nothing has changed.
     fn press<S: Store>(&mut self, key: Key, store: &mut S) -> Result<(), Refused>
         requires sides { HasSides key }
         ensures after_key { (saved : Bool)
@@ -119,9 +119,9 @@ impl<D: BidiData + Drop> Session<D> {
         Ok(())
     }
 
-    /// Spends a byte and applies the key that it ends, and gives whether there is something to paint.
+    /// Decodes a byte and applies the key that it completes. Returns whether to paint.
     ///
-    /// Errors: `Edit` for want of memory, for a key that edits or moves: nothing else has changed.
+    /// Errors: `Edit` if memory runs out, only for a key that edits or moves; the byte is spent, and nothing else changes.
     fn enter<S: Store>(&mut self, byte: u8, store: &mut S) -> Result<bool, Refused>
         ensures after_byte { (saved : Bool)
             × StoreAfter (is_save_byte self.old.session byte) saved self.old.session.editor.content.text
@@ -142,10 +142,10 @@ impl<D: BidiData + Drop> Session<D> {
         }
     }
 
-    /// A byte of input. One that ends no key, where no painting is owed, takes no memory.
+    /// Handles a byte of input. A byte that completes no key allocates nothing if no painting is owed.
     ///
-    /// Errors: `Edit` where there was no memory to apply the key: it is spent, and nothing else has changed. `Paint` where
-    /// there was none to paint: the key was applied, and the queue is as before.
+    /// Errors: `Edit` if memory runs out for the key: its bytes are spent, and nothing else has changed. `Paint` if it runs
+    /// out while painting: the key is applied, and the queue is unchanged.
     pub fn feed<S: Store>(&mut self, byte: u8, store: &mut S) -> Result<Status, Refused>
         ensures after_byte { Feeds (D.data self.old.tables) self.old.session (store_state S.contents S.failure_count store.old) byte result
             self.new.session (store_state S.contents S.failure_count store.new) }
@@ -155,7 +155,7 @@ impl<D: BidiData + Drop> Session<D> {
         ensures refused { OnErr result (self.new.session.pending ≡ self.old.session.pending) }
         ensures untouched { is_save_byte self.old.session byte ≡ false → store.new ≡ store.old }
 
-        // A byte that ends no key, where no painting is owed.
+        // A byte that completes no key while no painting is owed.
         ensures idle { is_idle self.old.session byte ≡ true → IsOk result }
         ensures unchanged { is_idle self.old.session byte ≡ true → self.new.session ≡ after_spending self.old.session byte }
     {
@@ -166,10 +166,10 @@ impl<D: BidiData + Drop> Session<D> {
         Ok(self.status())
     }
 
-    /// The window has so many rows and columns: nothing is known of its screen.
+    /// Sets the window's size, in rows and columns, and paints the screen whole.
     ///
-    /// Errors: `Size` where a side is not from 1 to 500: nothing has changed. `Paint` where there was no memory to paint: the
-    /// size stands, and the queue is as before.
+    /// Errors: `Size` if a side is not from 1 to 500: nothing has changed. `Paint` if memory runs out: the size is set, and
+    /// the queue is unchanged.
     pub fn told(&mut self, height: u16, width: u16) -> Result<(), Refused>
         ensures told { ToldBy (D.data self.old.tables) self.old.session height width result self.new.session }
         ensures tables { self.new.tables ≡ self.old.tables }
@@ -183,7 +183,7 @@ impl<D: BidiData + Drop> Session<D> {
         self.paint()
     }
 
-    /// The window has another size, and nothing is painted yet.
+    /// Sets the window's size without painting.
     fn resize(&mut self, height: u16, width: u16)
         requires sized { is_size height width ≡ true }
         ensures { self.new ≡ record self.old { session = unpainted_after_told self.old.session height width } }

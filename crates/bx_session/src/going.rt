@@ -1,4 +1,4 @@
-//! What a session is told before its keys: an offset that the cursor goes to, and that its text is not saved.
+//! Settings before the first key: the cursor's offset, and a text that is not saved.
 
 ghost use Rattle.std.specs.Prelude.{◌≡◌, OnErr, OnOk};
 ghost use Rattle.bx_session.specs.Session.{after_going, as_changed};
@@ -8,10 +8,10 @@ use crate::session::Session;
 use bx_ucd::BidiData;
 
 impl<D: BidiData + Drop> Session<D> {
-    /// The cursor goes to the least place that is not before an offset, in bytes from 0, or to the text's end. Nothing is
-    /// painted: [`Session::paint`] makes the screen right.
+    /// Moves the cursor to the first place at or after an offset, in bytes from 0, or to the text's end for an offset past
+    /// it. Paints nothing; call [`Session::paint`] afterwards.
     ///
-    /// Errors: `Edit` for want of memory: nothing has changed.
+    /// Errors: `Edit` if memory runs out; nothing has changed.
     pub fn go_to(&mut self, offset: usize) -> Result<(), Refused>
         ensures ok { OnOk result (self.new ≡ record self.old { session = after_going (D.data self.old.tables) self.old.session offset }) }
         ensures err { OnErr result (self.new ≡ self.old) }
@@ -24,8 +24,8 @@ impl<D: BidiData + Drop> Session<D> {
         Ok(())
     }
 
-    /// Counts the text as changed since the last save, as one is that was recovered. Nothing is painted: [`Session::paint`] makes
-    /// the screen right. No memory.
+    /// Counts the text as changed since the last save, as a recovered text is. Paints nothing; call [`Session::paint`]
+    /// afterwards. Allocates nothing.
     pub fn count_as_changed(&mut self)
         ensures { self.new ≡ record self.old { session = as_changed self.old.session } }
     {

@@ -1,4 +1,4 @@
-//! A journal of what is read, from which it can be replayed.
+//! A journal of the input, for replay after a crash.
 
 ghost use Rattle.std.specs.Prelude.{◌≡◌, ◌≤◌, ◌++◌, ◌↔◌, ℕ, List, IsTrue, IfErr, OnErr, OnOk, length, take, drop};
 ghost use Rattle.std.specs.Io.KnownBytes.{Appends};
@@ -14,21 +14,21 @@ use thiserror::Error;
 #[derive(Clone, Copy, PartialEq, Eq, Debug, Error)]
 #[error("the journal failed after {written} bytes")]
 pub struct JournalFault {
-    /// How many of the call's bytes the journal took.
+    /// Number of the call's bytes that were appended.
     pub written: usize,
 }
 
-/// Where the bytes that are read are kept. A call that answers a fault raises the count of failures by one, unless it is the greatest
-/// u64, and no other call does.
+/// Where the input is kept. The count of failures rises by one with each call that returns a fault, up to the largest u64, and with
+/// no other call.
 pub trait Journal {
     ghost use Rattle.std.specs.Prelude.{◌≡◌, ◌≤◌, ℕ, List, Option, IfErr, OnErr, OnOk, length, take};
     ghost use Rattle.std.specs.Io.KnownBytes.{Appends};
     ghost use Rattle.bx_store.specs.Stores.{one_more};
 
-    /// The journal's bytes, where it tells them.
+    /// The journal's bytes, if they are known.
     ghost contents: { Self → Option (List ℕ) };
 
-    /// How many calls answered a fault.
+    /// Number of calls that returned a fault.
     ghost failure_count: { Self → ℕ };
 
     /// Appends bytes.
@@ -42,7 +42,7 @@ pub trait Journal {
         ensures failure { OnErr result (failure_count self.new ≡ one_more (failure_count self.old)) };
 }
 
-/// A journal of which nothing is kept.
+/// A journal that keeps nothing.
 #[derive(Drop, Clone, Copy, Debug)]
 pub struct NoJournal;
 
@@ -59,7 +59,7 @@ impl Journal for NoJournal {
     }
 }
 
-/// A journal that is written to a writer, and flushed at each call.
+/// A journal that goes to a writer. Each call flushes.
 #[derive(Drop)]
 pub struct WrittenJournal<W: Write + Drop> {
     writer: W,
@@ -67,7 +67,7 @@ pub struct WrittenJournal<W: Write + Drop> {
 }
 
 impl<W: Write + Drop> WrittenJournal<W> {
-    /// A journal whose bytes go to a writer.
+    /// A journal that appends to `writer`.
     pub fn new(writer: W) -> WrittenJournal<W>
         ensures { W.contents result.writer ≡ W.contents writer }
     {
@@ -92,9 +92,9 @@ impl<W: Write + Drop> Journal for WrittenJournal<W> {
     }
 }
 
-/// Writes all of the bytes, and flushes.
+/// Writes all bytes and flushes.
 ///
-/// Errors: those of the writer, and a write of no byte.
+/// Errors: `JournalFault` if the writer fails or takes no byte.
 fn write_out<W: Write>(writer: &mut W, bytes: &[u8]) -> Result<(), JournalFault>
     ensures all { OnOk result (Appends (W.contents writer.old) (W.contents writer.new) bytes.now) }
     ensures count { IfErr result (λ fault. fault.written ≤ length bytes.now) }
@@ -114,19 +114,20 @@ fn write_out<W: Write>(writer: &mut W, bytes: &[u8]) -> Result<(), JournalFault>
     }
 }
 
-/// How much a journal has of the bytes that were handed to it.
+/// How much of the input a journal has.
 #[derive(Drop)]
 pub enum Kept {
-    /// All of them.
+    /// All of it.
     Whole,
-    /// All before these, which the next call appends first.
+    /// All but these last bytes, which wait in memory.
     Waiting(Vec<u8>),
-    /// The first ones. The others were lost for want of memory.
+    /// Only the beginning. The rest was lost: out of memory.
     Cut,
 }
 
-/// Keeps the bytes that are read in a journal. Bytes that the journal does not take wait in memory, and are appended before all later
-/// ones, so the journal has no gap. One that is cut is left alone from then on. Nothing of this changes the bytes that are read.
+/// Appends the input to a journal. Bytes that the journal refuses wait in memory, and the next call appends them first, so the
+/// journal never has a gap. If memory runs out for them, the journal is cut there and gets no more bytes. The session's input
+/// is the same in every case.
 #[derive(Drop)]
 pub struct Recorder<J: Journal + Drop> {
     alloc: Global,
@@ -146,7 +147,7 @@ impl<J: Journal + Drop> Recorder<J> {
     ghost use Rattle.std.specs.Prelude.{◌≡◌};
     ghost use Rattle.bx_session.specs.Journal.{HasKept};
 
-    /// A recorder that appends to a journal.
+    /// A recorder that appends to `journal`.
     pub fn new(alloc: Global, journal: J) -> Recorder<J>
         ensures { result ≡ record { journal = journal; kept = Kept.Whole } }
     {
@@ -157,14 +158,14 @@ impl<J: Journal + Drop> Recorder<J> {
         }
     }
 
-    /// Whether the journal has all bytes that were handed to it. No memory.
+    /// Whether the journal has all of the input. Allocates nothing.
     pub fn has_all(&self) -> bool
         ensures { IsTrue result ↔ (self.now.kept ≡ Kept.Whole) }
     {
         matches!(&self.kept, Kept::Whole)
     }
 
-    /// Appends bytes to the journal, after those that wait.
+    /// Appends the waiting bytes, then `bytes`, to the journal.
     pub(crate) fn keep(&mut self, bytes: &[u8])
         ensures keeps { HasKept J.contents J.failure_count self.old self.new bytes.now }
     {
@@ -173,7 +174,7 @@ impl<J: Journal + Drop> Recorder<J> {
     }
 }
 
-/// Appends bytes to a journal that has so much of the ones before.
+/// Appends bytes to a journal, after those of `kept` that wait.
 fn append_to<J: Journal + Drop>(journal: &mut J, alloc: Global, kept: Kept, bytes: &[u8]) -> Kept
     ensures { HasKept J.contents J.failure_count (record { journal = journal.old; kept = kept }) (record { journal = journal.new; kept = result }) bytes.now }
 {
@@ -187,7 +188,7 @@ fn append_to<J: Journal + Drop>(journal: &mut J, alloc: Global, kept: Kept, byte
     }
 }
 
-/// Appends the bytes that wait to a journal, and these.
+/// Appends the waiting bytes and these in one call. Refused bytes wait on. If memory runs out, all are lost.
 fn append_waiting<J: Journal + Drop>(journal: &mut J, mut waiting: Vec<u8>, bytes: &[u8]) -> Kept
     ensures { HasKept J.contents J.failure_count (record { journal = journal.old; kept = Kept.Waiting waiting }) (record { journal = journal.new; kept = result }) bytes.now }
 {
@@ -203,7 +204,7 @@ fn append_waiting<J: Journal + Drop>(journal: &mut J, mut waiting: Vec<u8>, byte
     }
 }
 
-/// Bytes that wait, if there is memory for them.
+/// Copies refused bytes to memory, where they wait; cuts the journal if memory runs out.
 fn held(alloc: Global, bytes: &[u8]) -> Kept
     ensures { Holds result bytes.now }
 {
@@ -214,7 +215,7 @@ fn held(alloc: Global, bytes: &[u8]) -> Kept
     }
 }
 
-/// Takes the first bytes off those that wait.
+/// Removes the first `count` waiting bytes.
 fn drop_first(waiting: &mut Vec<u8>, count: usize)
     requires { count ≤ length waiting.old.items }
     ensures { waiting.new.items ≡ drop count waiting.old.items }

@@ -1,31 +1,31 @@
-//! What holds of sessions, whatever their input. The functions do nothing: their contracts are the laws.
+//! Laws of sessions, for any input. The functions are empty: their contracts are the laws.
 
 ghost use Rattle.bx_session.specs.Anew.{AlwaysStaysPainted};
 ghost use Rattle.bx_session.specs.Laws.{AlwaysShowsState, HasKeysOfInput, ReplaysKeys};
 ghost use Rattle.bx_session.specs.Recovery.{RecoveryGivesBack};
 
-/// Where no painting is owed, the picture last painted is that of the session's state.
+/// If no painting is owed, the picture last painted is the picture of the session's state.
 pub fn paintings_keep_up()
     ensures { AlwaysShowsState }
 {}
 
-/// Where no painting is owed, to paint anew would change nothing and send nothing. So a byte that ends no key needs none.
+/// If no painting is owed, another painting changes nothing and sends nothing. So a byte that completes no key needs none.
 pub fn painting_anew_sends_nothing()
     ensures { AlwaysStaysPainted }
 {}
 
-/// The keys of a session's input, byte by byte, are those of the input as a whole.
+/// Decoding the input byte by byte gives the keys of the input as a whole.
 pub fn keys_are_those_of_input()
     ensures { HasKeysOfInput }
 {}
 
-/// Bytes that are replayed apply the keys of the bytes as a whole, but for the Saves and the Quits.
+/// A replay of bytes applies their keys in order, except Saves and Quits.
 pub fn replays_apply_keys()
     ensures { ReplaysKeys }
 {}
 
-/// The bytes of a session, replayed over the text that it was opened with, give back what it had, wherever it saved and even
-/// if it quit. A key that it refused for want of memory is applied by the replay.
+/// A session's bytes, replayed over its opened text, restore its state, wherever it saved and even if it quit. A key that
+/// the session refused when memory ran out is applied by the replay.
 pub fn recovery_gives_back()
     ensures { RecoveryGivesBack }
 {}

@@ -1,4 +1,4 @@
-//! The editor's session: input bytes in, bytes for the terminal out, the text to a store, and a run over a reader and a writer.
+//! An editor session: takes input bytes, queues bytes for the terminal, saves to a store; and runs over a reader and a writer.
 #![tactic(auto)]
 
 mod end;

@@ -15,11 +15,11 @@ use bx_ucd::BidiData;
 use std::alloc::Global;
 
 impl<D: BidiData + Drop> Session<D> {
-    /// Opens a file's bytes in a window of so many rows and columns, and queues the first picture, painted whole. A refusal
-    /// drops the bytes and the tables.
+    /// Opens a file's bytes in a window of `height` rows and `width` columns, and queues the first picture, painted whole.
+    /// An error drops the bytes and the tables.
     ///
-    /// Errors, in this order: `TooLong` above 16,777,216 bytes; `NotUtf8` with the number of the first bytes that are UTF-8;
-    /// `SizeOutOfRange` where a side is not from 1 to 500; `OutOfMemory`.
+    /// Errors, in this order: `TooLong` above 16,777,216 bytes; `NotUtf8` with the length of the longest UTF-8 prefix;
+    /// `SizeOutOfRange` if a side is not from 1 to 500; `OutOfMemory`.
     pub fn open(
         alloc: Global,
         bytes: Vec<u8>,

@@ -1,4 +1,4 @@
-//! The picture on its way to the terminal.
+//! Painting: the bytes that bring the picture to the terminal.
 
 ghost use Rattle.std.specs.Prelude.{◌≡◌, ◌++◌, true, IfOk, IfSome, OnErr, OnOk};
 ghost use Rattle.bx_grid.specs.Picture.{AreWholeTokens, IsPicture, is_size};
@@ -13,8 +13,8 @@ use bx_terms::OutOfMemory;
 use bx_ucd::BidiData;
 use std::alloc::Global;
 
-/// Appends the bytes that lead from the picture last painted, where the screen is taken to show it, to another of its size, or
-/// else those that paint the other whole.
+/// Appends the bytes that change the screen from the picture last painted to `picture`, of the same size. If the screen's
+/// content is unknown, they paint `picture` whole.
 ///
 /// Errors: `OutOfMemory`, and nothing is appended.
 fn append(
@@ -30,7 +30,7 @@ fn append(
     ensures tokens { AreWholeTokens (painting (known_if is_known painted.now) picture.now) }
     ensures is_picture { IsPicture picture.now }
 {
-    // whose contract says that it is a picture
+    // proof only: it is a picture
     let _grid = picture.grid();
     match painted {
         Some(old) if is_known => changes_into(queue, old, picture),
@@ -38,7 +38,7 @@ fn append(
     }
 }
 
-/// A page of a window of so many rows and columns: a spare one of this size, or else a blank one.
+/// A page of `height` rows and `width` columns: the spare one if it has this size, else a blank one.
 ///
 /// Errors: `OutOfMemory`.
 fn page_of(alloc: Global, spare: Option<Grid>, height: u16, width: u16) -> Result<Grid, OutOfMemory>
@@ -57,7 +57,7 @@ fn page_of(alloc: Global, spare: Option<Grid>, height: u16, width: u16) -> Resul
     }
 }
 
-/// The page of a picture that is not needed any more.
+/// Recovers the page of an old picture for reuse.
 fn spare_of(picture: Option<Picture>) -> Option<Grid> {
     match picture {
         Some(picture) => Some(picture.into_grid()),
@@ -66,10 +66,10 @@ fn spare_of(picture: Option<Picture>) -> Option<Grid> {
 }
 
 impl<D: BidiData + Drop> Session<D> {
-    /// The top follows the cursor, and what leads to the picture is queued. A byte and a told size do so by themselves, and a
-    /// byte of a journal does not.
+    /// Scrolls to the cursor and queues the bytes that paint the picture. `feed` and `told` paint by themselves; `replay`,
+    /// `go_to` and `count_as_changed` do not.
     ///
-    /// Errors: `Paint` for want of memory: top and queue are as before, and the painting is owed.
+    /// Errors: `Paint` if memory runs out: top and queue are unchanged, and the painting is owed.
     pub fn paint(&mut self) -> Result<(), Refused>
         ensures tables { self.new.tables ≡ self.old.tables }
         ensures ok { OnOk result (self.new.session ≡ with_painting (D.data self.old.tables) self.old.session) }

@@ -1,4 +1,4 @@
-//! A byte of a journal: its key is applied again, and what was saved stays as it is.
+//! Replay of a journal's bytes: keys are applied again, and the store is left alone.
 
 ghost use Rattle.std.specs.Prelude.{◌≡◌, ◌↔◌, IsTrue, false, true, OnErr, OnOk};
 ghost use Rattle.bx_keys.specs.Keys.{HasSides};
@@ -15,7 +15,7 @@ use bx_keys::Key;
 use bx_store::{Store, StoreFault};
 use bx_ucd::BidiData;
 
-/// A key that a replay applies: Saves and Quits are passed over.
+/// Whether a replay applies a key: it skips Saves and Quits.
 fn is_replayed(key: Key) -> bool
     ensures { result ≡ is_replayed key }
 {
@@ -23,9 +23,9 @@ fn is_replayed(key: Key) -> bool
 }
 
 impl<D: BidiData + Drop> Session<D> {
-    /// Applies a key that is no Save and no Quit, and paints nothing.
+    /// Applies a key other than Save and Quit without painting.
     ///
-    /// Errors: `Edit` for want of memory, for a key that edits or moves: nothing has changed.
+    /// Errors: `Edit` if memory runs out, only for a key that edits or moves; nothing has changed.
     fn press_again(&mut self, key: Key) -> Result<(), Refused>
         requires replayed { is_replayed key ≡ true }
         requires sides { HasSides key }
@@ -41,10 +41,10 @@ impl<D: BidiData + Drop> Session<D> {
         Ok(())
     }
 
-    /// Spends a byte of a journal, and applies the key that it ends. A Save and a Quit do nothing. Nothing is painted, and no
-    /// store is touched: [`Session::paint`] makes the screen right after all bytes.
+    /// Decodes a byte of a journal and applies the key that it completes. Skips Save and Quit, and paints nothing; call
+    /// [`Session::paint`] after the last byte.
     ///
-    /// Errors: `Edit` where there was no memory to apply the key: it is spent, and nothing else has changed.
+    /// Errors: `Edit` if memory runs out for the key: its bytes are spent, and nothing else has changed.
     pub fn replay(&mut self, byte: u8) -> Result<(), Refused>
         ensures after_byte { OnOk result (self.new ≡ record self.old { session = after_replay (D.data self.old.tables) self.old.session byte }) }
         ensures err { OnErr result (self.new ≡ record self.old { session = after_spending self.old.session byte }) }
@@ -60,16 +60,16 @@ impl<D: BidiData + Drop> Session<D> {
         Ok(())
     }
 
-    /// Whether the text is these bytes. No memory.
+    /// Whether the text is these bytes. Allocates nothing.
     pub fn has_text(&self, bytes: &[u8]) -> bool
         ensures { IsTrue result ↔ (self.now.session.editor.content.text ≡ bytes.now) }
     {
         is_text(self.editor.pieces(), bytes)
     }
 
-    /// Stores the text, of which the session takes no note: it stays as changed as it is.
+    /// Stores the text. Unlike a Save, it does not count as one: unsaved changes stay unsaved.
     ///
-    /// Errors: `StoreFault` where a call of the store failed: it keeps what it kept before.
+    /// Errors: `StoreFault` if a call of the store fails; its content is unchanged.
     pub fn copy_to<S: Store>(&self, store: &mut S) -> Result<(), StoreFault>
         ensures ok { OnOk result (store_state S.contents S.failure_count store.new
             ≡ with_text self.now.session.editor.content.text (store_state S.contents S.failure_count store.old)) }

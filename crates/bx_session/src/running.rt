@@ -1,4 +1,4 @@
-//! A session run over a reader, a writer and a store.
+//! Runs of a session over a reader, a writer and a store.
 
 ghost use Rattle.std.specs.Prelude.{◌≡◌, ◌≤◌, ◌++◌, [], List, ℕ, false, length, take, IfOk, OnOk, OnErr, IsErrOf};
 ghost use Rattle.std.specs.Io.KnownBytes.{ReadConsumes};
@@ -13,10 +13,10 @@ use bx_store::Store;
 use bx_ucd::BidiData;
 use std::io::{Read, Write};
 
-/// The most reads of a run.
+/// Limit of reads in a run.
 const READS: u64 = 1_000_000_000;
 
-/// Writes what is pending, and flushes. A write of no byte is a fault.
+/// Writes the pending bytes and flushes. A write of no byte is a fault.
 fn send<D: BidiData + Drop, W: Write>(
     writer: &mut W,
     session: &mut Session<D>,
@@ -39,7 +39,7 @@ fn send<D: BidiData + Drop, W: Write>(
     }
 }
 
-/// Feeds bytes until the session ends. A refused byte is spent like any other.
+/// Feeds bytes until the session ends. A refusal does not stop it.
 fn feed_all<D: BidiData + Drop, S: Store>(session: &mut Session<D>, bytes: &[u8], store: &mut S)
     ensures bytes { (answered : List ByteAnswer) × (dropped : List ℕ)
         × FedUntilEnd (D.data session.old.tables) session.old.session (store_state S.contents S.failure_count store.old) bytes.now
@@ -54,10 +54,9 @@ fn feed_all<D: BidiData + Drop, S: Store>(session: &mut Session<D>, bytes: &[u8]
     }
 }
 
-/// Reads some keys, and keeps them in a journal. A read comes only where the session has not ended, and all that was queued has
-/// gone out.
+/// Reads input and hands it to the journal. The session goes on, and all its queued bytes were sent.
 ///
-/// Errors: `ReadFault`: the journal is as before.
+/// Errors: `ReadFault`; the journal is unchanged.
 fn read_keys<D: BidiData + Drop, R: Read, J: Journal + Drop>(
     reader: &mut R,
     recorder: &mut Recorder<J>,
@@ -83,11 +82,11 @@ fn read_keys<D: BidiData + Drop, R: Read, J: Journal + Drop>(
     }
 }
 
-/// Runs a session: writes what is pending and flushes; then, until the end, reads at most 256 bytes,
-/// feeds each until the session ends, writes what is pending and flushes. Bytes after the end are
+/// Runs a session: writes the pending bytes and flushes; then, until the end, reads at most 256 bytes,
+/// feeds each until the session ends, writes the pending bytes and flushes. Bytes after the end are
 /// dropped, and a refused byte does not end the run.
 ///
-/// Errors: `ReadFault`; `WriteFault`, where a prefix of the output went out and the rest is still
+/// Errors: `ReadFault`; `WriteFault`: a prefix of the output was written, and the rest is still
 /// pending; `ReadLimit` after 1,000,000,000 reads.
 pub fn run<D: BidiData + Drop, R: Read, W: Write, S: Store>(
     reader: &mut R,
@@ -105,7 +104,7 @@ pub fn run<D: BidiData + Drop, R: Read, W: Write, S: Store>(
     run_within(READS, reader, writer, store, session)
 }
 
-/// Runs a session as [`run`] does, with so many reads at most. `ReadLimit` comes after as many, each of which gave a byte.
+/// Runs a session as [`run`] does, with at most `limit` reads. `ReadLimit` comes after `limit` reads that each gave a byte.
 pub fn run_within<D: BidiData + Drop, R: Read, W: Write, S: Store>(
     limit: u64,
     reader: &mut R,
@@ -124,7 +123,7 @@ pub fn run_within<D: BidiData + Drop, R: Read, W: Write, S: Store>(
     run_turns(limit, reader, &mut recorder, writer, store, session)
 }
 
-/// Runs a session as [`run`] does, and keeps what each read gives in a journal before it is obeyed.
+/// Runs a session as [`run`] does, and hands the bytes of each read to the journal before it feeds them.
 pub fn run_recorded<D: BidiData + Drop, R: Read, J: Journal + Drop, W: Write, S: Store>(
     reader: &mut R,
     recorder: &mut Recorder<J>,
@@ -142,7 +141,7 @@ pub fn run_recorded<D: BidiData + Drop, R: Read, J: Journal + Drop, W: Write, S:
     run_turns(READS, reader, recorder, writer, store, session)
 }
 
-/// Runs a session with a journal and so many reads at most.
+/// Runs a session with a journal and at most `limit` reads.
 fn run_turns<D: BidiData + Drop, R: Read, J: Journal + Drop, W: Write, S: Store>(
     limit: u64,
     reader: &mut R,

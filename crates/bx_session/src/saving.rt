@@ -1,4 +1,4 @@
-//! A text on its way to a store.
+//! Saving a text to a store.
 
 ghost use Rattle.std.specs.Prelude.{◌≡◌, ◌≢◌, ◌++◌, ◌↔◌, ℕ, List, IsTrue, MatchOption, true, OnErr, OnOk};
 ghost use Rattle.bx_store.specs.Stores.{one_more, with_bytes};
@@ -7,7 +7,7 @@ ghost use Rattle.bx_session.specs.Saving.{store_state, with_text};
 use bx_store::{Store, StoreFault};
 use bx_text::Slices;
 
-/// Puts all pieces, in order.
+/// Puts all pieces into the store's draft, in order.
 fn put_pieces<S: Store>(pieces: Slices<'_>, store: &mut S) -> Result<(), StoreFault>
     requires has_draft { S.has_draft store.old ≡ true }
     ensures has_draft { OnOk result (S.has_draft store.new ≡ true) }
@@ -22,9 +22,9 @@ fn put_pieces<S: Store>(pieces: Slices<'_>, store: &mut S) -> Result<(), StoreFa
     Ok(())
 }
 
-/// Saves the text whose pieces these are.
+/// Saves the text of these pieces.
 ///
-/// Errors: `StoreFault` where a call of the store failed: it keeps what it kept before.
+/// Errors: `StoreFault` if a call of the store fails; its content is unchanged.
 pub fn save_pieces<S: Store>(pieces: Slices<'_>, store: &mut S) -> Result<(), StoreFault>
     ensures ok { OnOk result (store_state S.contents S.failure_count store.new ≡ with_text pieces.entry (store_state S.contents S.failure_count store.old)) }
     ensures stored { OnErr result (S.contents store.new ≡ S.contents store.old) }
@@ -36,14 +36,14 @@ pub fn save_pieces<S: Store>(pieces: Slices<'_>, store: &mut S) -> Result<(), St
     Ok(())
 }
 
-/// Whether two lists of bytes are the same.
+/// Whether two byte slices are equal.
 fn are_same(left: &[u8], right: &[u8]) -> bool
     ensures { IsTrue result ↔ (left.now ≡ right.now) }
 {
     left == right
 }
 
-/// What stands behind a beginning; none where the bytes do not begin so.
+/// Strips a prefix; none if the bytes do not begin with it.
 fn behind<'a>(bytes: &'a [u8], beginning: &[u8]) -> Option<&'a [u8]>
     ensures { MatchOption result ((rest : List ℕ) → beginning.now ++ rest ≢ bytes.now) (λ rest. bytes.now ≡ beginning.now ++ rest.now) }
 {
@@ -54,7 +54,7 @@ fn behind<'a>(bytes: &'a [u8], beginning: &[u8]) -> Option<&'a [u8]>
     Some(rest)
 }
 
-/// Whether the text whose pieces these are is these bytes.
+/// Whether the pieces, joined, are these bytes.
 pub fn is_text(pieces: Slices<'_>, bytes: &[u8]) -> bool
     ensures { IsTrue result ↔ (pieces.entry ≡ bytes.now) }
 {

@@ -11,7 +11,7 @@ use bx_keys::{Decoder, Key};
 use bx_ucd::BidiData;
 use std::marker::Model;
 
-/// An editor, the rows that are shown of it, input that waits for more, and the bytes that are to go to the terminal.
+/// An editor, its scroll position, the unfinished input sequence, and the bytes queued for the terminal.
 #[derive(Drop)]
 pub struct Session<D: BidiData + Drop> {
     pub(crate) editor: Editor<D>,
@@ -20,13 +20,13 @@ pub struct Session<D: BidiData + Drop> {
     pub(crate) decoder: Decoder,
     // the picture last painted; none before the first
     pub(crate) painted: Option<Picture>,
-    // what was painted before that: the next picture is made on it
+    // the page of the picture before, reused for the next one
     pub(crate) spare: Option<Grid>,
-    // the screen is taken to show it once all is read
+    // the screen will show `painted` once it has read all bytes
     pub(crate) is_known: bool,
     pub(crate) painting_owed: bool,
     pub(crate) queue: Vec<u8>,
-    // how many bytes of the queue have gone
+    // number of queue bytes already sent
     pub(crate) taken: usize,
 }
 
@@ -54,7 +54,7 @@ impl<D: BidiData + Drop> Model for Session<D> {
 }
 
 impl<D: BidiData + Drop> Session<D> {
-    /// Whether a Quit has ended it.
+    /// Whether the session goes on or Quit has ended it.
     pub(crate) fn status(&self) -> Status
         ensures { result ≡ status_of self.now.session }
     {
@@ -65,14 +65,14 @@ impl<D: BidiData + Drop> Session<D> {
         }
     }
 
-    /// The bytes that are to go to the terminal. No memory.
+    /// The bytes queued for the terminal. Allocates nothing.
     pub fn pending(&self) -> &[u8]
         ensures { result.now ≡ self.now.session.pending }
     {
         &self.queue[self.taken..]
     }
 
-    /// The first `count` bytes of what is pending have gone. No memory.
+    /// Removes the first `count` pending bytes, which were sent. Allocates nothing.
     pub fn taken(&mut self, count: usize)
         requires { count ≤ length self.old.session.pending }
         ensures { self.new ≡ record self.old { session = after_sending self.old.session count } }
@@ -84,27 +84,27 @@ impl<D: BidiData + Drop> Session<D> {
         }
     }
 
-    /// Whether Quit has ended the session. No memory.
+    /// Whether Quit has ended the session. Allocates nothing.
     pub fn ended(&self) -> bool
         ensures { result ≡ self.now.session.editor.ended }
     {
         self.editor.ended()
     }
 
-    /// Whether there was an edit since the opening or the last save. No memory.
+    /// Whether there are unsaved changes. Allocates nothing.
     pub fn changed(&self) -> bool
         ensures { result ≡ self.now.session.editor.changed }
     {
         self.editor.changed()
     }
 
-    /// The cursor's place, in bytes from 0. No memory.
+    /// The cursor's place, in bytes from 0. Allocates nothing.
     pub fn place(&self) -> usize
         ensures { result ≡ self.now.session.editor.place }
     {
         self.editor.place()
     }
-    /// The key that a byte would end now; after the end it ends none. No memory.
+    /// The key that a byte would complete now; none after the session's end. Allocates nothing.
     pub fn key_of(&self, byte: u8) -> Option<Key>
         ensures { result ≡ key_of_byte self.now.session byte }
     {
@@ -115,7 +115,7 @@ impl<D: BidiData + Drop> Session<D> {
         decoder.feed(byte)
     }
 
-    /// Whether a terminal shows the picture last painted. No memory.
+    /// Whether a terminal shows the picture last painted. Allocates nothing.
     pub fn is_shown_on(&self, screen: &Screen) -> bool
         ensures { IsTrue result ↔ IsShownOn self.now.session.painted screen.now }
     {

@@ -4,6 +4,6 @@
 #[derive(Clone, Copy, PartialEq, Eq, Debug)]
 pub enum Status {
     Running,
-    /// Quit has ended it: every further byte is spent without a key.
+    /// Quit has ended it. Further bytes give no key.
     Ended,
 }

@@ -2,11 +2,11 @@ use Rattle.std.proofs.Common.{◌≡◌, ℕ, List, ◌++◌, sym, ap, ◌∙◌
 use Rattle.std.proofs.lemmas.List.{append_cancel_left}
 use Rattle.bx_session.proofs.saving.is_text.Goals as goal
 
--- what was passed is longer by what stands next
+-- the next piece extends the compared prefix
 passed_more : (text done left s after : List ℕ) → text ≡ done ++ left → left ≡ s ++ after → text ≡ (done ++ s) ++ after
 passed_more text done left s after e h = e ∙ ap (λ l. done ++ l) h ∙ sym (append_assoc done s after)
 
--- where both are the same, what is left of one begins as what is left of the other
+-- if both are equal, the rest of one begins like the rest of the other
 begins_so : (text bytes done left rest s after : List ℕ) → text ≡ done ++ left → bytes ≡ done ++ rest → left ≡ s ++ after → text ≡ bytes
     → s ++ after ≡ rest
 begins_so text bytes done left rest s after e f h same = sym h ∙ append_cancel_left done left rest (sym e ∙ same ∙ f)
