@@ -1,4 +1,4 @@
--- What a run of the program begins from, and what it leaves, put together from what each call left.
+-- The start and the result of a run, from the contracts of the calls within.
 use Rattle.std.proofs.Common.{◌≡◌, ℕ, Bool, false, List, [], Option, None, Result, Ok, Err, sym, ap, subst, ◌∙◌}
 use Rattle.std.specs.Prelude.{IfOk, OnOk, vec_items, unwrap_or, Some}
 use Rattle.std.specs.Global.{Vec}
@@ -42,7 +42,7 @@ opened_is {D} says tables first new text text' height width base unsaved offset 
       subst (λ (t : D). IsOpened (says t) (begins_with text height width base unsaved [] offset) new.session) (sym kept) opened,
     )
 
--- ---- going on
+-- ---- after the opening
 
 pub painted_again : {D A E : Type 0} (says : D → Data) (old mid new : SessionState D) (keys : List ℕ) (r : Result A E) → mid.tables ≡ old.tables
     → mid.session ≡ after_replaying (says old.tables) old.session keys → new.session ≡ with_painting (says mid.tables) mid.session

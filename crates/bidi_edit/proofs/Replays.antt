@@ -1,4 +1,4 @@
--- Keys of a journal, replayed one after another.
+-- Replay of a journal's keys in order.
 use Rattle.std.proofs.Common.{◌≡◌, ℕ, ◌+◌, List, [], ◌∷◌, ◌++◌, take, sym, ap, ◌∙◌}
 use Rattle.bx_ucd.specs.Data.{Data}
 use Rattle.bx_session.specs.Session.{Session, SessionState, after_replay, after_replaying}
@@ -13,7 +13,7 @@ one_more d old now new keys i b was more is =
     ∙ sym (replayed_more d old (take i keys) b)
     ∙ ap (after_replaying d old) (sym more)
 
--- the tables are the same all along
+-- the tables stay the same
 pub replayed_one : {D : Type 0} (says : D → Data) (tables : D) (mid new : SessionState D) (old : Session) (keys : List ℕ) (i b : ℕ)
     → (mid.session ≡ after_replaying (says tables) old (take i keys)) × (mid.tables ≡ tables) → take (i + 1) keys ≡ take i keys ++ b ∷ []
     → new ≡ record mid { session = after_replay (says mid.tables) mid.session b }

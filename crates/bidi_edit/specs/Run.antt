@@ -1,4 +1,4 @@
--- What a run of the program begins from, and what it leaves.
+-- The start and the result of a run of the program.
 use Rattle.std.specs.Global.{Vec}
 use Rattle.std.specs.Prelude.{◌≡◌, ℕ, Bool, false, List, [], Option, Some, None, vec_items}
 use Rattle.bx_explicit.specs.declared.base.Base.{Base}
@@ -12,24 +12,24 @@ use Rattle.bx_session.specs.Beginning.{Beginning, IsBegun, at_offset, unpainted_
 use Rattle.bidi_edit.specs.declared.edit.Changes.{Changes}
 use Rattle.bidi_edit.specs.declared.edit.Changes.TheVariants.{Saved}
 
--- the tables answer what Unicode's three files say, which have no bad line
+-- the tables agree with Unicode's three files, which have no bad line
 pub record AreOfFiles (d : Data) (classes brackets mirroring : List ℕ) : Type 0 where
   pub accepted : refusal classes brackets mirroring ≡ None
   pub classes_are : (code : ℕ) → d.class code ≡ class_in_file classes code
   pub brackets_are : (code : ℕ) → d.bracket code ≡ bracket_in_file brackets code
   pub mirrors_are : (code : ℕ) → d.mirror code ≡ mirror_in_file mirroring code
 
--- a session that begins so was opened: its journal is not replayed yet
+-- the session is opened from this start; its journal is not replayed yet
 pub record IsOpened (d : Data) (b : Beginning) (s : Session) : Type 0 where
   pub session : s ≡ at_offset d b
   pub paints : QueuesPicture d [] None (at_opening d b.text b.height b.width b.base)
 
--- a file that is not there is an empty text
+-- a file that does not exist is an empty text
 abbrev pub bytes_of : Option (Vec ℕ) → List ℕ
 bytes_of None = []
 bytes_of (Some bytes) = vec_items bytes
 
--- what a session begins from, with the bytes of a journal
+-- the start of a session, with the bytes of a journal
 abbrev pub begins_with : List ℕ → ℕ → ℕ → Base → Bool → List ℕ → Option ℕ → Beginning
 begins_with text height width base unsaved journal offset = record {
   text = text;
@@ -41,7 +41,7 @@ begins_with text height width base unsaved journal offset = record {
   journal = journal;
 }
 
--- A run that ended well, of the session that begins so. It is said to be saved only where nothing is unsaved.
+-- A run from this start that ended without a fault. It is reported as saved only if nothing is unsaved.
 pub record Edits {J : Type 0} (contents : J → Option (List ℕ)) (failures : J → ℕ) (b : Option ℕ → Beginning) (classes brackets mirroring : List ℕ)
     (store store' : StoreState) (reader reader' writer writer' : Option (List ℕ)) (journal journal' : RecorderState J) (changes : Changes)
     : Type 0 where
@@ -53,7 +53,7 @@ pub record Edits {J : Type 0} (contents : J → Option (List ℕ)) (failures : J
   pub runs : RunsRecorded contents failures tables (begun tables (b offset)) session store store' reader reader' writer writer' journal journal'
   pub saved : changes ≡ Saved → session.editor.changed ≡ false
 
--- the text that a journal makes of a session that begins so was stored
+-- the text recovered from this start and its journal was stored
 pub record Recovers (b : Option ℕ → Beginning) (classes brackets mirroring : List ℕ) (store store' : StoreState) : Type 0 where
   pub tables : Data
   pub offset : Option ℕ

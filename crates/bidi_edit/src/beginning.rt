@@ -1,4 +1,4 @@
-//! What a session begins with.
+//! The start of a session.
 
 ghost use Rattle.std.specs.Prelude.{◌≡◌, [], ℕ, IfOk, OnOk, Option, true};
 ghost use Rattle.bx_terms.specs.Sizes.{is_side};
@@ -13,31 +13,31 @@ use bx_ucd::{BidiData, Tables};
 use bx_words::UnicodeFiles;
 use std::alloc::Global;
 
-/// What a session begins with.
+/// Everything that a session starts from.
 #[derive(Drop)]
 pub struct Beginning<'a> {
     /// Unicode's three files.
     pub unicode: UnicodeFiles<'a>,
-    /// The bytes of the text. A file that isn't there is an empty text.
+    /// The text's bytes; none if the file does not exist, which is an empty text.
     pub text: Option<Vec<u8>>,
     /// The window's rows and columns.
     pub rows: u16,
     pub cols: u16,
-    /// How the direction of each paragraph is chosen at first.
+    /// The base direction of the paragraphs at first.
     pub direction: Base,
-    /// The line that the cursor goes to, from 1.
+    /// The cursor's line, from 1.
     pub line: Option<u64>,
     /// Whether the text counts as changed from the start.
     pub unsaved: bool,
-    /// The bytes of the keys that are replayed then.
+    /// The bytes of the keys to replay.
     pub keys: &'a [u8],
     ghost has_rows: { is_side rows ≡ true },
     ghost has_cols: { is_side cols ≡ true },
 }
 
-/// Reads Unicode's three files, and opens a text with the cursor at its line. The keys are not replayed yet.
+/// Reads Unicode's three files, and opens a text with the cursor at its line. It does not replay the keys.
 ///
-/// Errors: those of the tables and of opening, in this order, and want of memory.
+/// Errors, in this order: those of the tables and of opening; `OutOfMemory`.
 pub fn open(
     alloc: Global,
     beginning: Beginning<'_>,
@@ -60,7 +60,7 @@ pub fn open(
     Ok(session)
 }
 
-/// Sends the cursor to an offset, if there is one, and counts the text as changed where it is unsaved.
+/// Moves the cursor to an offset, if there is one, and counts an unsaved text as changed.
 fn prepare<D: BidiData + Drop>(
     session: &mut Session<D>,
     offset: Option<usize>,

@@ -17,16 +17,16 @@ use bx_ucd::BidiData;
 use std::alloc::Global;
 use std::io::{Read, Write};
 
-/// What became of the changes when a session ended well.
+/// The fate of the changes in a session without a fault.
 #[derive(Clone, Copy, PartialEq, Eq, Debug)]
 pub enum Changes {
-    /// There were none since the opening or the last save.
+    /// Nothing is unsaved.
     Saved,
-    /// A second Quit let them go.
+    /// A second Quit discarded them.
     Dropped,
 }
 
-/// Replays keys, paints what came of them, and runs until Quit or the input's end.
+/// Replays keys, paints the result, and runs until Quit or the input's end.
 fn resume<D: BidiData + Drop, R: Read, J: Journal + Drop, W: Write, S: Store>(
     reader: &mut R,
     recorder: &mut Recorder<J>,
@@ -54,9 +54,9 @@ fn resume<D: BidiData + Drop, R: Read, J: Journal + Drop, W: Write, S: Store>(
     told(end, session.changed())
 }
 
-/// What became of the changes, by how a run ended and whether the text has changed then.
+/// The fate of the changes, by a run's end and whether there are unsaved changes then.
 ///
-/// Errors: `Unsaved` where the input ended with the text changed.
+/// Errors: `Unsaved` if the input ended with unsaved changes.
 fn told(end: End, changed: bool) -> Result<Changes, ProgramFault<'static>>
     ensures { result ≡ Ok Changes.Saved → changed ≡ false }
 {
@@ -72,8 +72,8 @@ fn told(end: End, changed: bool) -> Result<Changes, ProgramFault<'static>>
 /// Reads Unicode's three files, opens a text, replays keys, and runs until Quit or the input's end. Ok is exit status 0, and a
 /// fault status 1.
 ///
-/// Errors: those of the tables, of opening, of replaying and of running, in this order, and `Unsaved` where the input ended
-/// with the text changed.
+/// Errors, in this order: those of the tables, of opening, of replaying and of running; `Unsaved` if the input ended with
+/// unsaved changes.
 pub fn edit<R: Read, J: Journal + Drop, W: Write, S: Store>(
     alloc: Global,
     reader: &mut R,
@@ -91,7 +91,7 @@ pub fn edit<R: Read, J: Journal + Drop, W: Write, S: Store>(
     let keys = beginning.keys;
     let mut session = open(alloc, beginning)?;
     let changes = resume(reader, recorder, writer, store, &mut session, keys);
-    // Here, since each way out would be a proof of what is dropped there.
+    // dropped once here; each early return would need its own proof
     drop(session);
     changes
 }

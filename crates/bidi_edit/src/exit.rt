@@ -1,23 +1,23 @@
-//! The statuses that a run ends with, and what standard error is told.
+//! Exit statuses, and the lines on standard error.
 
 use crate::fault::ProgramFault;
 use std::process::ExitCode;
 
-/// The status after a run, whose fault is told.
+/// The exit status after a run. Writes the fault, if any, to standard error.
 pub fn finish(rt: &HostRuntime, outcome: Result<(), ProgramFault<'_>>) -> ExitCode {
     match outcome {
         Ok(()) => ExitCode::SUCCESS,
         Err(fault) => {
-            // where standard error takes no line there is nobody to tell
+            // if standard error fails, nobody can be told
             let _ = eprintln!(rt; "{fault}");
             ExitCode::FAILURE
         }
     }
 }
 
-/// Tells that a journal was not kept. The session was not ended by that.
+/// Tells that the journal is incomplete. That alone does not end a session.
 pub fn tell_lost_journal(rt: &HostRuntime) {
-    // where standard error takes no line there is nobody to tell
+    // if standard error fails, nobody can be told
     let _ = eprintln!(rt;
         "bidi_edit: the journal could not be written, so a crash would have lost what was not saved"
     );

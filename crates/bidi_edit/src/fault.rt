@@ -1,4 +1,4 @@
-//! Why the program ends with status 1.
+//! Faults that end the program with status 1.
 
 use bx_session::{OpenError, Refused, RunFault};
 use bx_store::StoreFault;
@@ -7,10 +7,10 @@ use bx_words::FileFault;
 use std::alloc::AllocError;
 use thiserror::Error;
 
-/// A fault, whose text is the line that is told of it.
+/// A fault. Its text is the line for standard error.
 #[derive(Debug, Drop, PartialEq, Eq, Error)]
 pub enum ProgramFault<'a> {
-    /// A line of one of Unicode's files is refused.
+    /// One of Unicode's files was refused.
     #[error("bidi_edit: {0}")]
     Tables(UcdError),
     #[error("bidi_edit: {0}")]
@@ -21,10 +21,10 @@ pub enum ProgramFault<'a> {
     Run(RunFault),
     #[error("bidi_edit: input ended before saving")]
     Unsaved,
-    /// The text that a journal makes could not be stored.
+    /// The recovered text could not be stored.
     #[error("bidi_edit: cannot write the recovered text")]
     Unwritten,
-    /// The word on a recovered text could not be told.
+    /// The line about a recovered text could not be written.
     #[error("bidi_edit: output failed")]
     Untold,
     #[error("bidi_edit: out of memory")]
@@ -56,14 +56,14 @@ impl From<RunFault> for ProgramFault<'_> {
 }
 
 impl From<Refused> for ProgramFault<'_> {
-    /// A key and a painting are refused for want of memory; a size that was parsed is not refused.
+    /// A key or a painting is refused when memory runs out; a parsed size is never refused.
     fn from(_refused: Refused) -> Self {
         ProgramFault::OutOfMemory
     }
 }
 
 impl From<StoreFault> for ProgramFault<'_> {
-    /// A store that cannot be made is want of memory.
+    /// Creating a store fails only when memory runs out.
     fn from(_fault: StoreFault) -> Self {
         ProgramFault::OutOfMemory
     }

@@ -1,14 +1,14 @@
-//! Whether the file that is edited holds a text that is none of the session's.
+//! Detection of a file that another program changed.
 
 use crate::beginning::{Beginning, open};
 use crate::fault::ProgramFault;
 use crate::replaying::{Held, replay_beside};
 use std::alloc::Global;
 
-/// Whether a file holds neither the text that the keys make nor one that a Save among them stored, where it does not hold the
-/// text that is opened. No session is opened where no key is replayed.
+/// Whether a file, which does not hold the opened text, holds neither the text after the keys nor one that a Save among them
+/// stored. Without keys it opens no session.
 ///
-/// Errors: those of the tables, of opening and of replaying, in this order.
+/// Errors, in this order: those of the tables, of opening and of replaying.
 pub fn is_foreign(
     alloc: Global,
     beginning: Beginning<'_>,
@@ -20,7 +20,7 @@ pub fn is_foreign(
     }
     let mut session = open(alloc, beginning)?;
     let replayed = replay_beside(&mut session, keys, held);
-    // Here, since each way out would be a proof of what is dropped there.
+    // dropped once here; each early return would need its own proof
     drop(session);
     Ok(replayed?.held == Held::Foreign)
 }

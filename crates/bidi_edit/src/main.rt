@@ -2,7 +2,7 @@
 //!
 //! `bidi_edit [--rows N] [--cols N] [--direction auto|ltr|rtl] [--line N] [--text PATH] [--unsaved] [--journal PATH [--in-place
 //! MARK]] [--replay PATH [--to PATH]] --classes F --brackets F --mirroring F FILE`. Exit status 0: ended by Quit, or the input
-//! ended with nothing changed; 1: a fault, which a line on standard error tells; 2: the command line was refused, and standard
+//! ended without unsaved changes; 1: a fault, with a line on standard error; 2: the command line was refused, and standard
 //! error tells why.
 #![tactic(auto)]
 
@@ -28,10 +28,10 @@ use std::env;
 use std::io::{self, Read, Write};
 use std::process::ExitCode;
 
-/// The program's name, in front of each line that it tells.
+/// The program's name, at the start of its lines on standard error.
 const NAME: &str = "bidi_edit";
 
-/// Edits a file. What is read is kept in the journal, of which nothing is left where nothing is unsaved at the end.
+/// Edits a file, with its input in the journal. Empties the journal if nothing is unsaved at the end.
 fn edit_file<'a, R: Read + Drop, W: Write, S: Store>(
     rt: &HostRuntime,
     options: &Options<'a>,
@@ -60,7 +60,7 @@ fn edit_file<'a, R: Read + Drop, W: Write, S: Store>(
     Ok(())
 }
 
-/// Stores the text that a journal makes, and writes how the file that is edited stands to it.
+/// Stores the text recovered from a journal, and writes how the edited file relates to it.
 fn recover_to<'a, W: Write, S: Store>(
     rt: &HostRuntime,
     options: &Options<'a>,
@@ -76,7 +76,7 @@ fn recover_to<'a, W: Write, S: Store>(
     }
 }
 
-/// What a session over these files begins with.
+/// The start of a session over these files.
 fn beginning_of<'a>(
     options: &Options<'_>,
     files: &'a Files,
@@ -94,7 +94,7 @@ fn beginning_of<'a>(
     }
 }
 
-/// The store that saves go to.
+/// The store that Saves write to.
 fn store_of<'a>(
     rt: &'a HostRuntime,
     options: &Options<'_>,
@@ -105,8 +105,8 @@ fn store_of<'a>(
     }
 }
 
-/// Whether FILE may have been changed since the text that is opened was taken from it. A text that counts as changed from the start
-/// is not FILE's.
+/// Whether FILE may have changed since the opened text was copied from it. A text that counts as changed from the start is not
+/// compared.
 fn is_changed(
     rt: &HostRuntime,
     options: &Options<'_>,
@@ -132,14 +132,14 @@ fn is_changed(
     )
 }
 
-/// Does what the command line asks for.
+/// Carries out the command line.
 fn program<'a, R: Read + Drop, W: Write>(
     rt: &HostRuntime,
     options: &Options<'a>,
     reader: R,
     writer: &mut W,
 ) -> Result<(), ProgramFault<'a>> {
-    // before the reading, so that what another program changes in between is seen at the first save
+    // before the files are read, so that the first save notices a change by another program in between
     let mut store = store_of(rt, options)?;
     let mut files = Files::read(rt, options)?;
     if is_changed(rt, options, &files)? {
@@ -153,7 +153,7 @@ fn program<'a, R: Read + Drop, W: Write>(
     }
 }
 
-/// The words after the program's name.
+/// The command line's words after the program's name.
 fn words_of(rt: &HostRuntime) -> io::Result<Vec<String>> {
     Ok(env::args(rt)?.skip(1).collect(rt.alloc())?)
 }

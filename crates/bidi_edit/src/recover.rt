@@ -1,4 +1,4 @@
-//! A text that is had from a journal, with no terminal.
+//! Recovery of a text from a journal, without a terminal.
 
 ghost use Rattle.std.specs.Prelude.{◌≡◌, OnOk};
 ghost use Rattle.bx_session.specs.Laws.{after_replaying};
@@ -13,7 +13,7 @@ use bx_store::Store;
 use bx_ucd::BidiData;
 use std::alloc::Global;
 
-/// Replays keys beside the bytes that the file has now, and stores the text.
+/// Replays keys, comparing with the file's current bytes, and stores the text.
 fn store_replayed<D: BidiData + Drop, S: Store>(
     store: &mut S,
     session: &mut Session<D>,
@@ -31,10 +31,10 @@ fn store_replayed<D: BidiData + Drop, S: Store>(
     }
 }
 
-/// Reads Unicode's three files, opens a text, replays keys, stores the text that they make, and tells how the bytes that the
-/// file has now stand to it.
+/// Reads Unicode's three files, opens a text, replays keys and stores the result. Returns how the file's current bytes
+/// relate to it.
 ///
-/// Errors: those of the tables, of opening and of replaying, in this order, and `Unwritten` where the store failed.
+/// Errors, in this order: those of the tables, of opening and of replaying; `Unwritten` if the store fails.
 pub fn recover<S: Store>(
     alloc: Global,
     store: &mut S,
@@ -49,7 +49,7 @@ pub fn recover<S: Store>(
     let keys = beginning.keys;
     let mut session = open(alloc, beginning)?;
     let replayed = store_replayed(store, &mut session, keys, file);
-    // Here, since each way out would be a proof of what is dropped there.
+    // dropped once here; each early return would need its own proof
     drop(session);
     replayed
 }

@@ -1,4 +1,4 @@
-//! Keys of a journal, replayed.
+//! Replay of a journal's keys.
 
 ghost use Rattle.std.specs.Prelude.{◌≡◌, OnOk};
 ghost use Rattle.bx_session.specs.Laws.{after_replaying};
@@ -9,18 +9,18 @@ use bx_session::Session;
 use bx_ucd::BidiData;
 use std::fmt;
 
-/// What a file holds, seen from a session that was replayed over what the file held once.
+/// A file's content, compared with a session replayed over an earlier content of it.
 #[derive(Clone, Copy, PartialEq, Eq, Debug)]
 pub enum Held {
     /// The replayed text.
     Same,
-    /// The text as it was opened, or as a Save of the journal stored it.
+    /// The opened text, or one that a Save in the journal stored.
     Known,
     /// Another text.
     Foreign,
 }
 
-/// What a replay told: how many keys the journal had, and what the file holds.
+/// The result of a replay: the number of keys in the journal, and the file's content.
 #[derive(Clone, Copy, PartialEq, Eq, Debug)]
 pub struct Replayed {
     pub held: Held,
@@ -38,9 +38,9 @@ impl fmt::Display for Replayed {
     }
 }
 
-/// Replays keys, and paints nothing.
+/// Replays keys without painting.
 ///
-/// Errors: `OutOfMemory`: the keys up to one that there was no memory for were applied.
+/// Errors: `OutOfMemory`; the keys before the refused one are applied.
 pub fn replay<D: BidiData + Drop>(
     session: &mut Session<D>,
     keys: &[u8],
@@ -55,7 +55,8 @@ pub fn replay<D: BidiData + Drop>(
     Ok(())
 }
 
-/// Replays keys over the text that was opened, and tells what a file that has these bytes now holds.
+/// Replays keys over the opened text, and compares a file's current bytes with the text at the start,
+/// at each Save and at the end.
 ///
 /// Errors: `OutOfMemory`, as in [`replay`].
 pub fn replay_beside<D: BidiData + Drop>(

@@ -1,4 +1,4 @@
-//! What no clause says: the fault lines, the exit statuses, and whole runs. Tests of the command line are in `text_tests`.
+//! What no contract says: the fault lines, the exit statuses, and whole runs. `text_tests` tests the command line.
 
 mod editing;
 mod ending;
@@ -10,7 +10,7 @@ mod sessions;
 use bx_ucd::sample::{BRACKETS, CLASSES, MIRRORING};
 use bx_words::UnicodeFiles;
 
-/// The small files.
+/// The small samples of Unicode's files.
 fn small_files() -> UnicodeFiles<'static> {
     UnicodeFiles {
         classes: CLASSES.as_bytes(),

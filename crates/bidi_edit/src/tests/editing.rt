@@ -1,4 +1,4 @@
-//! Runs over texts, tables and keys that are given as bytes, in a window of one row of five columns.
+//! Runs over texts, tables and keys given as bytes, in a window of one row and five columns.
 
 use crate::beginning::Beginning;
 use crate::edit::{Changes, edit};
@@ -12,12 +12,12 @@ use std::alloc::Global;
 use std::io::{self, ErrorKind, Read, Write};
 use std::test::Fail;
 
-/// A text in a window of one row of five columns, over which nothing is replayed.
+/// A text in a window of one row and five columns, without a replay.
 fn beginning(text: Option<Vec<u8>>) -> Beginning<'static> {
     beginning_with(small_files(), text)
 }
 
-/// The same by other files.
+/// The same with other Unicode files.
 fn beginning_with<'a>(unicode: UnicodeFiles<'a>, text: Option<Vec<u8>>) -> Beginning<'a> {
     Beginning {
         unicode,
@@ -31,7 +31,7 @@ fn beginning_with<'a>(unicode: UnicodeFiles<'a>, text: Option<Vec<u8>>) -> Begin
     }
 }
 
-/// How a run over a reader and a writer ends, with the small tables.
+/// The outcome of a run over a reader and a writer, with the small tables.
 fn run_over<R: Read, W: Write>(
     alloc: Global,
     file: Option<Vec<u8>>,
@@ -48,13 +48,13 @@ fn run_over<R: Read, W: Write>(
     )
 }
 
-/// How a run over a file's bytes and the bytes of keys ends.
+/// The outcome of a run over a file's bytes and the bytes of keys.
 fn outcome(alloc: Global, file: &[u8], mut keys: &[u8]) -> Result<Changes, ProgramFault<'static>> {
     let file = Vec::from_slice(alloc, file)?;
     run_over(alloc, Some(file), &mut keys, &mut Vec::new(alloc))
 }
 
-/// The line of the fault that a run over these tables ends with; empty where there is none.
+/// The fault line of a run with these tables; empty without a fault.
 fn line_of(
     alloc: Global,
     file: Option<Vec<u8>>,

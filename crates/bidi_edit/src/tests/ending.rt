@@ -1,4 +1,4 @@
-//! The lines and the exit statuses of faults.
+//! Lines and exit statuses of faults.
 
 use crate::exit::finish;
 use crate::fault::ProgramFault;

@@ -1,4 +1,4 @@
-//! The files that the program reads, and in which order.
+//! The order in which the program reads its files.
 
 use crate::fault::ProgramFault;
 use crate::program;
@@ -9,7 +9,7 @@ use bx_words::{FileFault, text_of};
 use std::test::Fail;
 use std::{env, fs, process};
 
-/// How a run over files of these paths ends, in a window of one row of five columns, where the input ends at once.
+/// The outcome of a run over files of these paths, in a window of one row and five columns, with empty input.
 fn outcome<'a>(
     rt: &HostRuntime,
     classes: &'a str,

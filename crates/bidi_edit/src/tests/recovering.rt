@@ -1,4 +1,4 @@
-//! Keys that are replayed, and the text that a journal makes: the text is `ab`, in a window of one row of five columns.
+//! Replay and recovery of the text `ab` in a window of one row and five columns.
 
 use crate::beginning::Beginning;
 use crate::edit::{Changes, edit};
@@ -27,7 +27,7 @@ fn beginning<'a>(alloc: Global, keys: &'a [u8]) -> Result<Beginning<'a>, Fail> {
     })
 }
 
-/// What a file with these bytes holds, where these keys are replayed into a store.
+/// Recovers these keys into a store, and compares the text with a file of these bytes.
 fn recovered(
     alloc: Global,
     store: &mut MemoryStore,
@@ -61,7 +61,7 @@ fn a_text_that_cannot_be_stored(rt: HostRuntime) -> Result<(), Fail> {
     Ok(())
 }
 
-/// The keys `y`, Save and Quit over others that are replayed.
+/// Replays keys, then types `y`, Save and Quit. Returns whether the run ended saved.
 fn resumed(alloc: Global, store: &mut MemoryStore, keys: &[u8]) -> Result<bool, Fail> {
     let changes = edit(
         alloc,
@@ -82,7 +82,7 @@ fn typing_goes_on_behind_what_is_replayed(rt: HostRuntime) -> Result<(), Fail> {
     Ok(())
 }
 
-/// Keys that are read two at a time.
+/// Gives keys two at a time.
 #[derive(Drop)]
 struct Pairs<'a>(&'a [u8]);
 
@@ -95,7 +95,7 @@ impl Read for Pairs<'_> {
     }
 }
 
-/// A journal that refuses its first writes, has room for some bytes then, and takes two at once.
+/// A journal that refuses its first `refused` writes, then has room for `room` bytes, and takes at most two at a time.
 #[derive(Drop)]
 struct Small {
     bytes: Vec<u8>,
@@ -120,7 +120,7 @@ impl Write for Small {
     }
 }
 
-/// Runs over the input `abcdef`, and answers whether all of it was typed and whether the journal has all.
+/// Runs over the input `abcdef`. Returns whether all of it was typed, and whether the journal has all.
 fn run_kept(alloc: Global, journal: &mut Small) -> Result<(bool, bool), Fail> {
     let mut session = Session::open(
         alloc,

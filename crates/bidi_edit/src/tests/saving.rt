@@ -1,4 +1,4 @@
-//! What a save leaves: the keys are `x`, Save and Quit, in a window of one row of five columns.
+//! The result of a Save: the keys are `x`, Save and Quit, in a window of one row and five columns.
 
 use crate::beginning::Beginning;
 use crate::edit::{Changes, edit};
@@ -11,7 +11,7 @@ use std::alloc::Global;
 use std::test::Fail;
 use std::{env, fs, process};
 
-/// Saves a text that is opened from these bytes.
+/// Opens a text from these bytes, edits and saves it.
 fn save<S: Store>(
     alloc: Global,
     store: &mut S,

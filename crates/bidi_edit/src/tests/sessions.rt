@@ -27,7 +27,7 @@ fn hex_digit(byte: u8) -> Option<u8>
     }
 }
 
-/// The bytes of a field in hexadecimal.
+/// Decodes a field in hexadecimal.
 fn from_hex(alloc: Global, hex: &str) -> Result<Vec<u8>, Fail> {
     let mut bytes = Vec::new(alloc);
     for pair in hex.as_bytes().chunks(2) {
@@ -39,7 +39,7 @@ fn from_hex(alloc: Global, hex: &str) -> Result<Vec<u8>, Fail> {
     Ok(bytes)
 }
 
-/// A side of the window.
+/// Parses a side of the window.
 fn side_of(field: &str) -> Result<u16, Fail>
     ensures { IfOk result (λ n. is_side n ≡ true) }
 {
@@ -50,7 +50,7 @@ fn side_of(field: &str) -> Result<u16, Fail>
     Ok(side)
 }
 
-/// What a session is given.
+/// The input of a recorded session.
 #[derive(Drop)]
 struct Given {
     rows: u16,
@@ -79,7 +79,7 @@ impl Given {
         })
     }
 
-    /// Runs the session, and answers the line of its fault; an empty one where it ended well.
+    /// Runs the session. Returns its fault line, empty without a fault.
     fn run(
         self,
         alloc: Global,
@@ -111,7 +111,7 @@ impl Given {
     }
 }
 
-/// The file's bytes; none where there is no file.
+/// The file's bytes; none if there is no file.
 fn file_of(alloc: Global, field: &str) -> Result<Option<Vec<u8>>, Fail> {
     if field == "none" {
         return Ok(None);
@@ -119,12 +119,12 @@ fn file_of(alloc: Global, field: &str) -> Result<Option<Vec<u8>>, Fail> {
     Ok(Some(from_hex(alloc, field)?))
 }
 
-/// Whether these bytes are a field's.
+/// Whether a field encodes these bytes.
 fn are_bytes(alloc: Global, bytes: &[u8], field: &str) -> Result<bool, Fail> {
     Ok(bytes == from_hex(alloc, field)?.as_slice())
 }
 
-/// Whether a store holds what a session saves: a field's bytes or, where the field is empty, none or those of the file.
+/// Whether a store holds the saved bytes of a field; for an empty field, nothing or the file's bytes.
 fn is_saved(alloc: Global, contents: &[u8], field: &str, given: &str) -> Result<bool, Fail> {
     if contents.is_empty() || !field.is_empty() {
         return are_bytes(alloc, contents, field);
@@ -133,7 +133,7 @@ fn is_saved(alloc: Global, contents: &[u8], field: &str, given: &str) -> Result<
     Ok(file != "none" && are_bytes(alloc, contents, file)?)
 }
 
-/// The first thing in which a session is not what it should be, if any.
+/// The first difference from the recorded session, if any.
 fn fault_of(
     alloc: Global,
     written: &mut Vec<u8>,
@@ -156,7 +156,7 @@ fn fault_of(
     Ok(None)
 }
 
-/// One recorded session.
+/// Runs a recorded session and checks its results.
 fn check_session(rt: &impl Abort, alloc: Global, session: &str) -> Result<(), Fail> {
     let mut written = Vec::new(alloc);
     let mut store = MemoryStore::new(alloc, None);

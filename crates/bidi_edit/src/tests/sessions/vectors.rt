@@ -1,8 +1,8 @@
-//! Whole runs of random keys over random texts, from an independent model of the editor.
+//! Runs of random keys over random texts, computed by an independent model of the editor.
 
-/// A line each. Before its `=`, parted by `|`: the window's rows and columns, the direction, the file's bytes in hexadecimal, or
-/// `none` where there is no file, and the bytes of keys. After it: the bytes written, the line of the fault, and the bytes saved;
-/// the last two are empty where there is no fault, and where no bytes are saved but the file's own.
+/// One run a line, with fields separated by `|`; bytes are in hexadecimal. Before its `=`: the window's rows and columns, the
+/// direction, the file's bytes or `none` without a file, and the keys' bytes. After it: the bytes written, the fault line, and
+/// the bytes saved. The fault line is empty without a fault; the last field is empty if no bytes but the file's own are saved.
 pub const SESSIONS: &str = "\
 19|8|auto|65e280aa|1a087f341a061b5b383b30323b3030317402=1b5b306d1b5b324a1b5b313b3148651b5b376d651b5b31393b31481b5b306d2d1b5b31393b3348313a311b5b313b3\
 1481b5b31393b37486e6f1b5b313b31481b5b31393b37481b5b304b1b5b313b31481b5b313b314834651b5b376d651b5b31393b31481b5b306d2a1b5b31393b3548321b5b313b32481b5b\
