@@ -1,4 +1,4 @@
-//! A session alone, and the steps of a scene in it.
+//! A scene played in a session without a world.
 
 use crate::answers::{Answers, add_bytes, add_flag, add_number, add_text, letter_of_refusal};
 use crate::scene::{Act, Look, Scene};
@@ -9,19 +9,19 @@ use bx_ucd::BidiData;
 use bx_world::Step;
 use std::alloc::{AllocError, Global};
 
-/// A session in which a scene is played.
+/// A session, with its store, that plays a scene.
 #[derive(Drop)]
 pub struct Alone<D: BidiData + Drop> {
     pub alloc: Global,
     pub session: Session<D>,
     pub store: MemoryStore,
-    /// How many steps were taken.
+    /// Number of steps taken.
     pub taken: usize,
-    /// Whether a call of the store is to fail.
+    /// Whether the scene has a call of the store fail.
     pub may_fail: bool,
 }
 
-/// The letter of a byte's answer.
+/// The letter for the answer to a byte.
 fn letter_of_byte(answer: Result<Status, Refused>, has_failed: bool) -> char {
     match answer {
         Ok(_) if has_failed => 'f',
@@ -32,7 +32,7 @@ fn letter_of_byte(answer: Result<Status, Refused>, has_failed: bool) -> char {
 }
 
 impl<D: BidiData + Drop> Alone<D> {
-    /// Takes the steps of a scene, and notes the answers to them, what is looked at, and what is left.
+    /// Takes the steps of a scene, and notes the answers, the findings and the final state.
     pub fn step_through(
         &mut self,
         scene: &Scene<'_>,
@@ -51,7 +51,7 @@ impl<D: BidiData + Drop> Alone<D> {
             return Ok(());
         }
         let mut store = MemoryStore::new(self.alloc, None);
-        // a painting that is refused is none of the scene's
+        // a refusal to paint here is not the scene's
         let _ = self.session.feed(SAVE, &mut store);
         answers.note_text(&store, &scene.file)
     }
@@ -81,7 +81,7 @@ impl<D: BidiData + Drop> Alone<D> {
         letter_of_byte(answer, !self.may_fail && self.store.failures() > failures)
     }
 
-    /// Takes bytes off the queue, and adds them to those that were sent.
+    /// Removes bytes from the session's queue, and appends them to `queued`.
     fn send(&mut self, count: usize, queued: &mut Vec<u8>) -> Result<char, AllocError> {
         let sent = count.min(self.session.pending().len());
         queued.extend_from_slice(&self.session.pending()[..sent])?;
@@ -89,7 +89,7 @@ impl<D: BidiData + Drop> Alone<D> {
         Ok('o')
     }
 
-    /// Notes what is looked at, behind a blank where something was before.
+    /// Notes a finding, after a blank if it is not the first.
     fn look(&self, look: &Look<'_>, file: &[u8], looks: &mut String) -> Result<(), AllocError> {
         if !looks.is_empty() {
             looks.push(' ')?;
@@ -100,7 +100,7 @@ impl<D: BidiData + Drop> Alone<D> {
             Look::Ended => add_flag(looks, self.session.ended()),
             Look::Kept => add_text(looks, self.store.contents(), file),
             Look::Pending => add_bytes(looks, self.session.pending()),
-            // the text is noted at the end, and a session alone has none of the others
+            // the text is noted at the end, and the others need a world
             Look::Text | Look::Told | Look::Line | Look::Shown | Look::Rows { .. } => Ok(()),
         }
     }

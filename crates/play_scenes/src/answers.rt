@@ -1,4 +1,4 @@
-//! What a scene answers, noted in buffers that are made before its world is.
+//! The answers of a scene, in buffers allocated before its world.
 
 use bx_grid::GridError;
 use bx_session::{Refused, Session};
@@ -7,38 +7,38 @@ use bx_ucd::BidiData;
 use bx_world::StepFault;
 use std::alloc::{AllocError, AllocFailed, Global};
 
-/// From this length on a text that is the file's own is not spelt out.
+/// A text longer than this, in bytes, that equals the file is abbreviated.
 const LONG: usize = 4096;
 
-/// The room for each kind of answer, and for all that is queued.
+/// Room for each kind of answer, in bytes.
 const ROOM: usize = 65_536;
 
 const ROOM_FOR_QUEUE: usize = 1_048_576;
 
-/// What is noted while a scene is played in one way.
+/// Notes of a scene played in one way.
 #[derive(Drop)]
 pub struct Answers {
     /// A letter for each step.
     pub letters: String,
-    /// The letters as a play can tell them, without `e` and `f`.
+    /// The letters as `play` gives them, without `e` and `f`.
     pub plain: String,
-    /// A digit for each step.
+    /// For each step, whether the terminal shows the picture last painted.
     pub shown: String,
-    /// What was looked at.
+    /// The findings.
     pub looks: String,
     /// The text.
     pub text: String,
-    /// The bytes kept, the place, and whether the text has changed.
+    /// The store's content, the place, and whether there are unsaved changes.
     pub ending: String,
-    /// What is on its way, and whether the last size was told.
+    /// The bytes on the line and pending, and whether the last size was told and the picture is shown.
     pub on_way: String,
-    /// All bytes that were sent, and at the end those that are pending.
+    /// All bytes sent, and at the end those pending.
     pub queued: Vec<u8>,
-    /// How many steps were taken before the one that ended the session.
+    /// Number of steps before the one that ended the session.
     pub before_end: Option<usize>,
 }
 
-/// Adds bytes in hexadecimal; a hyphen for none.
+/// Appends bytes in hexadecimal; a hyphen for none.
 pub fn add_bytes(line: &mut String, bytes: &[u8]) -> Result<(), AllocError> {
     if bytes.is_empty() {
         line.push('-')?;
@@ -51,7 +51,7 @@ pub fn add_bytes(line: &mut String, bytes: &[u8]) -> Result<(), AllocError> {
     Ok(())
 }
 
-/// Adds a text, which is that of the file or another.
+/// Appends a text; `=` for a long one that equals the file.
 pub fn add_text(line: &mut String, text: &[u8], file: &[u8]) -> Result<(), AllocError> {
     if text.len() > LONG && text == file {
         line.push('=')?;
@@ -60,13 +60,13 @@ pub fn add_text(line: &mut String, text: &[u8], file: &[u8]) -> Result<(), Alloc
     add_bytes(line, text)
 }
 
-/// Adds a digit for whether something is so.
+/// Appends 1 for true, 0 for false.
 pub fn add_flag(line: &mut String, flag: bool) -> Result<(), AllocError> {
     line.push(if flag { '1' } else { '0' })?;
     Ok(())
 }
 
-/// Adds a number.
+/// Appends a number.
 pub fn add_number(line: &mut String, number: usize) -> Result<(), AllocError> {
     write!(line, "{number}")
 }
@@ -92,7 +92,7 @@ pub fn letter_of(answer: &Result<(), StepFault>) -> char {
 }
 
 impl Answers {
-    /// Buffers with room.
+    /// Allocates the buffers.
     pub fn with_room(alloc: Global) -> Result<Answers, AllocError> {
         Ok(Answers {
             letters: String::with_capacity(alloc, ROOM)?,
@@ -107,7 +107,7 @@ impl Answers {
         })
     }
 
-    /// Nothing is noted, and the room stays.
+    /// Clears the notes and keeps the buffers.
     pub fn clear(&mut self) {
         self.letters.clear();
         self.plain.clear();
@@ -120,7 +120,7 @@ impl Answers {
         self.before_end = None;
     }
 
-    /// Notes what is left of a session and its store at the end.
+    /// Notes the final state of a session and its store.
     pub fn note_ending<D: BidiData + Drop>(
         &mut self,
         session: &Session<D>,
@@ -134,7 +134,7 @@ impl Answers {
         add_flag(&mut self.ending, session.changed())
     }
 
-    /// Notes the text that a store of its own was given by a Save.
+    /// Notes the text that a Save wrote to a separate store.
     pub fn note_text(&mut self, store: &MemoryStore, file: &[u8]) -> Result<(), AllocError> {
         if store.failures() > 0 {
             self.text.push('?')?;
@@ -143,7 +143,7 @@ impl Answers {
         add_text(&mut self.text, store.contents(), file)
     }
 
-    /// Whether another way to play the same steps has answered the same and has left the same.
+    /// Whether `play` gave the same answers and the same final state.
     pub fn agrees_with(&self, play: &Answers) -> bool {
         self.plain.as_str() == play.plain.as_str()
             && self.ending.as_str() == play.ending.as_str()

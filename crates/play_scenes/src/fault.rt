@@ -1,4 +1,4 @@
-//! Why the program stops.
+//! Faults that stop the program.
 
 use crate::words::WordFault;
 use bx_ucd::{Cause, UcdError};
@@ -6,7 +6,7 @@ use std::alloc::{AllocError, AllocFailed};
 use std::io::{self, ErrorKind};
 use thiserror::Error;
 
-/// A fault, whose text is the line that standard error is told.
+/// A fault. Its text is the line for standard error.
 #[derive(Debug, Drop, Error)]
 pub enum Fault {
     #[error("usage: play_scenes CLASSES BRACKETS MIRRORING < SCENES")]
@@ -23,7 +23,7 @@ pub enum Fault {
 }
 
 impl Fault {
-    /// A line's fault.
+    /// The fault of a line.
     pub fn of_line(number: usize, fault: WordFault) -> Fault {
         match fault {
             WordFault::Bad(why) => Fault::BadLine(number, why),
@@ -31,7 +31,7 @@ impl Fault {
         }
     }
 
-    /// Whether what the program was given is at fault, and not what it runs on.
+    /// Whether the command line or the scenes are at fault.
     pub fn is_of_input(&self) -> bool {
         matches!(self, Fault::Words | Fault::BadLine(_, _))
     }

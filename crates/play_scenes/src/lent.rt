@@ -1,8 +1,8 @@
-//! Tables that many worlds take, one after another.
+//! Tables that consecutive worlds share.
 
 use bx_ucd::{BidiData, Class, Side};
 
-/// Tables that are lent.
+/// Borrowed tables.
 #[derive(Drop)]
 pub struct Lent<'a, D: BidiData> {
     pub tables: &'a D,

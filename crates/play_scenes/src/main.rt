@@ -1,15 +1,15 @@
-//! Plays scenes of the editor, which stand on standard input, and prints what each answers.
+//! Plays scenes of the editor from standard input, and prints the answers to each.
 //!
 //!     play_scenes CLASSES BRACKETS MIRRORING < SCENES
 //!
-//! A line of standard input is a scene, unless it is empty or begins with `#`. Its fields have a tab between them:
+//! A line of standard input is a scene, unless it is empty or begins with `#`. Tabs separate its fields:
 //!
 //!     NAME DIRECTION ROWS COLUMNS CALL FILE STEPS [WAY]
 //!
-//! NAME says what the scene shows and is not read. DIRECTION is `auto`, `ltr` or `rtl`. CALL is the number of the store's call
-//! that fails, from 1 over all of its calls, or `-` where none is to. FILE is the text that is opened, its bytes as pairs of
-//! hexadecimal digits of lower case, `-` for none; it may be parts with `+` between them, each repeated as often as a count behind
-//! `*` says. STEPS are words with a blank between them, `-` for none:
+//! NAME describes the scene and is ignored. DIRECTION is `auto`, `ltr` or `rtl`. CALL is the number of the store's call that
+//! fails, counting all of its calls from 1, or `-` if none fails. FILE is the text that is opened, its bytes as pairs of lower-case
+//! hexadecimal digits, `-` for none; it may be several parts joined by `+`, each with an optional count of repetitions after `*`.
+//! STEPS are words separated by blanks, `-` for none:
 //!
 //!     B78           a byte of input; `B1b5b46` is three steps
 //!     W2,5          the window gets 2 rows and 5 columns
@@ -17,43 +17,42 @@
 //!     S38           at most 38 of the pending bytes go to the line
 //!     R11           the terminal reads at most 11 bytes of the line
 //!
-//! and words that are no steps and look at what is there: `place`, `changed`, `ended`, `told` (whether the window's last size was
-//! told since), `shown` (whether the terminal shows the picture last painted), `kept` (what the store keeps), `pending` and `line`
-//! (the bytes that are not yet sent, and not yet read), `rows=1;3:ab|cd` (whether the terminal shows these rows, with the cursor
-//! in line 1 and column 3; `_` is a blank, and a character behind a backquote is negative), and, as the last word alone, `text`.
+//! and words that only look: `place`, `changed`, `ended`, `told` (whether the session was told the window's last size), `shown`
+//! (whether the terminal shows the picture last painted), `kept` (the store's content), `pending` and `line` (the bytes not yet
+//! sent, and not yet read), `rows=1;3:ab|cd` (whether the terminal shows these rows, with the cursor in line 1 and column 3; `_`
+//! is a blank, and a character after a backquote is negative), and, only as the last word, `text`.
 //!
-//! WAY is `both` where it is left out: a world takes the steps one by one and another all by `play`, and where they do not
-//! answer and leave the same the line says so. `step` and `play` are one of these alone; a play looks at the text at most. `alone`
-//! takes the steps by the calls of a session without a world: it has no `W` and `R`, and looks at nothing that a session does not
-//! tell.
+//! WAY is `both` if it is left out: one world takes the steps one by one, another takes them all by `play`, and the line says so
+//! if their answers or final states differ. `step` and `play` do one of these alone; `play` can look only at the text. `alone`
+//! takes the steps in a session without a world: it has no `W` and `R`, and looks only at a session's own state.
 //!
 //! The line of answers begins with a letter for each step:
 //!
 //!     o    Ok
-//!     e    Ok, of a byte once the session has ended
-//!     f    Ok, of a Save that failed though no call of the store was to: it had no memory
+//!     e    Ok, for a byte after which the session has ended
+//!     f    Ok, for a Save that failed without a failing CALL: the store ran out of memory
 //!     s    a told size is refused
 //!     w    a window's size is refused
-//!     E    no memory for a key: nothing has changed
-//!     P    no memory for the painting
-//!     L    no memory for the line: nothing was moved
-//!     M    no memory in the terminal, now or before
-//!     N    no memory for the answers of `play`: no step was taken
+//!     E    out of memory for a key: nothing has changed
+//!     P    out of memory for the painting
+//!     L    out of memory for the line: no byte was moved
+//!     M    out of memory in the terminal, now or before
+//!     N    out of memory for the answers of `play`: no step was taken
 //!
-//! of which `play` does not tell `e` and `f` from `o`. Where the scene looks at something, a tab follows, and what was found, with a
-//! blank between two. Else there follow, with a tab before each: for each step 1 where the terminal shows the picture last painted
-//! behind it, else 0 (of `play` for the last step alone, of `alone` a hyphen); the text; the bytes that the store keeps; the
-//! cursor's place; 1 where the text has changed, else 0; and all bytes that were ever queued for the terminal (of `play` those
-//! that were not yet read). A file that is not opened has `refused: ` and the cause as its whole line.
+//! `play` gives `o` for `e` and `f`. If the scene looks at something, a tab follows, then the findings, separated by blanks.
+//! Otherwise these fields follow, with a tab before each: for each step 1 if the terminal shows the picture last painted after it,
+//! else 0 (with `play` for the last step alone, with `alone` a hyphen); the text; the store's content; the cursor's place; 1 if
+//! there are unsaved changes, else 0; and all bytes ever queued for the terminal (with `play` those not yet read). If the file is
+//! not opened, the whole line is `refused: ` and the cause.
 //!
-//! Bytes are written as pairs of digits, `-` for none; a text of more than 4096 bytes that is the file's is `=`. The text is what a
-//! Save at the end gives to a store of its own. Of a session that has ended it is that of another world behind the steps before
-//! the end. It is `?` where that store had no memory, and where `play` alone has ended the session.
+//! Bytes are written as pairs of digits, `-` for none; a text of more than 4096 bytes that equals the file is `=`. The text is
+//! found by a Save at the end to a separate store. If the session has ended, another world takes the steps before the end and
+//! saves there. The text is `?` if that store runs out of memory, and if WAY is `play` and the session has ended.
 //!
-//! The buffers for answers are made before the first world is opened, so that want of memory falls on the world. Where the program
-//! itself has none, it says `out of memory` on standard error and ends with status 1. It ends with status 1 too where files or
-//! streams fail, a line of the tables is refused, or `step` and `play` differ in a scene; with status 2 where its words are not
-//! three, and at the first line that is no scene, whose number and fault it says.
+//! The buffers for answers are allocated before the first world is opened, so that the world is the first to run out of memory.
+//! If the program itself runs out, it writes `out of memory` to standard error and ends with status 1. It also ends with status 1
+//! if files or streams fail, a line of the tables is refused, or `step` and `play` differ in a scene. It ends with status 2 if it
+//! is not given three words, and at the first line that is no scene, with the line's number and fault.
 #![tactic(auto)]
 
 mod alone;
@@ -75,10 +74,10 @@ use std::rt::{Env, Files};
 use std::{env, fs, io};
 use ways::Room;
 
-/// The status where the words or a line are refused.
+/// The exit status if the command line or a line is refused.
 const REFUSED: u8 = 2;
 
-/// The tables of three files.
+/// Reads the tables from three files.
 fn tables_of<R: Files + AllocGlobal>(rt: &R, paths: &[String]) -> Result<Tables, Fault> {
     let [classes, brackets, mirroring] = paths else {
         return Err(Fault::Words);
@@ -89,7 +88,7 @@ fn tables_of<R: Files + AllocGlobal>(rt: &R, paths: &[String]) -> Result<Tables,
     Ok(Tables::read(rt.alloc(), &classes, &brackets, &mirroring)?)
 }
 
-/// Plays the scene of a line, prints what it answers, and says whether `step` and `play` agree in it.
+/// Plays the scene of a line and prints its answers. Returns whether `step` and `play` agree in it.
 fn play_line<R: Print + AllocGlobal>(
     rt: &R,
     number: usize,
@@ -109,7 +108,7 @@ fn play_line<R: Print + AllocGlobal>(
     Ok(agrees)
 }
 
-/// Plays the scenes of all lines, and says whether `step` and `play` agree in all of them.
+/// Plays the scenes of all lines. Returns whether `step` and `play` agree in all of them.
 fn play_lines<R: Print + AllocGlobal>(
     rt: &R,
     scenes: &str,
@@ -140,7 +139,7 @@ fn main(rt: HostRuntime) -> ExitCode {
         Ok(true) => ExitCode::SUCCESS,
         Ok(false) => ExitCode::FAILURE,
         Err(fault) => {
-            // where standard error takes no line there is nobody to tell
+            // if standard error fails, nobody can be told
             let _ = eprintln!(rt; "play_scenes: {fault}");
             if fault.is_of_input() {
                 ExitCode::from(REFUSED)

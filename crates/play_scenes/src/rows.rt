@@ -1,4 +1,4 @@
-//! The picture of rows that a scene names.
+//! The picture of the rows in a scene.
 
 ghost use Rattle.std.specs.Prelude.{IsTrue};
 ghost use Rattle.bx_grid.specs.Picture.{IsWithin};
@@ -7,9 +7,9 @@ use bx_grid::{Cell, Grid, GridError, Picture};
 use bx_terms::{OutOfMemory, is_glyph, run_width};
 use std::alloc::Global;
 
-/// Why rows make no picture.
+/// Errors of building a picture from rows.
 pub enum RowFault {
-    /// The window has no room for them.
+    /// The rows or the cursor do not fit in the window, or a character is no glyph.
     NoPicture,
     OutOfMemory,
 }
@@ -36,7 +36,7 @@ fn is_inside(grid: &Grid, cell: Cell) -> bool
     1 <= cell.line && cell.line <= grid.height() && 1 <= cell.column && cell.column <= grid.width()
 }
 
-/// Puts a glyph where the grid has room for it.
+/// Puts a glyph at a cell.
 fn put(grid: &mut Grid, cell: Cell, text: &str, negative: bool) -> Result<(), RowFault> {
     if !is_glyph(text) || !is_inside(grid, cell) || !grid.has_room(cell, run_width(text)) {
         return Err(RowFault::NoPicture);
@@ -45,7 +45,7 @@ fn put(grid: &mut Grid, cell: Cell, text: &str, negative: bool) -> Result<(), Ro
     Ok(())
 }
 
-/// Puts the characters of a row; a `_` is a blank, and behind a backquote a character is negative.
+/// Puts the characters of a row; `_` is a blank, and a character after a backquote is negative.
 fn put_row(grid: &mut Grid, line: u16, row: &str) -> Result<(), RowFault> {
     let mut column: u16 = 1;
     let mut negative = false;
@@ -66,7 +66,7 @@ fn put_row(grid: &mut Grid, line: u16, row: &str) -> Result<(), RowFault> {
     Ok(())
 }
 
-/// A grid of rows that have a bar between them.
+/// The grid of rows separated by bars.
 fn grid_of(alloc: Global, height: u16, width: u16, rows: &str) -> Result<Grid, RowFault> {
     let mut grid = Grid::blank(alloc, height, width)?;
     let mut line: u16 = 1;
@@ -77,7 +77,7 @@ fn grid_of(alloc: Global, height: u16, width: u16, rows: &str) -> Result<Grid, R
     Ok(grid)
 }
 
-/// The picture of rows that have a bar between them, with the cursor at a cell.
+/// The picture of rows separated by bars, with the cursor at a cell.
 pub fn picture_of(
     alloc: Global,
     height: u16,

@@ -1,4 +1,4 @@
-//! A scene, as a line tells it.
+//! A scene, parsed from a line.
 
 use crate::words::{WordFault, byte_of, bytes_of, call_of, count_of, side_of, two_of};
 use bx_explicit::Base;
@@ -6,32 +6,32 @@ use bx_store::MemoryStore;
 use bx_world::Step;
 use std::alloc::{AllocError, Global};
 
-/// How the steps of a scene are taken.
+/// The WAY in which the steps of a scene are taken.
 #[derive(Clone, Copy, PartialEq, Eq, Debug)]
 pub enum Way {
-    /// By `step` and, in another world, by `play`, which are compared.
+    /// By `step` and, in another world, by `play`; the two are compared.
     Both,
-    /// One after another, by `step`.
+    /// One by one, by `step`.
     Step,
     /// All by one call of `play`.
     Play,
-    /// By a session alone, which has no window and no terminal.
+    /// By a session without a world, which has no window and no terminal.
     Alone,
 }
 
-/// What is looked at between two steps.
+/// A word that looks.
 #[derive(Clone, Copy)]
 pub enum Look<'a> {
     Place,
     Changed,
     Ended,
-    /// Whether the window's last size was told since.
+    /// Whether the session was told the window's last size.
     Told,
-    /// The bytes that the store keeps.
+    /// The store's content.
     Kept,
-    /// The bytes that are not yet sent.
+    /// The bytes not yet sent.
     Pending,
-    /// The bytes that are sent, and not yet read.
+    /// The bytes sent, but not yet read.
     Line,
     /// Whether the terminal shows the picture last painted.
     Shown,
@@ -45,14 +45,14 @@ pub enum Look<'a> {
     },
 }
 
-/// What a word of a scene asks for.
+/// A step or a look.
 #[derive(Clone, Copy)]
 pub enum Act<'a> {
     Take(Step),
     Look(Look<'a>),
 }
 
-/// What is opened, what is done with it, and how.
+/// A scene: the fields of a line but its name.
 #[derive(Drop)]
 pub struct Scene<'a> {
     pub base: Base,
@@ -64,7 +64,7 @@ pub struct Scene<'a> {
     pub way: Way,
 }
 
-/// The rows that a terminal may show: the cursor's line and column, and behind a colon rows with a bar between them.
+/// Parses the rest of `rows=`: the cursor's line and column, a colon, and rows separated by bars.
 fn rows_of(word: &str) -> Result<Look<'_>, WordFault> {
     let (cursor, rows) = word
         .split_once(':')
@@ -73,7 +73,7 @@ fn rows_of(word: &str) -> Result<Look<'_>, WordFault> {
     Ok(Look::Rows { line, column, rows })
 }
 
-/// What a word looks at.
+/// Parses a word that looks.
 fn look_of(word: &str) -> Result<Look<'_>, WordFault> {
     match word {
         "place" => Ok(Look::Place),
@@ -92,7 +92,7 @@ fn look_of(word: &str) -> Result<Look<'_>, WordFault> {
     }
 }
 
-/// What a word asks for that is no byte.
+/// Parses a word other than a `B`.
 fn act_of(word: &str) -> Result<Act<'_>, WordFault> {
     if let Some(size) = word.strip_prefix("W") {
         let (height, width) = two_of(size, ',')?;
@@ -111,7 +111,7 @@ fn act_of(word: &str) -> Result<Act<'_>, WordFault> {
     Ok(Act::Look(look_of(word)?))
 }
 
-/// Adds what a word asks for: a step for each byte of a `B`, or one act.
+/// Appends the acts of a word: a step for each byte of a `B`, or one act.
 fn add_acts<'a>(acts: &mut Vec<Act<'a>>, word: &'a str) -> Result<(), WordFault> {
     let Some(digits) = word.strip_prefix("B") else {
         acts.push(act_of(word)?)?;
@@ -123,7 +123,7 @@ fn add_acts<'a>(acts: &mut Vec<Act<'a>>, word: &'a str) -> Result<(), WordFault>
     Ok(())
 }
 
-/// What the words of a field ask for; a hyphen asks for nothing.
+/// Parses the field STEPS; a hyphen has no acts.
 fn acts_of(alloc: Global, field: &str) -> Result<Vec<Act<'_>>, WordFault> {
     let mut acts = Vec::new(alloc);
     if field != "-" {
@@ -134,7 +134,7 @@ fn acts_of(alloc: Global, field: &str) -> Result<Vec<Act<'_>>, WordFault> {
     Ok(acts)
 }
 
-/// Whether the text is looked at nowhere but at the end.
+/// Whether no act before the last looks at the text.
 fn is_text_last(acts: &[Act<'_>]) -> bool {
     let count = acts.len();
     let before = &acts[..count.saturating_sub(1)];
@@ -143,7 +143,7 @@ fn is_text_last(acts: &[Act<'_>]) -> bool {
         .any(|act| matches!(act, Act::Look(Look::Text)))
 }
 
-/// The way that a word names.
+/// Parses WAY.
 fn way_of(word: &str) -> Result<Way, WordFault> {
     match word {
         "both" => Ok(Way::Both),
@@ -155,7 +155,7 @@ fn way_of(word: &str) -> Result<Way, WordFault> {
 }
 
 impl Act<'_> {
-    /// Whether it can be done in this way: a play looks at nothing before its end, and a session alone has no terminal.
+    /// Whether the act is possible in a WAY: `play` looks only at the text, and a session without a world has no terminal.
     fn is_of(&self, way: Way) -> bool {
         match way {
             Way::Both | Way::Step => true,
@@ -170,7 +170,7 @@ impl Act<'_> {
 }
 
 impl<'a> Scene<'a> {
-    /// The scene of a line.
+    /// Parses a line.
     pub fn of_line(alloc: Global, line: &'a str) -> Result<Scene<'a>, WordFault> {
         let missing = WordFault::Bad("fewer than seven fields");
         let mut fields = line.split('\t');
@@ -199,36 +199,36 @@ impl<'a> Scene<'a> {
         })
     }
 
-    /// The scene's store, in which nothing was saved.
+    /// A new store for the scene.
     pub fn store(&self, alloc: Global) -> MemoryStore {
         MemoryStore::new(alloc, self.failing)
     }
 
-    /// A copy of the file, which is opened.
+    /// A copy of the file, to be opened.
     pub fn copy_of_file(&self, alloc: Global) -> Result<Vec<u8>, AllocError> {
         Vec::from_slice(alloc, &self.file)
     }
 
-    /// Whether something is looked at.
+    /// Whether the scene looks at something.
     pub fn looks(&self) -> bool {
         self.acts.iter().any(|act| matches!(act, Act::Look(_)))
     }
 
-    /// Whether the text is looked at.
+    /// Whether the scene looks at the text.
     pub fn looks_at_text(&self) -> bool {
         self.acts
             .iter()
             .any(|act| matches!(act, Act::Look(Look::Text)))
     }
 
-    /// Whether the terminal's rows are looked at.
+    /// Whether the scene looks at the terminal's rows.
     pub fn looks_at_rows(&self) -> bool {
         self.acts
             .iter()
             .any(|act| matches!(act, Act::Look(Look::Rows { .. })))
     }
 
-    /// The steps.
+    /// The steps, without the looks.
     pub fn steps(&self, alloc: Global) -> Result<Vec<Step>, AllocError> {
         let mut steps = Vec::with_capacity(alloc, self.acts.len())?;
         for act in &self.acts {

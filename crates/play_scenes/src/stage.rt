@@ -1,4 +1,4 @@
-//! A world with its store, and the steps of a scene in it.
+//! A scene played in a world.
 
 use crate::answers::{Answers, add_bytes, add_flag, add_number, add_text, letter_of};
 use crate::scene::{Act, Look, Scene};
@@ -12,7 +12,7 @@ use std::alloc::{AllocError, Global};
 /// The byte of the key Save.
 pub const SAVE: u8 = 0x13;
 
-/// The first bytes, at most so many.
+/// The first `count` bytes, or all if there are fewer.
 fn first_bytes(bytes: &[u8], count: usize) -> &[u8] {
     &bytes[..count.min(bytes.len())]
 }
@@ -23,16 +23,16 @@ pub struct Stage<D: BidiData + Drop> {
     pub alloc: Global,
     pub world: World<D>,
     pub store: MemoryStore,
-    /// Where rows are looked at.
+    /// A copy of the terminal, to look at rows.
     pub terminal: Option<Terminal>,
-    /// How many steps were taken.
+    /// Number of steps taken.
     pub taken: usize,
-    /// Whether a call of the store is to fail.
+    /// Whether the scene has a call of the store fail.
     pub may_fail: bool,
 }
 
 impl<D: BidiData + Drop> Stage<D> {
-    /// Takes the steps of a scene one after another, notes the answers to them and what is looked at, and what is left.
+    /// Takes the steps of a scene one by one, and notes the answers, the findings and the final state.
     pub fn step_through(
         &mut self,
         scene: &Scene<'_>,
@@ -47,7 +47,7 @@ impl<D: BidiData + Drop> Stage<D> {
         self.note_end(&scene.file, answers)
     }
 
-    /// Takes all steps by one call, and notes the answers, and what is left.
+    /// Takes all steps by one call of `play`, and notes the answers and the final state.
     pub fn play_through(
         &mut self,
         steps: &[Step],
@@ -70,7 +70,7 @@ impl<D: BidiData + Drop> Stage<D> {
         self.note_end(file, answers)
     }
 
-    /// Takes a step, and notes its answer, and whether the terminal shows the picture behind it.
+    /// Takes a step, and notes its answer and whether the terminal shows the picture last painted then.
     fn take(&mut self, step: Step, answers: &mut Answers) -> Result<(), AllocError> {
         if let Some(terminal) = &mut self.terminal {
             terminal.follow(step, self.world.line())?;
@@ -97,7 +97,7 @@ impl<D: BidiData + Drop> Stage<D> {
         Ok(())
     }
 
-    /// The letter of a step: of a byte also whether the session has ended, and whether a Save had no memory.
+    /// The letter of a step. For a byte it also tells the session's end, and a Save that ran out of memory.
     fn letter(&self, step: Step, letter: char, has_failed: bool) -> char {
         if letter != 'o' || !matches!(step, Step::Byte(_)) {
             letter
@@ -110,7 +110,7 @@ impl<D: BidiData + Drop> Stage<D> {
         }
     }
 
-    /// Notes what is looked at, behind a blank where something was before.
+    /// Notes a finding, after a blank if it is not the first.
     fn look(&self, look: &Look<'_>, file: &[u8], looks: &mut String) -> Result<(), AllocError> {
         if !looks.is_empty() {
             looks.push(' ')?;
@@ -136,7 +136,7 @@ impl<D: BidiData + Drop> Stage<D> {
         }
     }
 
-    /// Notes what is left, and the text by a Save to a store of its own, which ends the stage.
+    /// Notes the final state, and the text unless the session has ended. The stage takes no step afterwards.
     fn note_end(&mut self, file: &[u8], answers: &mut Answers) -> Result<(), AllocError> {
         answers.note_ending(self.world.session(), &self.store, file)?;
         add_flag(&mut answers.on_way, self.world.is_told())?;
@@ -153,15 +153,15 @@ impl<D: BidiData + Drop> Stage<D> {
         self.save_text(file, answers)
     }
 
-    /// Notes the text, by a Save to a store of its own. A Save that comes where a sequence or a character is half read ends that.
+    /// Notes the text, by a Save to a separate store. The Save breaks off an unfinished sequence or character.
     fn save_text(&mut self, file: &[u8], answers: &mut Answers) -> Result<(), AllocError> {
         let mut store = MemoryStore::new(self.alloc, None);
-        // a painting that is refused is none of the scene's
+        // a refusal to paint here is not the scene's
         let _ = self.world.step(Step::Byte(SAVE), &mut store);
         answers.note_text(&store, file)
     }
 
-    /// Takes steps of which nothing is noted, and notes the text behind them.
+    /// Takes steps without noting them, and notes the text after them.
     pub fn text_behind(
         &mut self,
         steps: &[Step],

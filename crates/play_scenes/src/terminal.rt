@@ -1,4 +1,4 @@
-//! A second terminal, of which can be asked which rows it shows.
+//! A copy of the world's terminal, to compare its rows.
 
 use crate::answers::add_flag;
 use crate::rows::{RowFault, picture_of};
@@ -6,7 +6,7 @@ use bx_grid::{Cell, GridError, Screen};
 use bx_world::Step;
 use std::alloc::{AllocError, Global};
 
-/// A terminal that reads what a world's does, and whose window changes as that one's.
+/// A terminal that reads the same bytes as the world's, and has the same size.
 #[derive(Drop)]
 pub struct Terminal {
     alloc: Global,
@@ -16,7 +16,7 @@ pub struct Terminal {
 }
 
 impl Terminal {
-    /// A terminal of a window's size.
+    /// Opens a terminal of this size.
     pub fn open(alloc: Global, height: u16, width: u16) -> Result<Terminal, GridError> {
         Ok(Terminal {
             alloc,
@@ -26,7 +26,7 @@ impl Terminal {
         })
     }
 
-    /// Does what the world's terminal will do in a step, before which so many bytes are on the line.
+    /// Repeats the effect of a step on the world's terminal; `line` is the line before the step.
     pub fn follow(&mut self, step: Step, line: &[u8]) -> Result<(), AllocError> {
         let answer = match step {
             Step::Window(height, width) => self.resize(height, width),
@@ -45,7 +45,7 @@ impl Terminal {
         Ok(())
     }
 
-    /// Adds whether it shows rows with the cursor at a cell.
+    /// Appends whether the terminal shows rows with the cursor at a cell.
     pub fn add_shown(&self, line: &mut String, rows: &str, cursor: Cell) -> Result<(), AllocError> {
         match picture_of(self.alloc, self.height, self.width, rows, cursor) {
             Ok(picture) => add_flag(line, self.screen.shows(&picture)),

@@ -1,4 +1,4 @@
-//! A scene played in the way that it asks for.
+//! Playing a scene in its WAY.
 
 use crate::alone::Alone;
 use crate::answers::{Answers, add_bytes};
@@ -12,44 +12,44 @@ use bx_ucd::Tables;
 use bx_world::{Step, World};
 use std::alloc::{AllocError, Global};
 
-/// The room for a line of answers.
+/// Room for a line of answers, in bytes.
 const ROOM: usize = 4_194_304;
 
-/// What becomes of a scene.
+/// The outcome of a scene.
 #[derive(Drop)]
 pub enum Outcome {
-    /// All that was asked for is noted.
+    /// All answers are noted.
     Played,
     /// Its file was not opened.
     Refused(OpenError),
-    /// `step` and `play` did not answer the same or leave the same.
+    /// `step` and `play` differ in their answers or final states.
     Differs,
 }
 
-/// The buffers of the program, with room that is made before a world is.
+/// The program's buffers, allocated before any world.
 #[derive(Drop)]
 pub struct Room {
     alloc: Global,
     answers: Answers,
-    // of a play that is compared
+    // the answers of `play`, for comparison
     play: Answers,
     line: String,
 }
 
-/// The terminal that is asked for the rows that a scene looks at, if it does.
+/// The terminal for looking at rows, if the scene does that.
 fn terminal_of(alloc: Global, scene: &Scene<'_>) -> Result<Option<Terminal>, AllocError> {
     if !scene.looks_at_rows() {
         return Ok(None);
     }
     match Terminal::open(alloc, scene.height, scene.width) {
         Ok(terminal) => Ok(Some(terminal)),
-        // the world is refused for the same cause, or for one that comes before
+        // opening the world fails for this cause or an earlier one
         Err(GridError::SizeOutOfRange) => Ok(None),
         Err(GridError::OutOfMemory) => Err(AllocError),
     }
 }
 
-/// The stage of a scene, or why its file is not opened.
+/// The stage of a scene, or the cause if its file is not opened.
 fn stage_of<'a>(
     alloc: Global,
     scene: &Scene<'_>,
@@ -81,7 +81,7 @@ fn step_through(
     }
 }
 
-/// Plays a scene by one call.
+/// Plays a scene by one call of `play`.
 fn play_through(
     alloc: Global,
     scene: &Scene<'_>,
@@ -97,7 +97,7 @@ fn play_through(
     }
 }
 
-/// Plays a scene in a session alone.
+/// Plays a scene in a session without a world.
 fn play_alone(
     alloc: Global,
     scene: &Scene<'_>,
@@ -121,7 +121,7 @@ fn play_alone(
     }
 }
 
-/// Notes the text of a session that has ended: that of another world behind the steps before the end.
+/// Notes the text of a session that has ended: another world takes the steps before the end, and saves there.
 fn note_text_at_end(
     alloc: Global,
     scene: &Scene<'_>,
@@ -141,7 +141,7 @@ fn note_text_at_end(
     }
 }
 
-/// The first steps, at most so many.
+/// The first `count` steps, or all if there are fewer.
 fn first_steps(steps: &[Step], count: usize) -> &[Step] {
     &steps[..count.min(steps.len())]
 }
@@ -156,7 +156,7 @@ impl Room {
         })
     }
 
-    /// Plays a scene both ways, and compares them.
+    /// Plays a scene by `step` and by `play`, and compares the two.
     fn play_both(&mut self, scene: &Scene<'_>, tables: &Tables) -> Result<Outcome, AllocError> {
         let outcome = step_through(self.alloc, scene, tables, &mut self.answers)?;
         if let Outcome::Refused(_) = outcome {
@@ -169,7 +169,7 @@ impl Room {
         Ok(Outcome::Played)
     }
 
-    /// Plays a scene.
+    /// Plays a scene in its WAY.
     fn play(&mut self, scene: &Scene<'_>, tables: &Tables) -> Result<Outcome, AllocError> {
         self.answers.clear();
         self.play.clear();
@@ -184,7 +184,7 @@ impl Room {
         Ok(outcome)
     }
 
-    /// The line of answers of a scene, without its end, and whether `step` and `play` agree in it where both were called.
+    /// The line of answers of a scene, without a newline, and false if `step` and `play` differ.
     pub fn line_of(
         &mut self,
         scene: &Scene<'_>,
@@ -224,7 +224,7 @@ impl Room {
     }
 }
 
-/// Writes what was looked at, of which the text is the last.
+/// Writes the findings, the text last.
 fn write_looks(line: &mut String, scene: &Scene<'_>, answers: &Answers) -> Result<(), AllocError> {
     line.push_str(answers.looks.as_str())?;
     if scene.looks_at_text() {
@@ -233,7 +233,7 @@ fn write_looks(line: &mut String, scene: &Scene<'_>, answers: &Answers) -> Resul
     Ok(())
 }
 
-/// Writes what is answered where nothing is looked at.
+/// Writes the fields of a scene that looks at nothing.
 fn write_ending(line: &mut String, answers: &Answers) -> Result<(), AllocError> {
     for field in [&answers.shown, &answers.text, &answers.ending] {
         line.push_str(field.as_str())?;

@@ -1,4 +1,4 @@
-//! What the words of a scene's line mean.
+//! Parsers for the words of a scene's line.
 
 use bx_explicit::UnknownBase;
 use std::alloc::{AllocError, AllocFailed, Global};
@@ -6,7 +6,7 @@ use std::alloc::{AllocError, AllocFailed, Global};
 /// Why a line is no scene.
 #[derive(Clone, Copy, Debug)]
 pub enum WordFault {
-    /// What is wanted where something else stands.
+    /// The text says what was expected.
     Bad(&'static str),
     OutOfMemory,
 }
@@ -29,7 +29,7 @@ impl From<UnknownBase> for WordFault {
     }
 }
 
-/// A digit in hexadecimal, of lower case.
+/// The value of a lower-case hexadecimal digit.
 fn digit_of(byte: u8) -> Option<u8> {
     match byte {
         b'0'..=b'9' => Some(byte - b'0'),
@@ -38,7 +38,7 @@ fn digit_of(byte: u8) -> Option<u8> {
     }
 }
 
-/// The byte of a pair of digits.
+/// Parses a byte from a pair of digits.
 pub fn byte_of(pair: &[u8]) -> Result<u8, WordFault> {
     let wanted = WordFault::Bad("pairs of hexadecimal digits are wanted");
     let [high, low] = pair else {
@@ -50,7 +50,7 @@ pub fn byte_of(pair: &[u8]) -> Result<u8, WordFault> {
     }
 }
 
-/// The bytes of pairs of digits.
+/// Parses bytes from pairs of digits.
 fn bytes_of_digits(alloc: Global, digits: &str) -> Result<Vec<u8>, WordFault> {
     let mut bytes = Vec::new(alloc);
     for pair in digits.as_bytes().chunks(2) {
@@ -59,7 +59,7 @@ fn bytes_of_digits(alloc: Global, digits: &str) -> Result<Vec<u8>, WordFault> {
     Ok(bytes)
 }
 
-/// Adds the bytes of pairs of digits as often as a count behind a star says, or once.
+/// Appends the bytes of pairs of digits, repeated by the count after a `*`, or once.
 fn add_part(alloc: Global, bytes: &mut Vec<u8>, part: &str) -> Result<(), WordFault> {
     let (digits, count) = part.split_once('*').unwrap_or((part, "1"));
     let once = bytes_of_digits(alloc, digits)?;
@@ -69,7 +69,7 @@ fn add_part(alloc: Global, bytes: &mut Vec<u8>, part: &str) -> Result<(), WordFa
     Ok(())
 }
 
-/// The bytes of parts with a plus between them; none for a hyphen.
+/// Parses bytes from parts joined by `+`; none for a hyphen.
 pub fn bytes_of(alloc: Global, field: &str) -> Result<Vec<u8>, WordFault> {
     let mut bytes = Vec::new(alloc);
     if field != "-" {
@@ -80,18 +80,18 @@ pub fn bytes_of(alloc: Global, field: &str) -> Result<Vec<u8>, WordFault> {
     Ok(bytes)
 }
 
-/// A count.
+/// Parses a count.
 pub fn count_of(word: &str) -> Result<usize, WordFault> {
     word.parse::<usize>()
         .map_err(|_| WordFault::Bad("a count is wanted"))
 }
 
-/// A side of a window, also one that no window has.
+/// Parses a side of a window, even one out of range.
 pub fn side_of(word: &str) -> Result<u16, WordFault> {
     word.parse::<u16>().map_err(|_| WordFault::Bad("a number of rows or columns is wanted"))
 }
 
-/// Two numbers with this character between them.
+/// Parses two numbers with `between` between them.
 pub fn two_of(word: &str, between: char) -> Result<(u16, u16), WordFault> {
     let (first, second) = word
         .split_once(between)
@@ -99,7 +99,7 @@ pub fn two_of(word: &str, between: char) -> Result<(u16, u16), WordFault> {
     Ok((side_of(first)?, side_of(second)?))
 }
 
-/// The number of a store's call that fails, from 1; none for a hyphen.
+/// Parses CALL, the number from 1 of the store's call that fails; none for a hyphen.
 pub fn call_of(word: &str) -> Result<Option<u64>, WordFault> {
     if word == "-" {
         return Ok(None);
