@@ -2,7 +2,7 @@
 
 use std::io::{self, ErrorKind, Read, Write};
 
-/// Gives a byte `x` at each read, so many times, and then fails.
+/// Gives one `x` at each of `left` reads, then fails.
 #[derive(Drop)]
 pub(crate) struct Letters {
     pub(crate) left: usize,
@@ -23,11 +23,11 @@ impl Read for Letters {
 #[derive(Clone, Copy, PartialEq, Eq, Debug)]
 pub(crate) enum Refusal {
     Error,
-    /// It takes no byte, and says so.
+    /// The write succeeds with no byte.
     Nothing,
 }
 
-/// Takes one byte a call, so many in all, and flushes so often; then it fails.
+/// Takes one byte a write, up to `room` bytes, and flushes `flushes` times; then it fails.
 #[derive(Drop)]
 pub(crate) struct Narrow {
     pub(crate) written: Vec<u8>,

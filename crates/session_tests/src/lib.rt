@@ -1,5 +1,5 @@
-//! Tests of runs of a session over readers, writers and stores that may fail. Scenes of a session and of a world are played by
-//! `play_scenes`. They stand in a crate of their own since the tests of a crate prove all of it once more.
+//! Tests of session runs over readers, writers and stores that may fail. `play_scenes` plays scenes of sessions and worlds.
+//! These tests have their own crate, since the tests of a crate prove all of it once more.
 #![tactic(auto)]
 
 #[cfg(test)]

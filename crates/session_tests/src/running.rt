@@ -1,4 +1,4 @@
-//! Runs over readers, writers and stores, of which some fail.
+//! Runs over readers, writers and stores, some of which fail.
 
 use crate::faulty::{Letters, Narrow, Refusal};
 use bx_explicit::Base;
@@ -8,23 +8,23 @@ use bx_ucd::{Tables, sample_tables};
 use std::alloc::Global;
 use std::test::Fail;
 
-/// What is written of `ab` in a row of five columns when it is opened, and then when it is ended.
+/// The output for `ab` in a row of five columns: at the opening, and then at the end.
 const OPENED_AND_ENDED: &[u8] = b"\x1b[0m\x1b[2J\x1b[1;1Hab\x1b[1;1H\x1b[0m\x1b[2J\x1b[1;1H";
 
-/// How many bytes of it come before the first read.
+/// Number of its bytes before the first read.
 const OPENED: usize = 22;
 
 /// The key Save.
 const SAVE: u8 = 0x13;
 
-/// A text in a window.
+/// Opens a text in a window.
 fn opened(alloc: Global, text: &str, height: u16, width: u16) -> Result<Session<Tables>, Fail> {
     let bytes = Vec::from_slice(alloc, text.as_bytes())?;
     let tables = sample_tables(alloc)?;
     Ok(Session::open(alloc, bytes, tables, height, width, Base::Auto)?)
 }
 
-/// How a run over keys ends, and whether exactly these bytes were written.
+/// Whether a run over keys ends with `end` and writes exactly these bytes.
 fn ends(alloc: Global, text: &str, mut keys: &[u8], end: End, output: &[u8]) -> Result<bool, Fail> {
     let mut session = opened(alloc, text, 1, 5)?;
     let mut written = Vec::new(alloc);
@@ -60,7 +60,7 @@ fn a_run_writes_all_and_tells_its_end(rt: HostRuntime) -> Result<(), Fail> {
     Ok(())
 }
 
-/// Whether a run over a writer ends with its fault, exactly so many bytes went out, and the rest of what was queued is pending.
+/// Whether a run ends with the writer's fault, after exactly `count` bytes of the output, and the rest is pending.
 fn breaks_at_write(alloc: Global, writer: &mut Narrow, count: usize) -> Result<bool, Fail> {
     let mut session = opened(alloc, "ab", 1, 5)?;
     let mut store = MemoryStore::new(alloc, None);
@@ -113,14 +113,14 @@ fn a_flush_that_fails_is_a_fault(rt: HostRuntime) -> Result<(), Fail> {
     Ok(())
 }
 
-/// Whether a Save gives a store this text.
+/// Whether a Save stores this text.
 fn saves(alloc: Global, session: &mut Session<Tables>, text: &[u8]) -> bool {
     let mut store = MemoryStore::new(alloc, None);
     session.feed(SAVE, &mut store).is_ok() && store.contents() == text
 }
 
-/// Whether a run over so many letters, with so many reads, ends with a fault, has written all, which is as many bytes, and has
-/// put the letters in before the text.
+/// Whether a run over `letters` letters, with at most `limit` reads, ends with `fault` after it wrote all of its output,
+/// `written` bytes, and leaves `text`.
 fn breaks_at_read(
     alloc: Global,
     letters: usize,
@@ -145,7 +145,7 @@ fn breaks_at_read(
 
 #[test]
 fn a_read_that_fails_is_a_fault(rt: HostRuntime) -> Result<(), Fail> {
-    // each letter is sent with the two behind it, between two moves: 15 bytes
+    // each letter is sent with the two after it, between two moves: 15 bytes
     for (left, written, text) in [(0, 22, "ab"), (1, 37, "xab"), (2, 52, "xxab")] {
         assert!(rt;
             breaks_at_read(
@@ -162,7 +162,7 @@ fn a_read_that_fails_is_a_fault(rt: HostRuntime) -> Result<(), Fail> {
     Ok(())
 }
 
-/// Whether a run with one read ends by Quit where that read gives it.
+/// Whether a run limited to one read ends by a Quit in that read.
 fn ends_within_one_read(alloc: Global) -> Result<bool, Fail> {
     let mut session = opened(alloc, "ab", 1, 5)?;
     let mut output = Vec::new(alloc);
@@ -186,14 +186,14 @@ fn a_run_makes_as_many_reads_as_it_may(rt: HostRuntime) -> Result<(), Fail> {
     Ok(())
 }
 
-/// What is written of `ab` in two rows of twenty columns, and of an `x` and a Save that fails.
+/// The output for `ab` in two rows of twenty columns, then for an `x` and a Save that fails.
 const NOT_SAVED: &[u8] = b"\x1b[0m\x1b[2J\x1b[1;1Hab\x1b[2;1H-\x1b[2;3H1:1\x1b[1;1H\
 \x1b[1;1Hxab\x1b[2;1H*\x1b[2;5H2\x1b[1;2H\x1b[2;7Hsave\x1b[2;12Hfailed\x1b[1;2H";
 
-/// What is written of a Save behind that which does not fail.
+/// The output of a Save after that which succeeds.
 const SAVED: &[u8] = b"\x1b[2;1H-\x1b[2;11Hd\x1b[2;12H\x1b[0K\x1b[1;2H";
 
-/// What a run over keys writes.
+/// The output of a run over keys.
 fn output_of(
     alloc: Global,
     session: &mut Session<Tables>,
@@ -205,8 +205,8 @@ fn output_of(
     Ok(output)
 }
 
-/// Whether a first Save fails and keeps nothing, and the next one keeps the text, each with its message; nothing where the
-/// first one does not fail.
+/// Whether a failing first Save stores nothing and the next one stores the text, each with its message. None if the first
+/// Save succeeds.
 fn fails_and_then_saves(
     alloc: Global,
     session: &mut Session<Tables>,
@@ -227,7 +227,7 @@ fn fails_and_then_saves(
     ))
 }
 
-/// The same of a store whose call of this number fails.
+/// The same with a store whose call of this number fails.
 fn fails_at_call(alloc: Global, call: u64) -> Result<Option<bool>, Fail> {
     let mut session = opened(alloc, "ab", 2, 20)?;
     let mut store = MemoryStore::new(alloc, Some(call));

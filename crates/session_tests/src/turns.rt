@@ -1,4 +1,4 @@
-//! What has gone out by the time that a run reads.
+//! The bytes flushed before each read of a run.
 
 use bx_explicit::Base;
 use bx_session::{Session, run};
@@ -8,7 +8,7 @@ use std::cell::Cell;
 use std::io::{self, Read, Write};
 use std::test::Fail;
 
-/// A writer that tells how many bytes were flushed.
+/// A writer that publishes the number of bytes flushed.
 #[derive(Drop)]
 struct Flushed<'a> {
     written: usize,
@@ -27,7 +27,7 @@ impl Write for Flushed<'_> {
     }
 }
 
-/// A reader of one byte a read, which notes at each how many bytes were flushed by then.
+/// A reader that gives one byte a read, and notes at each read the number of bytes flushed so far.
 #[derive(Drop)]
 struct Watcher<'a> {
     keys: &'a [u8],
@@ -49,7 +49,7 @@ impl Read for Watcher<'_> {
     }
 }
 
-/// `ab` in a row of five columns takes 22 bytes to be painted whole, and `x` before it 15 more. A Quit of an unsaved text shows nothing
+/// Painting `ab` whole in a row of five columns takes 22 bytes, and an `x` before it 15 more. A Quit with unsaved changes shows nothing
 /// in a window of one row, and the next one ends the run.
 #[test]
 fn what_a_turn_queued_is_flushed_before_the_next_read(rt: HostRuntime) -> Result<(), Fail> {
