@@ -2,7 +2,7 @@
 
 use bx_store::{Store, StoreFault};
 
-/// A store that throws the bytes away and counts them, so that a save's cost is the editor's alone. No call of it fails.
+/// A store that discards the bytes and counts them, so a save measures the editor alone. Its calls never fail.
 #[derive(Drop)]
 pub(crate) struct CountingStore {
     count: usize,
@@ -13,7 +13,7 @@ impl CountingStore {
         CountingStore { count: 0 }
     }
 
-    /// How many bytes were put in all.
+    /// Total number of bytes put.
     pub(crate) fn count(&self) -> usize {
         self.count
     }

@@ -4,14 +4,13 @@
 //!     bench_editor each
 //!
 //! TASK is `opening`, `letter`, `erasure` (a letter and Backspace), `move` (Right and Left), `page` (PageDown and PageUp),
-//! `down` (PageDown, to rows that were not shown before), `resize` (to 79 columns and back), `save` or `repaint`, and TEXT
-//! is `ascii`, `hebrew`, `mixed` or `paragraph`. The text has at least BYTES bytes, and each task but the first begins in its
-//! middle. It prints what was done and how many bytes were sent and stored in a round, and with --time also a round's
-//! processor time. Without --tables the small tables are taken. `each` takes every task once with small numbers.
+//! `down` (PageDown, to rows not shown before), `resize` (to 79 columns and back), `save` or `repaint`, and TEXT is `ascii`,
+//! `hebrew`, `mixed` or `paragraph`. The text has at least BYTES bytes, and each task but the first begins in its middle. The
+//! program prints the task and the bytes sent and stored in a round; with --time also a round's processor time. Without
+//! --tables it uses the small tables. `each` runs every task once with small numbers.
 //!
-//! With TIMES 0 nothing but the preparation is done. Where instructions are wanted, they are the difference of two runs under
-//! `valgrind --tool=callgrind` that differ in TIMES alone; those of `opening` have the reading of the tables and a copy of the
-//! text in them, which its time has not.
+//! With TIMES 0 it does only the preparation. To count instructions, subtract two runs under `valgrind --tool=callgrind` that
+//! differ in TIMES alone. For `opening` the difference includes reading the tables and copying the text; the time does not.
 #![tactic(auto)]
 
 mod counting_store;
@@ -32,7 +31,7 @@ use table_files::TableFiles;
 use task::Task;
 use texts::Script;
 
-/// What the last four words ask for.
+/// Carries out the last four words.
 fn measured<R: CpuClock + AllocGlobal>(
     rt: &R,
     files: &TableFiles,
@@ -58,7 +57,7 @@ fn measured<R: CpuClock + AllocGlobal>(
     rounds::run(rt, files, task, wanted, name.as_str())
 }
 
-/// What the words ask for, after --time.
+/// Carries out the words after --time.
 fn asked<R: Files + CpuClock + AllocGlobal>(rt: &R, words: &[String]) -> Result<Outcome> {
     match words {
         [option, classes, brackets, mirroring, rest @ ..] if option.as_str() == "--tables" => {
@@ -74,7 +73,7 @@ fn asked<R: Files + CpuClock + AllocGlobal>(rt: &R, words: &[String]) -> Result<
     }
 }
 
-/// One run of each task.
+/// The runs of `each`.
 const EACH: [&str; 11] = [
     "opening hebrew 20000 2",
     "letter hebrew 20000 7",
@@ -89,7 +88,7 @@ const EACH: [&str; 11] = [
     "repaint paragraph 5000 1",
 ];
 
-/// Takes every task once.
+/// Runs every task once.
 fn each<R: Print + CpuClock + AllocGlobal>(rt: &R) -> Result<()> {
     let files = TableFiles::small(rt.alloc())?;
     for line in EACH {
@@ -104,7 +103,7 @@ fn each<R: Print + CpuClock + AllocGlobal>(rt: &R) -> Result<()> {
     Ok(())
 }
 
-/// Takes the task that the words name.
+/// Runs the task that the words name.
 fn one<R: Print + Files + CpuClock + AllocGlobal>(
     rt: &R,
     words: &[String],

@@ -1,4 +1,4 @@
-//! Opening a text, with its first picture.
+//! The task `opening`: a text, with its first picture.
 
 use crate::outcome::{Measurement, Outcome, Traffic};
 use crate::table_files::TableFiles;
@@ -6,7 +6,7 @@ use crate::typist::Typist;
 use anyhow::Result;
 use std::time::{CpuClock, Duration};
 
-/// Opens a copy of a text: what was sent, and the time without that of the copy, of the tables and of the closing.
+/// Opens a copy of a text. Returns the number of bytes sent and the time, without the copy, the tables and the closing.
 fn once<R: CpuClock + AllocGlobal>(
     rt: &R,
     files: &TableFiles,
@@ -18,12 +18,12 @@ fn once<R: CpuClock + AllocGlobal>(
     let typist = Typist::open(rt.alloc(), copy, tables)?;
     let end = rt.thread_cpu_time();
     let sent = typist.traffic().sent;
-    // It is closed here, so that only one way out closes it.
+    // closed before `?`, so that a single exit closes it
     drop(typist);
     Ok((sent, end?.saturating_sub(start)))
 }
 
-/// What opening a text some times gives, and the time that this took.
+/// Measures opening a text, `wanted.times` times.
 pub(crate) fn run<R: CpuClock + AllocGlobal>(
     rt: &R,
     files: &TableFiles,

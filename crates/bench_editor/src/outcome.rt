@@ -1,15 +1,15 @@
-//! What a measurement is given, and what it gives.
+//! The input and the result of a measurement.
 
 use crate::texts::Script;
 use anyhow::{Context, Result};
 use std::alloc::{AllocError, Global};
 use std::time::Duration;
 
-/// The words that the program takes. An error's text has room for no more of them.
+/// The program's usage. An error's text has no room for a longer one.
 pub(crate) const USAGE: &str =
     "usage: bench_editor [--time] [--tables CLASSES BRACKETS MIRRORING] TASK TEXT BYTES TIMES";
 
-/// The text, how many bytes it has at least, and how many rounds are measured.
+/// The text's script, its least length in bytes, and the number of rounds.
 #[derive(Clone, Copy)]
 pub(crate) struct Measurement {
     pub(crate) script: Script,
@@ -17,14 +17,14 @@ pub(crate) struct Measurement {
     pub(crate) times: usize,
 }
 
-/// What all rounds together sent to the terminal and to the store.
+/// Number of bytes that all rounds together sent to the terminal and to the store.
 #[derive(Clone, Copy)]
 pub(crate) struct Traffic {
     pub(crate) sent: usize,
     pub(crate) stored: usize,
 }
 
-/// A line that depends on all that was done, the processor time of all rounds, and how many there were.
+/// A line that depends on all work done, the processor time of all rounds, and their number.
 #[derive(Drop)]
 pub(crate) struct Outcome {
     pub(crate) line: String,
@@ -33,7 +33,7 @@ pub(crate) struct Outcome {
 }
 
 impl Outcome {
-    /// What a task with a text of so many bytes gives.
+    /// The outcome of a task with a text of `length` bytes.
     pub(crate) fn new(
         alloc: Global,
         name: &str,
@@ -56,7 +56,7 @@ impl Outcome {
     }
 }
 
-/// The number that a word is.
+/// Parses a number.
 pub(crate) fn number(word: &String) -> Result<usize> {
     word.as_str().parse::<usize>().context(USAGE)
 }

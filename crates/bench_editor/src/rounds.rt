@@ -7,7 +7,7 @@ use crate::typist::Typist;
 use anyhow::Result;
 use std::time::{CpuClock, Duration};
 
-/// Goes to the middle of a text of so many bytes, and does the task some times: the time that they took.
+/// Goes to the middle of a text of `length` bytes and runs the task `wanted.times` times. Returns their processor time.
 fn rounds<R: CpuClock>(
     rt: &R,
     typist: &mut Typist,
@@ -24,8 +24,8 @@ fn rounds<R: CpuClock>(
     Ok(end.saturating_sub(start))
 }
 
-/// What the rounds of a task sent and stored, and the time that they took. It has one way out once the typist is there,
-/// since each would be a proof of what is dropped there.
+/// The traffic and the time of a task's rounds. It has a single exit once the typist is open, since each exit needs a proof
+/// of its own.
 fn measured<R: CpuClock + AllocGlobal>(
     rt: &R,
     files: &TableFiles,
@@ -41,7 +41,7 @@ fn measured<R: CpuClock + AllocGlobal>(
     time.map(|time| (traffic, time))
 }
 
-/// What a task gives that is done some times, and the time that this took.
+/// Measures a task, `wanted.times` times.
 pub(crate) fn run<R: CpuClock + AllocGlobal>(
     rt: &R,
     files: &TableFiles,

@@ -1,4 +1,4 @@
-//! The files that a session's tables are made of.
+//! The files of a session's tables.
 
 use anyhow::{Context, Result};
 use bx_ucd::Tables;
@@ -7,7 +7,7 @@ use std::alloc::{AllocError, Global};
 use std::fs;
 use std::rt::Files;
 
-/// The bytes of Unicode's three files. A session takes its tables, so each has to have its own.
+/// The bytes of Unicode's three files. A session owns its tables, so each session reads new ones.
 #[derive(Drop)]
 pub(crate) struct TableFiles {
     classes: Vec<u8>,
@@ -16,7 +16,7 @@ pub(crate) struct TableFiles {
 }
 
 impl TableFiles {
-    /// The files of these paths.
+    /// Reads the files at these paths.
     pub(crate) fn read<R: Files + AllocGlobal>(
         rt: &R,
         classes: &str,
@@ -30,7 +30,7 @@ impl TableFiles {
         })
     }
 
-    /// The small files.
+    /// The small samples of the files.
     pub(crate) fn small(alloc: Global) -> Result<TableFiles, AllocError> {
         Ok(TableFiles {
             classes: String::from_str(alloc, CLASSES)?.into_bytes(),
@@ -39,7 +39,7 @@ impl TableFiles {
         })
     }
 
-    /// The tables that they make.
+    /// Reads the tables from the files.
     pub(crate) fn tables(&self, alloc: Global) -> Result<Tables> {
         let tables = Tables::read(alloc, &self.classes, &self.brackets, &self.mirroring)?;
         Ok(tables)

@@ -1,4 +1,4 @@
-//! The tasks that keys do.
+//! Tasks done by keys.
 
 use crate::texts::Script;
 use crate::typist::{PAGE_DOWN, Typist};
@@ -18,35 +18,35 @@ const SAVE: &str = "\u{13}";
 /// Control and L.
 const REPAINT: &str = "\u{c}";
 
-/// The window is told to be a column narrower.
+/// Tells a window of 79 columns.
 const NARROWER: &str = "\u{1b}[8;24;79t";
 
-/// The window is told to be as it was.
+/// Tells a window of 80 columns again.
 const AS_BEFORE: &str = "\u{1b}[8;24;80t";
 
-/// What a round does.
+/// The keys of a round.
 #[derive(Clone, Copy)]
 pub(crate) enum Task {
-    /// A letter is typed behind the one before.
+    /// Types a letter after the one before.
     Letter,
-    /// A letter is typed and erased.
+    /// Types a letter and erases it.
     Erasure,
-    /// A step to the right, and one to the left.
+    /// One step right and one left.
     Move,
-    /// A page down, and one up.
+    /// One page down and one up.
     Page,
-    /// A page down, to rows that were not shown before.
+    /// One page down, to rows not shown before.
     Down,
-    /// The window becomes a column narrower, and then as it was.
+    /// Narrows the window by a column and widens it again.
     Resize,
-    /// The whole text goes to a store.
+    /// Saves the whole text to a store.
     Save,
-    /// The picture is painted whole.
+    /// Paints the picture whole.
     Repaint,
 }
 
 impl Task {
-    /// The task of a name.
+    /// The task with this name.
     pub(crate) fn named(name: &str) -> Option<Task> {
         match name {
             "letter" => Some(Task::Letter),

@@ -1,8 +1,8 @@
-//! The texts that are edited, and what is typed into them.
+//! The edited texts, and the letters typed into them.
 
 use std::alloc::{AllocError, Global};
 
-/// What a text is made of.
+/// The kind of a text.
 #[derive(Clone, Copy)]
 pub(crate) enum Script {
     /// English lines.
@@ -15,17 +15,17 @@ pub(crate) enum Script {
     Paragraph,
 }
 
-/// A word that is typed, letter by letter, and a blank behind it.
+/// An English word to type, letter by letter, with a blank after it.
 const ENGLISH_WORD: [&str; 5] = ["w", "o", "r", "d", " "];
 
-/// A Hebrew word, in the same way.
+/// The same in Hebrew.
 const HEBREW_WORD: [&str; 5] = ["\u{5e9}", "\u{5dc}", "\u{5d5}", "\u{5dd}", " "];
 
-/// How many characters a line has before the blank that ends it. Such lines have some 84.
+/// Number of characters of a line after which the next blank ends it. Such lines have some 84 characters.
 const LEAST: usize = 81;
 
 impl Script {
-    /// The script of a name.
+    /// The script with this name.
     pub(crate) fn named(name: &str) -> Option<Script> {
         match name {
             "ascii" => Some(Script::Ascii),
@@ -54,7 +54,7 @@ impl Script {
         }
     }
 
-    /// The characters of a line before the blank that ends it.
+    /// Number of characters of a line after which the next blank ends it.
     fn least(self) -> usize {
         match self {
             Script::Paragraph => usize::MAX,
@@ -62,7 +62,7 @@ impl Script {
         }
     }
 
-    /// What is typed in a round.
+    /// The letter typed in a round.
     pub(crate) fn letter(self, round: usize) -> &'static str {
         match self {
             Script::Ascii => ENGLISH_WORD[round % 5],
@@ -70,8 +70,8 @@ impl Script {
         }
     }
 
-    /// A text of at least so many bytes. A line ends at a blank, so lines begin with every word in turn, and a page differs
-    /// from the one before it.
+    /// A text of at least `bytes` bytes. Lines end at blanks, so they begin with different words, and each page differs from
+    /// the one before.
     pub(crate) fn text(self, alloc: Global, bytes: usize) -> Result<String, AllocError> {
         let mut text = String::with_capacity(alloc, bytes)?;
         let mut length: usize = 0;

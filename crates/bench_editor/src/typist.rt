@@ -1,4 +1,4 @@
-//! A session whose keys are pressed one after another.
+//! A session to press keys in.
 
 use crate::counting_store::CountingStore;
 use crate::outcome::Traffic;
@@ -14,15 +14,15 @@ const ROWS: u16 = 24;
 /// The columns of the window.
 const COLUMNS: u16 = 80;
 
-/// One character on in the order of the text.
+/// The key that moves one character forward in the text.
 const FORWARD: &str = "\u{6}";
 
 pub(crate) const PAGE_DOWN: &str = "\u{1b}[6~";
 
-/// How far the middle of a line is from its beginning.
+/// Number of characters from the start of a line to its middle.
 const HALF_LINE: usize = 40;
 
-/// A session, its store, and how many bytes of it were taken.
+/// A session, its store, and the number of its bytes sent.
 #[derive(Drop)]
 pub(crate) struct Typist {
     session: Session<Tables>,
@@ -30,7 +30,7 @@ pub(crate) struct Typist {
     sent: usize,
 }
 
-/// Takes all bytes that are pending, as a terminal does: how many there were.
+/// Takes all pending bytes, as a terminal does. Returns their number.
 fn take(session: &mut Session<Tables>) -> usize {
     let count = session.pending().len();
     session.taken(count);
@@ -38,7 +38,7 @@ fn take(session: &mut Session<Tables>) -> usize {
 }
 
 impl Typist {
-    /// Opens a text, and takes the bytes of the first picture.
+    /// Opens a text and takes the bytes of the first picture.
     pub(crate) fn open(alloc: Global, text: Vec<u8>, tables: Tables) -> Result<Typist> {
         let mut session = Session::open(alloc, text, tables, ROWS, COLUMNS, Base::Auto)?;
         let sent = take(&mut session);
@@ -49,7 +49,7 @@ impl Typist {
         })
     }
 
-    /// Presses a key, and takes the bytes that it leads to.
+    /// Presses a key and takes the bytes that it queues.
     pub(crate) fn press(&mut self, key: &str) -> Result<()> {
         for byte in key.as_bytes() {
             if self.session.feed(*byte, &mut self.store).is_err() {
@@ -60,7 +60,7 @@ impl Typist {
         Ok(())
     }
 
-    /// Goes to the middle of a line in the middle of a text of so many bytes. What that sends does not count.
+    /// Goes to the middle of a line in the middle of a text of `length` bytes. The bytes sent for that are not counted.
     pub(crate) fn go_to_middle(&mut self, length: usize) -> Result<()> {
         for _ in 0..length {
             if self.session.place() >= length / 2 {
@@ -75,7 +75,7 @@ impl Typist {
         Ok(())
     }
 
-    /// What was sent and stored.
+    /// Number of bytes sent and stored.
     pub(crate) fn traffic(&self) -> Traffic {
         Traffic {
             sent: self.sent,
