@@ -10,7 +10,7 @@ use Rattle.bx_session.specs.Session.{after_going, after_replay}
 abbrev pub StaysPainted : Data → Session → Type 0
 StaysPainted d s = s.painting_owed ≡ false → with_painting d s ≡ s
 
--- this holds at opening, and every call preserves it, whether it succeeds or is refused
+-- this holds at opening, and each of these calls preserves it, whether it succeeds or is refused
 pub record AlwaysStaysPainted : Type 0 where
   pub opening : (d : Data) (text : List ℕ) (height width : ℕ) (base : Base) → HasRows (at_opening d text height width base).editor
       → StaysPainted d (at_opening d text height width base)

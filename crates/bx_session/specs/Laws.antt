@@ -11,7 +11,7 @@ use Rattle.bx_session.specs.Session.{after_going, after_replay, is_replayed}
 pub use Rattle.bx_session.specs.Session.{after_replaying}
 pub use Rattle.bx_session.specs.Painting.{ShowsState}
 
--- `ShowsState` holds at opening, and every call preserves it, whether it succeeds or is refused
+-- `ShowsState` holds at opening, and each of these calls preserves it, whether it succeeds or is refused
 pub record AlwaysShowsState : Type 0 where
   pub opening : (d : Data) (text : List ℕ) (height width : ℕ) (base : Base) → ShowsState d (at_opening d text height width base)
   pub byte : (d : Data) (saved : Bool) (s : Session) (b : ℕ) → ShowsState d s → ShowsState d (after_byte d saved s b)

@@ -22,7 +22,7 @@ pub record Session : Type 0 where
   pub rest : List ℕ
   -- the picture last painted; none before the first
   pub painted : Option PictureState
-  -- the picture that the screen will show once it has read all bytes; none if its content is unknown
+  -- the picture that the screen is taken to show once it has read all bytes; none if its content is unknown
   pub known : Option PictureState
   -- the screen needs a painting that is not queued yet
   pub painting_owed : Bool

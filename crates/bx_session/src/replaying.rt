@@ -67,7 +67,7 @@ impl<D: BidiData + Drop> Session<D> {
         is_text(self.editor.pieces(), bytes)
     }
 
-    /// Stores the text. Unlike a Save, it does not count as one: unsaved changes stay unsaved.
+    /// Stores the text without counting it as saved: unsaved changes stay unsaved.
     ///
     /// Errors: `StoreFault` if a call of the store fails; its content is unchanged.
     pub fn copy_to<S: Store>(&self, store: &mut S) -> Result<(), StoreFault>

@@ -22,7 +22,7 @@ pub struct Session<D: BidiData + Drop> {
     pub(crate) painted: Option<Picture>,
     // the page of the picture before, reused for the next one
     pub(crate) spare: Option<Grid>,
-    // the screen will show `painted` once it has read all bytes
+    // the screen is taken to show `painted` once it has read all bytes
     pub(crate) is_known: bool,
     pub(crate) painting_owed: bool,
     pub(crate) queue: Vec<u8>,
