@@ -31,7 +31,7 @@ use std::process::ExitCode;
 /// The program's name, at the start of its lines on standard error.
 const NAME: &str = "bidi_edit";
 
-/// Edits a file, with its input in the journal. Empties the journal if nothing is unsaved at the end.
+/// Edits a file and records the input in the journal. Empties the journal if nothing is unsaved at the end.
 fn edit_file<'a, R: Read + Drop, W: Write, S: Store>(
     rt: &HostRuntime,
     options: &Options<'a>,
