@@ -37,41 +37,63 @@ take_up() {
 
 # ---- the journal
 
-# Whether the journal's disk has room for a few keys, as it tells itself: trying would take what is left.
-has_room() {
-    free=$(stat -f -c '%a * %S' -- "$kept") || return 0
-    # shellcheck disable=SC2004 # dash takes no product from a variable
-    [ $(($free)) -ge 8192 ]
+# A told size has the program read and try its journal again, once where there is room again.
+ask_again() {
+    if ! has_room 8192; then
+        had_room=''
+    elif [ -z "$had_room" ]; then
+        had_room=1
+        echo >&8
+    fi
 }
 
-# Shows once, while something can still be saved, that what is typed is not kept any more.
-show_fault() {
-    if ! [ -s "$folder/fault" ] && has_room; then return; fi
-    is_fault_shown=1
-    print_beside tell_fault
+# Shows while something can still be saved that what is typed is not kept, and when it is kept again.
+show_note() {
+    note=''
+    if ! is_filled; then
+        note=$unkept_note
+    elif is_journal_lost; then
+        note='(what is typed is not kept now: save it)'
+        ask_again
+    else
+        had_room=''
+    fi
+    [ "$note" != "$noted" ] || return 0
+    noted=$note
+    print_beside tell_note
 }
 
-tell_fault() {
-    [ -z "$has_title" ] || show_title '(what is typed is not kept any more: save it)'
-    printf '\a'
+tell_note() {
+    [ -z "$has_title" ] || show_title "$note"
+    [ -z "$note" ] || printf '\a'
+}
+
+# A disk may take its time, and signals go on meanwhile. One that tries to fill the session is not tried beside another.
+fill_beside() {
+    fill_again &
+    filler=$!
+    while kill -s 0 "$filler"; do wait "$filler"; done
+    filler=''
 }
 
 # Puts what is new in the journal on the disk, since the program does so only as it reads, and looks for faults. A disk may take its time.
 mind_journal() {
+    is_filled || fill_beside
     # shellcheck disable=SC3013 # dash and bash have it
-    [ "$kept/journal" -nt "$folder/synced" ] || [ -s "$folder/fault" ] || return 0
-    touch "$folder/synced"
-    sync -- "$kept/journal" &
-    syncer=$!
-    wait "$syncer"
-    syncer=''
-    [ -n "$is_fault_shown" ] || show_fault
+    if [ "$kept/journal" -nt "$folder/synced" ]; then
+        touch "$folder/synced"
+        sync -- "$kept/journal" &
+        syncer=$!
+        wait "$syncer"
+        syncer=''
+    fi
+    show_note
 }
 
 # ---- the attendant and the watcher
 
 leave() {
-    for process in $teller $sleeper $printer $syncer; do kill -s KILL "$process"; done
+    for process in $teller $sleeper $printer $syncer $filler; do kill -s KILL "$process"; done
     # a disk may keep its own for long
     wait "$teller" "$sleeper" ${printer:+"$printer"}
     exit
@@ -83,7 +105,7 @@ leave() {
 attend() { # SIZE
     # shellcheck disable=SC2094
     exec 4<&- 5>&- 6<&- 7>&- 9<&- 8<>"$folder/changes" 9<"$folder/changes"
-    is_told='' is_fault_shown='' teller='' sleeper='' printer='' syncer=''
+    is_told='' had_room='' noted=${unkept:+$unkept_note} teller='' sleeper='' printer='' syncer='' filler=''
     trap '' HUP
     trap leave TERM
     trap 'is_told=1; echo >&8' WINCH

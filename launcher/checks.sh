@@ -97,7 +97,7 @@ check_length() {
 }
 
 check_access() {
-    [ -w "$place_folder" ] ||
+    [ -w "$place_folder" ] || [ -n "$in_place" ] ||
         refuse_file "$place_folder" "is a folder that you cannot write, so no save can be made: copy the file elsewhere; $force_hint"
     [ ! -e "$file" ] || [ -w "$file" ] ||
         refuse_file "$file" "is write-protected: chmod u+w lets its owner write it, and $force_hint"
@@ -135,10 +135,13 @@ check_file() {
     find_place
     check_folder
     check_name
+    find_path
+    find_in_place
     if [ -z "$is_forced" ]; then
         check_length
         check_access
     fi
+    mend_before || [ -n "$is_forced" ] || exit 1
     [ ! -e "$file" ] || check_text
     tell_leftovers
 }

@@ -13,10 +13,14 @@ is_of_file() { # SESSION
     [ "$(cat "$at" && echo x)" = "${path}x" ]
 }
 
-# FILE's newest sessions of each kind: `live`, `elsewhere`, `unfinished` and `dropped`. One that no key was typed in is nobody's loss.
+# Whether a session has something that may be lost: keys, a text that counts as changed, or one that FILE may lack.
+has_something() { # SESSION
+    [ -s "$1/journal" ] || [ -e "$1/unsaved" ] || [ -e "$1/mark" ]
+}
+
+# FILE's newest sessions of each kind: `live`, `elsewhere`, `unfinished` and `dropped`. One that has nothing to lose goes.
 find_sessions() {
     live='' elsewhere='' unfinished='' dropped=''
-    find_path
     find_sessions_folder
     [ -d "$sessions" ] || return 0
     for session in "$sessions"/[0-9]*; do
@@ -25,7 +29,7 @@ find_sessions() {
             live=$session
         elif may_go_on_elsewhere "$session"; then
             elsewhere=$session
-        elif ! [ -s "$session/journal" ]; then
+        elif ! has_something "$session"; then
             drop_session "$session"
         elif [ -e "$session/dropped" ]; then
             dropped=$session
@@ -58,8 +62,6 @@ run_replay() { # SESSION TO
 # The text of a session, in a folder `replay` that is this script's alone. `held` tells what FILE holds now: same, the text of the
 # session; known, what it began with or a save of it; foreign, something else. `count` is how many keys were typed.
 replay_session() { # SESSION
-    # the program takes a text that is not there as an empty one
-    [ -f "$1/text" ] || ! [ -f "$1/mode" ] || return 1
     replay=$(mktemp -d "$sessions/.replay.XXXXXX") || fail "nothing can be written in $(shown "$sessions")"
     if told=$(run_replay "$1" "$replay/text"); then
         held=${told%% *} count=${told##* }
@@ -162,7 +164,7 @@ go_on() { # SESSION
     fi
     kept=$1 is_resumed=1
     read_mode "$1"
-    rm -f -- "$kept/dropped" "$kept/snapshot"
+    rm -f -- "$kept/dropped" "$kept/snapshot" "$kept/cut" "$kept/place"
     note_process "$kept"
 }
 
@@ -170,7 +172,10 @@ go_on() { # SESSION
 take_session() { # SESSION
     if ! lock_session "$1"; then
         meet_again
-    elif ! is_of_this_version "$1"; then
+        return
+    fi
+    mend_file "$1" || exit 1
+    if ! is_of_this_version "$1"; then
         take_from_other_version "$1"
     else
         take_by_keys "$1"
@@ -222,14 +227,14 @@ tell_unsure() {
 what_file_holds() { # SESSION
     if cmp -s "$file" "$1/snapshot"; then
         held=same
-    elif cmp -s "$file" "$1/text" || ! [ -e "$file" ]; then
+    elif cmp -s "$file" "$1/text" || cmp -s "$file" "$1/save" || ! [ -e "$file" ]; then
         held=known
     else
         held=foreign
     fi
 }
 
-# A session of its own begins with that text, and with a letter that is typed and erased: so nothing of it counts as saved.
+# A session of its own begins with that text, of which nothing counts as saved.
 take_by_text() { # SESSION
     what_file_holds "$1"
     if [ "$held" = same ]; then
@@ -245,7 +250,7 @@ take_by_text() { # SESSION
 }
 
 fill_from_text() { # SESSION NEW
-    cp -- "$1/begin" "$2/" && cp -- "$1/snapshot" "$2/text" && printf 'x\177' >"$2/journal" && tell_versions >"$2/versions" || return 1
+    cp -- "$1/begin" "$2/" && cp -- "$1/snapshot" "$2/text" && : >"$2/journal" && : >"$2/unsaved" && tell_versions >"$2/versions" || return 1
     for part in mode beside; do [ ! -f "$1/$part" ] || cp -- "$1/$part" "$2/"; done
 }
 
@@ -264,13 +269,14 @@ ask_what_to_keep() { # SESSION
 
 # The parts of a session, under names that are free; then it is no session any more.
 keep_parts() { # SESSION
-    for part in text journal snapshot; do
+    for part in text journal snapshot save; do
         [ -f "$1/$part" ] || continue
         take_free_name "session-$part"
         (umask 077 && set -C && cat -- "$1/$part" >"$free") || fail "$(shown "$free") cannot be written"
         case $part in
         text) what='the text as it was opened' ;;
         journal) what='the keys' ;;
+        save) what='the text of a save that was cut off' ;;
         *) what='the text where the session was left' ;;
         esac
         printf 'bidi-edit: %s: %s\n' "$(shown "$free")" "$what"
@@ -284,6 +290,9 @@ keep_parts() { # SESSION
 find_recoverable() {
     check_kind
     find_place
+    find_path
+    # another place can have the text where FILE cannot be written
+    mend_before || [ -n "$other" ] || exit 1
     find_sessions
     [ -n "$unfinished" ] || unfinished=$dropped
     [ -z "$unfinished$elsewhere" ] || return 0
@@ -330,6 +339,7 @@ recover_elsewhere() { # OTHER
     [ -n "$unfinished" ] || fail "the session of $(shown "$file") began on another machine: bidi-edit --recover $(shown "$file") asks of it"
     if [ -e "$1" ] || [ -L "$1" ]; then fail "$(shown "$1") is there already: name a new file"; fi
     lock_session "$unfinished" || fail 'another start of the editor has that session by now'
+    mend_file "$unfinished"
     take_text "$unfinished"
     read_mode "$unfinished"
     (umask 077 && set -C && cat -- "$replay/text" >"$1" && chmod "$session_mode" -- "$1")
@@ -355,20 +365,21 @@ tell_folders() {
 tell_session() { # SESSION
     note=''
     [ ! -e "$1/dropped" ] || note=' (dropped)'
+    [ ! -e "$1/mark" ] || note=' (a save was cut off)'
     ! may_go_on_elsewhere "$1" || note=" (on $(shown "$host"))"
     ! is_live "$1" || note=' (open now)'
     printf '%s  keys: %s  KB: %s  %s%s\n' "$(tell_when "$1")" "$(($(count_keys "$1")))" "$(du -sk -- "$1" | cut -f 1)" \
         "$(shown "$(cat "$1/path")")" "$note"
 }
 
-# Lists the sessions that have keys, and ends.
+# Lists the sessions that have something to lose, and ends.
 list_sessions() {
     tell_folders | while read -r sessions; do
         [ -d "$sessions" ] || continue
         check_sessions_folder
         [ -z "$unkept" ] || printf 'bidi-edit: a folder of sessions is not used: %s\n' "$unkept" >&2
         for session in "${sessions:-/none}"/[0-9]*; do
-            if [ ! -s "$session/journal" ] || ! is_own "$session"; then continue; fi
+            if ! has_something "$session" || ! is_own "$session"; then continue; fi
             tell_session "$session"
         done
     done

@@ -6,9 +6,10 @@
 # FILE is saved; begin has the rows, the columns, the direction and the line (- for none) that it began with; process has the number of
 # its launcher, and the machine; mode has FILE's permissions, and is not there where FILE was not; versions tell what obeyed the keys;
 # journal has the bytes that the program read; lock is held while the session goes on. A file dropped says that Quit let the changes go,
-# cut that the journal lacks the end, and snapshot is the text where the session was left.
+# cut that the journal lacks the end, unsaved that the text counts as changed from the beginning, and snapshot is the text where the
+# session was left. What a session has of saves into FILE itself in_place.sh tells.
 
-kept='' forgotten='' is_resumed='' unkept='' session_mode='' limit='' found_for='-'
+kept='' forgotten='' is_resumed='' is_waiting='' opened='' unkept='' session_mode='' limit='' found_for='-'
 
 # ---- where sessions are
 
@@ -200,10 +201,8 @@ tell_versions() {
     cksum -- "$editor" "$classes" "$brackets" "$mirroring"
 }
 
-# Room for some keys is tried, since a full disk takes the folder and then no key.
 fill_session() { # SESSION
-    copy_text "$1/text" && echo "$rows $cols $direction ${line:--}" >"$1/begin" &&
-        note_process "$1" && tell_versions >"$1/versions" && printf '%65536s' '' >"$1/lock" && : >"$1/lock" &&
+    copy_text "$1/text" && echo "$rows $cols $direction ${line:--}" >"$1/begin" && note_process "$1" && tell_versions >"$1/versions" &&
         { [ ! -e "$file" ] || stat -c %a -- "$file" >"$1/mode"; }
 } 2>/dev/null
 
@@ -211,7 +210,9 @@ fill_session() { # SESSION
 sweep_sessions() {
     for left in "$sessions"/[0-9]* "$sessions"/.replay.*; do
         if [ ! -d "$left" ] || [ -e "$left/path" ]; then continue; fi
-        [ -z "$(find "$left" -prune -mmin +60)" ] || rm -rf -- "$left"
+        # one that found no room has no path and may go on
+        if [ -z "$(find "$left" -prune -mmin +60)" ] || { [ -e "$left/lock" ] && is_live "$left"; }; then continue; fi
+        rm -rf -- "$left"
     done
 }
 
@@ -241,10 +242,11 @@ make_session() {
     if ! make_folder_of_session; then
         unkept="nothing can be written in $(shown "$sessions")"
     elif fill_session "$new" && note_path "$new" "$path"; then
-        kept=$new
+        kept=$new opened=$new
     else
         unkept="$(shown "$sessions") has no room for it"
-        rm -rf -- "$new"
+        rm -f -- "$new"/*
+        wait_for_room "$new" || rm -rf -- "$new"
     fi
 }
 
@@ -261,9 +263,16 @@ tell_unkept() {
     [ -n "$is_unkept" ] || { printf '\a' >&7 && sleep 1; }
 }
 
-# The window is what it is now, once the keys are replayed in the one that the session began in.
+# The window is what it is now, once the keys are replayed in the one that the session began in. Where the journal finds no room for
+# that, the program reads it first, and keeps it as it keeps keys.
 resume_session() {
-    printf '\033[8;%d;%dt' "$rows" "$cols" >>"$kept/journal" || unkept="$(shown "$sessions") has no room for it"
+    opened=$kept
+    told=$(printf '\033[8;%d;%dt' "$rows" "$cols")
+    length=$(stat -c %s -- "$kept/journal")
+    if ! printf '%s' "$told" >>"$kept/journal"; then
+        truncate -s "$length" -- "$kept/journal"
+        printf '%s' "$told" >&5
+    fi
     read_begin "$kept"
 }
 
@@ -276,6 +285,7 @@ begin_session() {
     else
         make_session
     fi
+    settle_in_place
     tell_unkept
 }
 
@@ -299,27 +309,52 @@ leave_snapshot() {
     told=$(run_replay "$kept" "$kept/snapshot" 2>/dev/null) && held=${told%% *}
 }
 
-# After the program's end. It leaves nothing in the journal where nothing is unsaved; of the sessions whose changes were dropped the
-# last one is kept.
+# Whether the last word on the journal is that it could not be written.
+is_journal_lost() {
+    [ -s "$folder/fault" ] && LC_ALL=C awk '
+        /^bidi_edit: the journal could not be written/ { is_lost = 1 }
+        /^bidi_edit: the journal is kept again$/ { is_lost = 0 }
+        END { exit !is_lost }' "$folder/fault"
+}
+
+# Whether a session whose journal is empty has something to keep: where nothing is unsaved the program ends with status 0 and leaves
+# nothing in the journal.
+has_unsaved_text() {
+    [ -e "$kept/unsaved" ] && [ "$status" != 0 ]
+}
+
+# Where nothing is kept, it is told if something was typed and not saved.
+forget_unkept() { # CAUSE
+    [ "$status" = 0 ] || printf 'bidi-edit: what was typed is not kept, since %s\n' "$1" >&7
+    forget_session
+}
+
+# After the program's end.
 end_session() {
     [ -n "$kept" ] || return 0
-    if ! [ -s "$kept/journal" ]; then
-        forget_session
-        return
+    is_torn='' part=''
+    [ -z "$in_place" ] || mend_file "$kept" >&7 || is_torn=1
+    if is_journal_lost; then part=' up to where its journal could not be written'; fi
+    if ! [ -s "$kept/journal" ] && [ -z "$is_torn" ] && ! has_unsaved_text; then
+        if [ -n "$part" ]; then forget_unkept 'its journal could not be written'; else forget_session; fi
+    elif ! is_filled && ! fill_again; then
+        forget_unkept "$unkept"
+    else
+        leave_session
     fi
-    part=''
-    if grep -q 'the journal could not be written' "$folder/fault"; then
-        : >"$kept/cut"
-        part=' up to where its journal could not be written'
-    fi
+}
+
+# Of the sessions whose changes were dropped the last one is kept.
+leave_session() {
+    [ -z "$part" ] || : >"$kept/cut"
     leave_snapshot
-    if [ "$status" = 0 ]; then
+    if [ "$status$is_torn" = 0 ]; then
         for session in "$sessions"/*/dropped; do
             [ ! -e "$session" ] || [ "$session" = "$kept/dropped" ] || drop_session "${session%/dropped}"
         done
         : >"$kept/dropped"
         printf 'bidi-edit: what was dropped can be had back%s: bidi-edit --recover %s\n' "$part" "$(shown "$file")" >&7
-    elif [ "$held" = same ]; then
+    elif [ "$held$is_torn" = same ]; then
         forget_session
     else
         printf 'bidi-edit: what was typed is kept%s: bidi-edit --recover %s gets it back\n' "$part" "$(shown "$file")" >&7

@@ -3,6 +3,7 @@
 # The terminal of a session, and its way back.
 
 folder='' program='' keys='' attendant='' watcher='' outer='' is_running='' is_shown='' has_title='' end_signal=''
+unkept_note='(unsaved text is not kept)'
 # For how many seconds a terminal may take nothing at the end: a slow line has much to take, and a signal wants an end.
 patience=10
 
@@ -59,7 +60,7 @@ show() {
     if keeps_titles; then
         has_title=1
         printf '\033[22;0t'
-        show_title "${unkept:+(unsaved text is not kept)}"
+        show_title "${unkept:+$unkept_note}"
     fi
 }
 
@@ -127,9 +128,12 @@ end_watcher() {
     watcher=''
 }
 
-# What the program said.
+# What the program said, of its journal the last word alone, and that only where the journal is not kept.
 tell_end() {
-    [ ! -s "$folder/fault" ] || shown_lines <"$folder/fault" >&7
+    [ ! -s "$folder/fault" ] || LC_ALL=C awk '
+        !/^bidi_edit: the journal (could not be written|is kept again$)/ { print; next }
+        { lost = $0 }
+        END { if (lost ~ /could not be written/) print lost }' "$folder/fault" | shown_lines >&7
     tell_line_ends
 }
 
@@ -240,7 +244,11 @@ start_program() {
         trap '' HUP
         set -- "$file"
         [ -z "$is_resumed" ] || [ -e "$file" ] || umask "$(printf %03o $((0777 & ~0$session_mode)))"
-        [ -z "$kept" ] || set -- --text "$kept/text" --journal "$kept/journal" ${is_resumed:+--replay "$kept/journal"} "$@"
+        if [ -n "$kept" ]; then
+            set -- --text "$opened/text" --journal "$kept/journal" ${is_resumed:+--replay "$kept/journal"} "$@"
+            set -- ${in_place:+--in-place "$kept/mark"} "$@"
+            [ ! -e "$kept/unsaved" ] || set -- --unsaved "$@"
+        fi
         exec "$editor" --rows "$rows" --cols "$cols" --direction "$direction" ${line:+--line "$line"} --classes "$classes" \
             --brackets "$brackets" --mirroring "$mirroring" "$@"
     } <&6 2>"$folder/fault" 3<&- 4<&- 5>&- 6<&- 7>&- 8>&- &

@@ -1,0 +1,152 @@
+# shellcheck shell=sh
+# shellcheck disable=SC2034,SC2154 # words that other parts give and take
+# Saves that are written into FILE itself, since a rename would break it, and FILE after one that was cut off.
+#
+# The program keeps the whole new text as `mark` in the session's folder, from before FILE's first byte changes until FILE is on the
+# disk. The session's `place` has the path of that FILE, and its `save` the last text of a mark that was left.
+
+in_place='' harm=''
+
+# ---- whether FILE needs such saves
+
+# Whether FILE is a mount of its own. The kernel writes four characters of a mount's name as numbers.
+# shellcheck disable=SC2016
+is_mounted() {
+    LC_ALL=C awk '
+        BEGIN {
+            for (i = 1; i <= length(ARGV[1]); i++) {
+                letter = substr(ARGV[1], i, 1)
+                at = index(" \t\n\134", letter)
+                name = name (at ? substr("\134040\134011\134012\134134", 4 * at - 3, 4) : letter)
+            }
+            ARGV[1] = "/proc/self/mountinfo"
+        }
+        $5 == name { is_found = 1 }
+        END { exit !is_found }' "$path" 2>/dev/null
+}
+
+# Whether nobody but its owner may replace FILE, as in /tmp.
+# shellcheck disable=SC3067 # dash and bash have -O
+is_held_by_folder() {
+    [ -k "$place_folder" ] && ! [ -O "$place" ] && ! [ -O "$place_folder" ] && [ "$(id -u)" != 0 ]
+}
+
+# The modes of FILE and its folder as `ls` tells them, with a + for an access list, and how many names FILE has.
+read_modes() {
+    {
+        read -r mode_of_file links _
+        read -r mode_of_folder _
+    } <<TOLD
+$(ls -ldqU -- "$place" "$place_folder/." 2>/dev/null)
+TOLD
+}
+
+# Why FILE is not to be replaced, in `in_place`, and what a save by a rename would do, in `harm`.
+find_in_place() {
+    in_place='' harm=''
+    if ! [ -f "$place" ] || ! [ -w "$place" ]; then return 0; fi
+    read_modes
+    if ! [ -w "$place_folder" ] || is_held_by_folder; then
+        in_place='is in a folder where you cannot replace it' harm='no save can be made'
+    elif is_mounted; then
+        in_place='is mounted by itself' harm='no save can be made'
+    elif [ "${links:-1}" -gt 1 ]; then
+        in_place='has other names (hard links)' harm='a save would part it from them'
+    else
+        find_listed "$mode_of_file/$mode_of_folder"
+    fi
+}
+
+find_listed() { # MODES
+    case $1 in
+    *+/*) in_place='has an access list' harm='a save would drop it' ;;
+    *./*) in_place='has a security label' harm='a save may give it another' ;;
+    *+) in_place='is in a folder that gives access lists' harm='a save would give it one' ;;
+    esac
+}
+
+# Before the screen changes: such saves need a session, whose folder has the whole text while FILE is written.
+settle_in_place() {
+    [ -n "$in_place" ] || return 0
+    if [ -n "$kept" ] && { printf '%s' "$path" >"$kept/place"; } 2>/dev/null; then
+        printf 'bidi-edit: %s %s: saves are written into the file itself\n' "$(shown "$file")" "$in_place" >&7
+        return
+    fi
+    [ -n "$unkept" ] || unkept="$(shown "$sessions") has no room for it"
+    told="$(shown "$file") $in_place, and $harm, since unsaved text is not kept ($unkept)"
+    in_place=''
+    [ -n "$is_forced" ] || end_refused "$told: $force_hint"
+    printf 'bidi-edit: %s\n' "$told" >&7
+}
+
+# The end before the program begins.
+end_refused() { # CAUSE
+    printf 'bidi-edit: %s\n' "$1" >&7
+    exit 1
+}
+
+# ---- FILE after a save that was cut off
+
+# Whether a session saves into this FILE, by whatever name.
+saves_into_file() { # SESSION
+    [ -f "$1/place" ] || return 1
+    at=$(cat "$1/place" && echo x)
+    # shellcheck disable=SC3013 # dash and bash have it
+    [ "${at%x}" -ef "$place" ]
+}
+
+# How a file compares with the text of a mark, in `verdict`: whole, torn (the beginning of it, with zeros where the disk had not
+# written yet), or other.
+judge_mark() { # FILE MARK
+    verdict=other
+    if cmp -s -- "$1" "$2"; then
+        verdict=whole
+    elif length=$(stat -L -c %s -- "$1") && [ "$length" -le "$(stat -c %s -- "$2")" ] && [ -r "$1" ] &&
+        cmp -l -n "$length" -- "$1" "$2" | LC_ALL=C awk '$2 != 0 { exit 1 }'; then
+        verdict=torn
+    fi
+} 2>/dev/null
+
+# Writes a mark's text over a torn FILE, which is opened before it is judged, so that it is no other.
+put_text_back() { # MARK
+    {
+        judge_mark /dev/fd/4 "$1"
+        [ "$verdict" != other ] && cat -- "$1" >&4 && sync -- /dev/fd/4
+    } 4<>"$place"
+} 2>/dev/null
+
+# Whether an editor that may go on, other than that of a session, saves into FILE.
+is_being_saved() { # SESSION
+    for other_session in "${1%/*}"/[0-9]*; do
+        if [ "$other_session" = "$1" ] || ! saves_into_file "$other_session"; then continue; fi
+        if is_live "$other_session" || may_go_on_elsewhere "$other_session"; then return 0; fi
+    done
+    return 1
+}
+
+# Makes FILE whole where a save of this session was cut off, and says so. The session is locked.
+mend_file() { # SESSION
+    rm -f -- "$1/mark.bx"
+    [ -f "$1/mark" ] || return 0
+    verdict=other
+    if saves_into_file "$1" && ! is_being_saved "$1"; then judge_mark "$place" "$1/mark"; fi
+    if [ "$verdict" = torn ]; then
+        if ! put_text_back "$1/mark"; then
+            printf 'bidi-edit: a save of %s was cut off, and its text cannot be put back: it is %s\n' "$(shown "$file")" "$(shown "$1/mark")"
+            return 1
+        fi
+        printf 'bidi-edit: a save of %s was cut off; its whole text is put back\n' "$(shown "$file")"
+    fi
+    mv -f -- "$1/mark" "$1/save"
+}
+
+# Before FILE is looked at: the same for the sessions that nobody has.
+mend_before() {
+    find_sessions_folder
+    for mark in "${sessions:-/none}"/[0-9]*/mark; do
+        session=${mark%/mark}
+        if ! [ -f "$mark" ] || ! is_own "$session" || ! saves_into_file "$session"; then continue; fi
+        if is_live "$session" || may_go_on_elsewhere "$session"; then continue; fi
+        (! lock_session "$session" mark || mend_file "$session" >&2) || return 1
+    done
+}
