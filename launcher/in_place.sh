@@ -126,7 +126,7 @@ is_being_saved() { # SESSION
 
 # Makes FILE whole where a save of this session was cut off, and says so. The session is locked.
 mend_file() { # SESSION
-    rm -f -- "$1/mark.bx"
+    [ ! -e "$1/mark.bx" ] || rm -f -- "$1/mark.bx"
     [ -f "$1/mark" ] || return 0
     verdict=other
     if saves_into_file "$1" && ! is_being_saved "$1"; then judge_mark "$place" "$1/mark"; fi

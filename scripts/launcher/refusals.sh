@@ -109,23 +109,25 @@ check_refused_texts() {
 
 check_refused_access() {
     mkdir closed locked open
-    echo text | tee closed/f locked/f open/f >open/g
+    echo text | tee closed/f locked/f locked/g open/f >open/g
     chmod 000 open/g
     chmod 444 open/f
     chmod 777 open
     chmod 666 locked/f
+    chmod 444 locked/g
     chmod 555 locked
     chmod 700 closed
     [ "$(id -u)" = 0 ] || chmod 000 closed
     refused_to_user 'access, a closed folder' '1 bidi-edit: closed is a folder that is closed to you: its owner can open it by chmod a+x' closed/f
     folder_told='1 bidi-edit: locked is a folder that you cannot write, so no save can be made: copy the file elsewhere; --force opens it all the same'
-    refused_to_user 'access, a folder that cannot be written' "$folder_told" locked/f
-    refused_to_user 'access, a new file in it' "$folder_told" locked/new
-    refused_to_user 'access, that folder, forced' "$no_terminal" --force locked/f
+    refused_to_user 'access, a file to write in a folder that is not' "$no_terminal" locked/f
+    refused_to_user 'access, a new file in that folder' "$folder_told" locked/new
+    refused_to_user 'access, that folder, forced' "$no_terminal" --force locked/new
+    refused_to_user 'access, a file that is not either' "$folder_told" locked/g
     refused_to_user 'access, a write-protected file' '1 bidi-edit: open/f is write-protected: chmod u+w lets its owner write it, and --force opens it all the same' open/f
     refused_to_user 'access, that file, forced' "$no_terminal" --force open/f
     refused_to_user 'access, a file that cannot be read' '1 bidi-edit: open/g cannot be read by you: chmod u+r lets its owner read it' --force open/g
-    ln -s ../locked/f open/link
+    ln -s ../locked/g open/link
     refused_to_user 'access, a link into that folder' "1 bidi-edit: $folder/files/${folder_told#*: }" open/link
     chmod 700 closed locked
     rm -rf closed locked open

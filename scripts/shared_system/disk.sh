@@ -1,6 +1,7 @@
 # shellcheck shell=sh
 # shellcheck disable=SC2034,SC2154 # words that other parts give and take
-# A disk that takes no session, or not all of one: it is told while something can be done, and what is said at the end is what stands.
+# A disk that takes no session, or not all of one: it is told while something can be done, what waits is kept once there is room, and
+# what is said at the end is so.
 
 # A state folder on a small disk of its own.
 open_small_disk() { # SIZE
@@ -36,40 +37,115 @@ record_editor() { # NAME
     terminal pipe-pane -t "$1" "cat >'$folder/output.$1'"
 }
 
-check_not_begun() {
-    open_small_disk 32k || return 0
+# Takes what is left of the small disk.
+fill_small_disk() {
+    as_user dd if=/dev/zero of="$folder/small/other" bs=4096 2>/dev/null
+}
+
+# On a disk that is full an editor is open, with a letter typed, and its title tells.
+open_on_full_disk() {
+    open_small_disk 256k || return 1
+    rm -f note
+    printf 'ab\n' | as_user tee note >/dev/null
+    fill_small_disk
     open_editor first 'sleep 1;' note
     record_editor first
     wait_for 60 shows_in first '- 1:1'
-    case $(tr '\n\033' '  ' <"$folder/output.first") in
-    *'unsaved text is not kept, since'*'[?1049h'*) report 'disk, too small: told before the screen changes' 0 '' ;;
-    *) report 'disk, too small: told before the screen changes' 1 "$(head -c 300 "$folder/output.first" | cat -v)" ;;
-    esac
     wait_for 20 has_title_with first 'not kept'
-    report 'disk, too small: told in the title' $? "$(title_of first)"
-    terminal send-keys -t first x C-q C-q
-    wait_for 60 shows_in first status
-    same 'disk, too small: nothing is said to be kept' "$(terminal capture-pane -p -J -t first | grep -c 'can be had back')" 0
-    same 'disk, too small: nothing stays there' "$(find "$folder/small" -type f)" ''
-    close_editors first
-    close_small_disk
+    report "disk, $1: told in the title" $? "$(title_of first)"
+    terminal send-keys -t first x
+    wait_for 60 shows_in first '* 1:2'
 }
 
-check_filled_up() {
-    open_small_disk 256k || return 0
+check_not_begun() {
+    open_on_full_disk 'full' || return 0
+    case $(tr '\n\033' '  ' <"$folder/output.first") in
+    *'unsaved text is not kept, since'*'[?1049h'*) report 'disk, full: told before the screen changes' 0 '' ;;
+    *) report 'disk, full: told before the screen changes' 1 "$(head -c 300 "$folder/output.first" | cat -v)" ;;
+    esac
+    terminal send-keys -t first C-q C-q
+    wait_for 60 shows_in first status
+    same 'disk, full: nothing is said to be kept' "$(terminal capture-pane -p -J -t first | grep -c 'can be had back')" 0
+    same 'disk, full: nothing stays there' "$(find "$folder/small" -mindepth 1 ! -name other)" "$folder/small/bidi_edit"
+    close_editors first
+    close_small_disk
+    open_on_full_disk 'full to the end' || return 0
+    kill -s TERM "$(editor_process)"
+    expect_in first 'disk, full to the end: what is said' 'what was typed is not kept, since'
+    same 'disk, full to the end: nothing stays there' "$(find "$folder/small" -mindepth 1 ! -name other)" "$folder/small/bidi_edit"
+    close_editors first
+    close_small_disk
+    rm -f note
+}
+
+has_title_without() { # NAME TEXT
+    ! has_title_with "$1" "$2"
+}
+
+# Of the session of `note` on the small disk, whose text is standard input.
+recover_from_small_disk() { # CHECK
+    cat >"$folder/expected"
+    as_user "$shell" "$launcher" --recover --to other note >"$folder/output" 2>&1
+    cmp "$folder/expected" other >"$folder/differs" 2>&1
+    report "disk, $1: every key is had back" $? "$(cat "$folder/output" "$folder/differs")"
+    same "disk, $1: nothing is said to be cut" "$(grep -c 'is cut' "$folder/output")" 0
+    close_small_disk
+    rm -f note other
+}
+
+# There is room later, and all is killed then; the last time without another key.
+check_begun_later() {
+    open_on_full_disk 'room later' || return 0
+    same 'disk, room later: nobody finds a part of the session' "$(find "$folder/small" -name path)" ''
+    rm -f "$folder/small/other"
+    wait_for 40 has_title_without first 'not kept'
+    report 'disk, room later: the title tells nothing more' $? "$(title_of first)"
+    terminal send-keys -t first y
+    wait_for 60 shows_in first '* 1:3'
+    kill_editor first
+    close_editors first
+    echo xyab | recover_from_small_disk 'room later'
+    open_on_full_disk 'room later, no key' || return 0
+    rm -f "$folder/small/other"
+    wait_for 40 has_title_without first 'not kept'
+    kill_editor first
+    close_editors first
+    echo xab | recover_from_small_disk 'room later, no key'
+    open_on_full_disk 'room at the end' || return 0
+    rm -f "$folder/small/other"
+    terminal send-keys -t first y
+    wait_for 60 shows_in first '* 1:3'
+    kill -s TERM "$(editor_process)"
+    expect_in first 'disk, room at the end: it is said' 'what was typed is kept: '
+    close_editors first
+    echo xyab | recover_from_small_disk 'room at the end'
+}
+
+# The editor is open with a letter, its disk is full by now, and more was typed than the journal has room for.
+fill_under_editor() { # CHECK
+    open_small_disk 256k || return 1
+    rm -f note
     open_editor first '' note
     wait_for 60 shows_in first '- 1:1'
     terminal send-keys -t first a
     wait_for 60 shows_in first '* 1:2'
     record_editor first
-    as_user dd if=/dev/zero of="$folder/small/other" bs=4096 2>/dev/null
-    head -c 6000 "$folder/paste" | sed 's/[^0-9a-z]/ /g' >"$folder/letters"
+    fill_small_disk
+    awk 'BEGIN { for (i = 0; i < 100; i++) printf "%59s\n", "line " i }' >"$folder/letters"
     terminal load-buffer -b letters "$folder/letters"
     terminal paste-buffer -d -r -b letters -t first
     wait_for 80 has_title_with first 'not kept'
-    report 'disk, filled up: told in the title' $? "$(title_of first)"
-    # a title ends with a bell that does not ring
-    same 'disk, filled up: told by a bell' "$(cat -v "$folder/output.first" | sed 's/\^\[]2;[^^]*^S save ^Q quit[^^]*\^G//g' | grep -c '\^G')" 1
+    report "disk, $1: told in the title" $? "$(title_of first)"
+}
+
+# A title ends with a bell that does not ring.
+bells_of() { # NAME
+    cat -v "$folder/output.$1" | sed 's/\^\[]2;[^^]*^S save ^Q quit[^^]*\^G//g' | grep -o '\^G' | wc -l
+}
+
+check_filled_up() {
+    fill_under_editor 'filled up' || return 0
+    same 'disk, filled up: told by a bell' "$(bells_of first)" 1
     kill -s TERM "$(editor_process)"
     expect_in first 'disk, filled up: what is said at the end' 'what was typed is kept up to where its journal could not be written'
     rm -f "$folder/small/other"
@@ -81,8 +157,46 @@ check_filled_up() {
     rm -f note other
 }
 
+# There is room again, what is typed later is kept too, and all is killed then. A second fault is told again.
+check_room_again() {
+    fill_under_editor 'room again' || return 0
+    rm -f "$folder/small/other"
+    wait_for 40 has_title_without first 'not kept'
+    report 'disk, room again: the title tells nothing more' $? "$(title_of first)"
+    terminal send-keys -t first z
+    wait_for 60 shows_in first '* 101:2'
+    fill_small_disk
+    terminal load-buffer -b letters "$folder/letters"
+    terminal paste-buffer -d -r -b letters -t first
+    wait_for 80 has_title_with first 'not kept'
+    report 'disk, room again: a second fault is told' $? "$(title_of first)"
+    same 'disk, room again: by a second bell' "$(bells_of first)" 2
+    rm -f "$folder/small/other"
+    wait_for 40 has_title_without first 'not kept'
+    terminal send-keys -t first y
+    wait_for 60 shows_in first '* 201:2'
+    kill_editor first
+    close_editors first
+    { printf a && cat "$folder/letters" && printf z && cat "$folder/letters" && printf y; } | recover_from_small_disk 'room again'
+}
+
+# What is said at the end is so: the journal was kept again.
+check_told_again() {
+    fill_under_editor 'told again' || return 0
+    rm -f "$folder/small/other"
+    wait_for 40 has_title_without first 'not kept'
+    kill -s TERM "$(editor_process)"
+    expect_in first 'disk, told again: what was typed is kept' 'what was typed is kept: bidi-edit --recover note'
+    same 'disk, told again: nothing of a fault' "$(terminal capture-pane -p -J -t first | grep -c 'the journal')" 0
+    close_editors first
+    { printf a && cat "$folder/letters"; } | recover_from_small_disk 'told again'
+}
+
 check_disk() {
     asked disk || return 0
     check_not_begun
+    check_begun_later
     check_filled_up
+    check_room_again
+    check_told_again
 }

@@ -26,6 +26,8 @@ check_snapshot() {
     expect_in first 'versions, its text is had back' 'xyab'
     terminal send-keys -t first C-q
     expect_in first 'versions, it counts as unsaved' 'unsaved: ^Q again'
+    kill_editor first
+    check_untouched
     terminal send-keys -t first z
     wait_for 30 shows_in first 'zxyab'
     kill_editor first
@@ -40,6 +42,21 @@ check_snapshot() {
     expect_in first 'versions, it is said' 'status 0'
     same 'versions, no session stays' "$(ls -A "$folder/state/bidi_edit")" ''
     close_editors first
+}
+
+# A text that is had back is kept also where no key is typed.
+check_untouched() {
+    as_user truncate -s 0 "$(session_of_check)/journal"
+    as_user "$shell" "$launcher" --recover >"$folder/output" 2>&1 </dev/null
+    has 'versions, without a key: it is listed' "$(cat "$folder/output")" 'keys: 0'
+    open_editor first '' note
+    expect_in first 'versions, without a key: it is asked about' 'note has an unfinished session'
+    say_in first recover
+    expect_in first 'versions, without a key: it goes on' '* 1:1'
+    kill -s HUP "$(editor_process)"
+    expect_in first 'versions, without a key, at the end: it is said' 'what was typed is kept'
+    open_editor first '' --recover note
+    expect_in first 'versions, without a key, at the end: it goes on' 'xyab'
 }
 
 check_no_snapshot() {

@@ -1,0 +1,117 @@
+# shellcheck shell=sh
+# shellcheck disable=SC2034,SC2154 # words that other parts give and take
+# Another program that changes FILE in a moment in which the launcher looks elsewhere: the first save says that it failed, and only the
+# second replaces what is there.
+
+# A command of the launcher that, once it is done for the first time, has FILE changed.
+change_behind() { # COMMAND
+    as_user mkdir -p "$folder/tools"
+    as_user tee "$folder/tools/$1" >/dev/null <<END
+#!/bin/sh
+$(command -v "$1") "\$@"
+result=\$?
+[ -e '$folder/changed' ] || { echo of another >'$folder/files/note' && : >'$folder/changed'; }
+exit \$result
+END
+    as_user chmod 755 "$folder/tools/$1"
+}
+
+# The letter that was typed is on the screen, and FILE is another's.
+save_twice() { # NAME
+    same "foreign, $1: it is another's" "$(cat note)" 'of another'
+    terminal send-keys -t first C-s
+    expect_in first "foreign, $1: the first save" 'save failed'
+    same "foreign, $1: the first save leaves FILE" "$(cat note)" 'of another'
+    terminal send-keys -t first C-s
+    expect_in first "foreign, $1: the second save" 'saved'
+    same "foreign, $1: the second save replaces it" "$(cat note)" "$2"
+    close_editors first
+    rm -rf "$folder/tools" "$folder/changed" "$folder/state" note*
+}
+
+# Between the launcher's copy and the program's look.
+check_changed_after_copy() {
+    rm -rf "$folder/state"
+    printf 'ab\n' | as_user tee note >/dev/null
+    change_behind cp
+    open_editor first "PATH='$folder/tools':\$PATH" note
+    wait_for 60 shows_in first '- 1:1'
+    terminal send-keys -t first y
+    wait_for 60 shows_in first '* 1:2'
+    save_twice 'after the copy' yab
+}
+
+# Between the answer, whose replay looks at FILE, and the program's look.
+check_changed_after_answer() {
+    leave_session note
+    change_behind rm
+    open_editor first "PATH='$folder/tools':\$PATH" note
+    wait_for 60 shows_in first 'discard it'
+    say_in first recover
+    wait_for 60 shows_in first '* 1:2'
+    save_twice 'after the answer' xab
+}
+
+check_changed_while_open() {
+    leave_session note
+    open_editor first '' --recover note
+    wait_for 60 shows_in first '* 1:2'
+    echo of another | as_user tee note >/dev/null
+    save_twice 'after the recovery' xab
+}
+
+# A FILE that nobody changed is saved at once, also by a session that is had back after a save.
+check_unchanged() {
+    rm -rf "$folder/state"
+    printf 'ab\n' | as_user tee note >/dev/null
+    open_editor first '' note
+    wait_for 60 shows_in first '- 1:1'
+    terminal send-keys -t first x C-s
+    wait_for 60 shows_in first saved
+    terminal send-keys -t first y
+    wait_for 60 shows_in first '* 1:3'
+    kill_editor first
+    open_editor first '' --recover note
+    wait_for 60 shows_in first '* 1:3'
+    terminal send-keys -t first C-s
+    expect_in first 'foreign, a session that saved: the first save' 'saved'
+    same 'foreign, a session that saved: FILE' "$(cat note) $(echo note*)" 'xyab note'
+    close_editors first
+    rm -rf "$folder/state" note
+}
+
+# The folder of FILE becomes a link while a save puts its draft on the disk.
+check_exchanged_folder() {
+    if ! can_trace; then
+        skip 'foreign, a folder that is exchanged' 'there is no strace, or it may not trace'
+        return
+    fi
+    as_user mkdir inner elsewhere
+    printf 'ab\n' | as_user tee inner/note elsewhere/note >/dev/null
+    open_editor first '' inner/note
+    wait_for 60 shows_in first '- 1:1'
+    terminal send-keys -t first x
+    wait_for 60 shows_in first '* 1:2'
+    strace -qq -f -p "$(program_of_check)" -e trace=fsync,fdatasync -P "$folder/files/inner/note.bx" -e inject=fsync,fdatasync:delay_enter=2000000 \
+        -o "$folder/trace" 2>/dev/null &
+    tracer=$!
+    wait_for 30 is_traced
+    terminal send-keys -t first C-s
+    wait_for 30 test -s inner/note.bx
+    mv inner moved
+    as_user ln -s elsewhere inner
+    expect_in first 'foreign, a folder that is exchanged: the save' 'save failed'
+    same 'foreign, a folder that is exchanged: both files' "$(cat moved/note elsewhere/note | tr '\n' ' ')" 'ab ab '
+    close_editors first
+    wait "$tracer"
+    rm -rf inner moved elsewhere "$folder/state" "$folder/trace"
+}
+
+check_foreign() {
+    asked foreign || return 0
+    check_changed_after_copy
+    check_changed_after_answer
+    check_changed_while_open
+    check_unchanged
+    check_exchanged_folder
+}

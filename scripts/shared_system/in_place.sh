@@ -1,0 +1,232 @@
+# shellcheck shell=sh
+# shellcheck disable=SC2034,SC2154 # words that other parts give and take
+# Saves into FILE itself, where no rename may take its place, and FILE after one that was cut off.
+
+# ---- whole saves
+
+check_links() {
+    printf 'ab\n' | as_user tee note >/dev/null
+    as_user ln note 'other name'
+    save_a_letter note
+    same 'in place, hard links: both names have the text' "$(cat note 'other name' | tr '\n' ' ')$(stat -c %h note)" 'xab xab 2'
+    expect_in first 'in place, hard links: it is said' 'note has other names (hard links): saves are written into the file itself'
+    save_a_letter 'other name'
+    same 'in place, hard links, by the other name' "$(cat note 'other name' | tr '\n' ' ')$(stat -c %h note)" 'xxab xxab 2'
+    close_editors first
+    as_user ln -s note link
+    save_a_letter link
+    same 'in place, through a link' "$(cat note 'other name' | tr '\n' ' ')$(readlink link)" 'xxxab xxxab note'
+    close_editors first
+    rm -f note 'other name' link
+}
+
+check_mounted_file() {
+    printf 'of the host\n' >"$folder/host"
+    chown "$user" "$folder/host"
+    as_user touch 'a note'
+    if ! mount --bind "$folder/host" 'a note' 2>/dev/null; then
+        skip 'in place, a mounted file' 'nothing can be mounted'
+        rm -f "$folder/host" 'a note'
+        return
+    fi
+    # the blank would part it
+    mounted="$mounted $folder/files/a?note"
+    save_a_letter 'a note'
+    same 'in place, a mounted file' "$(cat 'a note' "$folder/host" | tr '\n' ' ')" 'xof the host xof the host '
+    expect_in first 'in place, a mounted file: it is said' "'a note' is mounted by itself: saves are written"
+    close_editors first
+    umount 'a note'
+    mounted=${mounted%" $folder/files/a?note"}
+    rm -f "$folder/host" 'a note'
+}
+
+# A folder that the user may not write, with a file that he may, and one like /tmp, with a file of another user's.
+check_closed_folder() {
+    if [ "$who" != plain ]; then
+        skip 'in place, a closed folder' 'root may write it'
+        return
+    fi
+    mkdir closed
+    printf 'ab\n' >closed/note
+    chown -R "$user" closed
+    chmod 555 closed
+    save_a_letter closed/note
+    same 'in place, a closed folder' "$(cat closed/note)" xab
+    expect_in first 'in place, a closed folder: it is said' 'closed/note is in a folder where you cannot replace it: saves are written'
+    open_editor first '' closed/new
+    expect_in first 'in place, a closed folder: a new file is refused' 'closed is a folder that you cannot write'
+    close_editors first
+    chmod 755 closed
+    rm -rf closed
+    has_stranger 'in place, a folder like /tmp' || return 0
+    mkdir -m 1777 sticky
+    printf 'ab\n' >sticky/note
+    chown "$stranger" sticky/note
+    chmod 666 sticky/note
+    save_a_letter sticky/note
+    same "in place, another's file in a folder like /tmp" "$(cat sticky/note) $(stat -c '%u %a' sticky/note)" "xab $stranger 666"
+    close_editors first
+    rm -rf sticky
+}
+
+# ---- saves that are cut off
+
+program_of_check() {
+    pgrep -f "bidi_edit --rows.*$folder/state/" | head -n 1
+}
+
+# Has the program of the editor `first` meet this at the next call of these on FILE.
+inject() { # CALLS WHAT
+    strace -qq -f -p "$(program_of_check)" -P "$folder/files/note" -e "trace=$1" -e "inject=$1:$2" -o "$folder/trace" 2>/dev/null &
+    tracer=$!
+    wait_for 30 is_traced
+}
+
+is_traced() {
+    [ "$(awk '/^TracerPid/ { print $2 }' "/proc/$(program_of_check)/status" 2>/dev/null)" != 0 ]
+}
+
+can_trace() {
+    command -v strace >/dev/null || return 1
+    sleep 0.3 &
+    strace -qq -o /dev/null -p $! 2>/dev/null
+}
+
+# The editor is open on a file with two names, and a letter is typed.
+open_linked() {
+    rm -rf "$folder/state" note*
+    printf 'ab\n' | as_user tee note >/dev/null
+    as_user ln note note.link
+    open_editor first '' note
+    wait_for 60 shows_in first '- 1:1'
+    terminal send-keys -t first x
+    wait_for 60 shows_in first '* 1:2'
+}
+
+has_no_program() {
+    [ -z "$(program_of_check)" ]
+}
+
+# The launcher stands still while its program is killed in the save, and is killed then.
+cut_off_save() { # CALLS
+    open_linked
+    inject "$1" 'signal=KILL:when=1'
+    kill -s STOP "$(editor_process)"
+    terminal send-keys -t first C-s
+    wait_for 60 has_no_program || report "in place, killed at $1: the program is killed" 1 'it goes on'
+    wait "$tracer"
+    kill_editor first
+}
+
+# What the next start says of a save that was cut off, and that FILE is whole.
+check_cut_off() { # CALLS WORDS TEXT
+    cut_off_save "$1"
+    test -e "$(session_of_check)/mark"
+    report "in place, killed at $1: the whole text is kept" $? 'there is no mark'
+    open_editor first '' note
+    expect_in first "in place, killed at $1: the session is asked about" 'an unfinished session'
+    same "in place, killed at $1: what is said" "$(terminal capture-pane -p -J -t first | grep -c 'its whole text is put back')" "$2"
+    same "in place, killed at $1: FILE before the answer" "$(cat note note.link | tr '\n' ' ')" "$3 $3 "
+    say_in first recover
+    if [ "$3" = xab ]; then
+        wait_for 60 shows_in first '- 1:1'
+        terminal send-keys -t first C-q
+        expect_in first "in place, killed at $1: FILE has all" 'note holds all that was typed in its last session'
+    else
+        expect_in first "in place, killed at $1: what was typed is had back" '* 1:2'
+    fi
+    same "in place, killed at $1: FILE and its other name" "$(cat note note.link | tr '\n' ' ')$(echo note*)" "$3 $3 note note.link"
+    close_editors first
+}
+
+# The launcher lives, and puts the text back at once.
+check_killed_program() {
+    open_linked
+    inject write,pwrite64,writev signal=KILL:when=1
+    terminal send-keys -t first C-s
+    expect_in first 'in place, the program killed: it is said' 'a save of note was cut off; its whole text is put back'
+    wait_for 60 shows_in first status
+    same 'in place, the program killed: FILE is whole' "$(cat note note.link | tr '\n' ' ')" 'xab xab '
+    same 'in place, the program killed: no session stays, as nothing is unsaved' "$(ls -A "$folder/state/bidi_edit")" ''
+    close_editors first
+}
+
+# Another program writes FILE before the next start, by which it is left alone.
+check_written_since() {
+    cut_off_save write,pwrite64,writev
+    echo of another | as_user tee note >/dev/null
+    open_editor first '' --recover note
+    expect_in first 'in place, written since: the session goes on beside' '* 1:2'
+    same 'in place, written since: FILE stays' "$(cat note)" 'of another'
+    terminal send-keys -t first C-s
+    wait_for 60 shows_in first saved
+    same 'in place, written since: what was typed' "$(cat note.recovered)" xab
+    close_editors first
+}
+
+# FILE is torn and the text cannot be put back: it is kept, and told.
+check_recover_elsewhere() {
+    cut_off_save write,pwrite64,writev
+    as_user "$shell" "$launcher" --recover >"$folder/output" 2>&1 </dev/null
+    has 'in place, --recover alone' "$(cat "$folder/output")" '/note (a save was cut off)'
+    chmod 444 note
+    as_user "$shell" "$launcher" --recover --to other note >"$folder/output" 2>&1 </dev/null
+    same 'in place, --recover --to' "$? $(cat other)" '0 xab'
+    [ "$who" = root ] || has 'in place, FILE that cannot be written: it is said' "$(cat "$folder/output")" 'its text cannot be put back: it is '
+    [ "$who" = root ] || same 'in place, FILE that cannot be written: its text is kept' "$(cat "$(session_of_check)/mark")" xab
+    chmod 644 note
+    open_editor first '' note
+    expect_in first 'in place, FILE that can be written again' 'an unfinished session'
+    same 'in place, FILE that can be written again: its text is put back' "$(cat note note.link | tr '\n' ' ')" 'xab xab '
+    close_editors first
+    rm -f other
+}
+
+# A save that fails in the middle, and the next one.
+check_failed_save() {
+    open_linked
+    inject write,pwrite64,writev error=ENOSPC:when=1
+    terminal send-keys -t first C-s
+    expect_in first 'in place, no room in the middle' 'save failed'
+    terminal send-keys -t first y C-s
+    expect_in first 'in place, the next save' 'saved'
+    same 'in place, the next save: FILE' "$(cat note note.link | tr '\n' ' ')" 'xyab xyab '
+    kill -s TERM "$tracer" 2>/dev/null
+    terminal send-keys -t first C-q
+    expect_in first 'in place, the next save: the end' 'status 0'
+    same 'in place, the next save: no session stays' "$(ls -A "$folder/state/bidi_edit")" ''
+    close_editors first
+}
+
+# Saves fail until the end: the launcher puts the text back.
+check_failed_end() {
+    open_linked
+    inject write,pwrite64,writev error=EIO
+    terminal send-keys -t first C-s
+    wait_for 60 shows_in first 'save failed'
+    terminal send-keys -t first C-q C-q
+    expect_in first 'in place, no save to the end: it is said' 'a save of note was cut off; its whole text is put back'
+    same 'in place, no save to the end: FILE' "$(cat note note.link | tr '\n' ' ')" 'xab xab '
+    close_editors first
+}
+
+check_in_place() {
+    asked in_place || return 0
+    rm -rf "$folder/state"
+    check_links
+    check_mounted_file
+    check_closed_folder
+    if can_trace; then
+        check_cut_off ftruncate,truncate 0 ab
+        check_cut_off write,pwrite64,writev 1 xab
+        check_cut_off fsync,fdatasync 0 xab
+        check_killed_program
+        check_written_since
+        check_recover_elsewhere
+        check_failed_save
+        check_failed_end
+    else
+        skip 'in place, saves that are cut off' 'there is no strace, or it may not trace'
+    fi
+    rm -rf "$folder/state" note* "$folder/trace"
+}

@@ -1,0 +1,92 @@
+# shellcheck shell=sh
+# shellcheck disable=SC2034,SC2154 # words that other parts give and take
+# Access lists: who may read or write FILE after a save is who could before.
+
+# Another user in the group of the editor's, and one whom only lists name.
+member=61011
+listed=61012
+
+as_member() { # COMMAND..
+    setpriv --reuid "$member" --regid "$member" --groups "$user" "$@"
+}
+
+as_listed() { # COMMAND..
+    setpriv --reuid "$listed" --regid "$listed" --clear-groups "$@"
+}
+
+# What the others may do with a file, where this script can be them.
+rights_of_others() { # FILE
+    [ "$(id -u)" = 0 ] || return 0
+    for who_else in as_member as_listed; do
+        for right in r w; do "$who_else" test "-$right" "$1" && printf '%s:%s ' "$who_else" "$right"; done
+    done
+}
+
+rights_of() { # FILE
+    getfacl -cnp "$1" | tr '\n' ' '
+    stat -c '%u:%g %a' "$1"
+    rights_of_others "$1"
+}
+
+# Types a letter into a file and saves it, with the words of an option before, and ends.
+save_a_letter() { # FILE WORD..
+    name=$1
+    shift
+    open_editor first '' "$@" "$name"
+    wait_for 60 shows_in first '- 1:1'
+    terminal send-keys -t first x C-s
+    wait_for 60 shows_in first saved
+    terminal send-keys -t first C-q
+    wait_for 60 shows_in first status
+}
+
+# FILE has a list, or its folder gives one: a folder `shared` of the user's.
+check_listed_file() { # NAME LIST FOLDER'S LIST REASON
+    as_user mkdir -p shared
+    chmod 755 shared
+    printf 'ab\n' | as_user tee shared/note >/dev/null
+    chmod 640 shared/note
+    [ -z "$2" ] || setfacl -m "$2" shared/note
+    [ -z "$3" ] || setfacl -m "$3" shared
+    rights=$(rights_of shared/note)
+    place=$(stat -c %i shared/note)
+    save_a_letter shared/note
+    same "lists, $1: who may read and write" "$(rights_of shared/note)" "$rights"
+    same "lists, $1: what is saved" "$(cat shared/note) $(stat -c %i shared/note)" "xab $place"
+    expect_in first "lists, $1: it is said" "shared/note $4: saves are written into the file itself"
+    same "lists, $1: nothing stays" "$(ls -A "$folder/state/bidi_edit")$(ls -A shared)" note
+    close_editors first
+    rm -rf shared "$folder/state"
+}
+
+# Without a session a save could be cut off, so it is refused unless it is forced.
+check_unkept_list() {
+    printf 'ab\n' | as_user tee note >/dev/null
+    setfacl -m "u:$listed:r" note
+    open_editor first '' -n note
+    expect_in first 'lists, without a session' 'note has an access list, and a save would drop it, since unsaved text is not kept (-n asks for that): --force opens it'
+    expect_in first 'lists, without a session: refused' 'status 1'
+    close_editors first
+    same 'lists, without a session: FILE stays' "$(cat note)" ab
+    save_a_letter note --force -n
+    same 'lists, without a session, forced' "$(cat note)" xab
+    close_editors first
+    rm -f note
+}
+
+check_lists() {
+    asked lists || return 0
+    rm -rf "$folder/state"
+    : >probe
+    if ! command -v setfacl >/dev/null || ! setfacl -m "u:$listed:r" probe 2>/dev/null; then
+        rm -f probe
+        skip lists 'there is no setfacl, or the disk has no access lists'
+        return
+    fi
+    rm -f probe
+    check_listed_file 'a listed user' "u:$listed:rw" '' 'has an access list'
+    check_listed_file 'a group that may less than the mask' "u:$listed:rw,g::-" '' 'has an access list'
+    check_listed_file 'a list that denies' "u:$listed:-,g:$user:-,o::r" '' 'has an access list'
+    check_listed_file 'a folder that gives lists' '' "d:u:$listed:rw,d:g::rw" 'is in a folder that gives access lists'
+    check_unkept_list
+}
