@@ -82,9 +82,8 @@ has_title_without() { # NAME TEXT
     ! has_title_with "$1" "$2"
 }
 
-# Of the session of `note` on the small disk, whose text is standard input.
+# Of the session of `note` on the small disk, whose text is in `expected`.
 recover_from_small_disk() { # CHECK
-    cat >"$folder/expected"
     as_user "$shell" "$launcher" --recover --to other note >"$folder/output" 2>&1
     cmp "$folder/expected" other >"$folder/differs" 2>&1
     report "disk, $1: every key is had back" $? "$(cat "$folder/output" "$folder/differs")"
@@ -104,13 +103,15 @@ check_begun_later() {
     wait_for 60 shows_in first '* 1:3'
     kill_editor first
     close_editors first
-    echo xyab | recover_from_small_disk 'room later'
+    echo xyab >"$folder/expected"
+    recover_from_small_disk 'room later'
     open_on_full_disk 'room later, no key' || return 0
     rm -f "$folder/small/other"
     wait_for 40 has_title_without first 'not kept'
     kill_editor first
     close_editors first
-    echo xab | recover_from_small_disk 'room later, no key'
+    echo xab >"$folder/expected"
+    recover_from_small_disk 'room later, no key'
     open_on_full_disk 'room at the end' || return 0
     rm -f "$folder/small/other"
     terminal send-keys -t first y
@@ -118,7 +119,8 @@ check_begun_later() {
     kill -s TERM "$(editor_process)"
     expect_in first 'disk, room at the end: it is said' 'what was typed is kept: '
     close_editors first
-    echo xyab | recover_from_small_disk 'room at the end'
+    echo xyab >"$folder/expected"
+    recover_from_small_disk 'room at the end'
 }
 
 # The editor is open with a letter, its disk is full by now, and more was typed than the journal has room for.
@@ -177,7 +179,8 @@ check_room_again() {
     wait_for 60 shows_in first '* 201:2'
     kill_editor first
     close_editors first
-    { printf a && cat "$folder/letters" && printf z && cat "$folder/letters" && printf y; } | recover_from_small_disk 'room again'
+    { printf a && cat "$folder/letters" && printf z && cat "$folder/letters" && printf y; } >"$folder/expected"
+    recover_from_small_disk 'room again'
 }
 
 # What is said at the end is so: the journal was kept again.
@@ -189,7 +192,8 @@ check_told_again() {
     expect_in first 'disk, told again: what was typed is kept' 'what was typed is kept: bidi-edit --recover note'
     same 'disk, told again: nothing of a fault' "$(terminal capture-pane -p -J -t first | grep -c 'the journal')" 0
     close_editors first
-    { printf a && cat "$folder/letters"; } | recover_from_small_disk 'told again'
+    { printf a && cat "$folder/letters"; } >"$folder/expected"
+    recover_from_small_disk 'told again'
 }
 
 check_disk() {
