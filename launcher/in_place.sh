@@ -72,8 +72,7 @@ settle_in_place() {
         printf 'bidi-edit: %s %s: saves are written into the file itself\n' "$(shown "$file")" "$in_place" >&7
         return
     fi
-    [ -n "$unkept" ] || unkept="$(shown "$sessions") has no room for it"
-    told="$(shown "$file") $in_place, and $harm, since unsaved text is not kept ($unkept)"
+    told="$(shown "$file") $in_place, and $harm, since unsaved text is not kept (${unkept:-there is no room})"
     in_place=''
     [ -n "$is_forced" ] || end_refused "$told: $force_hint"
     printf 'bidi-edit: %s\n' "$told" >&7
@@ -107,12 +106,13 @@ judge_mark() { # FILE MARK
     fi
 } 2>/dev/null
 
-# Writes a mark's text over a torn FILE, which is opened before it is judged, so that it is no other.
+# Writes a mark's text over a torn FILE, which is opened before it is judged, so that it is no other. The shell would open it for
+# writing as one that may be made, which is refused of another user's file in a folder like /tmp.
 put_text_back() { # MARK
     {
         judge_mark /dev/fd/4 "$1"
-        [ "$verdict" != other ] && cat -- "$1" >&4 && sync -- /dev/fd/4
-    } 4<>"$place"
+        [ "$verdict" != other ] && dd if="$1" of=/dev/fd/4 bs=65536 conv=nocreat,notrunc,fsync
+    } 4<"$place"
 } 2>/dev/null
 
 # Whether an editor that may go on, other than that of a session, saves into FILE.
