@@ -164,6 +164,40 @@ check_written_since() {
     close_editors first
 }
 
+# A session of another machine may go on there with its save.
+check_cut_off_elsewhere() {
+    cut_off_save write,pwrite64,writev
+    echo '1 elsewhere 11111111-1111' | as_user tee "$(session_of_check)/process" >/dev/null
+    open_editor first '' --recover note
+    expect_in first 'in place, cut off on another host: it is asked about' 'Has it ended'
+    same 'in place, cut off on another host: FILE before the answer' "$(stat -c %s note)" 0
+    say_in first yes
+    wait_for 60 shows_in first '- 1:1'
+    terminal send-keys -t first C-q
+    expect_in first 'in place, cut off on another host: its text is put back' 'its whole text is put back'
+    same 'in place, cut off on another host: FILE' "$(cat note note.link | tr '\n' ' ')" 'xab xab '
+    close_editors first
+}
+
+# While an editor saves, another start sees a part of FILE.
+check_save_that_goes_on() {
+    open_linked
+    inject write,pwrite64,writev delay_enter=4000000:when=1
+    terminal send-keys -t first C-s
+    wait_for 30 is_empty note
+    report 'in place, a save that goes on: FILE is torn' $? "$(cat note)"
+    open_editor second '' note.link
+    wait_for 30 shows_in second ' 1:1'
+    same 'in place, a save that goes on: FILE and its text are left alone' "$(stat -c %s note) $(find "$folder/state" -name mark | wc -l)" '0 1'
+    wait_for 80 shows_in first saved
+    same 'in place, a save that goes on: FILE then' "$(cat note note.link | tr '\n' ' ')" 'xab xab '
+    close_editors first second
+}
+
+is_empty() { # FILE
+    ! [ -s "$1" ]
+}
+
 # FILE is torn and the text cannot be put back: it is kept, and told.
 check_recover_elsewhere() {
     cut_off_save write,pwrite64,writev
@@ -222,6 +256,8 @@ check_in_place() {
         check_cut_off fsync,fdatasync 0 xab
         check_killed_program
         check_written_since
+        check_cut_off_elsewhere
+        check_save_that_goes_on
         check_recover_elsewhere
         check_failed_save
         check_failed_end
