@@ -64,7 +64,10 @@ shown() { # NAME
         }' "$1"
 }
 
-# What a program says, with what it tells of names.
+# What a program says, with what it tells of names. Of its journal only the last line counts, and only one that tells a fault is shown.
 shown_lines() {
-    LC_ALL=C awk "$telling"' { print told($0, "") }'
+    LC_ALL=C awk "$telling"'
+        !/^bidi_edit: the journal (could not be written|is kept again$)/ { print told($0, ""); next }
+        { last = $0 }
+        END { if (last ~ /could not be written/) print last }'
 }

@@ -311,10 +311,14 @@ leave_snapshot() {
 
 # Whether the last word on the journal is that it could not be written.
 is_journal_lost() {
-    [ -s "$folder/fault" ] && LC_ALL=C awk '
-        /^bidi_edit: the journal could not be written/ { is_lost = 1 }
-        /^bidi_edit: the journal is kept again$/ { is_lost = 0 }
-        END { exit !is_lost }' "$folder/fault"
+    is_lost=''
+    while read -r said; do
+        case $said in
+        'bidi_edit: the journal could not be written'*) is_lost=1 ;;
+        'bidi_edit: the journal is kept again') is_lost='' ;;
+        esac
+    done <"$folder/fault"
+    [ -n "$is_lost" ]
 }
 
 # Whether a session whose journal is empty has something to keep: where nothing is unsaved the program ends with status 0 and leaves

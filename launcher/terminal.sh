@@ -128,12 +128,9 @@ end_watcher() {
     watcher=''
 }
 
-# What the program said, of its journal the last word alone, and that only where the journal is not kept.
+# What the program said.
 tell_end() {
-    [ ! -s "$folder/fault" ] || LC_ALL=C awk '
-        !/^bidi_edit: the journal (could not be written|is kept again$)/ { print; next }
-        { lost = $0 }
-        END { if (lost ~ /could not be written/) print lost }' "$folder/fault" | shown_lines >&7
+    [ ! -s "$folder/fault" ] || shown_lines <"$folder/fault" >&7
     tell_line_ends
 }
 
