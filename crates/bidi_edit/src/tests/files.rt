@@ -31,7 +31,6 @@ fn outcome<'a>(
         replay: None,
         to: None,
         line: None,
-        unsaved: false,
         direction: Base::Auto,
     };
     let mut written = Vec::new(rt.alloc());
