@@ -40,23 +40,23 @@ save_a_letter() { # FILE WORD..
     wait_for 60 shows_in first status
 }
 
-# FILE has a list, or its folder gives one: a folder `shared` of the user's.
+# FILE has a list, or its folder gives one: a folder `common` of the user's.
 check_listed_file() { # NAME LIST FOLDER'S LIST REASON
-    as_user mkdir -p shared
-    chmod 755 shared
-    printf 'ab\n' | as_user tee shared/note >/dev/null
-    chmod 640 shared/note
-    [ -z "$2" ] || setfacl -m "$2" shared/note
-    [ -z "$3" ] || setfacl -m "$3" shared
-    rights=$(rights_of shared/note)
-    place=$(stat -c %i shared/note)
-    save_a_letter shared/note
-    same "lists, $1: who may read and write" "$(rights_of shared/note)" "$rights"
-    same "lists, $1: what is saved" "$(cat shared/note) $(stat -c %i shared/note)" "xab $place"
-    expect_in first "lists, $1: it is said" "shared/note $4: saves are written into the file itself"
-    same "lists, $1: nothing stays" "$(ls -A "$folder/state/bidi_edit")$(ls -A shared)" note
+    as_user mkdir -p common
+    chmod 755 common
+    printf 'ab\n' | as_user tee common/note >/dev/null
+    chmod 640 common/note
+    [ -z "$2" ] || setfacl -m "$2" common/note
+    [ -z "$3" ] || setfacl -m "$3" common
+    rights=$(rights_of common/note)
+    place=$(stat -c %i common/note)
+    save_a_letter common/note
+    same "lists, $1: who may read and write" "$(rights_of common/note)" "$rights"
+    same "lists, $1: what is saved" "$(cat common/note) $(stat -c %i common/note)" "xab $place"
+    expect_in first "lists, $1: it is said" "common/note $4: saves are written into the file itself"
+    same "lists, $1: nothing stays" "$(ls -A "$folder/state/bidi_edit")$(ls -A common)" note
     close_editors first
-    rm -rf shared "$folder/state"
+    rm -rf common "$folder/state"
 }
 
 # Without a session a save could be cut off, so it is refused unless it is forced.
