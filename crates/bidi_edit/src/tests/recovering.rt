@@ -150,7 +150,8 @@ fn a_journal_holds_what_was_read(rt: HostRuntime) -> Result<(), Fail> {
         (0, 6, b"abcdef".as_slice(), true),
         (0, 3, b"abc".as_slice(), false),
         (2, 6, b"abcdef".as_slice(), true),
-        (3, 6, b"".as_slice(), false),
+        (3, 6, b"abcdef".as_slice(), true),
+        (4, 6, b"".as_slice(), false),
     ] {
         let mut journal = Small {
             bytes: Vec::new(rt.alloc()),
